@@ -5,7 +5,7 @@ use Rattle.cvm_outside.specs.Causes.{Counts, Rose}
 use Rattle.cvm_outside.specs.Told.{AppendsPart}
 use Rattle.cvm_outside.proofs.Parts.{puts-both, part-back}
 use Rattle.mips_machine.specs.Machine.{Held}
-use Rattle.boot_report.specs.Leaves.{OnlyViews, Printed, Puts}
+use Rattle.boot_report.specs.Leaves.{OnlyViews, PrintsAll, Puts}
 use Rattle.boot_report.proofs.Texts.{on_ok, on_err}
 use Rattle.boot_report.proofs.MemoryLemmas.{same_twice}
 
@@ -37,13 +37,13 @@ then_puts text broke out mid reout first rows r put same last = record {
 }
 
 module _ {T E : Type 0} (old new : Option (List ℕ)) (rows : List ℕ) where
-  pub printed : (v : T) → new ≡ append_known old rows → Printed {T = T} {E = E} old new rows (Ok v)
+  pub printed : (v : T) → new ≡ append_known old rows → PrintsAll {T = T} {E = E} old new rows (Ok v)
   printed v all = record { ok = all; err = tt }
 
-  pub broken : (r : Result T E) (e : E) → r ≡ Err e → AppendsPart old new rows → Printed old new rows r
+  pub broken : (r : Result T E) (e : E) → r ≡ Err e → AppendsPart old new rows → PrintsAll old new rows r
   broken r e is part =
-      let left : Printed {T = T} {E = E} old new rows (Err e) = record { ok = tt; err = part } in
-      subst (λ (r : Result T E). Printed old new rows r) (sym is) left
+      let left : PrintsAll {T = T} {E = E} old new rows (Err e) = record { ok = tt; err = part } in
+      subst (λ (r : Result T E). PrintsAll old new rows r) (sym is) left
 
 pub views_twice : {D : Type 0} (told : D → Option (List (List ℕ))) (large : D → ℕ) (a b c : Held) (one two three : D) → OnlyViews a b told large one two → OnlyViews b c told large two three → OnlyViews a c told large one three
 views_twice told large a b c one two three v w = record { same = same_twice a b c v.same w.same; sectors = w.sectors ∙ v.sectors; size = w.size ∙ v.size }

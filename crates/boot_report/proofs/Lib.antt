@@ -6,3 +6,4 @@ pub mod GlobalRows
 pub mod GlobalNumbers
 pub mod GlobalsGiven
 pub mod Leaves
+pub mod SetRow

@@ -9,7 +9,7 @@ use Rattle.boot_report.specs.Prints.{Prints, PrintsPart}
 use Rattle.boot_report.specs.Texts.{SameButViewed}
 
 -- these rows are in the text of a sink, or where there is an error a part of them
-pub record Printed {T E : Type 0} (old new : Option (List ℕ)) (rows : List ℕ) (result : Result T E) : Type 0 where
+pub record PrintsAll {T E : Type 0} (old new : Option (List ℕ)) (rows : List ℕ) (result : Result T E) : Type 0 where
   pub ok : Prints old new rows result
   pub err : PrintsPart old new rows result
 

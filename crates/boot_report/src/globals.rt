@@ -13,7 +13,7 @@ use cvm_text::decimal;
 use layer_map::Map;
 use mips_machine::Machine;
 
-/// The end of the row of a value of a type of this form, by its word; none of a value that isn't scalar.
+// The end of the row of a value of a type of this form, by its word; none of a value that isn't scalar.
 fn value_end(form: Form<'_>, word: u32) -> ArrayString<24>
     ensures { result.bytes ≡ end_of_value (form_view form.entry) word }
 {
@@ -37,7 +37,7 @@ fn value_end(form: Form<'_>, word: u32) -> ArrayString<24>
     }
 }
 
-/// Prints the row of a global with this name, if it has an end.
+// Prints the row of a global with this name, if it has an end.
 fn put_named<O: Sink>(name: &[u8], end: &[u8], out: &mut O) -> Result<(), SinkFault>
     ensures { Puts O.text O.faults out.old out.new (named_row name.now end.now) result }
 {

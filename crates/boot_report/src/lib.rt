@@ -1,10 +1,13 @@
-//! The report of a run, printed from the machine: rows of globals, of the console's log, and of users.
+//! The texts of a run: its report, printed from the machine, with rows of globals, of the console's log and of users; and the rows of
+//! dispatches and of journals.
 #![tactic(auto)]
 
 mod fault;
 mod globals;
+pub mod journal_text;
 mod laws;
 mod memory;
+pub mod row_text;
 mod rows;
 mod users;
 

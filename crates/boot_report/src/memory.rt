@@ -5,7 +5,7 @@ ghost use Rattle.cvm_outside.specs.Causes.{Counts};
 ghost use Rattle.layer_map.specs.Map.{memory_frames};
 ghost use Rattle.boot_report.specs.Told.{user_word, WherePaged};
 ghost use Rattle.boot_report.specs.Texts.{texts, memory_row, page_word, pages_rows, ShowsPage};
-ghost use Rattle.boot_report.specs.Leaves.{OnlyViews, Printed, Puts, Reads};
+ghost use Rattle.boot_report.specs.Leaves.{OnlyViews, PrintsAll, Puts, Reads};
 ghost use Rattle.boot_report.specs.Stand.{PagesStand};
 
 use crate::fault::ReportFault;
@@ -14,7 +14,7 @@ use cvm_outside::{DiskFault, Sectors, Sink, SinkFault};
 use layer_map::Map;
 use mips_machine::Machine;
 
-/// The words of a page that is in this frame, or in the sector that was viewed, to be read in place.
+// The words of a page that is in this frame, or in the sector that was viewed, to be read in place.
 fn words_of_page(machine: &Machine, frame: Option<u32>) -> &[u32; 1024]
     requires inside { IfSome frame (λ f. 1024 * f + 1024 ≤ length machine.now.hardware.memory) }
     ensures whole { length result.now ≡ 1024 }
@@ -26,7 +26,7 @@ fn words_of_page(machine: &Machine, frame: Option<u32>) -> &[u32; 1024]
     }
 }
 
-/// Whether all these words are 0. The loop has no way out before the end, so that the compiler takes many words at once.
+// Whether all these words are 0. The loop has no way out before the end, so that the compiler takes many words at once.
 fn are_zero(words: &[u32]) -> bool
     ensures zero { result ≡ true → (i : ℕ) → i < length words.now → slice_index words.now i ≡ 0 }
     ensures other { ((i : ℕ) → i < length words.now → slice_index words.now i ≡ 0) → result ≡ true }
@@ -38,7 +38,7 @@ fn are_zero(words: &[u32]) -> bool
     seen == 0
 }
 
-/// Prints the rows of 64 words of a user's memory, the first of which has this number.
+// Prints the rows of 64 words of a user's memory, the first of which has this number.
 fn put_line<O: Sink>(words: &[u32], first: u32, out: &mut O) -> Result<(), SinkFault>
     requires whole { length words.now ≡ 64 }
     requires numbers { first + 64 ≤ 2 ^ 30 }
@@ -53,7 +53,7 @@ fn put_line<O: Sink>(words: &[u32], first: u32, out: &mut O) -> Result<(), SinkF
     Ok(())
 }
 
-/// Prints the rows of a page that is in this frame, or in the sector that was viewed.
+// Prints the rows of a page that is in this frame, or in the sector that was viewed.
 fn put_page<O: Sink>(
     machine: &Machine,
     frame: Option<u32>,
@@ -72,11 +72,11 @@ fn put_page<O: Sink>(
     Ok(())
 }
 
-/// Brings a page, by its number of all pages, where it can be read: gives its frame, or else has viewed its sector.
-///
-/// # Errors
-///
-/// A fault of the disk.
+// Brings a page, by its number of all pages, where it can be read: gives its frame, or else has viewed its sector.
+//
+// # Errors
+//
+// A fault of the disk.
 fn find_page<D: Sectors>(
     machine: &mut Machine,
     map: &Map,
@@ -124,11 +124,11 @@ pub fn read_user_word<D: Sectors>(
     Ok(words_of_page(machine, frame)[(k % 1024) as usize])
 }
 
-/// Prints the rows of so many pages of a user, the first of which has this number of all pages.
-///
-/// # Errors
-///
-/// A fault of the disk or of the sink.
+// Prints the rows of so many pages of a user, the first of which has this number of all pages.
+//
+// # Errors
+//
+// A fault of the disk or of the sink.
 pub(crate) fn put_memory<D: Sectors, O: Sink>(
     machine: &mut Machine,
     map: &Map,
@@ -140,7 +140,7 @@ pub(crate) fn put_memory<D: Sectors, O: Sink>(
     requires few { pages ≤ 1024 }
     requires inside { first + pages ≤ map.now.users * map.now.params.pages }
     requires pages { PagesStand map.now (length machine.old.hardware.memory) (D.size disk.old) }
-    ensures put { WherePaged (D.sectors disk.old) machine.old map.now (λ a. Printed (O.text out.old) (O.text out.new) (pages_rows a first pages) result) }
+    ensures put { WherePaged (D.sectors disk.old) machine.old map.now (λ a. PrintsAll (O.text out.old) (O.text out.new) (pages_rows a first pages) result) }
     ensures leaves { Reads machine.old machine.new D.sectors D.size D.faults disk.old disk.new O.faults out.old out.new result }
 {
     for p in 0..pages {

@@ -9,7 +9,7 @@ use arrayvec::ArrayString;
 use cvm_outside::{Sink, SinkFault};
 use cvm_text::{decimal_u64, hex8};
 
-/// The row of a word of the console's log.
+// The row of a word of the console's log.
 fn log_row(word: u32) -> ArrayString<16>
     ensures { result.bytes ≡ hex_row (codes "con") word }
 {
@@ -20,7 +20,7 @@ fn log_row(word: u32) -> ArrayString<16>
     text
 }
 
-/// The row of a register.
+// The row of a register.
 fn reg_row(register: u32, word: u32) -> ArrayString<40>
     ensures { result.bytes ≡ hex_row (codes "reg " ++ decimal register) word }
 {
@@ -33,7 +33,7 @@ fn reg_row(register: u32, word: u32) -> ArrayString<40>
     text
 }
 
-/// The row of hi.
+// The row of hi.
 fn hi_row(word: u32) -> ArrayString<16>
     ensures { result.bytes ≡ hex_row (codes "hi") word }
 {
@@ -44,7 +44,7 @@ fn hi_row(word: u32) -> ArrayString<16>
     text
 }
 
-/// The row of lo.
+// The row of lo.
 fn lo_row(word: u32) -> ArrayString<16>
     ensures { result.bytes ≡ hex_row (codes "lo") word }
 {
@@ -55,7 +55,7 @@ fn lo_row(word: u32) -> ArrayString<16>
     text
 }
 
-/// The row of a word of memory, by its number.
+// The row of a word of memory, by its number.
 fn mem_row(number: u32, word: u32) -> ArrayString<32>
     requires { number < 2 ^ 30 }
     ensures { result.bytes ≡ hex_row (codes "mem " ++ hex8_of (4 * number)) word }
@@ -69,7 +69,7 @@ fn mem_row(number: u32, word: u32) -> ArrayString<32>
     text
 }
 
-/// The first row of a user.
+// The first row of a user.
 fn user_row(user: u32, pages: u32, pc: u32) -> ArrayString<80>
     ensures { result.bytes ≡ user_head user pages pc }
 {
@@ -84,14 +84,14 @@ fn user_row(user: u32, pages: u32, pc: u32) -> ArrayString<80>
     text
 }
 
-/// Prints the row of a word of the console's log.
+// Prints the row of a word of the console's log.
 pub(crate) fn put_log_word<O: Sink>(word: u32, out: &mut O) -> Result<(), SinkFault>
     ensures { Puts O.text O.faults out.old out.new (hex_row (codes "con") word) result }
 {
     out.put(log_row(word).as_str().as_bytes())
 }
 
-/// Prints the row of a word that isn't 0.
+// Prints the row of a word that isn't 0.
 fn put_nonzero<O: Sink>(word: u32, row: &[u8], out: &mut O) -> Result<(), SinkFault>
     ensures { Puts O.text O.faults out.old out.new (if word == 0 then [] else row.now) result }
 {
@@ -101,28 +101,28 @@ fn put_nonzero<O: Sink>(word: u32, row: &[u8], out: &mut O) -> Result<(), SinkFa
     out.put(row)
 }
 
-/// Prints the row of a register that isn't 0.
+// Prints the row of a register that isn't 0.
 pub(crate) fn put_register<O: Sink>(register: u32, word: u32, out: &mut O) -> Result<(), SinkFault>
     ensures { Puts O.text O.faults out.old out.new (register_row register word) result }
 {
     put_nonzero(word, reg_row(register, word).as_str().as_bytes(), out)
 }
 
-/// Prints the row of hi, if it isn't 0.
+// Prints the row of hi, if it isn't 0.
 pub(crate) fn put_hi<O: Sink>(word: u32, out: &mut O) -> Result<(), SinkFault>
     ensures { Puts O.text O.faults out.old out.new (nonzero_row (codes "hi") word) result }
 {
     put_nonzero(word, hi_row(word).as_str().as_bytes(), out)
 }
 
-/// Prints the row of lo, if it isn't 0.
+// Prints the row of lo, if it isn't 0.
 pub(crate) fn put_lo<O: Sink>(word: u32, out: &mut O) -> Result<(), SinkFault>
     ensures { Puts O.text O.faults out.old out.new (nonzero_row (codes "lo") word) result }
 {
     put_nonzero(word, lo_row(word).as_str().as_bytes(), out)
 }
 
-/// Prints the row of a word of memory that isn't 0, by its number.
+// Prints the row of a word of memory that isn't 0, by its number.
 pub(crate) fn put_word<O: Sink>(number: u32, word: u32, out: &mut O) -> Result<(), SinkFault>
     requires { number < 2 ^ 30 }
     ensures { Puts O.text O.faults out.old out.new (memory_row number word) result }
@@ -133,7 +133,7 @@ pub(crate) fn put_word<O: Sink>(number: u32, word: u32, out: &mut O) -> Result<(
     out.put(mem_row(number, word).as_str().as_bytes())
 }
 
-/// Prints the first row of a user.
+// Prints the first row of a user.
 pub(crate) fn put_user<O: Sink>(
     user: u32,
     pages: u32,

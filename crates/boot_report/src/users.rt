@@ -4,7 +4,7 @@ ghost use Rattle.std.specs.Prelude.{length, min, slice_index};
 ghost use Rattle.layer_map.specs.Map.{block_at};
 ghost use Rattle.boot_report.specs.Texts.{cpu_of, register_rows, processor_rows, log_rows};
 ghost use Rattle.boot_report.specs.Told.{ForUser, ForUsers};
-ghost use Rattle.boot_report.specs.Leaves.{Printed, Puts, Reads};
+ghost use Rattle.boot_report.specs.Leaves.{PrintsAll, Puts, Reads};
 ghost use Rattle.boot_report.specs.Stand.{BlockStands, BlocksStand, PagesStand, UserStands};
 
 use crate::fault::ReportFault;
@@ -14,7 +14,7 @@ use cvm_outside::{Sectors, Sink, SinkFault};
 use layer_map::{BLOCK_SIZE, Map, block_of};
 use mips_machine::Machine;
 
-/// A word of a user's control block, by its number in the block.
+// A word of a user's control block, by its number in the block.
 fn block_word(machine: &Machine, user: u32, number: u32) -> u32
     requires user { BlockStands user (length machine.now.hardware.memory) }
     requires number { number < 64 }
@@ -23,7 +23,7 @@ fn block_word(machine: &Machine, user: u32, number: u32) -> u32
     machine.word(block_of(user) + 4 * number)
 }
 
-/// A user's pc.
+// A user's pc.
 fn pc_of(machine: &Machine, runs: bool, user: u32) -> u32
     requires user { BlockStands user (length machine.now.hardware.memory) }
     ensures { result ≡ (cpu_of machine.now runs user).pc }
@@ -34,7 +34,7 @@ fn pc_of(machine: &Machine, runs: bool, user: u32) -> u32
     block_word(machine, user, 0)
 }
 
-/// A register of a user, from 1 to 31.
+// A register of a user, from 1 to 31.
 fn register_of(machine: &Machine, runs: bool, user: u32, register: u32) -> u32
     requires user { BlockStands user (length machine.now.hardware.memory) }
     requires some { 1 ≤ register }
@@ -47,7 +47,7 @@ fn register_of(machine: &Machine, runs: bool, user: u32, register: u32) -> u32
     block_word(machine, user, register)
 }
 
-/// A user's hi.
+// A user's hi.
 fn hi_of(machine: &Machine, runs: bool, user: u32) -> u32
     requires user { BlockStands user (length machine.now.hardware.memory) }
     ensures { result ≡ (cpu_of machine.now runs user).hi }
@@ -58,7 +58,7 @@ fn hi_of(machine: &Machine, runs: bool, user: u32) -> u32
     block_word(machine, user, 33)
 }
 
-/// A user's lo.
+// A user's lo.
 fn lo_of(machine: &Machine, runs: bool, user: u32) -> u32
     requires user { BlockStands user (length machine.now.hardware.memory) }
     ensures { result ≡ (cpu_of machine.now runs user).lo }
@@ -69,7 +69,7 @@ fn lo_of(machine: &Machine, runs: bool, user: u32) -> u32
     block_word(machine, user, 34)
 }
 
-/// Prints the rows of a user's registers.
+// Prints the rows of a user's registers.
 fn put_registers<O: Sink>(
     machine: &Machine,
     runs: bool,
@@ -85,7 +85,7 @@ fn put_registers<O: Sink>(
     Ok(())
 }
 
-/// Prints the rows of a user's processor.
+// Prints the rows of a user's processor.
 fn put_processor<O: Sink>(
     machine: &Machine,
     runs: bool,
@@ -103,11 +103,11 @@ fn put_processor<O: Sink>(
     Ok(())
 }
 
-/// Prints the rows of a user.
-///
-/// # Errors
-///
-/// A fault of the disk or of the sink.
+// Prints the rows of a user.
+//
+// # Errors
+//
+// A fault of the disk or of the sink.
 fn put_one<D: Sectors, O: Sink>(
     machine: &mut Machine,
     map: &Map,
@@ -118,7 +118,7 @@ fn put_one<D: Sectors, O: Sink>(
 ) -> Result<(), ReportFault>
     requires user { UserStands map.now user (length machine.old.hardware.memory) }
     requires pages { PagesStand map.now (length machine.old.hardware.memory) (D.size disk.old) }
-    ensures put { ForUser (D.sectors disk.old) machine.old map.now runs user (Printed (O.text out.old) (O.text out.new)) result }
+    ensures put { ForUser (D.sectors disk.old) machine.old map.now runs user (PrintsAll (O.text out.old) (O.text out.new)) result }
     ensures leaves { Reads machine.old machine.new D.sectors D.size D.faults disk.old disk.new O.faults out.old out.new result }
 {
     let most = map.params().pages;
@@ -142,7 +142,7 @@ pub fn put_user_rows<D: Sectors, O: Sink>(
 ) -> Result<(), ReportFault>
     requires user { UserStands map.now user (length machine.old.hardware.memory) }
     requires pages { PagesStand map.now (length machine.old.hardware.memory) (D.size disk.old) }
-    ensures put { ForUser (D.sectors disk.old) machine.old map.now (user == running) user (Printed (O.text out.old) (O.text out.new)) result }
+    ensures put { ForUser (D.sectors disk.old) machine.old map.now (user == running) user (PrintsAll (O.text out.old) (O.text out.new)) result }
     ensures leaves { Reads machine.old machine.new D.sectors D.size D.faults disk.old disk.new O.faults out.old out.new result }
 {
     put_one(machine, map, user == running, user, disk, out)
@@ -162,7 +162,7 @@ pub fn put_users<D: Sectors, O: Sink>(
 ) -> Result<(), ReportFault>
     requires users { BlocksStand map.now (length machine.old.hardware.memory) }
     requires pages { PagesStand map.now (length machine.old.hardware.memory) (D.size disk.old) }
-    ensures put { ForUsers (D.sectors disk.old) machine.old map.now running (Printed (O.text out.old) (O.text out.new)) result }
+    ensures put { ForUsers (D.sectors disk.old) machine.old map.now running (PrintsAll (O.text out.old) (O.text out.new)) result }
     ensures leaves { Reads machine.old machine.new D.sectors D.size D.faults disk.old disk.new O.faults out.old out.new result }
 {
     for i in 0..map.users() {

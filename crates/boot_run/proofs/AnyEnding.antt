@@ -11,15 +11,15 @@ use Rattle.boot_turns.specs.declared.answers.RunFault.{RunFault}
 use Rattle.boot_turns.specs.declared.answers.RunFault.TheVariants.{StepLimit, Disk, Sink}
 use Rattle.boot_run.specs.declared.whole.RunEnd.{RunEnd}
 use Rattle.boot_run.specs.declared.whole.RunEnd.TheVariants as ends
-use Rattle.boot_run.specs.AnyRun.{is_traced, CameTo, AnyGoRuns, AnyRunsToEnd, AnyEnds, Ends, StepFails, Tells, is_faulted}
+use Rattle.boot_run.specs.AnyRun.{is_traced, CameTo, AnyGoRuns, AnyRunsToEnd, AnyEnds, EndsWithin, StepFailsWithin, SectorsTold, is_faulted}
 use Rattle.boot_run.specs.LoadEnds.{Kept}
 use Rattle.boot_run.specs.Shown.{has_faulted}
 use Rattle.boot_run.specs.TurnCalls.{Around, around}
-use Rattle.boot_run.specs.Whole.{end_of_fault}
+use Rattle.boot_run.specs.Pieces.{end_of_fault}
 use Rattle.boot_run.proofs.Ending.{stand_told}
 
 -- the sectors that are told are those of the machine
-told_at : (x : Outside) (s : State) (t : ℕ) (told : Option (List (List ℕ))) (held : Held) → seen told held ≡ Some (run x s t) → Tells x s t told
+told_at : (x : Outside) (s : State) (t : ℕ) (told : Option (List (List ℕ))) (held : Held) → seen told held ≡ Some (run x s t) → SectorsTold x s t told
 told_at x s t told held is = stand_told told held (run x s t).device.sectors (ap (option_map (λ (z : State). z.device.sectors)) is)
 
 -- only a kernel's fault is a fault
@@ -35,8 +35,8 @@ limit_is Disk e = absurd (cc)
 limit_is Sink e = absurd (cc)
 
 -- THE LOOP came to the end of the turns, and the run was closed
-module _ (x : Outside) (s : State) (k t : ℕ) (traced : Bool) (before mid : Around) (g : CameTo x s k t before mid) (told : Option (List (List ℕ))) (at_end : Tells x s g.at told) where
-  ended : (b : Bool) → has_faulted mid.ended ≡ b → Ends x s k (before.budget + t) b told
+module _ (x : Outside) (s : State) (k t : ℕ) (traced : Bool) (before mid : Around) (g : CameTo x s k t before mid) (told : Option (List (List ℕ))) (at_end : SectorsTold x s g.at told) where
+  ended : (b : Bool) → has_faulted mid.ended ≡ b → EndsWithin x s k (before.budget + t) b told
   ended b how = record { at = g.at; comes = g.comes; within = let a = g.spent in omega (arith, a); how = sym (ap has_faulted g.ended) ∙ how; sectors = at_end }
 
   closed_as : (e : RunEnd) → has_faulted mid.ended ≡ is_faulted e → e ≢ ends.OutOfSteps → AnyEnds x s k (before.budget + t) traced told e
@@ -56,8 +56,8 @@ module _ {L : Type 0} (count : ℕ) (r : Kept L) (turns : ℕ) (before : Around)
 
 -- or was broken off
 module _ (x : Outside) (s : State) (k t : ℕ) (told : Option (List (List ℕ))) (held : Held) (budget left : ℕ) where
-  torn_as : (traced : Bool) (at : ℕ) → NoSooner x s k (suc at) → left + suc at ≡ budget + t → DiskLeaves x s at traced (seen told held) → StepFails x s k (budget + t) traced told
-  torn_as false at sooner spent (now, is, torn) = record { at = at; sooner = sooner; less = omega (arith, spent); now = now; told_is = stand_told told held now is; torn = inl torn }
+  torn_as : (traced : Bool) (at : ℕ) → NoSooner x s k (suc at) → left + suc at ≡ budget + t → DiskLeaves x s at traced (seen told held) → StepFailsWithin x s k (budget + t) traced told
+  torn_as false at sooner spent ((now, is, torn), ports) = record { at = at; sooner = sooner; less = omega (arith, spent); now = now; told_is = stand_told told held now is; torn = inl torn }
   torn_as true at sooner spent leaves = ⊎_elim
       (λ (h : SeenTorn x (run x s at) (seen told held)). record { at = at; sooner = sooner; less = omega (arith, spent); now = h.0; told_is = stand_told told held h.0 h.1; torn = inl h.2 })
       (λ (e : seen told held ≡ Some (run x s (suc at))). record {
@@ -73,7 +73,7 @@ module _ (x : Outside) (s : State) (k t : ℕ) (told : Option (List (List ℕ)))
   broke_as : (traced : Bool) (f : RunFault) → BrokeOff x s traced k t (seen told held) budget left f → AnyEnds x s k (budget + t) traced told (end_of_fault f)
   broke_as traced StepLimit (none, sooner, is) =
       let sum : t + budget ≡ budget + t = omega arith in
-      (subst (λ n. NoSooner x s k (suc n)) sum sooner, subst (λ n. Tells x s n told) sum (told_at x s (t + budget) told held is))
+      (subst (λ n. NoSooner x s k (suc n)) sum sooner, subst (λ n. SectorsTold x s n told) sum (told_at x s (t + budget) told held is))
   broke_as traced Disk (at, sooner, leaves, spent) = inl (torn_as traced at sooner spent leaves)
   broke_as traced Sink (at, sooner, is, spent) = record { at = at; sooner = sooner; within = omega (arith, spent); sectors = told_at x s at told held is }
 

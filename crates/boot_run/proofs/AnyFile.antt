@@ -8,7 +8,7 @@ use Rattle.mips_machine.specs.Steps.{outside_of}
 use Rattle.boot_turns.specs.AnyTurns.{ComesTo}
 use Rattle.boot_turns.specs.Completes.{seen}
 use Rattle.boot_turns.specs.declared.answers.View.{View}
-use Rattle.boot_run.specs.AnyRun.{AnyEnds, AnyRunsToEnd, Ends, StepFails, is_traced}
+use Rattle.boot_run.specs.AnyRun.{AnyEnds, AnyRunsToEnd, EndsWithin, StepFailsWithin, is_traced}
 use Rattle.boot_run.specs.LoadEnds.{Kept}
 use Rattle.boot_run.specs.Saving.{GoesOnAnyhow, IsResumed}
 use Rattle.boot_run.specs.TurnCalls.{around}
@@ -37,7 +37,7 @@ is_told : (o : Option (List (List ℕ))) (now : List (List ℕ)) → o ≡ Some 
 is_told None now h = absurd (cc)
 is_told (Some x) now h = refl
 
-disk_told : (x : Outside) (z : State) (k total : ℕ) (traced : Bool) (told : Option (List (List ℕ))) → StepFails x z k total traced told ⊎ Ends x z k total false told → IsSome told
+disk_told : (x : Outside) (z : State) (k total : ℕ) (traced : Bool) (told : Option (List (List ℕ))) → StepFailsWithin x z k total traced told ⊎ EndsWithin x z k total false told → IsSome told
 disk_told x z k total traced told (inl h) = is_told told _ h.told_is
 disk_told x z k total traced told (inr h) = is_told told _ h.sectors
 

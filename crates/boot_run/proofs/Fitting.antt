@@ -13,7 +13,7 @@ use Rattle.boot_turns.specs.declared.tracer.Tracer.{Tracer}
 use Rattle.boot_turns.specs.declared.answers.View.TheVariants.{Trace}
 use Rattle.boot_turns.specs.Tracing.{CanTrace}
 use Rattle.boot_run.specs.LoadEnds.{tracer_fits, viewed, SeesUser}
-use Rattle.boot_run.specs.Placed.{IsPlaced}
+use Rattle.boot_run.specs.Placed.{PlacesHold}
 use Rattle.boot_run.proofs.Room.{few_pages, room, small}
 
 both_are : (a b : Bool) → (a && b) ≡ true → (a ≡ true) × (b ≡ true)
@@ -45,7 +45,7 @@ users_are : (b : Booted) (m : Map) → m ≡ map_of (boot_of b) → m.users ≡ 
 users_are b m e = ap (λ (q : Map). q.users) e ∙ length-map b.users.items (λ words. words.items)
 
 -- a trace can be printed from a loaded run
-pub can_trace : (b : Booted) (m : Map) (places words : List ℕ) (count : ℕ) → IsPlaced b m places words count → MemoryIsWhole m → (tracer : Option Tracer) (time : ℕ) → IsTrue (tracer_fits tracer (length b.users.items) time) → (size : ℕ) → size ≡ count →
+pub can_trace : (b : Booted) (m : Map) (places words : List ℕ) (count : ℕ) → PlacesHold b m places words count → MemoryIsWhole m → (tracer : Option Tracer) (time : ℕ) → IsTrue (tracer_fits tracer (length b.users.items) time) → (size : ℕ) → size ≡ count →
     IfSome tracer (CanTrace m (length words) time size)
 can_trace b m places words count p whole None time h size e = tt
 can_trace b m places words count p whole (Some kept) time h size e =
@@ -96,7 +96,7 @@ sees_user (Some kept) users time h = let f = fits kept users time h in (f.0, f.1
 pub user_there : (kept : Tracer) (users time : ℕ) → IsTrue (tracer_fits (Some kept) users time) → (1 ≤ kept.user) × (kept.user ≤ users)
 user_there kept users time h = let f = fits kept users time h in (f.0, f.1)
 
-pub words_fit : (b : Booted) (m : Map) (places words : List ℕ) (count : ℕ) → IsPlaced b m places words count → All (λ words. length words ≤ 1048576) (boot_of b).users
+pub words_fit : (b : Booted) (m : Map) (places words : List ℕ) (count : ℕ) → PlacesHold b m places words count → All (λ words. length words ≤ 1048576) (boot_of b).users
 words_fit b m places words count p =
     let same : b.params.pages ≡ m.params.pages = ap (λ (q : Map). q.params.pages) (sym p.map) in
     let pages : m.params.pages ≤ 1024 = p.range.params.pages in

@@ -14,16 +14,16 @@ use Rattle.c0_meaning.specs.State.{State as C0}
 use Rattle.boot_turns.specs.Headline as headline
 use Rattle.layer_contract.specs.Starts.{Beyond}
 use Rattle.boot_turns.specs.Headline.{Ending, RanFrom, TextAt, EndBroken, SinkBroken, ending, ending_of}
-use Rattle.boot_turns.specs.Machines.{Machines}
+use Rattle.boot_turns.specs.Machines.{RunMachines}
 use Rattle.boot_turns.specs.Premises.{StartsFrom}
 use Rattle.boot_turns.specs.Trace.{Shown}
 use Rattle.boot_turns.specs.Entries.{TraceGrows, TracesGrow, step_entries}
 use Rattle.boot_turns.specs.JournalText.{RowsFollow, pending_steps}
-use Rattle.boot_turns.specs.TurnEnds.{Printed, Rows, Whole, Prefix, first_of}
+use Rattle.boot_turns.specs.TurnEnds.{Printed, RowsAt, Whole, Prefix, first_of}
 use Rattle.boot_turns.specs.declared.answers.View.{View}
 use Rattle.boot_turns.specs.declared.answers.View.TheVariants.{Boot, Trace}
 use Rattle.boot_run.specs.LoadEnds.{SeesUser}
-use Rattle.boot_run.specs.Whole.{TraceBroken, TurnPutFails}
+use Rattle.boot_run.specs.Pieces.{TraceBroken, TurnPutFails}
 
 -- A PREFIX of a text is one of a longer text
 take_more : (n : ℕ) (a b : List ℕ) → take n a ≡ take (min n (length a)) (a ++ b)
@@ -108,7 +108,7 @@ front_cut follow start j d rest whole text is p =
     let front : Prefix [] (start ++ open_journal_rows j) text = subst (λ w. Prefix [] w text) is p in
     subst (λ w. Prefix [] w text) (front_is follow start j d rest) (prefix_more (start ++ open_journal_rows j) (journal_rows_after false (pending_steps j) d ++ rest) text front)
 
-module _ (follow : RowsFollow) (x : Outside) (y : System) (s0 : State) (delay bound : ℕ) (old : List (List ℕ)) (m : Machines x y s0 delay bound) (first : Beyond bound old s0.device.sectors)
+module _ (follow : RowsFollow) (x : Outside) (y : System) (s0 : State) (delay bound : ℕ) (old : List (List ℕ)) (m : RunMachines x y s0 delay bound) (first : Beyond bound old s0.device.sectors)
     (u turns steps : ℕ) where
   -- what is printed with no failed call, by whether the run has ended
   text_by : (t : ℕ) (b : Bool) (c : Cvm) (j : List JournalEntry) → IsCvm y (lines_of x s0) (complete x s0 t) c → Shown x s0 y u t j →
@@ -168,7 +168,7 @@ module _ (follow : RowsFollow) (x : Outside) (y : System) (s0 : State) (delay bo
     cut grows h = ⊎_elim (λ (w : Printed x y s0 (Trace u) at whole). printed_cut grows w) (λ (w : Whole x y s0 (Trace u) at whole × (is_end x s0 turns at ≡ true)). whole_cut w.0 w.1) h
 
 -- THE SINK'S FAULT IN A TURN of a trace
-pub trace_cut : TurnLaws → RowsFollow → (x : Outside) (y : System) (s0 : State) (delay bound : ℕ) (old : List (List ℕ)) → Machines x y s0 delay bound → Beyond bound old s0.device.sectors → (u turns steps : ℕ) → TraceGrows x y s0 u → (now : List (List ℕ)) (text : List ℕ) →
+pub trace_cut : TurnLaws → RowsFollow → (x : Outside) (y : System) (s0 : State) (delay bound : ℕ) (old : List (List ℕ)) → RunMachines x y s0 delay bound → Beyond bound old s0.device.sectors → (u turns steps : ℕ) → TraceGrows x y s0 u → (now : List (List ℕ)) (text : List ℕ) →
     TraceBroken x y s0 now u turns steps text → SinkBroken x y s0 bound old now (Trace u) turns steps text
 trace_cut counts follow x y s0 delay bound old m first u turns steps grows now text w = cut follow x y s0 delay bound old m first u turns steps counts w.at w.most w.goes_on now w.whole text w.printed grows w.is_whole
 
@@ -183,7 +183,7 @@ grows_for Typed law x y s0 delay bound lawful Boot sees = tt
 grows_for Typed law x y s0 delay bound lawful (Trace u) sees = law x y s0 delay bound u lawful sees.0 sees.1
 
 -- the sink failed in a turn
-pub put_ends : TurnLaws → RowsFollow → (x : Outside) (y : System) (s0 : State) (delay bound : ℕ) (old : List (List ℕ)) → Machines x y s0 delay bound → Beyond bound old s0.device.sectors → (v : View) → GrowsFor x y s0 v → (turns steps : ℕ) (now : List (List ℕ)) (text : List ℕ) → TurnPutFails x y s0 now v turns steps text →
+pub put_ends : TurnLaws → RowsFollow → (x : Outside) (y : System) (s0 : State) (delay bound : ℕ) (old : List (List ℕ)) → RunMachines x y s0 delay bound → Beyond bound old s0.device.sectors → (v : View) → GrowsFor x y s0 v → (turns steps : ℕ) (now : List (List ℕ)) (text : List ℕ) → TurnPutFails x y s0 now v turns steps text →
     Beyond bound old now × SinkBroken x y s0 bound old now v turns steps text
 put_ends counts follow x y s0 delay bound old m first Boot grows turns steps now text w =
     (subst (Beyond bound old) (sym w.sectors) (stays_beyond bound old s0.device.sectors _ first (m.beyond w.end)), inl w)
@@ -191,7 +191,7 @@ put_ends counts follow x y s0 delay bound old m first (Trace u) grows turns step
     (subst (Beyond bound old) (sym w.sectors) (stays_beyond bound old s0.device.sectors _ first (m.beyond w.at)), trace_cut counts follow x y s0 delay bound old m first u turns steps grows now text w)
 
 -- or in the report
-pub report_ends : (x : Outside) (y : System) (s0 : State) (bound : ℕ) (old now : List (List ℕ)) (v : View) (turns steps : ℕ) (part whole text : List ℕ) → (Rows x y s0 v (end_within x s0 turns steps) part → EndBroken x y s0 now v turns steps text) →
+pub report_ends : (x : Outside) (y : System) (s0 : State) (bound : ℕ) (old now : List (List ℕ)) (v : View) (turns steps : ℕ) (part whole text : List ℕ) → (RowsAt x y s0 v (end_within x s0 turns steps) part → EndBroken x y s0 now v turns steps text) →
     Printed x y s0 v (end_within x s0 turns steps) part → RanFrom x y s0 bound old now v turns steps headline.Done whole → Prefix part whole text → SinkBroken x y s0 bound old now v turns steps text
 report_ends x y s0 bound old now Boot turns steps part whole text broken printed ran p = inr (broken printed)
 report_ends x y s0 bound old now (Trace u) turns steps part whole text broken printed ran p = (headline.Done, now, whole, ran, prefix_any part whole text p)

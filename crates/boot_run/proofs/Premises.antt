@@ -23,7 +23,8 @@ use Rattle.boot_turns.specs.Premises.{StartsFrom}
 use Rattle.boot_turns.specs.Rom.{rom_sectors, RomStarts}
 use Rattle.boot_run.specs.Loading.{system_of}
 use Rattle.boot_run.specs.LoadEnds.{pages_needed, rom_needed}
-use Rattle.boot_run.specs.Whole.{Bootable, RomBootable, rom_start_of}
+use Rattle.boot_run.specs.Whole.{rom_start_of}
+use Rattle.boot_run.specs.Pieces.{Bootable, RomBootable}
 use Rattle.boot_run.proofs.RomLoads.{rom_needed_is}
 
 -- sectors of words are pages

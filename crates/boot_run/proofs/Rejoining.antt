@@ -1,8 +1,8 @@
 -- A run that was taken up ends as the boot whose words it was taken up from.
-use Rattle.std.proofs.Common.{◌≡◌, ℕ, suc, ◌+◌, ◌-◌, ◌≤◌, Option, Some, None, List, length, refl, sym, ap, ◌∙◌, subst, arith}
+use Rattle.std.proofs.Common.{◌≡◌, ℕ, zero, suc, ◌+◌, ◌-◌, ◌≤◌, Option, Some, None, List, length, refl, sym, ap, ◌∙◌, subst, arith}
 use Rattle.std.specs.Prelude.{slice_index}
 use Rattle.mips_table.specs.Device.{Outside}
-use Rattle.mips_table.specs.Machine.{State}
+use Rattle.mips_table.specs.Machine.{State, run}
 use Rattle.mips_table.specs.Steady.{StartSteady}
 use Rattle.c0_tree.specs.Tree.{CUnit}
 use Rattle.c0_meaning.specs.TypedState.{IsTypedState}
@@ -26,7 +26,8 @@ use Rattle.boot_run.specs.Saving.{saved_run, AreBoots, GoesOnAs, IsDisk, IsResum
 use Rattle.boot_run.specs.declared.whole.RunEnd.{RunEnd}
 use Rattle.boot_run.specs.declared.whole.RunEnd.TheVariants as ends
 use Rattle.boot_run.specs.TurnCalls.{Around, around, Ready}
-use Rattle.boot_run.specs.Whole.{Bootable, RunEnds, RunsToEnd, ending_of_end}
+use Rattle.boot_run.specs.Whole.{CallsFrom, ShownRunEnds, ending_of_end}
+use Rattle.boot_run.specs.Pieces.{Bootable, RunsToEnd}
 use Rattle.boot_run.proofs.Looping.{machines}
 
 -- what a call finds of a run that keeps no fault, no trace and no end
@@ -60,8 +61,8 @@ pub first_of : StartSteady → (y : System) (old : List (List ℕ)) → IsFirst 
 first_of steady y old = record { time = refl; steady = steady (loaded_memory y.boot) (loaded y old).device.sectors y.input }
 
 module _ {L : Type 0} (run_is : (u : CUnit) → MachinesRun (IsTypedState u)) (steady : StartSteady) (takes : TakesUp) (join : SavedRunsJoin) (count : ℕ) (r : Kept L) (more turns steps budget : ℕ)
-    (told retold : Option (List (List ℕ))) (had has : Option (List ℕ)) (e : RunEnd) (sum : r.turns + more ≡ turns) (spent : budget ≡ steps - r.machine.time)
-    (runs : RunsToEnd count r more budget (around r told budget had) retold has e) where
+    (told retold : Option (List (List ℕ))) (made remade : ℕ) (had has : Option (List ℕ)) (e : RunEnd) (sum : r.turns + more ≡ turns) (spent : budget ≡ steps - r.machine.time)
+    (runs : RunsToEnd count r more budget (around r told budget had) retold made remade has e) where
   abbrev x : Outside
   x = outside_of r.machine.rows count
 
@@ -73,8 +74,11 @@ module _ {L : Type 0} (run_is : (u : CUnit) → MachinesRun (IsTypedState u)) (s
     p : Bootable r.boot r.machine.rows count y (loaded y old) 1 (user_sectors y) old
     p = boots old disk
 
+    abbrev calls : State → Type 0
+    calls = CallsFrom (run x (loaded y old) a.at) made remade
+
     -- by the run from there on
-    ends_at : RunEnds x y (loaded y old) (user_sectors y) old now Boot turns steps (after_saved had shown) has (ending_of_end e)
+    ends_at : ShownRunEnds x y (loaded y old) (user_sectors y) old now Boot turns steps calls (after_saved had shown) has (ending_of_end e)
     ends_at =
         let up = takes x y (loaded y old) k steps_were budget (saved_run r) left had shown (state_of r.machine left) r.turns r.current (first_of steady y old) a (resumed.ready left) refl refl in
         let at : r.machine.time ≡ a.at = up.0.steps in
@@ -84,11 +88,11 @@ module _ {L : Type 0} (run_is : (u : CUnit) → MachinesRun (IsTypedState u)) (s
         (subst (λ (w : Around). Ready x y (loaded y old) Boot (after_saved had shown) (suc k) a.at a.past w) (around_is r resumed told left budget had is) up.0) in
         let w = runs y (loaded y old) 1 (user_sectors y) old (after_saved had shown) (suc k) a.at turns steps a.past p (subst (λ (v : View). SeesUser v (length y.boot.users)) (sym resumed.view) tt) up.1
         (omega (arith, turned, sum)) (omega (arith, turned, sum)) (omega (arith, spent, at, within, enough)) ready in
-        subst (λ (v : View). RunEnds x y (loaded y old) (user_sectors y) old now v turns steps (after_saved had shown) has (ending_of_end e)) resumed.view
-        (subst (λ (n : List (List ℕ)). RunEnds x y (loaded y old) (user_sectors y) old n r.view turns steps (after_saved had shown) has (ending_of_end e)) (one_list retold w.0 now w.1 re) w.2)
+        subst (λ (v : View). ShownRunEnds x y (loaded y old) (user_sectors y) old now v turns steps calls (after_saved had shown) has (ending_of_end e)) resumed.view
+        (subst (λ (n : List (List ℕ)). ShownRunEnds x y (loaded y old) (user_sectors y) old n r.view turns steps calls (after_saved had shown) has (ending_of_end e)) (one_list retold w.0 now w.1 re) w.2)
 
-    goes_on : (end : RunEnd) → RunEnds x y (loaded y old) (user_sectors y) old now Boot turns steps (after_saved had shown) has (ending_of_end end) →
-        GoesOnAs x y old now turns steps shown had has (ending_of_end end)
+    goes_on : (end : RunEnd) → ShownRunEnds x y (loaded y old) (user_sectors y) old now Boot turns steps calls (after_saved had shown) has (ending_of_end end) →
+        GoesOnAs x y old now turns steps calls shown had has (ending_of_end end)
     goes_on ends.Done (text, ran, shows) =
         join x y (loaded y old) 1 (user_sectors y) (machines run_is r.boot r.machine.rows count y (loaded y old) 1 (user_sectors y) old p) k steps_were (saved_run r) left shown a turns steps old now had has headline.Done text
         (omega (arith, turned, sum)) enough ran shows
@@ -101,12 +105,13 @@ module _ {L : Type 0} (run_is : (u : CUnit) → MachinesRun (IsTypedState u)) (s
     goes_on ends.DiskFault w = w
     goes_on ends.SinkFault w = w
 
-    goes : GoesOnAs x y old now turns steps shown had has (ending_of_end e)
+    goes : GoesOnAs x y old now turns steps calls shown had has (ending_of_end e)
     goes = goes_on e ends_at
 
-  pub joins : JoinsBoot count r turns steps told retold had has e
-  joins old left now few steps_were shown boots resumed disk enough is re a =
-      let same : r.turns ≡ few = ap (λ (w : List ℕ). slice_index w 5) a.words_are in
+  pub joins : JoinsBoot count r turns steps told retold made remade had has e
+  joins old left now zero steps_were shown boots resumed disk enough is re a =
+      let same : r.turns ≡ 0 = ap (λ (w : List ℕ). slice_index w 5) a.words_are in
       let some = resumed.some in
-      let next : few ≡ suc (few - 1) = omega (arith, same, some) in
-      goes old left now (few - 1) steps_were shown boots resumed disk enough is re (same ∙ next) (subst (λ (n : ℕ). SavedAt x y (loaded y old) n steps_were (saved_run r) left shown) next a)
+      absurd (omega (arith, same, some))
+  joins old left now (suc k) steps_were shown boots resumed disk enough is re a =
+      goes old left now k steps_were shown boots resumed disk enough is re (ap (λ (w : List ℕ). slice_index w 5) a.words_are) a

@@ -20,7 +20,7 @@ use Rattle.boot_turns.specs.declared.answers.View.TheVariants.{Boot as OfBoot}
 use Rattle.boot_turns.specs.declared.answers.RunFault.{RunFault}
 use Rattle.boot_turns.specs.declared.answers.RunFault.TheVariants.{StepLimit}
 use Rattle.boot_run.specs.LoadEnds.{Kept, viewed}
-use Rattle.boot_run.specs.Placed.{IsPlaced}
+use Rattle.boot_run.specs.Placed.{PlacesHold}
 use Rattle.boot_run.specs.Shown.{has_faulted}
 use Rattle.boot_run.specs.Report.{closing_rows, ReportRuns}
 use Rattle.boot_run.proofs.Reporting.{its_told, nothing_more, boot_rows, prefix_of, so_far, entries, whole_boot, printed, cut}
@@ -32,7 +32,7 @@ faulted_before now count told text faulted = λ budget y s0 delay bound base k t
 
 module _ {L : Type 0} (r : Kept L) (count : ℕ) (told retold : Option (List (List ℕ))) (text retext : Option (List ℕ)) (view : r.view ≡ OfBoot) (fine : has_faulted r.ended ≡ false)
     (law : (u : CUnit) → MachinesRun (IsTypedState u)) (typed : (u : CUnit) → RunsStayTyped (IsTypedState u)) (rows : RowsTell) (globals : GlobalRowsTell) (formed : IsWellFormed kernel_primitives (unit_view r.boot.unit))
-    (map : Map) (places : List ℕ) (placed : IsPlaced r.boot map places r.machine.hardware.memory r.count) (held : Held) (same_machine : SameButViewed r.machine held) (retold_is : retold ≡ told) where
+    (map : Map) (places : List ℕ) (placed : PlacesHold r.boot map places r.machine.hardware.memory r.count) (held : Held) (same_machine : SameButViewed r.machine held) (retold_is : retold ≡ told) where
   pub all_printed : ((ss : List (List ℕ)) → told ≡ Some ss → EntriesFit map (state_of r.machine ss) → retext ≡ append_known text (closing_rows (is_some r.ended) r.current r.machine ss map places r.boot.unit.globals.items)) →
       ReportRuns count r (record r { machine = held; fault = None }) told retold text retext (Ok tt)
   all_printed put = λ budget y s0 delay bound base k t c same_boot lawful ready.
@@ -62,7 +62,7 @@ module _ {L : Type 0} (r : Kept L) (count : ℕ) (told retold : Option (List (Li
 -- the same of the run as the call found it, by the code's own values
 module _ {L : Type 0} (now r : Kept L) (same : r ≡ now) (count : ℕ) (told retold : Option (List (List ℕ))) (text retext : Option (List ℕ)) (tracer : r.tracer ≡ None) (view : r.view ≡ viewed r.tracer) (fine : has_faulted now.ended ≡ false)
     (law : (u : CUnit) → MachinesRun (IsTypedState u)) (typed : (u : CUnit) → RunsStayTyped (IsTypedState u)) (rows : RowsTell) (globals : GlobalRowsTell) (formed : IsWellFormed kernel_primitives (unit_view r.boot.unit))
-    (map : Map) (places : List ℕ) (placed : IsPlaced r.boot map places r.machine.hardware.memory r.count) (held : Held) (same_machine : SameButViewed r.machine held) (retold_is : retold ≡ told)
+    (map : Map) (places : List ℕ) (placed : PlacesHold r.boot map places r.machine.hardware.memory r.count) (held : Held) (same_machine : SameButViewed r.machine held) (retold_is : retold ≡ told)
     (halted : Bool) (halted_is : halted ≡ is_some r.ended) (decls : List Decl) (decls_are : decls ≡ r.boot.unit.globals.items) where
   its_view : r.view ≡ OfBoot
   its_view = view ∙ ap viewed tracer

@@ -11,7 +11,7 @@ use Rattle.c0_meaning.specs.Sound.{shapes}
 use Rattle.c0_meaning.specs.TypedState.{types_of}
 use Rattle.layer_map.specs.Map.{Map, PartsInOrder, MemoryIsWhole, globals_at, memory_words}
 use Rattle.layer_contract.specs.declared.boot.Boot.{Boot as Booted}
-use Rattle.boot_run.specs.Placed.{IsPlaced}
+use Rattle.boot_run.specs.Placed.{PlacesHold}
 
 -- there is a place for each declaration, none behind the words of all
 places_many : (structs : List Shape) (ds : List Typed) (at : ℕ) → length (offsets_from structs at (types_of ds)) ≡ length ds
@@ -23,7 +23,7 @@ places_inside structs [] at i lt = absurd (omega (arith, lt))
 places_inside structs (d ∷ ds) at zero lt = omega arith
 places_inside structs (d ∷ ds) at (suc i) lt = let r = places_inside structs ds (at + words structs d.ty) i (omega (arith, lt)) in omega (arith, r)
 
-module _ (b : Booted) (m : Map) (places memory : List ℕ) (count : ℕ) (p : IsPlaced b m places memory count) where
+module _ (b : Booted) (m : Map) (places memory : List ℕ) (count : ℕ) (p : PlacesHold b m places memory count) where
   pub many : length places ≡ length b.unit.globals.items
   many =
       let e = length-map (map decl_view b.unit.globals.items) typed_of in

@@ -3,7 +3,7 @@ use Rattle.std.proofs.Common.{◌≡◌, ℕ, List, ◌++◌, Option, Result, Ok
 use Rattle.std.specs.Io.KnownBytes.{append_known}
 use Rattle.cvm_outside.specs.Told.{AppendsPart}
 use Rattle.cvm_outside.proofs.Parts.{append_known-append, puts-both, part-front, part-back}
-use Rattle.boot_report.specs.Leaves.{Printed}
+use Rattle.boot_report.specs.Leaves.{PrintsAll}
 
 module _ (old one two new : Option (List ℕ)) (a b c : List ℕ) where
   pub three : one ≡ append_known old a → two ≡ append_known one b → new ≡ append_known two c → new ≡ append_known old (a ++ b ++ c)
@@ -29,7 +29,7 @@ module _ (old mid new : Option (List ℕ)) (a b c : List ℕ) where
 
 -- rows that are printed behind others
 pub then_printed : {T E : Type 0} (old mid new : Option (List ℕ)) (first rows : List ℕ) (r : Result T E) → mid ≡ append_known old first
-    → Printed mid new rows r → Printed old new (first ++ rows) r
+    → PrintsAll mid new rows r → PrintsAll old new (first ++ rows) r
 then_printed old mid new first rows (Ok v) put last = record { ok = puts-both old mid new first rows put last.ok; err = tt }
 then_printed old mid new first rows (Err e) put last = record { ok = tt; err = part-back old mid new first rows put last.err }
 

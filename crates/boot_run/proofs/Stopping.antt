@@ -16,10 +16,10 @@ use Rattle.cvm_model.specs.declared.row.Next.{Next}
 use Rattle.cvm_model.specs.Text.{rows_text, closing_text, report_text}
 use Rattle.layer_contract.specs.Layer.{Rests}
 use Rattle.layer_contract.specs.Starts.{Beyond}
-use Rattle.boot_turns.specs.Completes.{seen}
+use Rattle.boot_turns.specs.Completes.{seen, SeenPorts}
 use Rattle.boot_turns.specs.Headline as headline
-use Rattle.boot_turns.specs.Headline.{Ending, RanFrom, EndBroken, RowBroken, StepBroken, ending, ending_of}
-use Rattle.boot_turns.specs.Machines.{Machines, MachinesRun}
+use Rattle.boot_turns.specs.Headline.{CallsFit, Ending, RanFrom, EndBroken, RowBroken, StepBroken, ending, ending_of}
+use Rattle.boot_turns.specs.Machines.{RunMachines, MachinesRun}
 use Rattle.boot_turns.specs.TurnEnds.{Stood, TextAfter}
 use Rattle.boot_turns.specs.declared.answers.View.{View}
 use Rattle.boot_turns.specs.declared.answers.View.TheVariants.{Boot}
@@ -28,17 +28,18 @@ use Rattle.boot_turns.specs.declared.answers.RunFault.TheVariants.{StepLimit, Di
 use Rattle.boot_run.specs.Loading.{system_of}
 use Rattle.boot_run.specs.LoadEnds.{Kept, SeesUser}
 use Rattle.boot_run.specs.Resuming.{SavedAt}
-use Rattle.boot_run.specs.Saving.{saved_run, EndsInTurn, HasHalted, RunsToStop, Stops, StopsOrCloses}
+use Rattle.boot_run.specs.Saving.{saved_run, EndsInTurn, HasHalted, RunsToStop, RunStops, StopsOrCloses}
 use Rattle.boot_run.specs.declared.whole.RunEnd.{RunEnd}
 use Rattle.boot_run.specs.declared.whole.RunEnd.TheVariants as ends
 use Rattle.boot_run.specs.declared.saving.SaveEnd.{SaveEnd}
 use Rattle.boot_run.specs.declared.saving.SaveEnd.TheVariants.{Stopped, Ended}
 use Rattle.boot_turns.specs.Entries.{TracesGrow}
 use Rattle.boot_turns.specs.JournalText.{RowsFollow}
-use Rattle.boot_run.proofs.Ending.{stand_told, to_close}
+use Rattle.boot_run.proofs.Ending.{calls_fit, stand_told, to_close}
 use Rattle.boot_run.specs.Sink.{Base}
-use Rattle.boot_run.specs.TurnCalls.{ended_of, Around, around, KeepsLoad}
-use Rattle.boot_run.specs.Whole.{Gone, GoFails, GoRuns, RunEnds, RunsToEnd, ending_of_end, end_of_fault}
+use Rattle.boot_run.specs.TurnCalls.{ended_of, Around, around, IsCalled, KeepsLoad, SeesPorts}
+use Rattle.boot_run.specs.Whole.{CallsFrom, ShownRunEnds, ending_of_end}
+use Rattle.boot_run.specs.Pieces.{Gone, GoFails, GoRuns, RunsToEnd, end_of_fault}
 use Rattle.boot_run.proofs.Going.{running_of}
 use Rattle.boot_run.proofs.Looping.{machines}
 use Rattle.boot_run.proofs.Prefixes.{stays_beyond}
@@ -64,7 +65,7 @@ complete_of false None e h = absurd (cc)
 complete_of false (Some v) e h = absurd (cc)
 
 -- the text of a run that goes on is that of its rows
-rows_of_text : (x : Outside) (y : System) (s0 : State) (delay bound : ℕ) → Machines x y s0 delay bound → (t : ℕ) (c : Cvm) → IsCvm y (lines_of x s0) (complete x s0 t) c → (s : Status) → s ≡ Running → (text : List ℕ) →
+rows_of_text : (x : Outside) (y : System) (s0 : State) (delay bound : ℕ) → RunMachines x y s0 delay bound → (t : ℕ) (c : Cvm) → IsCvm y (lines_of x s0) (complete x s0 t) c → (s : Status) → s ≡ Running → (text : List ℕ) →
     TextAfter x y s0 Boot t s text → text ≡ rows_text c.rows
 rows_of_text x y s0 delay bound m t c is Running e text (d, id, h) = h ∙ ap (λ (w : Cvm). rows_text w.rows) (m.same (complete x s0 t) d c id is)
 rows_of_text x y s0 delay bound m t c is Halted e text h = absurd (cc)
@@ -98,7 +99,7 @@ pub seen_is : (told : Option (List (List ℕ))) (held : Held) (z : State) → se
 seen_is None held z e = absurd (none_state z e)
 seen_is (Some ss) held z e = let same = one_state (state_of held ss) z e in (ss, refl, same, ap (λ (s : State). s.device.sectors) same)
 
-module _ (counts : TurnLaws) (x : Outside) (y : System) (s0 : State) (delay bound : ℕ) (old : List (List ℕ)) (m : Machines x y s0 delay bound) (first : Beyond bound old s0.device.sectors)
+module _ (counts : TurnLaws) (x : Outside) (y : System) (s0 : State) (delay bound : ℕ) (old : List (List ℕ)) (m : RunMachines x y s0 delay bound) (first : Beyond bound old s0.device.sectors)
     (base : Base) (turns steps : ℕ) (mid : Around) (g : Gone x y s0 Boot base turns steps mid) where
   end_is : end_within x s0 turns steps ≡ g.at
   end_is = counts.ends x s0 turns steps g.at g.end g.within
@@ -114,24 +115,24 @@ module _ (counts : TurnLaws) (x : Outside) (y : System) (s0 : State) (delay boun
       let done : ending_of g.past.status ≡ headline.Done = sym (ap (λ (c : Cvm). ending_of c.status) same) ∙ sym there ∙ sym is in
       ap (λ n. (run x s0 n).off) end_is ∙ halted_of g.past.status (run x s0 g.at) (subst (λ o. IsSome o) g.ready.ended over) done g.ready.stood.rests.0
 
-  disk_in : IsSome mid.ended → (now : List (List ℕ)) (after : Option (List ℕ)) (text : List ℕ) → after ≡ base.shows text →
-      ((made : ℕ) × StepBroken x y s0 now Boot turns steps made text) ⊎ EndBroken x y s0 now Boot turns steps text → HasHalted x s0 turns steps ⊎ EndsInTurn x y s0 now turns steps base after ends.DiskFault
-  disk_in over now after text shows (inl h) = inr (text, h.0, h.1, shows)
-  disk_in over now after text shows (inr h) = inl (halts over h.past h.cvm (sym h.done))
+  disk_in : (calls : State → Type 0) → IsSome mid.ended → (now : List (List ℕ)) (after : Option (List ℕ)) (text : List ℕ) → after ≡ base.shows text →
+      ((made : ℕ) × StepBroken x y s0 now Boot turns steps made text × calls (run x s0 made)) ⊎ EndBroken x y s0 now Boot turns steps text → HasHalted x s0 turns steps ⊎ EndsInTurn x y s0 now turns steps calls base after ends.DiskFault
+  disk_in calls over now after text shows (inl h) = inr (text, h.0, h.1, h.2, shows)
+  disk_in calls over now after text shows (inr h) = inl (halts over h.past h.cvm (sym h.done))
 
-  sink_in : IsSome mid.ended → (now : List (List ℕ)) (after : Option (List ℕ)) (text : List ℕ) → after ≡ base.shows text →
-      RowBroken x y s0 now turns steps text ⊎ EndBroken x y s0 now Boot turns steps text → HasHalted x s0 turns steps ⊎ EndsInTurn x y s0 now turns steps base after ends.SinkFault
-  sink_in over now after text shows (inl h) = inr (text, h, shows)
-  sink_in over now after text shows (inr h) = inl (halts over h.past h.cvm (sym h.done))
+  sink_in : (calls : State → Type 0) → IsSome mid.ended → (now : List (List ℕ)) (after : Option (List ℕ)) (text : List ℕ) → after ≡ base.shows text →
+      RowBroken x y s0 now turns steps text ⊎ EndBroken x y s0 now Boot turns steps text → HasHalted x s0 turns steps ⊎ EndsInTurn x y s0 now turns steps calls base after ends.SinkFault
+  sink_in calls over now after text shows (inl h) = inr (text, h, shows)
+  sink_in calls over now after text shows (inr h) = inl (halts over h.past h.cvm (sym h.done))
 
   -- so a run that is closed has, or came to no report
-  pub halted_or : IsSome mid.ended → (now : List (List ℕ)) (after : Option (List ℕ)) (e : RunEnd) → RunEnds x y s0 bound old now Boot turns steps base after (ending_of_end e) →
-      HasHalted x s0 turns steps ⊎ EndsInTurn x y s0 now turns steps base after e
-  halted_or over now after ends.Done w = inl (halts over w.1.past w.1.cvm w.1.status)
-  halted_or over now after ends.KernelFaulted w = inr tt
-  halted_or over now after ends.OutOfSteps w = inr tt
-  halted_or over now after ends.DiskFault w = disk_in over now after w.0 w.2 w.1.1
-  halted_or over now after ends.SinkFault w = sink_in over now after w.0 w.2 w.1.1
+  pub halted_or : (calls : State → Type 0) → IsSome mid.ended → (now : List (List ℕ)) (after : Option (List ℕ)) (e : RunEnd) → ShownRunEnds x y s0 bound old now Boot turns steps calls base after (ending_of_end e) →
+      HasHalted x s0 turns steps ⊎ EndsInTurn x y s0 now turns steps calls base after e
+  halted_or calls over now after ends.Done w = inl (halts over w.1.past w.1.cvm w.1.status)
+  halted_or calls over now after ends.KernelFaulted w = inr tt
+  halted_or calls over now after ends.OutOfSteps w = inr tt
+  halted_or calls over now after ends.DiskFault w = disk_in calls over now after w.0 w.2 w.1.1
+  halted_or calls over now after ends.SinkFault w = sink_in calls over now after w.0 w.2 w.1.1
 
   module _ (goes_on : mid.ended ≡ None) where
     running : g.past.status ≡ Running
@@ -182,8 +183,8 @@ module _ (counts : TurnLaws) (x : Outside) (y : System) (s0 : State) (delay boun
 -- the loop is done, and the run goes on: it stops there
 module _ {L : Type 0} (run_is : (u : CUnit) → MachinesRun (IsTypedState u)) (counts : TurnLaws) (count : ℕ) (r mid : Kept L) (turns steps left : ℕ) (told mid_told : Option (List (List ℕ))) (text mid_text : Option (List ℕ))
     (kept : KeepsLoad r mid) (gone : GoRuns count r turns (around r told steps text) (around mid mid_told left mid_text) (Ok tt)) where
-  pub stops : mid.ended ≡ None → RunsToStop count r mid turns (around r told steps text) mid_told mid_text Stopped
-  stops on = λ s0 delay bound old base k t wanted total c p view starts some more sum ready.
+  pub stops : (made remade : ℕ) → mid.ended ≡ None → RunsToStop count r mid turns (around r told steps text) mid_told made remade mid_text Stopped
+  stops made remade on = λ s0 delay bound old base k t wanted total c p view starts some more sum ready.
       let x = outside_of r.machine.rows count in
       let y = system_of r.boot r.machine.rows in
       let m = machines run_is r.boot r.machine.rows count y s0 delay bound old p in
@@ -210,19 +211,20 @@ module _ {L : Type 0} (run_is : (u : CUnit) → MachinesRun (IsTypedState u)) (c
       )
 
   -- or it has ended, and is closed
-  pub closes : (new : Kept L) (retold : Option (List (List ℕ))) (retext : Option (List ℕ)) (e : RunEnd) → IsSome mid.ended → RunsToEnd count r turns steps (around r told steps text) retold retext e →
-      RunsToStop count r new turns (around r told steps text) retold retext (Ended e)
-  closes new retold retext e over runs = λ s0 delay bound old base k t wanted total c p view starts some more sum ready.
+  pub closes : (new : Kept L) (retold : Option (List (List ℕ))) (made remade : ℕ) (retext : Option (List ℕ)) (e : RunEnd) → IsSome mid.ended → RunsToEnd count r turns steps (around r told steps text) retold made remade retext e →
+      RunsToStop count r new turns (around r told steps text) retold made remade retext (Ended e)
+  closes new retold made remade retext e over runs = λ s0 delay bound old base k t wanted total c p view starts some more sum ready.
       let x = outside_of r.machine.rows count in
       let y = system_of r.boot r.machine.rows in
       let m = machines run_is r.boot r.machine.rows count y s0 delay bound old p in
       let g : Gone x y s0 Boot base wanted total (around mid mid_told left mid_text) =
       subst (λ (v : View). Gone x y s0 v base wanted total (around mid mid_told left mid_text)) view (gone y s0 delay bound old base k t wanted total c p starts some more sum ready) in
       let w = runs y s0 delay bound old base k t wanted total c p (subst (λ (v : View). SeesUser v (length y.boot.users)) (sym view) tt) starts some more sum ready in
-      let ends_so : RunEnds x y s0 bound old w.0 Boot wanted total base retext (ending_of_end e) = subst (λ (v : View). RunEnds x y s0 bound old w.0 v wanted total base retext (ending_of_end e)) view w.2 in (
+      let calls : State → Type 0 = CallsFrom (run x s0 t) made remade in
+      let ends_so : ShownRunEnds x y s0 bound old w.0 Boot wanted total calls base retext (ending_of_end e) = subst (λ (v : View). ShownRunEnds x y s0 bound old w.0 v wanted total calls base retext (ending_of_end e)) view w.2 in (
         w.0,
         w.1,
-        (ends_so, halted_or counts x y s0 delay bound old m p.beyond base wanted total (around mid mid_told left mid_text) g over w.0 retext e ends_so),
+        (ends_so, halted_or counts x y s0 delay bound old m p.beyond base wanted total (around mid mid_told left mid_text) g calls over w.0 retext e ends_so),
       )
 
 -- a run that isn't over has no end
@@ -236,46 +238,50 @@ one_told (Some c) a b e f = cc
 
 -- a fault of the loop ends it, in a turn
 module _ {L : Type 0} (count : ℕ) (r new : Kept L) (turns steps left : ℕ) (told retold : Option (List (List ℕ))) (text retext : Option (List ℕ)) where
-  in_turn : (x : Outside) (y : System) (s0 : State) (base : Base) (wanted total : ℕ) (now : List (List ℕ)) → retold ≡ Some now → (f : RunFault) → GoFails x y s0 Boot base wanted total (around new retold left retext) f →
-      EndsInTurn x y s0 now wanted total base retext (end_of_fault f)
-  in_turn x y s0 base wanted total now is StepLimit g = tt
-  in_turn x y s0 base wanted total now is Disk (shown, there, stand, broken, shows) =
-      (shown, new.machine.time, subst (λ (n : List (List ℕ)). StepBroken x y s0 n Boot wanted total new.machine.time shown) (one_told retold there now (stand_told retold new.machine there stand) is) broken, shows)
-  in_turn x y s0 base wanted total now is Sink (shown, there, stand, broken, shows) =
+  in_turn : (x : Outside) (y : System) (s0 : State) (base : Base) (wanted total : ℕ) (calls : State → Type 0) → (SeenPorts (run x s0 new.machine.time) (seen retold new.machine) → calls (run x s0 new.machine.time)) →
+      (now : List (List ℕ)) → retold ≡ Some now → (f : RunFault) → GoFails x y s0 Boot base wanted total (around new retold left retext) f → EndsInTurn x y s0 now wanted total calls base retext (end_of_fault f)
+  in_turn x y s0 base wanted total calls fit now is StepLimit g = tt
+  in_turn x y s0 base wanted total calls fit now is Disk (shown, there, stand, broken, ports, shows) =
+      (shown, new.machine.time, subst (λ (n : List (List ℕ)). StepBroken x y s0 n Boot wanted total new.machine.time shown) (one_told retold there now (stand_told retold new.machine there stand) is) broken, fit ports, shows)
+  in_turn x y s0 base wanted total calls fit now is Sink (shown, there, stand, broken, shows) =
       (shown, subst (λ (n : List (List ℕ)). RowBroken x y s0 n wanted total shown) (one_told retold there now (stand_told retold new.machine there stand) is) broken, shows)
 
-  pub breaks : (f : RunFault) → GoRuns count r turns (around r told steps text) (around new retold left retext) (Err f) → RunsToEnd count r turns steps (around r told steps text) retold retext (end_of_fault f) →
-      RunsToStop count r new turns (around r told steps text) retold retext (Ended (end_of_fault f))
-  breaks f fails runs = λ s0 delay bound old base k t wanted total c p view starts some more sum ready.
+  pub breaks : (made remade : ℕ) → IsCalled r new made remade → (f : RunFault) → GoRuns count r turns (around r told steps text) (around new retold left retext) (Err f) →
+      RunsToEnd count r turns steps (around r told steps text) retold made remade retext (end_of_fault f) → RunsToStop count r new turns (around r told steps text) retold made remade retext (Ended (end_of_fault f))
+  breaks made remade called f fails runs = λ s0 delay bound old base k t wanted total c p view starts some more sum ready.
       let x = outside_of r.machine.rows count in
       let y = system_of r.boot r.machine.rows in
       let w = runs y s0 delay bound old base k t wanted total c p (subst (λ (v : View). SeesUser v (length y.boot.users)) (sym view) tt) starts some more sum ready in
       let g : GoFails x y s0 Boot base wanted total (around new retold left retext) f =
       subst (λ (v : View). GoFails x y s0 v base wanted total (around new retold left retext) f) view (fails y s0 delay bound old base k t wanted total c p starts some more sum ready) in
-      (w.0, w.1, (subst (λ (v : View). RunEnds x y s0 bound old w.0 v wanted total base retext (ending_of_end (end_of_fault f))) view w.2, inr (in_turn x y s0 base wanted total w.0 w.1 f g)))
+      let calls : State → Type 0 = CallsFrom (run x s0 t) made remade in
+      let fit : SeenPorts (run x s0 new.machine.time) (seen retold new.machine) → calls (run x s0 new.machine.time) =
+      subst (λ (v : View). SeesPorts v (run x s0 new.machine.time) (around new retold left retext) → CallsFit v calls (run x s0 new.machine.time)) view
+      (calls_fit x y s0 base k t c r new told retold steps left text retext made remade ready called (run x s0 new.machine.time)) in
+      (w.0, w.1, (subst (λ (v : View). ShownRunEnds x y s0 bound old w.0 v wanted total calls base retext (ending_of_end (end_of_fault f))) view w.2, inr (in_turn x y s0 base wanted total calls fit w.0 w.1 f g)))
 
 -- by how it stops
-module _ {L D O : Type 0} (run_is : (u : CUnit) → MachinesRun (IsTypedState u)) (grow : (u : CUnit) → TracesGrow (IsTypedState u)) (follow : RowsFollow) (counts : TurnLaws) (size : D → ℕ) (sectors : D → Option (List (List ℕ))) (text : O → Option (List ℕ))
+module _ {L D O : Type 0} (run_is : (u : CUnit) → MachinesRun (IsTypedState u)) (grow : (u : CUnit) → TracesGrow (IsTypedState u)) (follow : RowsFollow) (counts : TurnLaws) (size : D → ℕ) (sectors : D → Option (List (List ℕ))) (calls : D → ℕ) (text : O → Option (List ℕ))
     (r mid new : Kept L) (disk mid_disk retold : D) (out mid_out printed : O) (turns steps left : ℕ) (kept : KeepsLoad r mid) (same : size mid_disk ≡ size disk)
     (gone : GoRuns (size disk) r turns (around r (sectors disk) steps (text out)) (around mid (sectors mid_disk) left (text mid_out)) (Ok tt)) where
-  pub stopped : (e : SaveEnd) → StopsOrCloses size sectors text mid mid_disk mid_out new retold printed e → Stops size sectors text turns steps r disk out new retold printed e
+  pub stopped : (e : SaveEnd) → StopsOrCloses size sectors calls text mid mid_disk mid_out new retold printed e → RunStops size sectors calls text turns steps r disk out new retold printed e
   stopped Stopped (on, a, b, c) =
-      subst (λ (n : Kept L). Stops size sectors text turns steps r disk out n retold printed Stopped) (sym a)
-      (subst (λ (d : D). Stops size sectors text turns steps r disk out mid d printed Stopped) (sym b)
-      (subst (λ (o : O). Stops size sectors text turns steps r disk out mid mid_disk o Stopped) (sym c)
-      (stops run_is counts (size disk) r mid turns steps left (sectors disk) (sectors mid_disk) (text out) (text mid_out) kept gone on)))
+      subst (λ (n : Kept L). RunStops size sectors calls text turns steps r disk out n retold printed Stopped) (sym a)
+      (subst (λ (d : D). RunStops size sectors calls text turns steps r disk out mid d printed Stopped) (sym b)
+      (subst (λ (o : O). RunStops size sectors calls text turns steps r disk out mid mid_disk o Stopped) (sym c)
+      (stops run_is counts (size disk) r mid turns steps left (sectors disk) (sectors mid_disk) (text out) (text mid_out) kept gone (calls disk) (calls mid_disk) on)))
   stopped (Ended e) (over, w) =
-      closes run_is counts (size disk) r mid turns steps left (sectors disk) (sectors mid_disk) (text out) (text mid_out) kept gone new (sectors retold) (text printed) e over
-      (to_close run_is grow follow counts (size disk) r turns steps (sectors disk) (text out) (size mid_disk) mid new (sectors mid_disk) (sectors retold) left (text mid_out) (text printed) e kept same gone (w left))
+      closes run_is counts (size disk) r mid turns steps left (sectors disk) (sectors mid_disk) (text out) (text mid_out) kept gone new (sectors retold) (calls disk) (calls retold) (text printed) e over
+      (to_close run_is grow follow counts (size disk) r turns steps (sectors disk) (text out) (size mid_disk) mid new (sectors mid_disk) (sectors retold) left (text mid_out) (text printed) (calls disk) (calls retold) e kept same gone (w left))
 
 -- one that stopped goes on
-pub stopped_goes_on : {L D O : Type 0} (size : D → ℕ) (sectors : D → Option (List (List ℕ))) (text : O → Option (List ℕ)) (mid new : Kept L) (disk retold : D) (out printed : O) (e : SaveEnd) →
-    StopsOrCloses size sectors text mid disk out new retold printed e → e ≡ Stopped → new.ended ≡ None
-stopped_goes_on size sectors text mid new disk retold out printed Stopped (on, a, b, c) h = ap (λ (r : Kept _). r.ended) a ∙ on
-stopped_goes_on size sectors text mid new disk retold out printed (Ended e) w h = absurd (cc)
+pub stopped_goes_on : {L D O : Type 0} (size : D → ℕ) (sectors : D → Option (List (List ℕ))) (calls : D → ℕ) (text : O → Option (List ℕ)) (mid new : Kept L) (disk retold : D) (out printed : O) (e : SaveEnd) →
+    StopsOrCloses size sectors calls text mid disk out new retold printed e → e ≡ Stopped → new.ended ≡ None
+stopped_goes_on size sectors calls text mid new disk retold out printed Stopped (on, a, b, c) h = ap (λ (r : Kept _). r.ended) a ∙ on
+stopped_goes_on size sectors calls text mid new disk retold out printed (Ended e) w h = absurd (cc)
 
 -- and has as much memory
-pub stopped_keeps : {L D O : Type 0} (size : D → ℕ) (sectors : D → Option (List (List ℕ))) (text : O → Option (List ℕ)) (mid new : Kept L) (disk retold : D) (out printed : O) (e : SaveEnd) →
-    StopsOrCloses size sectors text mid disk out new retold printed e → e ≡ Stopped → length new.machine.hardware.memory ≡ length mid.machine.hardware.memory
-stopped_keeps size sectors text mid new disk retold out printed Stopped (on, a, b, c) h = ap (λ (r : Kept _). length r.machine.hardware.memory) a
-stopped_keeps size sectors text mid new disk retold out printed (Ended e) w h = absurd (cc)
+pub stopped_keeps : {L D O : Type 0} (size : D → ℕ) (sectors : D → Option (List (List ℕ))) (calls : D → ℕ) (text : O → Option (List ℕ)) (mid new : Kept L) (disk retold : D) (out printed : O) (e : SaveEnd) →
+    StopsOrCloses size sectors calls text mid disk out new retold printed e → e ≡ Stopped → length new.machine.hardware.memory ≡ length mid.machine.hardware.memory
+stopped_keeps size sectors calls text mid new disk retold out printed Stopped (on, a, b, c) h = ap (λ (r : Kept _). length r.machine.hardware.memory) a
+stopped_keeps size sectors calls text mid new disk retold out printed (Ended e) w h = absurd (cc)

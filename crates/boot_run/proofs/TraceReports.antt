@@ -24,7 +24,7 @@ use Rattle.boot_turns.specs.declared.tracer.Tracer.{Tracer}
 use Rattle.boot_turns.specs.declared.answers.View.TheVariants.{Trace as OfTrace}
 use Rattle.boot_turns.specs.declared.answers.RunFault.TheVariants.{Disk, Sink}
 use Rattle.boot_run.specs.LoadEnds.{Kept, tracer_fits, viewed}
-use Rattle.boot_run.specs.Placed.{IsPlaced}
+use Rattle.boot_run.specs.Placed.{PlacesHold}
 use Rattle.boot_run.specs.Shown.{has_faulted}
 use Rattle.boot_run.specs.Report.{trace_rows, ReportRuns}
 use Rattle.boot_run.proofs.Reporting.{its_told, prefix_of, so_far, printed, cut}
@@ -46,7 +46,7 @@ module _ (shown a b : List ℕ) (n : ℕ) where
       subst (λ w. Prefix (shown ++ a) w (shown ++ take (length a + n) (a ++ b))) whole (subst (λ w. Prefix (shown ++ a) (shown ++ a ++ b) w) now (prefix_of (shown ++ a) b n))
 
 -- the user is one of the boot's
-within_boot : {L : Type 0} (y : System) (r : Kept L) → y.boot ≡ boot_of r.boot → (map : Map) (places : List ℕ) → IsPlaced r.boot map places r.machine.hardware.memory r.count → (u : ℕ) → u ≤ map.users → u ≤ length y.boot.users
+within_boot : {L : Type 0} (y : System) (r : Kept L) → y.boot ≡ boot_of r.boot → (map : Map) (places : List ℕ) → PlacesHold r.boot map places r.machine.hardware.memory r.count → (u : ℕ) → u ≤ map.users → u ≤ length y.boot.users
 within_boot y r same map places placed u most =
     let a : map.users ≡ length (boot_of r.boot).users = users_are_those r.boot map places r.machine.hardware.memory r.count placed in
     let b : length y.boot.users ≡ length (boot_of r.boot).users = ap (λ (q : Boot). length q.users) same in
@@ -54,7 +54,7 @@ within_boot y r same map places placed u most =
 
 module _ {L : Type 0} (r : Kept L) (count : ℕ) (told retold : Option (List (List ℕ))) (text retext : Option (List ℕ)) (kept : Tracer) (view : r.view ≡ OfTrace kept.user) (tracer : r.tracer ≡ Some kept)
     (fine : has_faulted r.ended ≡ false) (grow : (u : CUnit) → TracesGrow (IsTypedState u)) (follow : RowsFollow) (rows : UserRowsTell)
-    (map : Map) (places : List ℕ) (placed : IsPlaced r.boot map places r.machine.hardware.memory r.count) (some : 1 ≤ kept.user) (most : kept.user ≤ map.users)
+    (map : Map) (places : List ℕ) (placed : PlacesHold r.boot map places r.machine.hardware.memory r.count) (some : 1 ≤ kept.user) (most : kept.user ≤ map.users)
     (held : Held) (same_machine : SameButViewed r.machine held) (retold_is : retold ≡ told) where
   pub trace_printed :
       ((ss : List (List ℕ)) → told ≡ Some ss → EntriesFit map (state_of r.machine ss) → retext ≡ append_known text (steps_row kept.steps ++ trace_rows (is_some r.ended) r.current r.machine ss map kept.user)) →
@@ -105,7 +105,7 @@ module _ {L : Type 0} (r : Kept L) (count : ℕ) (told retold : Option (List (Li
 -- the same of the run as the call found it, by the code's own values
 module _ {L : Type 0} (now r : Kept L) (same : r ≡ now) (count : ℕ) (told retold : Option (List (List ℕ))) (text retext : Option (List ℕ)) (kept : Tracer) (tracer : r.tracer ≡ Some kept) (view : r.view ≡ viewed r.tracer)
     (fine : has_faulted now.ended ≡ false) (grow : (u : CUnit) → TracesGrow (IsTypedState u)) (follow : RowsFollow) (rows : UserRowsTell)
-    (map : Map) (places : List ℕ) (placed : IsPlaced r.boot map places r.machine.hardware.memory r.count) (fits : IsTrue (tracer_fits r.tracer (length r.boot.users.items) r.machine.time))
+    (map : Map) (places : List ℕ) (placed : PlacesHold r.boot map places r.machine.hardware.memory r.count) (fits : IsTrue (tracer_fits r.tracer (length r.boot.users.items) r.machine.time))
     (held : Held) (same_machine : SameButViewed r.machine held) (retold_is : retold ≡ told) (halted : Bool) (halted_is : halted ≡ is_some r.ended) where
   its_view : r.view ≡ OfTrace kept.user
   its_view = view ∙ ap viewed tracer

@@ -59,19 +59,19 @@ is_faulted KernelFaulted = true
 is_faulted other = false
 
 -- the sectors of the machine after so many steps are told
-abbrev pub Tells : Outside → State → ℕ → Option (List (List ℕ)) → Type 0
-Tells x s t told = told ≡ Some (run x s t).device.sectors
+abbrev pub SectorsTold : Outside → State → ℕ → Option (List (List ℕ)) → Type 0
+SectorsTold x s t told = told ≡ Some (run x s t).device.sectors
 
 -- within so many steps of the run k turns are complete for the first time, or the machine is off: by a fault of the kernel, or not
-pub record Ends (x : Outside) (s : State) (k total : ℕ) (faulted : Bool) (told : Option (List (List ℕ))) : Type 0 where
+pub record EndsWithin (x : Outside) (s : State) (k total : ℕ) (faulted : Bool) (told : Option (List (List ℕ))) : Type 0 where
   pub at : ℕ
   pub comes : ComesTo x s k at
   pub within : at ≤ total
   pub how : has_faulted (ended_off (run x s at).off) ≡ faulted
-  pub sectors : Tells x s at told
+  pub sectors : SectorsTold x s at told
 
 -- the disk failed in step number `at`, before k turns were complete: in the transfer that was due, or where a page was read for its rows
-pub record StepFails (x : Outside) (s : State) (k total : ℕ) (traced : Bool) (told : Option (List (List ℕ))) : Type 0 where
+pub record StepFailsWithin (x : Outside) (s : State) (k total : ℕ) (traced : Bool) (told : Option (List (List ℕ))) : Type 0 where
   pub at : ℕ
   pub sooner : NoSooner x s k (suc at)
   pub less : at < total
@@ -84,15 +84,15 @@ pub record PutFails (x : Outside) (s : State) (k total : ℕ) (told : Option (Li
   pub at : ℕ
   pub sooner : NoSooner x s k at
   pub within : at ≤ total
-  pub sectors : Tells x s at told
+  pub sectors : SectorsTold x s at told
 
 -- A RUN TO ITS END, in so many steps in all: k turns are complete or the machine halted; it is off by another power word; all steps were run, the
 -- turns aren't complete, and the machine is on; the disk failed in a step, or in the report; or the sink failed
 abbrev pub AnyEnds : Outside → State → (k total : ℕ) → (traced : Bool) → (told : Option (List (List ℕ))) → RunEnd → Type 0
-AnyEnds x s k total traced told Done = Ends x s k total false told
-AnyEnds x s k total traced told KernelFaulted = Ends x s k total true told
-AnyEnds x s k total traced told OutOfSteps = NoSooner x s k (suc total) × Tells x s total told
-AnyEnds x s k total traced told DiskFault = StepFails x s k total traced told ⊎ Ends x s k total false told
+AnyEnds x s k total traced told Done = EndsWithin x s k total false told
+AnyEnds x s k total traced told KernelFaulted = EndsWithin x s k total true told
+AnyEnds x s k total traced told OutOfSteps = NoSooner x s k (suc total) × SectorsTold x s total told
+AnyEnds x s k total traced told DiskFault = StepFailsWithin x s k total traced told ⊎ EndsWithin x s k total false told
 AnyEnds x s k total traced told SinkFault = PutFails x s k total told
 
 -- of a loaded run, from each step of each run in which its machine stands

@@ -13,7 +13,8 @@ use Rattle.boot_run.specs.LoadEnds.{Kept}
 use Rattle.boot_run.specs.Report.{ReportRuns}
 use Rattle.boot_run.specs.TurnCalls.{around, TurnsRun}
 use Rattle.boot_run.specs.TurnParts.{MakesTurn}
-use Rattle.boot_run.specs.Whole.{CloseRuns, GoRuns, RomEnds, RunsToEnd, WholeEnds}
+use Rattle.boot_run.specs.Whole.{RomEnds, WholeEnds}
+use Rattle.boot_run.specs.Pieces.{CloseRuns, GoRuns, RunsToEnd}
 
 module _ {D O : Type 0} (size : D → ℕ) (sectors : D → Option (List (List ℕ))) (text : O → Option (List ℕ)) where
   -- the machine makes turns, so many at most
@@ -41,8 +42,8 @@ module _ {D O : Type 0} (size : D → ℕ) (sectors : D → Option (List (List �
   Reports run disk out new retold printed result = ReportRuns (size disk) run new (sectors disk) (sectors retold) (text out) (text printed) result
 
   -- turns are made until so many are complete or the run has ended
-  abbrev pub Goes : {L : Type 0} → (turns : ℕ) → Kept L → D → ℕ → O → Kept L → D → ℕ → O → Result (Unit {0}) RunFault → Type 0
-  Goes turns run disk budget out new retold left printed result =
+  abbrev pub GoesTurns : {L : Type 0} → (turns : ℕ) → Kept L → D → ℕ → O → Kept L → D → ℕ → O → Result (Unit {0}) RunFault → Type 0
+  GoesTurns turns run disk budget out new retold left printed result =
       GoRuns (size disk) run turns (around run (sectors disk) budget (text out)) (around new (sectors retold) left (text printed)) result
 
   -- and so of any run of the machine
@@ -55,21 +56,23 @@ module _ {D O : Type 0} (size : D → ℕ) (sectors : D → Option (List (List �
   Closes run disk out new retold printed result = (budget : ℕ) →
       CloseRuns (size disk) run (around run (sectors disk) budget (text out)) (around new (sectors retold) budget (text printed)) result
 
-  -- it is run to its end, in so many turns and steps at most
-  abbrev pub Finishes : {L : Type 0} → (turns steps : ℕ) → Kept L → D → O → D → O → RunEnd → Type 0
-  Finishes turns steps run disk out retold printed result =
-      RunsToEnd (size disk) run turns steps (around run (sectors disk) steps (text out)) (sectors retold) (text printed) result
-
   -- and so of any run of the machine
   abbrev pub FinishesAnyhow : {L : Type 0} → (turns steps : ℕ) → Kept L → D → O → D → RunEnd → Type 0
   FinishesAnyhow turns steps run disk out retold result = AnyRunsToEnd (size disk) run turns (around run (sectors disk) steps (text out)) (sectors retold) result
 
+-- those that end a run: the disk's count of calls is told, too
+module _ {D O : Type 0} (size : D → ℕ) (sectors : D → Option (List (List ℕ))) (called : D → ℕ) (text : O → Option (List ℕ)) where
+  -- it is run to its end, in so many turns and steps at most
+  abbrev pub Finishes : {L : Type 0} → (turns steps : ℕ) → Kept L → D → O → D → O → RunEnd → Type 0
+  Finishes turns steps run disk out retold printed result =
+      RunsToEnd (size disk) run turns steps (around run (sectors disk) steps (text out)) (sectors retold) (called disk) (called retold) (text printed) result
+
   -- what is booted over such a disk, under a schedule, is run to its end, or refused
   abbrev pub RunsWhole : Booted → Rows → View → (turns steps : ℕ) → D → O → D → O → Result RunEnd LoadFault → Type 0
   RunsWhole boot rows view turns steps disk out retold printed result =
-      WholeEnds boot rows (size disk) view turns steps (sectors disk) (sectors retold) (text out) (text printed) result
+      WholeEnds boot rows (size disk) view turns steps (sectors disk) (sectors retold) (called disk) (called retold) (text out) (text printed) result
 
   -- and so of the machine with its boot ROM
   abbrev pub RunsFromRom : Booted → Rows → View → (turns steps : ℕ) → D → O → D → O → Result RunEnd LoadFault → Type 0
   RunsFromRom boot rows view turns steps disk out retold printed result =
-      RomEnds boot rows (size disk) view turns steps (sectors disk) (sectors retold) (text out) (text printed) result
+      RomEnds boot rows (size disk) view turns steps (sectors disk) (sectors retold) (called disk) (called retold) (text out) (text printed) result

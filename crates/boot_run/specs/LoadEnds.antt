@@ -1,5 +1,6 @@
 -- What contracts see of a loaded run, and how a call of `load` ends.
-use Rattle.std.specs.Prelude.{◌≡◌, ℕ, ◌+◌, ◌*◌, ◌/◌, ◌<◌, ◌≤◌, ◌&&◌, Bool, true, nat_lt, Option, Some, None, List, length, ⊤}
+use Rattle.std.specs.Prelude.{◌≡◌, ◌≢◌, ℕ, ◌+◌, ◌*◌, ◌/◌, ◌<◌, ◌≤◌, ◌&&◌, Bool, true, nat_lt, Option, Some, None, IsSome, List, length, ⊤}
+use Rattle.std.specs.Prelude.{Result, Err, IfOk, IfErr, OnErr}
 use Rattle.std.specs.Option.{option_map}
 use Rattle.cvm_outside.specs.Causes.{Rose}
 use Rattle.mips_table.specs.Device.{Pending, Idle, Reading, Writing}
@@ -33,7 +34,7 @@ SeesUser Boot users = ⊤
 SeesUser (Trace u) users = (1 ≤ u) × (u ≤ users)
 
 -- a run that needs so many sectors can be loaded over a disk of so many
-pub record HasRoom (b : Booted) (view : View) (need count : ℕ) : Type 0 where
+pub record HasDiskRoom (b : Booted) (view : View) (need count : ℕ) : Type 0 where
   pub user : SeesUser view (length b.users.items)
   pub room : need ≤ count
 
@@ -41,8 +42,8 @@ pub record HasRoom (b : Booted) (view : View) (need count : ℕ) : Type 0 where
 abbrev pub LoadFails : Booted → View → (need count before now : ℕ) → LoadFault → Type 0
 LoadFails b view need count before now (NoSuchUser u users) = (view ≡ Trace u) × (users ≡ length b.users.items) × (SeesUser view users → ⊥)
 LoadFails b view need count before now (SmallDisk wanted have) = SeesUser view (length b.users.items) × (wanted ≡ need) × (have ≡ count) × (have < need)
-LoadFails b view need count before now Memory = HasRoom b view need count
-LoadFails b view need count before now Disk = HasRoom b view need count × Rose before now
+LoadFails b view need count before now Memory = HasDiskRoom b view need count
+LoadFails b view need count before now Disk = HasDiskRoom b view need count × Rose before now
 
 -- the disk failed in the load of what is booted, whose sectors and whose count of calls were and are these: of the loaded machine
 abbrev pub LoadTorn : Booted → Rows → (told retold : Option (List (List ℕ))) → (made remade : ℕ) → Type 0
@@ -96,7 +97,7 @@ pub record IsFresh {L : Type 0} (layer : L) (boot : Booted) (view : View) (rows 
   pub goes_on : r.ended ≡ None
   pub no_fault : r.fault ≡ None
   pub tracer_is : r.tracer ≡ first_tracer view
-  pub has_room : HasRoom boot view need count
+  pub has_room : HasDiskRoom boot view need count
 
 -- where its sectors are told, it stands as the machine that is made of the sectors as they were
 abbrev pub StandsFrom : {L : Type 0} → (start : List (List ℕ) → State) → (told retold : Option (List (List ℕ))) → Kept L → Type 0
@@ -107,3 +108,17 @@ abbrev pub names_sector : ℕ → Pending → Bool
 names_sector count Idle = true
 names_sector count (Reading left sector) = nat_lt sector count
 names_sector count (Writing left sector) = nat_lt sector count
+
+-- WHAT EVERY CALL SAYS THAT LOADS A RUN AND MAKES IT, beside how that ends; by the disk's size, its sectors and its counts of faults and calls. Why it
+-- isn't loaded, and then nothing is printed and, unless the disk failed in the load, nothing changes; where it did, `Stopped` tells what that leaves; the
+-- size of a disk stays, and sectors that are told stay told.
+module _ {D O : Type 0} (size : D → ℕ) (sectors : D → Option (List (List ℕ))) (broke called : D → ℕ) where
+  pub record LoadsRun {A : Type 0} (b : Booted) (view : View) (need : ℕ) (Stopped : (told retold : Option (List (List ℕ))) → (made remade : ℕ) → Type 0)
+      (disk : D) (out : O) (redisk : D) (reout : O) (result : Result A LoadFault) : Type 0 where
+    pub refused : IfErr result (LoadFails b view need (size disk) (broke disk) (broke redisk))
+    pub stopped : result ≡ Err Disk → Stopped (sectors disk) (sectors redisk) (called disk) (called redisk)
+    pub loaded : IfOk result (λ _. HasDiskRoom b view need (size disk))
+    pub unprinted : IfErr result (λ _. reout ≡ out)
+    pub still : result ≢ Err Disk → OnErr result (redisk ≡ disk)
+    pub same_size : size redisk ≡ size disk
+    pub told : IsSome (sectors disk) → IsSome (sectors redisk)

@@ -22,7 +22,7 @@ module _ {D O : Type 0} (size : D → ℕ) (sectors : D → Option (List (List �
   -- beside what the turns come to, where a run that kept no fault and hasn't ended makes turns, so many at most, with a disk, a budget and a sink, before
   -- and after: what was loaded is kept, the disk or the sink is blamed only where its count rose, the steps are taken from the budget, and one turn at
   -- least is made unless there is a fault
-  pub record Makes {L : Type 0} (most : ℕ) (run : Kept L) (disk : D) (budget : ℕ) (out : O) (new : Kept L) (retold : D) (left : ℕ) (printed : O)
+  pub record TurnsMake {L : Type 0} (most : ℕ) (run : Kept L) (disk : D) (budget : ℕ) (out : O) (new : Kept L) (retold : D) (left : ℕ) (printed : O)
       (result : Result (ℕ × Turn) RunFault) : Type 0 where
     pub kept : KeepsLoad run new
     pub fault : new.fault ≡ run.fault
@@ -33,7 +33,7 @@ module _ {D O : Type 0} (size : D → ℕ) (sectors : D → Option (List (List �
     pub made : IfOk result (λ r. (1 ≤ r.0) × (r.0 ≤ most) × (r.1 ≢ Over))
 
   -- and whatever the run is: a fault that it kept is answered again, one that has ended answers that it has, and both touch nothing; a new fault is kept
-  pub record Leaves {L : Type 0} (most : ℕ) (run : Kept L) (disk : D) (budget : ℕ) (out : O) (new : Kept L) (retold : D) (left : ℕ) (printed : O)
+  pub record TurnsLeave {L : Type 0} (most : ℕ) (run : Kept L) (disk : D) (budget : ℕ) (out : O) (new : Kept L) (retold : D) (left : ℕ) (printed : O)
       (result : Result (ℕ × Turn) RunFault) : Type 0 where
     pub kept : KeepsLoad run new
     pub same_size : size retold ≡ size disk
@@ -54,7 +54,7 @@ module _ {D O : Type 0} (size : D → ℕ) (sectors : D → Option (List (List �
   -- turns, so many at most: what they leave, and what they come to
   pub record TurnsSay {L : Type 0} (most : ℕ) (run : Kept L) (disk : D) (budget : ℕ) (out : O) (new : Kept L) (retold : D) (left : ℕ) (printed : O)
       (result : Result (ℕ × Turn) RunFault) : Type 0 where
-    pub leaves : Leaves most run disk budget out new retold left printed result
+    pub leaves : TurnsLeave most run disk budget out new retold left printed result
     pub ends : TakesTurns size sectors text most run disk budget out new retold left printed result
     pub any : ProceedsAnyhow size sectors text most run disk budget out new retold left printed result
 

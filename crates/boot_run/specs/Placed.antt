@@ -12,7 +12,7 @@ use Rattle.boot_run.specs.LoadEnds.{pages_needed, names_sector, tracer_fits}
 
 -- the map of what is booted, and the places of its globals; the memory has room for the map, and the disk for the users' pages, in which their
 -- words have room
-pub record IsPlaced (b : Booted) (m : Map) (places words : List ℕ) (count : ℕ) : Type 0 where
+pub record PlacesHold (b : Booted) (m : Map) (places words : List ℕ) (count : ℕ) : Type 0 where
   pub map : m ≡ map_of (boot_of b)
   pub range : MapInRange m
   pub globals : places ≡ places_of (unit_view b.unit)
@@ -24,4 +24,4 @@ pub record IsPlaced (b : Booted) (m : Map) (places words : List ℕ) (count : �
 -- are placed, and what is kept of a trace fits
 abbrev pub CanGoOn : Booted → Held → Map → (places : List ℕ) → (count : ℕ) → Option Tracer → Type 0
 CanGoOn b held m places count tracer = IsTrue (names_sector count held.hardware.ports.pending) × (1024 < length held.hardware.memory)
-    × IsPlaced b m places held.hardware.memory count × IsTrue (tracer_fits tracer (length b.users.items) held.time)
+    × PlacesHold b m places held.hardware.memory count × IsTrue (tracer_fits tracer (length b.users.items) held.time)

@@ -13,7 +13,7 @@ use Rattle.saved_file.specs.Resumable.{Wanted}
 use Rattle.saved_file.specs.Answer.{IsOfRun}
 use Rattle.boot_run.specs.Loading.{system_of}
 use Rattle.boot_run.specs.Resuming.{SavedAt}
-use Rattle.boot_run.specs.Whole.{Bootable}
+use Rattle.boot_run.specs.Pieces.{Bootable}
 
 -- what a saved machine has to fit to be taken up as this system's, under these rows, for so many turns
 abbrev pub wanted_of : Booted → Rows → (turns : ℕ) → Wanted

@@ -28,7 +28,8 @@ use Rattle.boot_run.specs.LoadEnds.{Kept}
 use Rattle.boot_run.specs.Resuming.{SavedAt, after_saved}
 use Rattle.boot_run.specs.Sink.{Base, behind}
 use Rattle.boot_run.specs.TurnCalls.{Around, around, Ready}
-use Rattle.boot_run.specs.Whole.{AnswerEnds, Bootable, CloseRuns, FirstAt, RunEnds, ending_of_end}
+use Rattle.boot_run.specs.Whole.{AnswerEnds, CallsFrom, ShownRunEnds, WholeCalls, ending_of_end}
+use Rattle.boot_run.specs.Pieces.{Bootable, CloseRuns, FirstAt}
 
 -- the words of a saved run: those of its machine, among which no sector stands, with its complete turns and its current user
 abbrev pub saved_run : {L : Type 0} → Kept L → List ℕ
@@ -39,45 +40,48 @@ abbrev pub HasHalted : Outside → State → (turns steps : ℕ) → Type 0
 HasHalted x s turns steps = (run x s (end_within x s turns steps)).off ≡ Some 0
 
 -- a run came to no report: its kernel faulted, or it is out of steps, or the disk failed in a step, or the sink in the row of a dispatch
-abbrev pub EndsInTurn : Outside → System → State → (now : List (List ℕ)) → (turns steps : ℕ) → Base → (after : Option (List ℕ)) → RunEnd → Type 0
-EndsInTurn x y s now turns steps base after ends.Done = ⊥
-EndsInTurn x y s now turns steps base after ends.DiskFault = (text : List ℕ) × (made : ℕ) × StepBroken x y s now Boot turns steps made text
-    × (after ≡ base.shows text)
-EndsInTurn x y s now turns steps base after ends.SinkFault = (text : List ℕ) × RowBroken x y s now turns steps text × (after ≡ base.shows text)
-EndsInTurn x y s now turns steps base after other = ⊤
+abbrev pub EndsInTurn : Outside → System → State → (now : List (List ℕ)) → (turns steps : ℕ) → (calls : State → Type 0) → Base → (after : Option (List ℕ)) →
+    RunEnd → Type 0
+EndsInTurn x y s now turns steps calls base after ends.Done = ⊥
+EndsInTurn x y s now turns steps calls base after ends.DiskFault = (text : List ℕ) × (made : ℕ) × StepBroken x y s now Boot turns steps made text
+    × calls (run x s made) × (after ≡ base.shows text)
+EndsInTurn x y s now turns steps calls base after ends.SinkFault = (text : List ℕ) × RowBroken x y s now turns steps text × (after ≡ base.shows text)
+EndsInTurn x y s now turns steps calls base after other = ⊤
 
 -- HOW A RUN THAT IS TO BE SAVED ENDS, from `s` over a disk that had the sectors `old`. It stops where the boot prints `stopped`: its text is the boot's up
 -- to there, and these words are those of the machine there. Or it ends as the boot does, and then it has halted, or it came to no report: a run that goes
 -- on prints no end row.
-abbrev pub StopsOrEnds : Outside → System → State → (held : ℕ) → (old now : List (List ℕ)) → (turns steps : ℕ) → Base → (after : Option (List ℕ)) →
-    (words : List ℕ) → SaveEnd → Type 0
-StopsOrEnds x y s held old now turns steps base after words Stopped = (shown : List ℕ) × (rest : List ℕ) × SavedAt x y s turns steps words now shown
+abbrev pub StopsOrEnds : Outside → System → State → (held : ℕ) → (old now : List (List ℕ)) → (turns steps : ℕ) → (calls : State → Type 0) → Base →
+    (after : Option (List ℕ)) → (words : List ℕ) → SaveEnd → Type 0
+StopsOrEnds x y s held old now turns steps calls base after words Stopped = (shown : List ℕ) × (rest : List ℕ) × SavedAt x y s turns steps words now shown
     × RanFrom x y s held old now Boot turns steps headline.Done (shown ++ (codes "stopped\n" ++ rest)) × (after ≡ base.shows shown)
-StopsOrEnds x y s held old now turns steps base after words (Ended e) = RunEnds x y s held old now Boot turns steps base after (ending_of_end e)
-    × (HasHalted x s turns steps ⊎ EndsInTurn x y s now turns steps base after e)
+StopsOrEnds x y s held old now turns steps calls base after words (Ended e) = ShownRunEnds x y s held old now Boot turns steps calls base after (ending_of_end e)
+    × (HasHalted x s turns steps ⊎ EndsInTurn x y s now turns steps calls base after e)
 
 -- so it is of a loaded run, from any moment at which turns are complete for the first time
-abbrev pub RunsToStop : {L : Type 0} → (count : ℕ) → (r new : Kept L) → (turns : ℕ) → (before : Around) → (retold : Option (List (List ℕ))) →
+abbrev pub RunsToStop : {L : Type 0} → (count : ℕ) → (r new : Kept L) → (turns : ℕ) → (before : Around) → (retold : Option (List (List ℕ))) → (made remade : ℕ) →
     (after : Option (List ℕ)) → SaveEnd → Type 0
-RunsToStop count r new turns before retold after result =
+RunsToStop count r new turns before retold made remade after result =
     (s : State) (late held : ℕ) (old : List (List ℕ)) (base : Base) (k t wanted total : ℕ) (c : Cvm) →
     Bootable r.boot r.machine.rows count (system_of r.boot r.machine.rows) s late held old → r.view ≡ Boot →
     FirstAt (outside_of r.machine.rows count) s k t → 1 ≤ wanted → k + turns ≡ wanted → before.budget + t ≡ total →
     Ready (outside_of r.machine.rows count) (system_of r.boot r.machine.rows) s r.view base k t c before →
-    (now : List (List ℕ)) × (retold ≡ Some now) × StopsOrEnds (outside_of r.machine.rows count) (system_of r.boot r.machine.rows) s held old now wanted total base
-    after (saved_run new) result
+    (now : List (List ℕ)) × (retold ≡ Some now) × StopsOrEnds (outside_of r.machine.rows count) (system_of r.boot r.machine.rows) s held old now wanted total
+    (CallsFrom (run (outside_of r.machine.rows count) s t) made remade) base after (saved_run new) result
 
 -- HOW A CALL ENDS that loads a run to be saved, with the run: as the run; or as a boot that isn't loaded
-abbrev pub SaveAnswers : {L : Type 0} → Outside → System → State → (held : ℕ) → (old now : List (List ℕ)) → (turns steps : ℕ) → (before after : Option (List ℕ)) →
-    Result (Kept L × SaveEnd) LoadFault → Type 0
-SaveAnswers x y s held old now turns steps before after (Ok (r, e)) = StopsOrEnds x y s held old now turns steps (behind before) after (saved_run r) e
-SaveAnswers x y s held old now turns steps before after (Err fault) = AnswerEnds x y s held old now Boot turns steps before after (Err fault)
+abbrev pub SaveAnswerEnds : {L : Type 0} → Outside → System → State → (held : ℕ) → (old now : List (List ℕ)) → (turns steps : ℕ) → (calls : State → Type 0) →
+    (before after : Option (List ℕ)) → Result (Kept L × SaveEnd) LoadFault → Type 0
+SaveAnswerEnds x y s held old now turns steps calls before after (Ok (r, e)) =
+    StopsOrEnds x y s held old now turns steps calls (behind before) after (saved_run r) e
+SaveAnswerEnds x y s held old now turns steps calls before after (Err fault) = AnswerEnds x y s held old now Boot turns steps calls before after (Err fault)
 
 -- for what is booted, a schedule's rows and a disk of so many sectors, where it tells them before and after
-abbrev pub SaveEnds : {L : Type 0} → Booted → Rows → ℕ → (turns steps : ℕ) → (told retold : Option (List (List ℕ))) → (before after : Option (List ℕ)) →
-    Result (Kept L × SaveEnd) LoadFault → Type 0
-SaveEnds b rows count turns steps told retold before after result = (old now : List (List ℕ)) → told ≡ Some old → retold ≡ Some now →
-    SaveAnswers (outside_of rows count) (system_of b rows) (loaded (system_of b rows) old) (user_sectors (system_of b rows)) old now turns steps before after result
+abbrev pub WholeSaveEnds : {L : Type 0} → Booted → Rows → ℕ → (turns steps : ℕ) → (told retold : Option (List (List ℕ))) → (made remade : ℕ) →
+    (before after : Option (List ℕ)) → Result (Kept L × SaveEnd) LoadFault → Type 0
+WholeSaveEnds b rows count turns steps told retold made remade before after result = (old now : List (List ℕ)) → told ≡ Some old → retold ≡ Some now →
+    SaveAnswerEnds (outside_of rows count) (system_of b rows) (loaded (system_of b rows) old) (user_sectors (system_of b rows)) old now turns steps
+    (WholeCalls b rows old made remade) before after result
 
 -- how it is told as one of a boot
 abbrev pub end_of_stop : SaveEnd → RunEnd
@@ -128,33 +132,36 @@ AreBoots b rows count = (old : List (List ℕ)) → IsDisk count old →
 
 -- HOW A RUN THAT GOES ON ENDS, whose first part printed `shown`: with no failed call its text behind that, its ending and its sectors are the boot's;
 -- and with one they are what this leaves of the boot
-abbrev pub GoesOnAs : Outside → System → (old now : List (List ℕ)) → (turns steps : ℕ) → (shown : List ℕ) → (had has : Option (List ℕ)) → Ending → Type 0
-GoesOnAs x y old now turns steps shown had has headline.DiskFault =
-    RunEnds x y (loaded y old) (user_sectors y) old now Boot turns steps (after_saved had shown) has headline.DiskFault
-GoesOnAs x y old now turns steps shown had has headline.SinkFault =
-    RunEnds x y (loaded y old) (user_sectors y) old now Boot turns steps (after_saved had shown) has headline.SinkFault
-GoesOnAs x y old now turns steps shown had has e = (text : List ℕ) × (has ≡ append_known had text) × Ran x y old now Boot turns steps e (shown ++ text)
+abbrev pub GoesOnAs : Outside → System → (old now : List (List ℕ)) → (turns steps : ℕ) → (calls : State → Type 0) → (shown : List ℕ) →
+    (had has : Option (List ℕ)) → Ending → Type 0
+GoesOnAs x y old now turns steps calls shown had has headline.DiskFault =
+    ShownRunEnds x y (loaded y old) (user_sectors y) old now Boot turns steps calls (after_saved had shown) has headline.DiskFault
+GoesOnAs x y old now turns steps calls shown had has headline.SinkFault =
+    ShownRunEnds x y (loaded y old) (user_sectors y) old now Boot turns steps calls (after_saved had shown) has headline.SinkFault
+GoesOnAs x y old now turns steps calls shown had has e = (text : List ℕ) × (has ≡ append_known had text) × Ran x y old now Boot turns steps e (shown ++ text)
 
 -- THE JOINT THEOREM, of a run that was taken up: for each boot that can be saved so, of no more steps, it ends as that boot does
-abbrev pub JoinsBoot : {L : Type 0} → (count : ℕ) → Kept L → (turns steps : ℕ) → (told retold : Option (List (List ℕ))) → (had has : Option (List ℕ)) → RunEnd → Type 0
-JoinsBoot count r turns steps told retold had has result =
+abbrev pub JoinsBoot : {L : Type 0} → (count : ℕ) → Kept L → (turns steps : ℕ) → (told retold : Option (List (List ℕ))) → (made remade : ℕ) →
+    (had has : Option (List ℕ)) → RunEnd → Type 0
+JoinsBoot count r turns steps told retold made remade had has result =
     (old left now : List (List ℕ)) (few spent : ℕ) (shown : List ℕ) → AreBoots r.boot r.machine.rows count → IsResumed r → IsDisk count old → spent ≤ steps →
-    told ≡ Some left → retold ≡ Some now → SavedAt (outside_of r.machine.rows count) (system_of r.boot r.machine.rows)
-    (loaded (system_of r.boot r.machine.rows) old) few spent (saved_run r) left shown →
-    GoesOnAs (outside_of r.machine.rows count) (system_of r.boot r.machine.rows) old now turns steps shown had has (ending_of_end result)
+    told ≡ Some left → retold ≡ Some now → (w : SavedAt (outside_of r.machine.rows count) (system_of r.boot r.machine.rows)
+    (loaded (system_of r.boot r.machine.rows) old) few spent (saved_run r) left shown) →
+    GoesOnAs (outside_of r.machine.rows count) (system_of r.boot r.machine.rows) old now turns steps
+    (CallsFrom (run (outside_of r.machine.rows count) (loaded (system_of r.boot r.machine.rows) old) w.at) made remade) shown had has (ending_of_end result)
 
 -- A FILE THAT NO SAVED RUN LEFT: a run that was taken up is the machine's from the state that its words name, for as many turns and steps as are left
 abbrev pub GoesOnAnyhow : {L : Type 0} → (count : ℕ) → Kept L → (turns steps : ℕ) → (told retold : Option (List (List ℕ))) → RunEnd → Type 0
 GoesOnAnyhow count r turns steps told retold result = (left : List (List ℕ)) → IsResumed r → told ≡ Some left →
     AnyEnds (outside_of r.machine.rows count) (state_of r.machine left) (turns - r.turns) (steps - r.machine.time) false retold result
 
--- The calls, by the run, the disk and the sink before, and then by those after. The first three words of each tell the disk's size, its sectors and the
--- sink's text.
-module _ {D O : Type 0} (size : D → ℕ) (sectors : D → Option (List (List ℕ))) (text : O → Option (List ℕ)) where
+-- The calls, by the run, the disk and the sink before, and then by those after. The first four words of each tell the disk's size, its sectors, its
+-- count of calls and the sink's text.
+module _ {D O : Type 0} (size : D → ℕ) (sectors : D → Option (List (List ℕ))) (called : D → ℕ) (text : O → Option (List ℕ)) where
   -- a loaded run is run to where it can be saved, or to its end
-  abbrev pub Stops : {L : Type 0} → (turns steps : ℕ) → Kept L → D → O → Kept L → D → O → SaveEnd → Type 0
-  Stops turns steps run disk out new retold printed result =
-      RunsToStop (size disk) run new turns (around run (sectors disk) steps (text out)) (sectors retold) (text printed) result
+  abbrev pub RunStops : {L : Type 0} → (turns steps : ℕ) → Kept L → D → O → Kept L → D → O → SaveEnd → Type 0
+  RunStops turns steps run disk out new retold printed result =
+      RunsToStop (size disk) run new turns (around run (sectors disk) steps (text out)) (sectors retold) (called disk) (called retold) (text printed) result
 
   -- one that goes on stops there, untouched; and one that has ended is closed
   abbrev pub StopsOrCloses : {L : Type 0} → Kept L → D → O → Kept L → D → O → SaveEnd → Type 0
@@ -165,12 +172,12 @@ module _ {D O : Type 0} (size : D → ℕ) (sectors : D → Option (List (List �
   -- what is booted over such a disk, under a schedule, is run so, or refused
   abbrev pub RunsToSave : {L : Type 0} → Booted → Rows → (turns steps : ℕ) → D → O → D → O → Result (Kept L × SaveEnd) LoadFault → Type 0
   RunsToSave boot rows turns steps disk out retold printed result =
-      SaveEnds boot rows (size disk) turns steps (sectors disk) (sectors retold) (text out) (text printed) result
+      WholeSaveEnds boot rows (size disk) turns steps (sectors disk) (sectors retold) (called disk) (called retold) (text out) (text printed) result
 
   -- a run that was taken up joins the one that was saved
   abbrev pub Joins : {L : Type 0} → (turns steps : ℕ) → Kept L → D → O → D → O → RunEnd → Type 0
   Joins turns steps run disk out retold printed result =
-      JoinsBoot (size disk) run turns steps (sectors disk) (sectors retold) (text out) (text printed) result
+      JoinsBoot (size disk) run turns steps (sectors disk) (sectors retold) (called disk) (called retold) (text out) (text printed) result
 
   -- and it is the machine's run, whatever its words are
   abbrev pub RunsOn : {L : Type 0} → (turns steps : ℕ) → Kept L → D → D → RunEnd → Type 0

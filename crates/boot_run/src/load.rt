@@ -1,14 +1,13 @@
 // The machine of a boot, loaded.
-ghost use Rattle.std.specs.Prelude.{◌≡◌, ◌≢◌, ◌+◌, ◌*◌, ◌/◌, ◌^◌, ◌<◌, ◌≤◌};
-ghost use Rattle.std.specs.Prelude.{ℕ, All, List, length, map, IfOk, IfErr, OnOk, OnErr, Err, Ok};
-ghost use Rattle.cvm_outside.specs.Causes.{Counts};
+ghost use Rattle.std.specs.Prelude.{◌≡◌, ◌+◌, ◌*◌, ◌/◌, ◌<◌, ◌≤◌};
+ghost use Rattle.std.specs.Prelude.{ℕ, length, map, IfOk, IfErr, OnOk, Err, Ok};
 ghost use Rattle.layer_map.specs.Map.{MapInRange, memory_frames};
 ghost use Rattle.cvm_model.specs.Cvm.{map_of};
 ghost use Rattle.layer_contract.specs.Boots.{boot_of};
 ghost use Rattle.mips_machine.specs.Machine.{started};
 ghost use Rattle.boot_run.specs.Loading.{with_words, with_rom};
 ghost use Rattle.boot_run.specs.declared.load.LoadFault.TheVariants.{Memory as NoRoom};
-ghost use Rattle.boot_run.specs.LoadEnds.{pages_needed, SeesUser, HasRoom, LoadFails, first_tracer};
+ghost use Rattle.boot_run.specs.LoadEnds.{SeesUser, first_tracer};
 
 use crate::pages::put_words;
 use boot_turns::View;
@@ -51,11 +50,11 @@ impl From<AllocError> for LoadFault {
     }
 }
 
-/// Whether a view is of a boot, or of a user that there is.
-///
-/// # Errors
-///
-/// `NoSuchUser`.
+// Whether a view is of a boot, or of a user that there is.
+//
+// # Errors
+//
+// `NoSuchUser`.
 pub(crate) fn check_view(view: View, users: u32) -> Result<(), LoadFault>
     ensures ok { OnOk result (SeesUser view users) }
     ensures fault { IfErr result (λ e. (u : ℕ) × (view ≡ View.Trace u) × (e ≡ LoadFault.NoSuchUser u users) × (SeesUser view users → ⊥)) }
@@ -67,7 +66,7 @@ pub(crate) fn check_view(view: View, users: u32) -> Result<(), LoadFault>
     }
 }
 
-/// What is kept of a trace before the first step, where a user is traced.
+// What is kept of a trace before the first step, where a user is traced.
 pub(crate) fn first_tracer(view: View) -> Option<Tracer>
     ensures { result ≡ first_tracer view }
 {
@@ -81,11 +80,11 @@ pub(crate) fn first_tracer(view: View) -> Option<Tracer>
     }
 }
 
-/// The machine of what is booted, with the linked words in its memory.
-///
-/// # Errors
-///
-/// Want of memory.
+// The machine of what is booted, with the linked words in its memory.
+//
+// # Errors
+//
+// Want of memory.
 pub(crate) fn loaded_machine(
     alloc: Global,
     map: &Map,
@@ -101,11 +100,11 @@ pub(crate) fn loaded_machine(
     Ok(machine)
 }
 
-/// The machine of what is booted, with a boot ROM of these words in the frame behind its memory. Word 0 is the jump to it.
-///
-/// # Errors
-///
-/// Want of memory.
+// The machine of what is booted, with a boot ROM of these words in the frame behind its memory. Word 0 is the jump to it.
+//
+// # Errors
+//
+// Want of memory.
 pub(crate) fn rom_machine(
     alloc: Global,
     map: &Map,
@@ -126,7 +125,7 @@ pub(crate) fn rom_machine(
     Ok(machine)
 }
 
-/// How many sectors words take.
+// How many sectors words take.
 pub(crate) fn sectors_of(words: &[u32]) -> u32
     requires { length words.now ≤ 4194304 }
     ensures { result ≡ (length words.now + 1023) / 1024 }

@@ -6,7 +6,7 @@ use cvm_model::{KernelFault, Next};
 use layer_map::CURRENT;
 use mips_machine::Machine;
 
-/// The fault of a power word: that of 1 to 4, and of any other one that of a bad user.
+// The fault of a power word: that of 1 to 4, and of any other one that of a bad user.
 fn fault_of_power(power: u32) -> KernelFault
     ensures { result ≡ fault_of_power power }
 {
@@ -19,7 +19,7 @@ fn fault_of_power(power: u32) -> KernelFault
     }
 }
 
-/// Who is next: where the machine is on the current user, and else by the power word.
+// Who is next: where the machine is on the current user, and else by the power word.
 pub(crate) fn seen_next(machine: &Machine) -> Next
     requires { 1024 < length machine.now.hardware.memory }
     ensures { result ≡ next_shown machine.now.hardware.off (slice_index machine.now.hardware.memory 1024) }
@@ -31,7 +31,7 @@ pub(crate) fn seen_next(machine: &Machine) -> Next
     }
 }
 
-/// How a run has ended with this next, if it has.
+// How a run has ended with this next, if it has.
 pub(crate) fn ended_by(next: Next) -> Option<Next>
     ensures { result ≡ end_of_next next }
 {
@@ -42,7 +42,7 @@ pub(crate) fn ended_by(next: Next) -> Option<Next>
     }
 }
 
-/// Whether a run has ended by a fault of the kernel.
+// Whether a run has ended by a fault of the kernel.
 pub(crate) fn has_faulted(ended: Option<Next>) -> bool
     ensures { result ≡ has_faulted ended }
 {

@@ -1,5 +1,5 @@
 // The users' pages, written to their sectors, and the linked words, written into memory.
-ghost use Rattle.std.specs.Prelude.{◌≡◌, ℕ, ◌+◌, ◌*◌, ◌<◌, ◌≤◌, ◌^◌, length, nat_lt, slice_index, true, vec_len, OnOk, OnErr, All};
+ghost use Rattle.std.specs.Prelude.{◌≡◌, ℕ, ◌+◌, ◌*◌, ◌<◌, ◌≤◌, ◌^◌, length, nat_lt, slice_index, true, OnOk, OnErr};
 ghost use Rattle.std.specs.Option.{option_map};
 ghost use Rattle.cvm_outside.specs.Causes.{Counts};
 ghost use Rattle.boot_run.specs.Loading.{calls_made, pages_of_users, with_call, with_page, written, with_words, StaysBut, TornAmong};
@@ -7,14 +7,14 @@ ghost use Rattle.boot_run.specs.Loading.{calls_made, pages_of_users, with_call, 
 use cvm_outside::{DiskFault, Sectors};
 use mips_machine::Machine;
 
-/// The word of a number, or 0 past the end.
+// The word of a number, or 0 past the end.
 fn word_at(words: &[u32], i: usize) -> u32
     ensures { result ≡ slice_index words.now i }
 {
     words.get(i).copied().unwrap_or(0)
 }
 
-/// The 1,024 words from a number on, with zeros past the end.
+// The 1,024 words from a number on, with zeros past the end.
 fn page_words(words: &[u32], first: usize) -> [u32; 1024]
     requires { first < length words.now }
     ensures long { length result ≡ 1024 }
@@ -27,8 +27,8 @@ fn page_words(words: &[u32], first: usize) -> [u32; 1024]
     page
 }
 
-/// The words of which the sector of a number gets 1,024, and the number of the first one: those of the user whose page it is, and behind all users'
-/// pages further words.
+// The words of which the sector of a number gets 1,024, and the number of the first one: those of the user whose page it is, and behind all users'
+// pages further words.
 fn page_source<'a>(users: &'a [Vec<u32>], per: u32, behind: &'a [u32], q: u32) -> (&'a [u32], usize)
     requires some { 1 ≤ per }
     requires few { length users.now * per < 2 ^ 32 }
@@ -45,11 +45,11 @@ fn page_source<'a>(users: &'a [Vec<u32>], per: u32, behind: &'a [u32], q: u32) -
     (behind, 1024 * (q - pages) as usize)
 }
 
-/// Writes the page of a number to its sector, by one call of the disk, if words reach into it.
-///
-/// # Errors
-///
-/// A fault of the disk, only where words reach into the page. Its sector may then hold anything.
+// Writes the page of a number to its sector, by one call of the disk, if words reach into it.
+//
+// # Errors
+//
+// A fault of the disk, only where words reach into the page. Its sector may then hold anything.
 fn write_page<D: Sectors>(
     users: &[Vec<u32>],
     per: u32,
@@ -74,12 +74,12 @@ fn write_page<D: Sectors>(
     Ok(())
 }
 
-/// Writes the users' pages to their sectors, and the pages of further words to those behind them, up to sector `most`.
-///
-/// # Errors
-///
-/// A fault of the disk. The sector at which it failed may then hold anything; those before it are written, and those behind it are as before. As many
-/// calls of the disk were made as sectors up to that one get a page.
+// Writes the users' pages to their sectors, and the pages of further words to those behind them, up to sector `most`.
+//
+// # Errors
+//
+// A fault of the disk. The sector at which it failed may then hold anything; those before it are written, and those behind it are as before. As many
+// calls of the disk were made as sectors up to that one get a page.
 pub(crate) fn write_pages<D: Sectors>(
     users: &[Vec<u32>],
     per: u32,
@@ -103,7 +103,7 @@ pub(crate) fn write_pages<D: Sectors>(
     Ok(())
 }
 
-/// Writes words into memory from a place on.
+// Writes words into memory from a place on.
 pub(crate) fn put_words(machine: &mut Machine, at: u32, words: &[u32])
     requires room { at + length words.now ≤ length machine.old.hardware.memory }
     requires small { at + length words.now < 2 ^ 30 }

@@ -26,7 +26,7 @@ pub(crate) struct Places {
     pub(crate) offsets: Vec<u64>,
 }
 
-/// The words of declarations.
+// The words of declarations.
 fn decls_words(decls: &[Decl], unit: &Measured<'_>) -> u64
     requires decls { All (λ d. IsSized (shapes (unit_view unit.now)) d.ty) (map decl_view decls.now) }
     requires few { length decls.now < 2 ^ 32 }
@@ -39,7 +39,7 @@ fn decls_words(decls: &[Decl], unit: &Measured<'_>) -> u64
     words
 }
 
-/// The words of a unit's globals.
+// The words of a unit's globals.
 fn global_words(unit: &Measured<'_>) -> u64
     ensures { result ≡ all_words (shapes (unit_view unit.now)) (map typed_of (unit_view unit.now).globals) }
 {
@@ -47,11 +47,11 @@ fn global_words(unit: &Measured<'_>) -> u64
     decls_words(&unit.unit().globals, unit)
 }
 
-/// Where the parts of what is booted stand.
-///
-/// # Errors
-///
-/// Want of memory.
+// Where the parts of what is booted stand.
+//
+// # Errors
+//
+// Want of memory.
 pub(crate) fn places_of(alloc: Global, boot: &Boot) -> Result<Places, AllocError>
     requires { MapInRange (map_of (boot_of boot.now)) }
     ensures map { IfOk result (λ p. p.map ≡ map_of (boot_of boot.now)) }

@@ -4,19 +4,19 @@ ghost use Rattle.layer_map.specs.Map.{memory_words};
 ghost use Rattle.cvm_model.specs.Text.{steps_row as steps_text};
 ghost use Rattle.boot_report.specs.Globals.{AreInside};
 ghost use Rattle.boot_run.specs.Report.{end_row, kernel_rows, runs_now, ForClosing, ForTraceClosing, StepsStand};
-ghost use Rattle.boot_report.specs.Leaves.{Printed, Puts, Reads};
+ghost use Rattle.boot_report.specs.Leaves.{PrintsAll, Puts, Reads};
 ghost use Rattle.boot_report.specs.Stand.{BlocksStand, PagesStand, UserStands};
 
 use crate::places::Places;
+use boot_report::journal_text::steps_row;
 use boot_report::{ReportFault, put_globals, put_log, put_user_rows, put_users};
-use boot_turns::journal_text::steps_row;
 use boot_turns::tracer::Tracer;
 use c0_tree::Decl;
 use cvm_outside::{Sectors, Sink, SinkFault};
 use layer_map::Map;
 use mips_machine::Machine;
 
-/// Prints whether a run halted or goes on.
+// Prints whether a run halted or goes on.
 fn put_end<O: Sink>(halted: bool, out: &mut O) -> Result<(), SinkFault>
     ensures { Puts O.text O.faults out.old out.new (end_row halted) result }
 {
@@ -26,7 +26,7 @@ fn put_end<O: Sink>(halted: bool, out: &mut O) -> Result<(), SinkFault>
     out.put(b"stopped\n")
 }
 
-/// Prints the end, the globals and the console's log.
+// Prints the end, the globals and the console's log.
 fn put_kernel<O: Sink>(
     machine: &Machine,
     places: &Places,
@@ -46,18 +46,18 @@ fn put_kernel<O: Sink>(
     Ok(())
 }
 
-/// The user that the machine of a run runs between turns: the current one, and once it halted none, 0.
+// The user that the machine of a run runs between turns: the current one, and once it halted none, 0.
 fn runs_now(halted: bool, current: u32) -> u32
     ensures { result ≡ runs_now halted current }
 {
     if halted { 0 } else { current }
 }
 
-/// Prints the end and the report of a run that halted, or goes on with this current user.
-///
-/// # Errors
-///
-/// A fault of the disk or of the sink.
+// Prints the end and the report of a run that halted, or goes on with this current user.
+//
+// # Errors
+//
+// A fault of the disk or of the sink.
 pub(crate) fn put_closing<D: Sectors, O: Sink>(
     machine: &mut Machine,
     places: &Places,
@@ -71,7 +71,7 @@ pub(crate) fn put_closing<D: Sectors, O: Sink>(
     requires users { BlocksStand places.now.map (length machine.old.hardware.memory) }
     requires pages { PagesStand places.now.map (length machine.old.hardware.memory) (D.size disk.old) }
     requires inside { AreInside places.now.map places.now.offsets.items }
-    ensures put { ForClosing (D.sectors disk.old) machine.old halted current places.now decls.now (Printed (O.text out.old) (O.text out.new)) result }
+    ensures put { ForClosing (D.sectors disk.old) machine.old halted current places.now decls.now (PrintsAll (O.text out.old) (O.text out.new)) result }
     ensures leaves { Reads machine.old machine.new D.sectors D.size D.faults disk.old disk.new O.faults out.old out.new result }
 {
     put_kernel(machine, places, decls, halted, out)?;
@@ -79,7 +79,7 @@ pub(crate) fn put_closing<D: Sectors, O: Sink>(
     put_users(machine, &places.map, running, disk, out)
 }
 
-/// Prints the row of a trace's last steps, where there are any, and the end.
+// Prints the row of a trace's last steps, where there are any, and the end.
 fn put_last<O: Sink>(steps: u64, halted: bool, out: &mut O) -> Result<(), SinkFault>
     ensures { Puts O.text O.faults out.old out.new (steps_text steps ++ end_row halted) result }
 {
@@ -87,12 +87,12 @@ fn put_last<O: Sink>(steps: u64, halted: bool, out: &mut O) -> Result<(), SinkFa
     put_end(halted, out)
 }
 
-/// Prints what ends a trace of a run that halted, or goes on with this current user: the row of the last steps, the end, and the rows of
-/// the traced user.
-///
-/// # Errors
-///
-/// A fault of the disk or of the sink. Where the disk failed the row of the last steps is printed.
+// Prints what ends a trace of a run that halted, or goes on with this current user: the row of the last steps, the end, and the rows of
+// the traced user.
+//
+// # Errors
+//
+// A fault of the disk or of the sink. Where the disk failed the row of the last steps is printed.
 pub(crate) fn put_trace_closing<D: Sectors, O: Sink>(
     machine: &mut Machine,
     map: &Map,
@@ -104,7 +104,7 @@ pub(crate) fn put_trace_closing<D: Sectors, O: Sink>(
 ) -> Result<(), ReportFault>
     requires user { UserStands map.now tracer.user (length machine.old.hardware.memory) }
     requires pages { PagesStand map.now (length machine.old.hardware.memory) (D.size disk.old) }
-    ensures put { ForTraceClosing (D.sectors disk.old) machine.old halted current map.now tracer (Printed (O.text out.old) (O.text out.new)) result }
+    ensures put { ForTraceClosing (D.sectors disk.old) machine.old halted current map.now tracer (PrintsAll (O.text out.old) (O.text out.new)) result }
     ensures rows { StepsStand (D.sectors disk.old) machine.old halted current map.now tracer (O.text out.old) (O.text out.new) result }
     ensures leaves { Reads machine.old machine.new D.sectors D.size D.faults disk.old disk.new O.faults out.old out.new result }
 {

@@ -21,7 +21,7 @@ use mips_table::runs::{a_new_machine_is_steady, machines_stay_steady, runs_are_t
 use schedule_file::Schedule;
 use std::alloc::{AllocError, Global};
 
-/// A law: what a layer, what is booted and a schedule promise are the premises of a boot over each disk that has the sectors which it needs.
+// A law: what a layer, what is booted and a schedule promise are the premises of a boot over each disk that has the sectors which it needs.
 pub(crate) fn boots_hold<L: Layer>(layer: &L, boot: &Boot, schedule: &Schedule, count: u32)
     requires follows { BootFollows (L.image layer.now) (L.sizes layer.now) (L.map layer.now) boot.now }
     requires room { pages_needed boot.now ≤ count }
@@ -35,11 +35,11 @@ pub(crate) fn boots_hold<L: Layer>(layer: &L, boot: &Boot, schedule: &Schedule, 
     let _ = schedule.inputs();
 }
 
-/// The machine that these words tell, under a schedule.
-///
-/// # Errors
-///
-/// Want of memory.
+// The machine that these words tell, under a schedule.
+//
+// # Errors
+//
+// Want of memory.
 pub(crate) fn resumed_machine(
     alloc: Global,
     map: &Map,
@@ -57,7 +57,7 @@ pub(crate) fn resumed_machine(
     Ok(machine)
 }
 
-/// How many turns are left of so many.
+// How many turns are left of so many.
 fn turns_left<L: Layer>(run: &Run<L>, turns: u32) -> u32
     requires { run.now.turns ≤ turns }
     ensures { result ≡ turns - run.now.turns }
@@ -65,7 +65,7 @@ fn turns_left<L: Layer>(run: &Run<L>, turns: u32) -> u32
     turns - run.turns_done() as u32
 }
 
-/// How many steps are left of so many: none where the machine made no fewer.
+// How many steps are left of so many: none where the machine made no fewer.
 fn steps_left<L: Layer + Drop>(run: &Run<L>, steps: u64) -> u64
     ensures value { result ≡ steps - run.now.machine.time }
     ensures few { run.now.machine.time + result < 2 ^ 64 }
@@ -98,8 +98,8 @@ pub fn run_on<L: Layer + Drop, D: Sectors, O: Sink>(
     requires fine { run.old.fault ≡ None }
     requires done { run.old.turns ≤ turns }
     ensures size { D.size disk.new ≡ D.size disk.old }
-    ensures joins { Joins D.size D.sectors O.text turns steps run.old disk.old out.old disk.new out.new result }
-    ensures any { RunsOn D.size D.sectors O.text turns steps run.old disk.old disk.new result }
+    ensures joins { Joins D.size D.sectors D.calls O.text turns steps run.old disk.old out.old disk.new out.new result }
+    ensures any { RunsOn D.size D.sectors D.calls O.text turns steps run.old disk.old disk.new result }
     ensures told { IsResumed run.old → IsSome (D.sectors disk.old) → IsSome (D.sectors disk.new) }
     ensures blame { Blames (result ≡ RunEnd.DiskFault) (result ≡ RunEnd.SinkFault) D.faults disk.old disk.new O.faults out.old out.new }
 {

@@ -13,10 +13,10 @@ ghost use Rattle.boot_run.specs.Loading.{calls_made, rom_pages, system_of, user_
 ghost use Rattle.boot_run.specs.LoadEnds.{pages_needed, rom_needed, IsFresh, StandsFrom, LoadFails, LoadTorn, RomTorn};
 ghost use Rattle.boot_report.specs.Leaves.{OnlyViews, Puts};
 ghost use Rattle.boot_run.specs.Calls.{MakesTurns, Proceeds, ProceedsAnyhow, TakesTurns, Reports};
-ghost use Rattle.boot_run.specs.OneTurn.{CanMake, Leaves, Makes, ReportLeaves, TurnsSay, as_turns};
+ghost use Rattle.boot_run.specs.OneTurn.{CanMake, TurnsLeave, TurnsMake, ReportLeaves, TurnsSay, as_turns};
 ghost use Rattle.boot_run.specs.Saving.{saved_run, AreBoots, IsTakenUp};
 ghost use Rattle.boot_run.specs.Shown.{has_faulted};
-ghost use Rattle.boot_run.specs.TurnCalls.{rows_of, StandsReady};
+ghost use Rattle.boot_run.specs.TurnCalls.{rows_of, IsCalled, StandsReady};
 ghost use Rattle.boot_run.specs.TurnParts.{rows_before, rows_after, Views};
 ghost use Rattle.cvm_model.specs.declared.row.Row.{Row as OneRow};
 
@@ -160,9 +160,11 @@ impl<L: Layer + Drop> Run<L> {
         requires few { length rom.now.items ≤ 1024 }
         ensures fresh { IfOk result (λ r. IsFresh layer boot view schedule (rom_needed boot) (D.size disk.old) r) }
         ensures stands { IfOk result (StandsFrom (rom_loaded (system_of boot schedule) rom.now.items) (D.sectors disk.old) (D.sectors disk.new)) }
-        ensures ready { IfOk result (StandsReady (system_of boot schedule) (rom_loaded (system_of boot schedule) rom.now.items) (D.sectors disk.old) (D.sectors disk.new)) }
+        ensures ready { IfOk result
+            (StandsReady (system_of boot schedule) (rom_loaded (system_of boot schedule) rom.now.items) (D.sectors disk.old) (D.sectors disk.new)) }
         ensures fault { IfErr result (LoadFails boot view (rom_needed boot) (D.size disk.old) (D.faults disk.old) (D.faults disk.new)) }
-        ensures torn { result ≡ Err LoadFault.Disk → RomTorn boot schedule rom.now.items (D.sectors disk.old) (D.sectors disk.new) (D.calls disk.old) (D.calls disk.new) }
+        ensures torn { result ≡ Err LoadFault.Disk →
+            RomTorn boot schedule rom.now.items (D.sectors disk.old) (D.sectors disk.new) (D.calls disk.old) (D.calls disk.new) }
         ensures calls { OnOk result (D.calls disk.new ≡ calls_made (rom_pages (system_of boot schedule)).live (rom_needed boot) (D.calls disk.old)) }
         ensures still { result ≢ Err LoadFault.Disk → OnErr result (disk.new ≡ disk.old) }
         ensures size { D.size disk.new ≡ D.size disk.old }
@@ -197,7 +199,14 @@ impl<L: Layer + Drop> Run<L> {
         }
     }
 
-    /// Prints what stands before the next turn: the first row of a trace, before its first turn.
+    // A law: what is viewed is what a tracer is kept for.
+    pub(crate) fn views(&self)
+        ensures { Views self.now }
+    {
+        let _tracer = &self.tracer;
+    }
+
+    // Prints what stands before the next turn: the first row of a trace, before its first turn.
     fn put_before<O: Sink>(&self, out: &mut O) -> Result<(), SinkFault>
         ensures put { Puts O.text O.faults out.old out.new (rows_before self.now.boot self.now.tracer self.now.turns) result }
         ensures first { OnErr result (IsSome self.now.tracer × (self.now.turns ≡ 0)) }
@@ -212,8 +221,8 @@ impl<L: Layer + Drop> Run<L> {
         Ok(())
     }
 
-    /// Runs the machine through so many turns at most, and counts them: untrapped steps of the current user, as long as they come, and then
-    /// one turn more. The answer is how many were made, and the last of them. Of a trace it prints the rows whose entries end.
+    // Runs the machine through so many turns at most, and counts them: untrapped steps of the current user, as long as they come, and then
+    // one turn more. The answer is how many were made, and the last of them. Of a trace it prints the rows whose entries end.
     fn make_turn<D: Sectors, O: Sink>(
         &mut self,
         most: u32,
@@ -222,8 +231,10 @@ impl<L: Layer + Drop> Run<L> {
         out: &mut O,
     ) -> Result<(u32, Turn), RunFault>
         requires can { CanMake most self.old (D.size disk.old) budget.old }
-        ensures makes { Makes D.size D.sectors D.faults O.text O.faults most self.old disk.old budget.old out.old self.new disk.new budget.new out.new result }
+        ensures makes { TurnsMake D.size D.sectors D.faults O.text O.faults most
+            self.old disk.old budget.old out.old self.new disk.new budget.new out.new result }
         ensures ends { MakesTurns D.size D.sectors O.text most self.old disk.old budget.old out.old self.new disk.new budget.new out.new result }
+        ensures calls { IsCalled self.old self.new (D.calls disk.old) (D.calls disk.new) }
         ensures untraced { self.old.tracer ≡ None → (self.new.tracer ≡ None) × (out.new ≡ out.old) }
         ensures no_sink { self.old.tracer ≡ None → result ≢ Err RunFault.Sink }
     {
@@ -260,7 +271,7 @@ impl<L: Layer + Drop> Run<L> {
         ))
     }
 
-    /// Prints what stands behind a turn: of a boot the row of its dispatch, and of a trace the kernel's fault.
+    // Prints what stands behind a turn: of a boot the row of its dispatch, and of a trace the kernel's fault.
     fn put_after<O: Sink>(&self, answer: Turn, out: &mut O) -> Result<(), SinkFault>
         ensures put { Puts O.text O.faults out.old out.new (rows_after self.now.tracer self.now.ended answer) result }
         ensures dispatch { self.now.tracer ≡ None → OnErr result ((row : OneRow) × (rows_of answer ≡ row ∷ [])) }
@@ -271,7 +282,7 @@ impl<L: Layer + Drop> Run<L> {
         }
     }
 
-    /// Runs the machine through so many turns at most, and prints what is to be seen of them.
+    // Runs the machine through so many turns at most, and prints what is to be seen of them.
     fn proceed<D: Sectors, O: Sink>(
         &mut self,
         most: u32,
@@ -280,9 +291,11 @@ impl<L: Layer + Drop> Run<L> {
         out: &mut O,
     ) -> Result<(u32, Turn), RunFault>
         requires can { CanMake most self.old (D.size disk.old) budget.old }
-        ensures makes { Makes D.size D.sectors D.faults O.text O.faults most self.old disk.old budget.old out.old self.new disk.new budget.new out.new result }
+        ensures makes { TurnsMake D.size D.sectors D.faults O.text O.faults most
+            self.old disk.old budget.old out.old self.new disk.new budget.new out.new result }
         ensures ends { Proceeds D.size D.sectors O.text most self.old disk.old budget.old out.old self.new disk.new budget.new out.new result }
         ensures any { ProceedsAnyhow D.size D.sectors O.text most self.old disk.old budget.old out.old self.new disk.new budget.new out.new result }
+        ensures calls { IsCalled self.old self.new (D.calls disk.old) (D.calls disk.new) }
     {
         machines_run();
         traces_grow();
@@ -310,9 +323,11 @@ impl<L: Layer + Drop> Run<L> {
         out: &mut O,
     ) -> Result<(u32, Turn), RunFault>
         requires can { CanMake most self.old (D.size disk.old) budget.old }
-        ensures rest { Leaves D.size D.sectors D.faults O.text O.faults most self.old disk.old budget.old out.old self.new disk.new budget.new out.new result }
+        ensures rest { TurnsLeave D.size D.sectors D.faults O.text O.faults most
+            self.old disk.old budget.old out.old self.new disk.new budget.new out.new result }
         ensures ends { TakesTurns D.size D.sectors O.text most self.old disk.old budget.old out.old self.new disk.new budget.new out.new result }
         ensures any { ProceedsAnyhow D.size D.sectors O.text most self.old disk.old budget.old out.old self.new disk.new budget.new out.new result }
+        ensures calls { IsCalled self.old self.new (D.calls disk.old) (D.calls disk.new) }
     {
         if let Some(fault) = self.fault {
             return Err(fault);
@@ -341,13 +356,14 @@ impl<L: Layer + Drop> Run<L> {
         out: &mut O,
     ) -> Result<Turn, RunFault>
         requires can { CanMake 1 self.old (D.size disk.old) budget.old }
-        ensures { TurnsSay D.size D.sectors D.faults O.text O.faults 1 self.old disk.old budget.old out.old self.new disk.new budget.new out.new (as_turns result) }
+        ensures { TurnsSay D.size D.sectors D.faults O.text O.faults 1
+            self.old disk.old budget.old out.old self.new disk.new budget.new out.new (as_turns result) }
     {
         let (_, turn) = self.turns(1, budget, disk, out)?;
         Ok(turn)
     }
 
-    /// Prints the end and the report of a run that halted, or goes on: of a trace its last steps, the end, and the rows of its user.
+    // Prints the end and the report of a run that halted, or goes on: of a trace its last steps, the end, and the rows of its user.
     fn put_report<D: Sectors, O: Sink>(&mut self, disk: &mut D, out: &mut O) -> Result<(), RunFault>
         requires disk { D.size disk.old ≡ self.old.count }
         requires goes_on { has_faulted self.old.ended ≡ false }

@@ -1,12 +1,12 @@
 // A boot that is to be saved: it stops where the wanted turns are complete, or ends as a boot does.
-ghost use Rattle.std.specs.Prelude.{◌≡◌, ◌≢◌, ℕ, ◌+◌, ◌<◌, ◌≤◌, ◌^◌, length, IfOk, IfErr, IsSome, OnErr, Err, None};
+ghost use Rattle.std.specs.Prelude.{◌≡◌, ◌+◌, ◌<◌, ◌≤◌, ◌^◌, length, IfOk, Err, None};
 ghost use Rattle.layer_map.specs.Map.{memory_words};
 ghost use Rattle.cvm_model.specs.Cvm.{map_of};
 ghost use Rattle.layer_contract.specs.Boots.{boot_of, BootFollows};
 ghost use Rattle.boot_report.specs.Blames.{Blames};
-ghost use Rattle.boot_run.specs.LoadEnds.{HasRoom, LoadFails, pages_needed};
+ghost use Rattle.boot_run.specs.LoadEnds.{LoadsRun, pages_needed};
 ghost use Rattle.boot_run.specs.Whole.{WholeStopped};
-ghost use Rattle.boot_run.specs.Saving.{end_of_stop, IsSaveDiskFault, IsSaveSinkFault, RunsToSave, Stops, StopsOrCloses};
+ghost use Rattle.boot_run.specs.Saving.{end_of_stop, IsSaveDiskFault, IsSaveSinkFault, RunsToSave, RunStops, StopsOrCloses};
 
 use crate::load::LoadFault;
 use crate::run::Run;
@@ -27,7 +27,7 @@ pub enum SaveEnd {
     Ended(RunEnd),
 }
 
-/// Closes a run that has ended; one that goes on stops there, untouched.
+// Closes a run that has ended; one that goes on stops there, untouched.
 fn stop<L: Layer + Drop, D: Sectors, O: Sink>(
     run: &mut Run<L>,
     disk: &mut D,
@@ -36,7 +36,7 @@ fn stop<L: Layer + Drop, D: Sectors, O: Sink>(
     requires disk { D.size disk.old ≡ run.old.count }
     requires fine { run.old.fault ≡ None }
     ensures size { D.size disk.new ≡ D.size disk.old }
-    ensures ends { StopsOrCloses D.size D.sectors O.text run.old disk.old out.old run.new disk.new out.new result }
+    ensures ends { StopsOrCloses D.size D.sectors D.calls O.text run.old disk.old out.old run.new disk.new out.new result }
     ensures blame { Blames (end_of_stop result ≡ RunEnd.DiskFault) (end_of_stop result ≡ RunEnd.SinkFault) D.faults disk.old disk.new O.faults out.old out.new }
 {
     let over = run.ended().is_some();
@@ -46,7 +46,7 @@ fn stop<L: Layer + Drop, D: Sectors, O: Sink>(
     SaveEnd::Stopped
 }
 
-/// Runs what was loaded until so many turns are complete, or to its end.
+// Runs what was loaded until so many turns are complete, or to its end.
 fn run_to_stop<L: Layer + Drop, D: Sectors, O: Sink>(
     run: &mut Run<L>,
     turns: u32,
@@ -58,7 +58,7 @@ fn run_to_stop<L: Layer + Drop, D: Sectors, O: Sink>(
     requires steps { run.old.machine.time + steps < 2 ^ 64 }
     requires fine { run.old.fault ≡ None }
     ensures size { D.size disk.new ≡ D.size disk.old }
-    ensures ends { Stops D.size D.sectors O.text turns steps run.old disk.old out.old run.new disk.new out.new result }
+    ensures ends { RunStops D.size D.sectors D.calls O.text turns steps run.old disk.old out.old run.new disk.new out.new result }
     ensures goes_on { result ≡ SaveEnd.Stopped → run.new.ended ≡ None }
     ensures memory { result ≡ SaveEnd.Stopped → length run.new.machine.hardware.memory ≡ length run.old.machine.hardware.memory }
     ensures blame { Blames (end_of_stop result ≡ RunEnd.DiskFault) (end_of_stop result ≡ RunEnd.SinkFault) D.faults disk.old disk.new O.faults out.old out.new }
@@ -92,16 +92,11 @@ pub fn run_to_save<L: Layer + Drop, D: Sectors, O: Sink>(
 ) -> Result<(Run<L>, SaveEnd), LoadFault>
     requires follows { BootFollows (L.image layer) (L.sizes layer) (L.map layer) boot }
     requires some { 1 ≤ turns }
-    ensures ends { RunsToSave D.size D.sectors O.text boot schedule turns steps disk.old out.old disk.new out.new result }
+    ensures ends { RunsToSave D.size D.sectors D.calls O.text boot schedule turns steps disk.old out.old disk.new out.new result }
     ensures goes_on { IfOk result (λ r. r.1 ≡ SaveEnd.Stopped → r.0.ended ≡ None) }
     ensures memory { IfOk result (λ r. r.1 ≡ SaveEnd.Stopped → length r.0.machine.hardware.memory ≡ memory_words (map_of (boot_of boot))) }
-    ensures told { IsSome (D.sectors disk.old) → IsSome (D.sectors disk.new) }
-    ensures refused { IfErr result (LoadFails boot View.Boot (pages_needed boot) (D.size disk.old) (D.faults disk.old) (D.faults disk.new)) }
-    ensures stopped { result ≡ Err LoadFault.Disk → WholeStopped boot schedule (D.sectors disk.old) (D.sectors disk.new) (D.calls disk.old) (D.calls disk.new) }
-    ensures loaded { IfOk result (λ _. HasRoom boot View.Boot (pages_needed boot) (D.size disk.old)) }
-    ensures unprinted { IfErr result (λ _. out.new ≡ out.old) }
-    ensures still { result ≢ Err LoadFault.Disk → OnErr result (disk.new ≡ disk.old) }
-    ensures size { D.size disk.new ≡ D.size disk.old }
+    ensures loads { LoadsRun D.size D.sectors D.faults D.calls boot View.Boot (pages_needed boot) (WholeStopped boot schedule)
+        disk.old out.old disk.new out.new result }
     ensures blame { Blames (IsSaveDiskFault result) (IsSaveSinkFault result) D.faults disk.old disk.new O.faults out.old out.new }
 {
     machines_run();

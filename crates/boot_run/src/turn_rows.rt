@@ -9,14 +9,14 @@ ghost use Rattle.boot_run.specs.TurnParts.{first_machine, fault_row, fault_rows}
 ghost use Rattle.boot_report.specs.Leaves.{Puts};
 
 use arrayvec::ArrayString;
+use boot_report::journal_text::{start_row, steps_row};
+use boot_report::row_text::row_text;
 use boot_turns::Turn;
-use boot_turns::journal_text::{start_row, steps_row};
-use boot_turns::row_text::row_text;
 use cvm_model::{KernelFault, Next};
 use cvm_outside::{Sink, SinkFault};
 use layer_contract::Boot;
 
-/// The number of pages of a user's machine at the start: those that its words reach into.
+// The number of pages of a user's machine at the start: those that its words reach into.
 fn first_pages(boot: &Boot, user: u32) -> u32
     requires some { 1 ≤ user }
     requires there { user ≤ length boot.now.users.items }
@@ -27,11 +27,11 @@ fn first_pages(boot: &Boot, user: u32) -> u32
     words.len().div_ceil(1024).min(1024) as u32
 }
 
-/// Prints the first row of a trace.
-///
-/// # Errors
-///
-/// A fault of the sink.
+// Prints the first row of a trace.
+//
+// # Errors
+//
+// A fault of the sink.
 pub(crate) fn put_start<O: Sink>(boot: &Boot, user: u32, out: &mut O) -> Result<(), SinkFault>
     requires some { 1 ≤ user }
     requires there { user ≤ length boot.now.users.items }
@@ -42,11 +42,11 @@ pub(crate) fn put_start<O: Sink>(boot: &Boot, user: u32, out: &mut O) -> Result<
     out.put(start_row(user, pages).as_str().as_bytes())
 }
 
-/// Prints the row of a dispatch.
-///
-/// # Errors
-///
-/// A fault of the sink.
+// Prints the row of a dispatch.
+//
+// # Errors
+//
+// A fault of the sink.
 pub(crate) fn put_row<O: Sink>(answer: Turn, out: &mut O) -> Result<(), SinkFault>
     ensures put { Puts O.text O.faults out.old out.new (rows_text (rows_of answer)) result }
     ensures dispatch { OnErr result ((row : OneRow) × (rows_of answer ≡ row ∷ [])) }
@@ -57,7 +57,7 @@ pub(crate) fn put_row<O: Sink>(answer: Turn, out: &mut O) -> Result<(), SinkFaul
     }
 }
 
-/// The row of a kernel's fault.
+// The row of a kernel's fault.
 fn fault_row(fault: KernelFault) -> ArrayString<64>
     ensures { result.bytes ≡ fault_row fault }
 {
@@ -68,11 +68,11 @@ fn fault_row(fault: KernelFault) -> ArrayString<64>
     text
 }
 
-/// Prints the row of so many steps that have none yet, and that of a kernel's fault.
-///
-/// # Errors
-///
-/// A fault of the sink.
+// Prints the row of so many steps that have none yet, and that of a kernel's fault.
+//
+// # Errors
+//
+// A fault of the sink.
 fn put_both<O: Sink>(steps: u64, fault: KernelFault, out: &mut O) -> Result<(), SinkFault>
     ensures { Puts O.text O.faults out.old out.new (steps_text steps ++ fault_row fault) result }
 {
@@ -80,11 +80,11 @@ fn put_both<O: Sink>(steps: u64, fault: KernelFault, out: &mut O) -> Result<(), 
     out.put(fault_row(fault).as_str().as_bytes())
 }
 
-/// Prints the last rows of a trace whose kernel faulted, after so many steps that have no row yet. Of any other run it prints nothing.
-///
-/// # Errors
-///
-/// A fault of the sink.
+// Prints the last rows of a trace whose kernel faulted, after so many steps that have no row yet. Of any other run it prints nothing.
+//
+// # Errors
+//
+// A fault of the sink.
 pub(crate) fn put_fault<O: Sink>(
     steps: u64,
     ended: Option<Next>,

@@ -11,14 +11,14 @@ use Rattle.cvm_model.specs.Cvm.{System, Status, Running, Halted, Faulted, Cvm, B
 use Rattle.layer_contract.specs.Layer.{Rests}
 use Rattle.boot_turns.specs.TurnEnds.{Stood, Ahead}
 use Rattle.boot_turns.specs.Completes.{note, Progress, Completed, WentOff, ShownAs, Skips, CompleteOk, CompleteErr, CompleteEnds}
-use Rattle.boot_turns.specs.Machines.{RowsGrow, Machines, MachinesRun}
-use Rattle.boot_turns.specs.Advances.{Advanced, Goes, Stops, Skipped, AdvanceEnds, AdvancesTyped}
+use Rattle.boot_turns.specs.Machines.{RowsGrow, RunMachines, MachinesRun}
+use Rattle.boot_turns.specs.Advances.{Advanced, StillGoes, Stops, Skipped, AdvanceEnds, AdvancesTyped}
 use Rattle.boot_turns.specs.declared.completion.Begun.{Begun}
 use Rattle.boot_turns.specs.declared.answers.RunFault.{RunFault}
 use Rattle.boot_turns.specs.declared.answers.RunFault.TheVariants.{StepLimit, Disk, Sink}
 use Rattle.boot_turns.proofs.Stepping.{user_rests}
 
-went : (x : Outside) (y : System) (s : State) (late held : ℕ) → Machines x y s late held → (k t : ℕ) (c : Cvm) → Stood x y s k t c → c.status ≡ Running → (now : Option State) (budget left : ℕ) (b : Begun) →
+went : (x : Outside) (y : System) (s : State) (late held : ℕ) → RunMachines x y s late held → (k t : ℕ) (c : Cvm) → Stood x y s k t c → c.status ≡ Running → (now : Option State) (budget left : ℕ) (b : Begun) →
     CompleteOk x now budget left s t b → Advanced x y s k t c now budget left b
 went x y s late held m k t c st r now budget left b (u, done, state, spent) = ⊎_elim
     (λ (d : Completed x s t u b).
@@ -32,22 +32,22 @@ went x y s late held m k t c st r now budget left b (u, done, state, spent) = �
     (λ (d : WentOff x s t u b). absurd (d.off ((m.unfound k t u c None d.from st r d.none).1 u (omega arith))))
     done
 
-goes : (x : Outside) (y : System) (s : State) (late held : ℕ) → Machines x y s late held → (k t u : ℕ) (c : Cvm) (b : Option Begun) → t ≤ u → Stood x y s k t c → c.status ≡ Running →
-    Progress x s t u b → Goes x y s k t u
+goes : (x : Outside) (y : System) (s : State) (late held : ℕ) → RunMachines x y s late held → (k t u : ℕ) (c : Cvm) (b : Option Begun) → t ≤ u → Stood x y s k t c → c.status ≡ Running →
+    Progress x s t u b → StillGoes x y s k t u
 goes x y s late held m k t u c b le st r p = let w = m.unfound k t u c b le st r p in record { between = w.0; on = w.1 }
 
-stopped : (x : Outside) (y : System) (s : State) (late held : ℕ) → Machines x y s late held → (k t : ℕ) (c : Cvm) → Stood x y s k t c → c.status ≡ Running → (traced : Bool) (now : Option State) (budget left : ℕ) (f : RunFault) →
+stopped : (x : Outside) (y : System) (s : State) (late held : ℕ) → RunMachines x y s late held → (k t : ℕ) (c : Cvm) → Stood x y s k t c → c.status ≡ Running → (traced : Bool) (now : Option State) (budget left : ℕ) (f : RunFault) →
     CompleteErr x traced now budget left s t f → Stops x y s traced k t now budget left f
 stopped x y s late held m k t c st r traced now budget left StepLimit (u, le, spent, is, none, on, p) =
     let g = goes x y s late held m k t u c p.0 le st r p.1 in
     let at : u ≡ t + budget = omega (arith, spent, none) in
-    record { spent = none; state = subst (λ i. now ≡ Some (run x s i)) at is; goes = subst (Goes x y s k t) at g }
+    record { spent = none; state = subst (λ i. now ≡ Some (run x s i)) at is; goes = subst (StillGoes x y s k t) at g }
 stopped x y s late held m k t c st r traced now budget left Disk d = record { at = d.0; from = d.1; spent = d.2; goes = goes x y s late held m k t d.0 c d.3.0 d.1 st r d.3.1; torn = d.4 }
 stopped x y s late held m k t c st r traced now budget left Sink d = record { at = d.0; from = d.1; spent = d.2; goes = goes x y s late held m k t d.0 c d.3.0 d.1 st r d.3.1; state = d.4 }
 
 -- THE TURNS THAT ARE PASSED
 -- where k turns are complete at t, and the run goes on, the machine is on
-stands : (x : Outside) (y : System) (s : State) (late held : ℕ) → Machines x y s late held → (k t : ℕ) (c : Cvm) → Stood x y s k t c → c.status ≡ Running → (j : ℕ) → j ≤ t → (run x s j).off ≡ None
+stands : (x : Outside) (y : System) (s : State) (late held : ℕ) → RunMachines x y s late held → (k t : ℕ) (c : Cvm) → Stood x y s k t c → c.status ≡ Running → (j : ℕ) → j ≤ t → (run x s j).off ≡ None
 stands x y s late held m k t c st r = (m.unfound k t t c None (omega arith) st r (λ j a b. absurd (omega (arith, a, b)))).1
 
 -- an untrapped step is shown as none that dispatches
@@ -63,7 +63,7 @@ is_running Halted z r on = absurd (let e : None ≡ Some 0 = sym on ∙ r in cc)
 is_running (Faulted f) z r on = absurd (let e : None ≡ Some (power_of f) = sym on ∙ r in cc)
 
 -- one more is passed
-module _ (x : Outside) (y : System) (s : State) (late held : ℕ) (m : Machines x y s late held) (k t : ℕ) (c : Cvm) (n : ℕ) (w : Skipped x y s k t c n) (skips : Skips x s t (suc n)) where
+module _ (x : Outside) (y : System) (s : State) (late held : ℕ) (m : RunMachines x y s late held) (k t : ℕ) (c : Cvm) (n : ℕ) (w : Skipped x y s k t c n) (skips : Skips x s t (suc n)) where
   next_at : t + suc n ≡ suc (t + n)
   next_at = omega arith
 
@@ -123,7 +123,7 @@ module _ (x : Outside) (y : System) (s : State) (late held : ℕ) (m : Machines 
     steps = skips;
   }
 
-pub skipped : (x : Outside) (y : System) (s : State) (late held : ℕ) → Machines x y s late held → (k t : ℕ) (c : Cvm) → Stood x y s k t c → c.status ≡ Running → (n : ℕ) → Skips x s t n → Skipped x y s k t c n
+pub skipped : (x : Outside) (y : System) (s : State) (late held : ℕ) → RunMachines x y s late held → (k t : ℕ) (c : Cvm) → Stood x y s k t c → c.status ≡ Running → (n : ℕ) → Skips x s t n → Skipped x y s k t c n
 skipped x y s late held m k t c st r zero skips =
     let ks : k ≡ k + 0 = omega arith in
     let ts : t ≡ t + 0 = omega arith in
@@ -139,7 +139,7 @@ skipped x y s late held m k t c st r zero skips =
     }
 skipped x y s late held m k t c st r (suc n) skips = one_more x y s late held m k t c n (skipped x y s late held m k t c st r n (λ j l. skips j (omega (arith, l)))) skips
 
-by_result : (x : Outside) (y : System) (s : State) (late held : ℕ) → Machines x y s late held → (k t : ℕ) (c : Cvm) → Stood x y s k t c → c.status ≡ Running → (traced : Bool) (now : Option State) (budget left most : ℕ) (result : Result (ℕ × Begun) RunFault) →
+by_result : (x : Outside) (y : System) (s : State) (late held : ℕ) → RunMachines x y s late held → (k t : ℕ) (c : Cvm) → Stood x y s k t c → c.status ≡ Running → (traced : Bool) (now : Option State) (budget left most : ℕ) (result : Result (ℕ × Begun) RunFault) →
     CompleteEnds x traced now budget left s t most result → AdvanceEnds x y s traced k t c now budget left most result
 by_result x y s late held m k t c st r traced now budget left most (Ok b) (n, few, small, skips, d) =
     let w = skipped x y s late held m k t c st r n skips in

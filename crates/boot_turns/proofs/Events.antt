@@ -8,13 +8,13 @@ use Rattle.mips_table.specs.declared.cause.Cause.TheVariants as causes
 use Rattle.mips_table.specs.Device.{Device, Outside, Pending, Idle, Reading, Writing}
 use Rattle.mips_table.specs.Machine.{State, SR, MODE, PTL, ECA, EDATA, number_of, Coming, Interrupt, Done, coming, latched, come_to, ended, if_on, step}
 use Rattle.mips_table.specs.Turns.{in_user, is_handled, handled, begins}
-use Rattle.sector_disk.specs.Ports.{TransferFails}
+use Rattle.sector_disk.specs.Ports.{Ports, ports_of, TransferFails}
 use Rattle.mips_machine.specs.declared.event.Event.{Event}
 use Rattle.mips_machine.specs.declared.event.Event.TheVariants.{Ran, Taken, Off, Power}
 use Rattle.mips_machine.specs.Hardware.{told_as, event_by}
 use Rattle.mips_machine.specs.Machine.{Held, state_of}
 use Rattle.mips_machine.specs.Steps.{outside_of, event_if, event_of, before_count, after_step, Steps, Fails}
-use Rattle.boot_turns.specs.Completes.{seen, was_off, was_taken, begun_at, TornBy, Torn, StepTorn, SeenTorn}
+use Rattle.boot_turns.specs.Completes.{seen, was_off, was_taken, begun_at, TornBy, Torn, StepTorn, SeenTorn, PortsStepped, SeenPorts}
 use Rattle.boot_turns.proofs.Stepping.{on_time, instruction, Plain, instruction_plain}
 
 -- by the event as a whole
@@ -260,6 +260,9 @@ fails_torn count old new told retold h = λ ss e.
     let d : Device = before_count (outside_of old.rows count) (state_of old ss) in
     torn_by d.pending d.buffer new.hardware.buffer ss retold (subst (λ (t : Option (List (List ℕ))). TransferFails d.pending d.buffer new.hardware.buffer t retold) e (h.disk ss))
 
+pub fails_ports : (count : ℕ) (old new : Held) (told retold : Option (List (List ℕ))) → Fails count old new told retold → PortsStepped count old new
+fails_ports count old new told retold h = λ ss. ap (λ (s : State). ports_of s.device) (h.state ss)
+
 pub told_as_some : (told : Option (List (List ℕ))) (held : Held) (v : State) → seen told held ≡ Some v → (ss : List (List ℕ)) × (told ≡ Some ss) × (state_of held ss ≡ v)
 told_as_some None held v h = absurd (let f : ◌≡◌ {A = Option State} None (Some v) = h in cc)
 told_as_some (Some ss) held v h = (ss, refl, cc)
@@ -272,3 +275,11 @@ step_torn count x old new told retold v same is h =
       ap (option_map (λ (z : State). z.device.sectors)) (ap (λ (r : Option (List (List ℕ))). seen r new) w.1),
       subst (λ (u : State). Torn x u w.0) s.2 (subst (λ (u : Outside). Torn u (state_of old s.0) w.0) same w.2),
     )
+
+pub step_ports : (count : ℕ) (x : Outside) (old new : Held) (told retold : Option (List (List ℕ))) (v : State) → outside_of old.rows count ≡ x → seen told old ≡ Some v → StepTorn count old told retold → PortsStepped count old new → SeenPorts (step x v) (seen retold new)
+step_ports count x old new told retold v same is torn ports =
+    let s = told_as_some told old v is in
+    let w = torn s.0 s.1 in
+    ap (λ (r : Option (List (List ℕ))). option_map (λ (z : State). ports_of z.device) (seen r new)) w.1
+    ∙ ap (λ (p : Ports). Some p) (ports s.0)
+    ∙ ap₂ (λ (u : Outside) (z : State). Some (ports_of (step u z).device)) same s.2

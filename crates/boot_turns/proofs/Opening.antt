@@ -13,7 +13,7 @@ use Rattle.boot_turns.specs.declared.completion.Begun.{Begun}
 use Rattle.boot_turns.specs.declared.completion.Stepped.{Stepped}
 use Rattle.boot_turns.specs.declared.answers.RunFault.{RunFault}
 use Rattle.boot_turns.specs.declared.answers.RunFault.TheVariants.{StepLimit, Disk, Sink}
-use Rattle.boot_turns.proofs.Events.{step_torn, told_as_some}
+use Rattle.boot_turns.proofs.Events.{step_torn, step_ports, told_as_some}
 use Rattle.boot_turns.proofs.Stretches.{later}
 use Rattle.boot_turns.proofs.Quietly.{skips_stretch}
 use Rattle.mips_machine.specs.Quiet.{Stretch}
@@ -90,7 +90,7 @@ failing f = Err f
 -- what a fault of the disk leaves of the step at u
 fails_leave : (count : ℕ) (x : Outside) (s : State) (u : ℕ) (told retold : Option (List (List ℕ))) (old new : Held) → outside_of old.rows count ≡ x → seen told old ≡ Some (run x s u) →
     (traced : Bool) → StepFails count old new told retold traced → DiskLeaves x s u traced (seen retold new)
-fails_leave count x s u told retold old new same is false h = step_torn count x old new told retold (run x s u) same is h
+fails_leave count x s u told retold old new same is false h = (step_torn count x old new told retold (run x s u) same is h.0, step_ports count x old new told retold (run x s u) same is h.0 h.1)
 fails_leave count x s u told retold old new same is true h = ⊎_elim
     (λ torn. inl (step_torn count x old new told retold (run x s u) same is torn))
     (λ (ran : StepRan count old new told retold). inr (seen_more x (seen told old) (seen retold new) (run x s u) (subst (λ (z : Outside). seen retold new ≡ option_map (step z) (seen told old)) same ran) is))

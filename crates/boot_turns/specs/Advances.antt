@@ -24,7 +24,7 @@ pub record Advanced (x : Outside) (y : System) (s : State) (k t : ℕ) (c : Cvm)
   pub shows : b ≡ note (run x s (suc ahead.start))
 
 -- turn k isn't complete by step u, and the machine is on
-pub record Goes (x : Outside) (y : System) (s : State) (k t u : ℕ) : Type 0 where
+pub record StillGoes (x : Outside) (y : System) (s : State) (k t u : ℕ) : Type 0 where
   pub between : (j : ℕ) → t ≤ j → j ≤ u → complete x s j ≡ k
   pub on : (j : ℕ) → j ≤ u → (run x s j).off ≡ None
 
@@ -33,21 +33,21 @@ pub record DiskStops (x : Outside) (y : System) (s : State) (traced : Bool) (k t
   pub at : ℕ
   pub from : t ≤ at
   pub spent : left + (at + 1) ≡ budget + t
-  pub goes : Goes x y s k t at
+  pub goes : StillGoes x y s k t at
   pub torn : DiskLeaves x s at traced now
 
 -- the budget was spent
 pub record BudgetStops (x : Outside) (y : System) (s : State) (k t : ℕ) (now : Option State) (budget left : ℕ) : Type 0 where
   pub spent : left ≡ 0
   pub state : now ≡ Some (run x s (t + budget))
-  pub goes : Goes x y s k t (t + budget)
+  pub goes : StillGoes x y s k t (t + budget)
 
 -- the sink failed in the rows of step number `at`, which is done
 pub record SinkStops (x : Outside) (y : System) (s : State) (k t : ℕ) (now : Option State) (budget left : ℕ) : Type 0 where
   pub at : ℕ
   pub from : t ≤ at
   pub spent : left + (at + 1) ≡ budget + t
-  pub goes : Goes x y s k t at
+  pub goes : StillGoes x y s k t at
   pub state : now ≡ Some (run x s (suc at))
 
 -- by the fault

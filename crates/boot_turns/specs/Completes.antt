@@ -3,10 +3,12 @@ use Rattle.std.specs.Prelude.{◌≡◌, ◌≢◌, ◌⊎◌, ℕ, suc, ◌+◌
 use Rattle.std.specs.Prelude.{Bool, true, false, List, [], slice_index, slice_set, Result, MatchResult}
 use Rattle.std.specs.Option.{option_map}
 use Rattle.mips_table.specs.Device.{Outside, Pending, Reading, Writing}
-use Rattle.mips_table.specs.Machine.{State, MODE, ECA, EDATA, step, run}
+use Rattle.mips_table.specs.declared.cause.Cause.TheVariants.{Reset, FetchFault, DataFault}
+use Rattle.mips_table.specs.Machine.{State, MODE, ECA, EDATA, number_of, step, run}
 use Rattle.mips_table.specs.Turns.{begins, rests}
+use Rattle.sector_disk.specs.Ports.{ports_of}
 use Rattle.mips_machine.specs.Machine.{Held, state_of}
-use Rattle.mips_machine.specs.Steps.{outside_of, before_count}
+use Rattle.mips_machine.specs.Steps.{outside_of, before_count, after_step}
 use Rattle.mips_machine.specs.Quiet.{Stretch}
 use Rattle.mips_machine.specs.declared.event.Event.{Event}
 use Rattle.mips_machine.specs.declared.event.Event.TheVariants.{Taken, Off}
@@ -45,14 +47,23 @@ StepTorn count old told retold = (ss : List (List ℕ)) → told ≡ Some ss →
 abbrev pub SeenTorn : Outside → State → Option State → Type 0
 SeenTorn x s new = (now : List (List ℕ)) × (option_map (λ (z : State). z.device.sectors) new ≡ Some now) × Torn x s now
 
--- what a fault of the disk in step number t leaves: its transfer failed; or, where a user is traced, the step is done, and a page was read for its rows
+-- the disk's ports are as after the step of a machine, whatever the sectors are
+abbrev pub PortsStepped : (count : ℕ) → (old new : Held) → Type 0
+PortsStepped count old new = (ss : List (List ℕ)) → new.hardware.ports ≡ ports_of (after_step count old ss).device
+
+-- the disk's ports are those of a state, in a machine that is seen
+abbrev pub SeenPorts : State → Option State → Type 0
+SeenPorts s new = option_map (λ (z : State). ports_of z.device) new ≡ Some (ports_of s.device)
+
+-- what a fault of the disk in step number t leaves: its transfer failed, and its ports are as after the step; or, where a user is traced, its transfer
+-- failed, or the step is done, and a page was read for its rows
 abbrev pub DiskLeaves : Outside → State → (t : ℕ) → (traced : Bool) → Option State → Type 0
-DiskLeaves x s t false new = SeenTorn x (run x s t) new
+DiskLeaves x s t false new = SeenTorn x (run x s t) new × SeenPorts (run x s (suc t)) new
 DiskLeaves x s t true new = SeenTorn x (run x s t) new ⊎ (new ≡ Some (run x s (suc t)))
 
 -- the same of one step, over a disk of so many sectors
 abbrev pub StepFails : (count : ℕ) → (old new : Held) → (told retold : Option (List (List ℕ))) → (traced : Bool) → Type 0
-StepFails count old new told retold false = StepTorn count old told retold
+StepFails count old new told retold false = StepTorn count old told retold × PortsStepped count old new
 StepFails count old new told retold true = StepTorn count old told retold ⊎ StepRan count old new told retold
 
 -- the answer is whether that step begins a turn
@@ -72,7 +83,8 @@ was_taken other = false
 -- step other than a page fault that is handled
 abbrev pub begun_at : (in_user : Bool) (pages : ℕ) (off taken : Bool) (cause edata : ℕ) → Bool
 begun_at in_user pages off taken cause edata =
-    not off && ((taken && cause == 0) || (in_user && not ((taken && (cause == 3 || cause == 8)) && nat_lt (edata / 4096) pages)))
+    not off && ((taken && cause == number_of Reset)
+    || (in_user && not ((taken && (cause == number_of FetchFault || cause == number_of DataFault)) && nat_lt (edata / 4096) pages)))
 
 -- whether a step was one that began a turn
 abbrev pub turn_began : Stepped → Bool

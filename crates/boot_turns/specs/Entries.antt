@@ -15,6 +15,7 @@ use Rattle.layer_contract.specs.declared.registers.TheConstants.{ARGUMENT, ANSWE
 use Rattle.layer_contract.specs.Layer.{entry_address}
 use Rattle.layer_contract.specs.Follows.{site_of}
 use Rattle.boot_turns.specs.declared.completion.Begun.{Begun}
+use Rattle.boot_turns.specs.declared.primitives.TheConstants.{VM_SET, VM_RESIZE, VM_PUT, VM_COPY}
 use Rattle.boot_turns.specs.declared.tracer.Entered.{Entered}
 use Rattle.boot_turns.specs.Completes.{note}
 use Rattle.boot_turns.specs.Premises.{StartsFrom}
@@ -55,15 +56,15 @@ abbrev pub call_ends : ℕ → Entered → (answer : ℕ) → (words : List ℕ)
 call_ends u e answer words =
     let a : ℕ → ℕ = slice_index e.arguments in
     if answer == 1 then (
-    if e.primitive == 1 && a 0 == u then Set (a 1) (a 2) ∷ [] else
-    if e.primitive == 3 && a 0 == u then Size (a 1) ∷ [] else
-    if e.primitive == 5 && a 0 == u then Put (a 1) (a 2) ∷ [] else
-    if e.primitive == 6 && a 2 == u then puts (a 3) (take (a 4) (drop (a 3 / 4) words)) else []
+    if e.primitive == VM_SET && a 0 == u then Set (a 1) (a 2) ∷ [] else
+    if e.primitive == VM_RESIZE && a 0 == u then Size (a 1) ∷ [] else
+    if e.primitive == VM_PUT && a 0 == u then Put (a 1) (a 2) ∷ [] else
+    if e.primitive == VM_COPY && a 2 == u then puts (a 3) (take (a 4) (drop (a 3 / 4) words)) else []
     ) else []
 
 -- it is not the primitive that copies words
 abbrev pub IsNoCopy : Entered → Type 0
-IsNoCopy e = e.primitive ≢ 6
+IsNoCopy e = e.primitive ≢ VM_COPY
 
 -- the primitive that returns here
 abbrev pub returned : State → Option Entered → Option Entered
@@ -82,7 +83,7 @@ step_entries x s u t words =
 
 -- the words that a primitive copied to user u lie in its memory
 abbrev pub IsPlaced : ℕ → Entered → (answer : ℕ) → (words : List ℕ) → Type 0
-IsPlaced u e answer words = answer ≡ 1 → e.primitive ≡ 6 → slice_index e.arguments 2 ≡ u →
+IsPlaced u e answer words = answer ≡ 1 → e.primitive ≡ VM_COPY → slice_index e.arguments 2 ≡ u →
     slice_index e.arguments 3 / 4 + slice_index e.arguments 4 ≤ length words
 
 -- where a primitive returns, the machine stands for a state with these words of user u, and what was copied to it lies there
@@ -93,7 +94,7 @@ WordsAt x y u s words (Some e) = (core : Core) × Stands x (site_of y.boot) s Ru
 
 -- a primitive has copied words to user u, one at least, with this answer
 pub record IsCopyTo (u : ℕ) (e : Entered) (answer : ℕ) : Type 0 where
-  pub copies : e.primitive ≡ 6
+  pub copies : e.primitive ≡ VM_COPY
   pub user : slice_index e.arguments 2 ≡ u
   pub done : answer ≡ 1
   pub some : 1 ≤ slice_index e.arguments 4

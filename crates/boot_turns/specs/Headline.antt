@@ -1,5 +1,5 @@
 -- How a run from a start ends, what is printed of it and which sectors stand; and the headline of a boot, which is that of the loaded machine.
-use Rattle.std.specs.Prelude.{◌≡◌, ℕ, suc, ◌+◌, ◌<◌, ◌≤◌, ◌⊎◌, false, if◌then◌else◌, List, [], ◌∷◌, ◌++◌}
+use Rattle.std.specs.Prelude.{◌≡◌, ℕ, suc, ◌+◌, ◌<◌, ◌≤◌, ◌⊎◌, ⊤, false, if◌then◌else◌, List, [], ◌∷◌, ◌++◌}
 use Rattle.mips_table.specs.Device.{Outside, sector_of}
 use Rattle.mips_table.specs.Machine.{State, run}
 use Rattle.mips_table.specs.Turns.{complete, lines_of, is_end, IsEnd, end_within}
@@ -12,7 +12,7 @@ use Rattle.boot_turns.specs.Completes.{Torn}
 use Rattle.boot_turns.specs.Entries.{CopyReturns}
 use Rattle.boot_turns.specs.declared.answers.View.{View}
 use Rattle.boot_turns.specs.declared.answers.View.TheVariants.{Boot, Trace}
-use Rattle.boot_turns.specs.TurnEnds.{Printed, Rows, Whole, Prefix}
+use Rattle.boot_turns.specs.TurnEnds.{Printed, RowsAt, Whole, Prefix}
 
 -- how a boot or a trace ends whose image is accepted
 pub data Ending : Type 0 where
@@ -56,7 +56,7 @@ pub record RowsBroken (x : Outside) (y : System) (s : State) (now : List (List �
   pub part : List ℕ
   pub whole : List ℕ
   pub is_part : Printed x y s (Trace u) at part
-  pub is_whole : Rows x y s (Trace u) (suc at) whole
+  pub is_whole : RowsAt x y s (Trace u) (suc at) whole
   pub printed : Prefix part whole text
 
 -- the disk failed in step number `at`: in the transfer that was due, with the text there; or, of a trace, where a page was read for its rows
@@ -79,7 +79,7 @@ pub record EndBroken (x : Outside) (y : System) (s : State) (now : List (List �
   pub done : ending x s turns steps past ≡ Done
   pub sectors : now ≡ (run x s (end_within x s turns steps)).device.sectors
   pub rows : List ℕ
-  pub are_rows : Rows x y s v (end_within x s turns steps) rows
+  pub are_rows : RowsAt x y s v (end_within x s turns steps) rows
   pub whole : List ℕ
   pub is_whole : Whole x y s v (end_within x s turns steps) whole
   pub printed : Prefix rows whole text
@@ -107,13 +107,20 @@ SinkBroken x y s held old now Boot turns steps text = RowBroken x y s now turns 
 SinkBroken x y s held old now (Trace u) turns steps text =
     (e : Ending) × (clean : List (List ℕ)) × (whole : List ℕ) × RanFrom x y s held old clean (Trace u) turns steps e whole × Prefix [] whole text
 
--- HOW A LOADED RUN ENDS
-abbrev pub RunEndsFrom : Outside → System → State → (held : ℕ) → (old now : List (List ℕ)) → View → (turns steps : ℕ) → List ℕ → Ending → Type 0
-RunEndsFrom x y s held old now v turns steps text DiskFault = Beyond held old now
-    × (((made : ℕ) × StepBroken x y s now v turns steps made text) ⊎ EndBroken x y s now v turns steps text)
-RunEndsFrom x y s held old now v turns steps text SinkFault = Beyond held old now × SinkBroken x y s held old now v turns steps text
-RunEndsFrom x y s held old now v turns steps text NoMemory = (text ≡ []) × (now ≡ old)
-RunEndsFrom x y s held old now v turns steps text e = RanFrom x y s held old now v turns steps e text
+-- the calls of the disk fit a state: of a boot. A trace reads pages for its rows, too, and nothing is said of how many.
+abbrev pub CallsFit : View → (calls : State → Type 0) → State → Type 0
+CallsFit Boot calls s = calls s
+CallsFit (Trace u) calls s = ⊤
+
+-- HOW A LOADED RUN ENDS. Where the disk failed in a step, the calls that were made of it fit the state behind that step: as many transfers were due up to
+-- it, so that rows which come a turn late don't pass for those of an earlier transfer.
+abbrev pub RunEndsFrom : Outside → System → State → (held : ℕ) → (old now : List (List ℕ)) → View → (turns steps : ℕ) → (calls : State → Type 0) → List ℕ →
+    Ending → Type 0
+RunEndsFrom x y s held old now v turns steps calls text DiskFault = Beyond held old now
+    × (((made : ℕ) × StepBroken x y s now v turns steps made text × CallsFit v calls (run x s made)) ⊎ EndBroken x y s now v turns steps text)
+RunEndsFrom x y s held old now v turns steps calls text SinkFault = Beyond held old now × SinkBroken x y s held old now v turns steps text
+RunEndsFrom x y s held old now v turns steps calls text NoMemory = (text ≡ []) × (now ≡ old)
+RunEndsFrom x y s held old now v turns steps calls text e = RanFrom x y s held old now v turns steps e text
 
 -- the disk failed in the load, before a step was made: the sectors before number `at` are those that were to be written, that one may hold anything,
 -- the rest is as before, and nothing is printed

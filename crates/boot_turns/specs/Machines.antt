@@ -66,7 +66,7 @@ UserStays x y s = (k : ℕ) (c after : Cvm) (at : Core) → IsCvm y (lines_of x 
     begin k c.core (bit_or c.pending (lines_of x s k)) ≡ Steps at → after.core.current ≡ c.core.current
 
 -- a run from a start from which the layer takes over after `late` steps, with the sectors below `held`
-pub record Machines (x : Outside) (y : System) (s : State) (late held : ℕ) : Type 0 where
+pub record RunMachines (x : Outside) (y : System) (s : State) (late held : ℕ) : Type 0 where
   pub goes_on : GoesOnWithin x y s (late - 1)
   pub defined : IsDefined x y s
   pub two_faults : TwoFaults x s
@@ -84,7 +84,7 @@ pub record Machines (x : Outside) (y : System) (s : State) (late held : ℕ) : T
 
 -- THE RUN FROM A START
 abbrev pub MachinesRun : (C0 → Type 0) → Type 0
-MachinesRun Typed = (x : Outside) (y : System) (s : State) (late held : ℕ) → StartsFrom Typed x y s late held → Machines x y s late held
+MachinesRun Typed = (x : Outside) (y : System) (s : State) (late held : ℕ) → StartsFrom Typed x y s late held → RunMachines x y s late held
 
 -- and the kernel's data is typed after every number of turns
 abbrev pub RunsStayTyped : (C0 → Type 0) → Type 0

@@ -26,7 +26,7 @@ pub record TraceStays {T O : Type 0} (m : Map) (held : Held) (count : ℕ) (old 
   pub user : option_map (λ (k : Tracer). k.user) new ≡ option_map (λ (k : Tracer). k.user) old
 
 -- what rows keep of a trace: its user, and it has no more steps without a row than before
-pub record Keeps (old new : Tracer) : Type 0 where
+pub record KeepsTracer (old new : Tracer) : Type 0 where
   pub user : new.user ≡ old.user
   pub few : new.steps ≤ old.steps
 

@@ -51,9 +51,9 @@ Printed x y s Boot t text = (c : Cvm) × IsCvm y (lines_of x s) (complete x s t)
 Printed x y s (Trace u) t text = (j : List JournalEntry) × Shown x s y u t j × (text ≡ start_row u (first_of y u) ++ open_journal_rows j)
 
 -- the rows that stand before the end row
-abbrev pub Rows : Outside → System → State → View → ℕ → List ℕ → Type 0
-Rows x y s Boot t text = Printed x y s Boot t text
-Rows x y s (Trace u) t text = (j : List JournalEntry) × Shown x s y u t j × (text ≡ start_row u (first_of y u) ++ journal_rows j)
+abbrev pub RowsAt : Outside → System → State → View → ℕ → List ℕ → Type 0
+RowsAt x y s Boot t text = Printed x y s Boot t text
+RowsAt x y s (Trace u) t text = (j : List JournalEntry) × Shown x s y u t j × (text ≡ start_row u (first_of y u) ++ journal_rows j)
 
 -- THE WHOLE TEXT, with the end and the report
 abbrev pub Whole : Outside → System → State → View → ℕ → List ℕ → Type 0

@@ -3,9 +3,9 @@ ghost use Rattle.std.specs.Prelude.{◌≡◌, ◌*◌, ◌<◌, ◌-◌, ◌^�
 ghost use Rattle.mips_machine.specs.Machine.{state_of};
 ghost use Rattle.boot_turns.specs.Completes.{shown};
 ghost use Rattle.boot_turns.specs.Entries.{notes_on, returned, IsCopyTo, CopyEnds, HasRows};
-ghost use Rattle.boot_turns.specs.Steps.{Keeps, RowsRead};
+ghost use Rattle.boot_turns.specs.Steps.{KeepsTracer, RowsRead};
 ghost use Rattle.boot_turns.specs.Tracing.{CanTrace, counted, ForEnded, EndedKeeps, ForFollowed, FollowedKeeps};
-ghost use Rattle.boot_report.specs.Leaves.{Printed};
+ghost use Rattle.boot_report.specs.Leaves.{PrintsAll};
 
 use crate::answers::RunFault;
 use crate::completion::Begun;
@@ -16,7 +16,7 @@ use cvm_outside::{Sectors, Sink};
 use layer_map::{CURRENT, Map};
 use mips_machine::Machine;
 
-/// What the machine shows now, as it is noted after the step that begins a turn.
+// What the machine shows now, as it is noted after the step that begins a turn.
 pub(crate) fn begun_now(machine: &Machine) -> Begun
     requires room { 1024 < length machine.now.hardware.memory }
     ensures { result ≡ shown machine.now }
@@ -30,7 +30,7 @@ pub(crate) fn begun_now(machine: &Machine) -> Begun
 }
 
 impl Tracer {
-    /// The primitive that returns where the machine is.
+    // The primitive that returns where the machine is.
     fn returned_call(&self, machine: &Machine) -> Option<Entered>
         ensures { result ≡ returned (state_of machine.now []) self.now.call }
     {
@@ -40,7 +40,7 @@ impl Tracer {
         }
     }
 
-    /// Keeps the note of the primitive that is under way. Most steps have none before and after them, and then nothing is written.
+    // Keeps the note of the primitive that is under way. Most steps have none before and after them, and then nothing is written.
     fn note_call(&mut self, machine: &Machine)
         ensures { self.new ≡ record self.old { call = notes_on (state_of machine.now []) self.old.call } }
     {
@@ -53,11 +53,11 @@ impl Tracer {
         }
     }
 
-    /// Prints the rows of words that were copied to the user by a primitive that has returned with this answer.
-    ///
-    /// # Errors
-    ///
-    /// A fault of the disk, from which a page may have to be read, or of the sink.
+    // Prints the rows of words that were copied to the user by a primitive that has returned with this answer.
+    //
+    // # Errors
+    //
+    // A fault of the disk, from which a page may have to be read, or of the sink.
     fn end_copy<D: Sectors, O: Sink>(
         &mut self,
         machine: &mut Machine,
@@ -67,12 +67,12 @@ impl Tracer {
         disk: &mut D,
         out: &mut O,
     ) -> Result<(), RunFault>
-        requires copy { call.now.primitive ≡ 6 }
+        requires copy { call.now.primitive ≡ VM_COPY }
         requires can { CanTrace map.now (length machine.old.hardware.memory) machine.old.time (D.size disk.old) self.old }
-        ensures put { ForEnded (D.sectors disk.old) machine.old map.now self.old call.now answer (Printed (O.text out.old) (O.text out.new)) result }
+        ensures put { ForEnded (D.sectors disk.old) machine.old map.now self.old call.now answer (PrintsAll (O.text out.old) (O.text out.new)) result }
         ensures steps { EndedKeeps (D.sectors disk.old) machine.old map.now self.old self.new call.now answer result }
         ensures reads { result ≡ Err RunFault.Disk → IsCopyTo self.old.user call.now answer }
-        ensures keeps { Keeps self.old self.new }
+        ensures keeps { KeepsTracer self.old self.new }
         ensures read { RowsRead machine.old machine.new D.sectors D.size D.faults disk.old disk.new O.faults out.old out.new result }
     {
         let [_, _, user, address, count] = call.arguments;
@@ -84,11 +84,11 @@ impl Tracer {
         self.put_words(machine, map, address, count, disk, out)
     }
 
-    /// Prints the rows of a primitive that has returned with this answer.
-    ///
-    /// # Errors
-    ///
-    /// A fault of the disk, from which a page may have to be read, or of the sink.
+    // Prints the rows of a primitive that has returned with this answer.
+    //
+    // # Errors
+    //
+    // A fault of the disk, from which a page may have to be read, or of the sink.
     fn end<D: Sectors, O: Sink>(
         &mut self,
         machine: &mut Machine,
@@ -99,10 +99,10 @@ impl Tracer {
         out: &mut O,
     ) -> Result<(), RunFault>
         requires can { CanTrace map.now (length machine.old.hardware.memory) machine.old.time (D.size disk.old) self.old }
-        ensures put { ForEnded (D.sectors disk.old) machine.old map.now self.old call.now answer (Printed (O.text out.old) (O.text out.new)) result }
+        ensures put { ForEnded (D.sectors disk.old) machine.old map.now self.old call.now answer (PrintsAll (O.text out.old) (O.text out.new)) result }
         ensures steps { EndedKeeps (D.sectors disk.old) machine.old map.now self.old self.new call.now answer result }
         ensures reads { result ≡ Err RunFault.Disk → IsCopyTo self.old.user call.now answer }
-        ensures keeps { Keeps self.old self.new }
+        ensures keeps { KeepsTracer self.old self.new }
         ensures read { RowsRead machine.old machine.new D.sectors D.size D.faults disk.old disk.new O.faults out.old out.new result }
     {
         if call.primitive == VM_COPY {
@@ -112,7 +112,7 @@ impl Tracer {
         Ok(())
     }
 
-    /// Counts a step under this current user that kept user mode, where no primitive is under way. The answer is whether none is.
+    // Counts a step under this current user that kept user mode, where no primitive is under way. The answer is whether none is.
     pub(crate) fn count(&mut self, current: u32) -> bool
         requires few { self.old.steps < 2 ^ 64 - 1 }
         ensures free { result ≡ true → self.old.call ≡ None }
@@ -146,7 +146,7 @@ impl Tracer {
         requires can { CanTrace map.now (length machine.old.hardware.memory) machine.old.time (D.size disk.old) self.old }
         requires few { self.old.steps < machine.old.time }
         requires room { 1024 < length machine.old.hardware.memory }
-        ensures put { ForFollowed (D.sectors disk.old) machine.old map.now self.old current began (Printed (O.text out.old) (O.text out.new)) result }
+        ensures put { ForFollowed (D.sectors disk.old) machine.old map.now self.old current began (PrintsAll (O.text out.old) (O.text out.new)) result }
         ensures kept { FollowedKeeps (D.sectors disk.old) machine.old map.now self.old self.new current began result }
         ensures puts { result ≡ Err RunFault.Sink → HasRows (state_of machine.old []) self.old.call began }
         ensures reads { result ≡ Err RunFault.Disk → (began ≡ false) × CopyEnds self.old.user (state_of machine.old []) self.old.call }

@@ -15,10 +15,8 @@ ghost use Rattle.boot_turns.specs.JournalText.{RowsFollow};
 mod answers;
 pub mod completion;
 mod following;
-pub mod journal_text;
 mod primitives;
 mod registers;
-pub mod row_text;
 mod rows;
 pub mod tracer;
 

@@ -5,15 +5,15 @@ ghost use Rattle.cvm_model.specs.Text.{steps_row as steps_text};
 ghost use Rattle.boot_turns.specs.Entries.{noted_at, turn_begins, call_ends, IsNoCopy};
 ghost use Rattle.boot_turns.specs.Copies.{steps_left, ForCopied};
 ghost use Rattle.boot_turns.specs.JournalText.{steps_after};
-ghost use Rattle.boot_turns.specs.Steps.{Keeps, RowsRead};
+ghost use Rattle.boot_turns.specs.Steps.{KeepsTracer, RowsRead};
 ghost use Rattle.boot_turns.specs.Tracing.{CanTrace, begun_rows, ended_rows};
-ghost use Rattle.boot_report.specs.Leaves.{Printed, Puts};
+ghost use Rattle.boot_report.specs.Leaves.{PrintsAll, Puts};
 
 use crate::answers::RunFault;
 use crate::completion::Begun;
-use crate::journal_text::{put_row, set_row, size_row, steps_row, trap_row};
 use crate::primitives::{VM_PUT, VM_RESIZE, VM_SET};
 use crate::registers::{ARGUMENT, EXTERNAL, MODE, RETURN};
+use boot_report::journal_text::{put_row, set_row, size_row, steps_row, trap_row};
 use boot_report::read_user_word;
 use cvm_outside::{Sectors, Sink, SinkFault};
 use layer_map::{Map, PRIMITIVES};
@@ -54,7 +54,7 @@ pub fn note_entry(machine: &Machine) -> Option<Entered>
     })
 }
 
-/// Prints the row of the steps that have none yet, and then this one.
+// Prints the row of the steps that have none yet, and then this one.
 fn put_after<O: Sink>(steps: u64, row: &[u8], out: &mut O) -> Result<(), SinkFault>
     ensures { Puts O.text O.faults out.old out.new (steps_text steps ++ row.now) result }
 {
@@ -105,15 +105,15 @@ impl Tracer {
         self.put(trap_row(begun.cause, begun.edata).as_str().as_bytes(), out)
     }
 
-    /// Prints the row of the steps that have none yet, and then this one.
-    ///
-    /// # Errors
-    ///
-    /// A fault of the sink.
+    // Prints the row of the steps that have none yet, and then this one.
+    //
+    // # Errors
+    //
+    // A fault of the sink.
     fn put<O: Sink>(&mut self, row: &[u8], out: &mut O) -> Result<(), SinkFault>
         ensures put { Puts O.text O.faults out.old out.new (steps_text self.old.steps ++ row.now) result }
         ensures steps { OnOk result (self.new ≡ record self.old { steps = 0 }) }
-        ensures keeps { Keeps self.old self.new }
+        ensures keeps { KeepsTracer self.old self.new }
     {
         put_after(self.steps, row, out)?;
         self.steps = 0;
@@ -135,7 +135,7 @@ impl Tracer {
         requires no_copy { IsNoCopy call.now }
         ensures put { Puts O.text O.faults out.old out.new (ended_rows self.old call.now answer []) result }
         ensures steps { OnOk result (self.new ≡ record self.old { steps = steps_after self.old.steps (call_ends self.old.user call.now answer []) }) }
-        ensures keeps { Keeps self.old self.new }
+        ensures keeps { KeepsTracer self.old self.new }
     {
         let [user, second, third, _, _] = call.arguments;
         if answer != 1 || user != self.user {
@@ -169,9 +169,9 @@ impl Tracer {
     ) -> Result<(), RunFault>
         requires can { CanTrace map.now (length machine.old.hardware.memory) machine.old.time (D.size disk.old) self.old }
         requires inside { address / 4 + count ≤ 1024 * map.now.params.pages }
-        ensures put { ForCopied (D.sectors disk.old) machine.old map.now self.old address count (Printed (O.text out.old) (O.text out.new)) result }
+        ensures put { ForCopied (D.sectors disk.old) machine.old map.now self.old address count (PrintsAll (O.text out.old) (O.text out.new)) result }
         ensures steps { OnOk result (self.new ≡ record self.old { steps = steps_left self.old.steps count }) }
-        ensures keeps { Keeps self.old self.new }
+        ensures keeps { KeepsTracer self.old self.new }
         ensures read { RowsRead machine.old machine.new D.sectors D.size D.faults disk.old disk.new O.faults out.old out.new result }
         ensures some { result ≡ Err RunFault.Disk → 1 ≤ count }
     {

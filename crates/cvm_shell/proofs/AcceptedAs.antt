@@ -9,7 +9,7 @@ use Rattle.boot_image.specs.Parts.{Parts as Image}
 use Rattle.boot_image.specs.Reading.{answer as image_of}
 use Rattle.boot_image.specs.declared.fault.ImageFault.{ImageFault}
 use Rattle.kernel_linker.specs.Linked.{linked, sizes_of}
-use Rattle.kernel_linker.specs.Accept.{System, accept_answer}
+use Rattle.kernel_linker.specs.Accept.{ImageSystem, accept_answer}
 use Rattle.cvm_shell.specs.Linked.{IsAcceptedAs}
 use Rattle.cvm_shell.specs.Plan.{Accepts}
 
@@ -17,7 +17,7 @@ abbrev Layers : Type 0
 Layers = Map → List ℕ → List ℕ
 
 -- the system of a checked unit, parameters and users, with the words that they are linked to
-abbrev pub linked_system : Layers → CUnit → Params → List (List ℕ) → System
+abbrev pub linked_system : Layers → CUnit → Params → List (List ℕ) → ImageSystem
 linked_system layer u p us = record { params = p; unit = u; words = linked layer u p (sizes_of us); users = us }
 
 -- bytes that are an image of a source which has this unit

@@ -9,7 +9,7 @@ use Rattle.schedule_file.specs.Rows.{Rows}
 use Rattle.schedule_file.specs.Schedule.{schedule_of, Gives}
 use Rattle.schedule_file.specs.declared.fault.ScheduleFault.{ScheduleFault}
 use Rattle.schedule_file.specs.declared.fault.ScheduleFault.TheVariants as scheduling
-use Rattle.kernel_linker.specs.Accept.{System, Answers, accept_answer}
+use Rattle.kernel_linker.specs.Accept.{ImageSystem, Answers, accept_answer}
 use Rattle.kernel_linker.specs.declared.fault.AcceptFault.{AcceptFault}
 use Rattle.cvm_shell.specs.declared.boot.Stop.{Stop}
 use Rattle.cvm_shell.specs.declared.boot.Stop.TheVariants as Stops
@@ -27,7 +27,7 @@ abbrev Layers : Type 0
 Layers = Map → List ℕ → List ℕ
 
 -- The files come to one plan.
-plan_accepted : OneAnswer → (layer : Layers) (session : Session) (image schedule : List ℕ) (a : Result System AcceptFault) → Accepts layer (image_of image) a
+plan_accepted : OneAnswer → (layer : Layers) (session : Session) (image schedule : List ℕ) (a : Result ImageSystem AcceptFault) → Accepts layer (image_of image) a
     → IsPlan ⊤ (AfterFiles layer session image schedule) (accepted_plan session (schedule_of schedule) a)
 plan_accepted one layer session image schedule a is = record {
   comes = (a, is, refl);
@@ -40,7 +40,7 @@ unfolding accept_answer
 no_unit layer i f = refl
 
 -- THE FAULT of an image
-pub accept_fault : {X : Type 0} → OneAnswer → (layer : Layers) (view : X → System) (session : Session) (image schedule : List ℕ) (r : Result X AcceptFault) (f : AcceptFault) → r ≡ Err f
+pub accept_fault : {X : Type 0} → OneAnswer → (layer : Layers) (view : X → ImageSystem) (session : Session) (image schedule : List ℕ) (r : Result X AcceptFault) (f : AcceptFault) → r ≡ Err f
     → Answers layer view (image_of image) r → IfRefused (IsPlan ⊤ (AfterFiles layer session image schedule)) (accept_stop f)
 accept_fault one layer view session image schedule r f e answers = elim (accept_stops f) [
   | inl m ↦ subst (λ (x : AcceptFault). IfRefused (IsPlan ⊤ (AfterFiles layer session image schedule)) (accept_stop x)) (sym m) tt
@@ -58,13 +58,13 @@ schedule_stops (scheduling.Range line value) read given = inr (given, refl)
 schedule_stops (scheduling.TooManyInputs line) read given = inr (given, refl)
 schedule_stops scheduling.Memory read given = inl refl
 
-scheduled : OneAnswer → (layer : Layers) (session : Session) (image schedule : List ℕ) (s : System) (read : Result Rows ScheduleFault) → Accepts layer (image_of image) (Ok s) → schedule_of schedule ≡ read
+scheduled : OneAnswer → (layer : Layers) (session : Session) (image schedule : List ℕ) (s : ImageSystem) (read : Result Rows ScheduleFault) → Accepts layer (image_of image) (Ok s) → schedule_of schedule ≡ read
     → IsPlan ⊤ (AfterFiles layer session image schedule) (scheduled_plan session s read)
 scheduled one layer session image schedule s read is e =
     subst (λ (x : Result Rows ScheduleFault). IsPlan ⊤ (AfterFiles layer session image schedule) (scheduled_plan session s x)) e (plan_accepted one layer session image schedule (Ok s) is)
 
 -- THE FAULT of a schedule
-pub schedule_fault : {X : Type 0} → OneAnswer → (layer : Layers) (view : X → System) (session : Session) (image schedule : List ℕ) (x : X) (f : ScheduleFault) → Answers layer view (image_of image) (Ok x)
+pub schedule_fault : {X : Type 0} → OneAnswer → (layer : Layers) (view : X → ImageSystem) (session : Session) (image schedule : List ℕ) (x : X) (f : ScheduleFault) → Answers layer view (image_of image) (Ok x)
     → Gives (Err f) (schedule_of schedule) → IfRefused (IsPlan ⊤ (AfterFiles layer session image schedule)) (schedule_stop f)
 schedule_fault one layer view session image schedule x f answers given = elim (schedule_stops f (schedule_of schedule) given) [
   | inl m ↦ subst (λ (g : ScheduleFault). IfRefused (IsPlan ⊤ (AfterFiles layer session image schedule)) (schedule_stop g)) (sym m) tt
@@ -73,7 +73,7 @@ schedule_fault one layer view session image schedule x f answers given = elim (s
 ]
 
 -- ALL IS READY
-pub ready_plan : {X : Type 0} → OneAnswer → (layer : Layers) (view : X → System) (session : Session) (image schedule : List ℕ) (x : X) (rows : Rows) → Answers layer view (image_of image) (Ok x)
+pub ready_plan : {X : Type 0} → OneAnswer → (layer : Layers) (view : X → ImageSystem) (session : Session) (image schedule : List ℕ) (x : X) (rows : Rows) → Answers layer view (image_of image) (Ok x)
     → schedule_of schedule ≡ Ok rows → IsPlan ⊤ (AfterFiles layer session image schedule) (boots session (view x) rows)
 ready_plan one layer view session image schedule x rows answers e = scheduled one layer session image schedule (view x) (Ok rows) (image_answered (accept_answer layer) (no_unit layer) view (image_of image) x answers) e
 

@@ -29,7 +29,7 @@ use Rattle.boot_turns.specs.Headline.{Ending}
 use Rattle.boot_run.specs.Whole.{ending_of_end}
 use Rattle.boot_run.specs.declared.whole.RunEnd.{RunEnd}
 use Rattle.boot_run.specs.declared.whole.RunEnd.TheVariants as ends
-use Rattle.kernel_linker.specs.Accept.{System}
+use Rattle.kernel_linker.specs.Accept.{ImageSystem}
 use Rattle.kernel_linker.specs.declared.fault.AcceptFault.{AcceptFault}
 use Rattle.kernel_linker.specs.declared.fault.LinkFault.{LinkFault}
 use Rattle.kernel_linker.specs.Link.{link_answer}
@@ -43,14 +43,14 @@ use Rattle.cvm_shell.specs.declared.status.Status.TheVariants.{Done, Words, Refu
 use Rattle.cvm_shell.specs.declared.boot.Session.{Session}
 use Rattle.cvm_shell.specs.Check.{Told, TellsObject, TellsOpened, no_object, has_object}
 use Rattle.cvm_shell.specs.Command.{Boot, Save, Link, boot_session, trace_session, save_session, sample_session}
-use Rattle.cvm_shell.specs.Outside.{Outside, Says, said, broken}
+use Rattle.cvm_shell.specs.Outside.{Host, Says, said, broken}
 use Rattle.cvm_shell.specs.Refusal.{Refusal, bad_text, bad_source, bad_object, bad_file, bad_program, unlinked, unaccepted, bad_schedule, bad_save, small_disk, no_such_user, too_long, refusal_text, refusal_status}
 use Rattle.cvm_shell.specs.Plan as stages
-use Rattle.cvm_shell.specs.Plan.{Plan, bad_words, refuses, puts, boots, saves, resumes, prints, Got, GotAll, long, whole, scheduled_plan, accepted_plan, AfterFiles, BootPlan, saved_plan, most_bytes, SavePlan, wanted_by, taken_plan, taken_up, AfterThree, ResumePlan, AfterText, AfterCode, program_plan, bytes_of, words_from, linked_plan, AfterParts, AfterUsers, AfterParams, AfterSystem, renewed_plan, AfterOld, AfterLinking, AfterSource, PartsPlan, told_plan, AfterChecked, ComesTo, AllTold, IsPlan}
-use Rattle.cvm_shell.specs.Boot.{RunEnds, sectors_needed, ended_as, no_user, small, no_memory, unloaded, run}
-use Rattle.cvm_shell.specs.Saves.{SaveEnds, too_small, out_of_memory, not_loaded, ended, was_saved, was_unput, was_unsaid}
+use Rattle.cvm_shell.specs.Plan.{Plan, bad_words, refuses, puts, boots, saves, resumes, prints, Got, GotAll, long, whole, scheduled_plan, accepted_plan, AfterFiles, BootPlan, saved_plan, most_bytes, SavePlan, wanted_by, taken_plan, taken_up, AfterThree, ResumePlan, AfterText, AfterCode, program_plan, bytes_of, words_from, linked_plan, AfterParts, AfterUsers, AfterParams, AfterSystem, renewed_plan, AfterOld, AfterLinking, AfterSource, PartsPlan, told_plan, AfterChecked, PlanComesTo, AllTold, IsPlan}
+use Rattle.cvm_shell.specs.Boot.{SessionEnds, sectors_needed, ended_as, no_user, small, no_memory, unloaded, run}
+use Rattle.cvm_shell.specs.Saves.{SaveSessionEnds, too_small, out_of_memory, not_loaded, ended, was_saved, was_unput, was_unsaid}
 use Rattle.cvm_shell.specs.Resumes.{ResumeEnds, small_for_it, no_room, went_on}
-use Rattle.cvm_shell.specs.Outcome.{Ends, PutEnds, CommandEnds, done, undone, NeedsMore, DiskFails}
+use Rattle.cvm_shell.specs.Outcome.{PlanEnds, PutEnds, CommandEnds, done, undone, NeedsMore, DiskFails}
 
 -- A PLAN IS NO REFUSAL OF A DISK.
 
@@ -73,7 +73,7 @@ same_plan p q e h = subst NoDisk (sym e) h
 
 module _ (layer : Map → List ℕ → List ℕ) where
   -- a run
-  accepted : (session : Session) (rows : Result Rows ScheduleFault) (answer : Result System AcceptFault) → NoDisk (accepted_plan session rows answer)
+  accepted : (session : Session) (rows : Result Rows ScheduleFault) (answer : Result ImageSystem AcceptFault) → NoDisk (accepted_plan session rows answer)
   accepted session (Ok rows) (Ok s) = tt
   accepted session (Err f) (Ok s) = tt
   accepted session rows (Err f) = tt
@@ -99,7 +99,7 @@ module _ (layer : Map → List ℕ → List ℕ) where
   save_no_disk file c p (q, is, same) = same_plan p (saved_plan c.file q) same (saved c.file q (boot_no_disk file c.boot (save_session c) q is))
 
   -- one that is taken up
-  taken : (session : Session) (s : System) (rows : Rows) (r : Result (List ℕ) SaveFault) → NoDisk (taken_plan session s rows r)
+  taken : (session : Session) (s : ImageSystem) (rows : Rows) (r : Result (List ℕ) SaveFault) → NoDisk (taken_plan session s rows r)
   taken session s rows (Ok words) = tt
   taken session s rows (Err f) = tt
 
@@ -193,7 +193,7 @@ after_checked : (stack : ℕ) (bytes : List ℕ) (p : Plan) → AfterChecked sta
 after_checked stack bytes p (told, tells, same) = same_plan p (told_plan told) same (checked stack bytes told tells)
 
 -- whatever the words and the files are
-comes_no_disk : (words : List (List ℕ)) (file : List ℕ → Option (List ℕ)) (p : Plan) → ComesTo words file p → NoDisk p
+comes_no_disk : (words : List (List ℕ)) (file : List ℕ → Option (List ℕ)) (p : Plan) → PlanComesTo words file p → NoDisk p
 comes_no_disk words file p (stages.no_command none) = tt
 comes_no_disk words file p (stages.boot_plan b q is h) = boot_no_disk layer_image file b (boot_session b) q h
 comes_no_disk words file p (stages.trace_plan t q is h) = boot_no_disk layer_image file t.boot (trace_session t) q h
@@ -210,7 +210,7 @@ comes_no_disk words file p (stages.check_plan c q is h) = got (file c.object) (A
 -- THE CAUSE, by how the plan ends.
 
 -- a row that is said beside another status is none beside this one
-other_row : (stated status : Status) (row : List ℕ) (old new : Outside) → stated ≢ Disk → status ≡ Disk → Says stated row old new status → ⊥
+other_row : (stated status : Status) (row : List ℕ) (old new : Host) → stated ≢ Disk → status ≡ Disk → Says stated row old new status → ⊥
 other_row stated status row old new other is (said left) = other is
 other_row stated status row old new other is (broken n left) = absurd cc
 
@@ -245,17 +245,17 @@ disk_end ends.DiskFault h = refl
 disk_end ends.SinkFault h = absurd cc
 
 -- either way, of a run that needs so many sectors
-abbrev Either : (need : ℕ) → (old new : Outside) → Type 0
+abbrev Either : (need : ℕ) → (old new : Host) → Type 0
 Either need old new = Rose old.disk.faults new.disk.faults ⊎ ((old.disk.size < need) × (new.disk.faults ≡ old.disk.faults))
 
-run_cause : (session : Session) (s : System) (rows : Rows) (status : Status) (old new : Outside) → status ≡ Disk → RunEnds session s rows status old new → Either (sectors_needed session s rows) old new
+run_cause : (session : Session) (s : ImageSystem) (rows : Rows) (status : Status) (old new : Host) → status ≡ Disk → SessionEnds session s rows status old new → Either (sectors_needed session s rows) old new
 run_cause session s rows status old new is (no_user u traced none faults says) = absurd (other_row Refused status _ old new (λ e. cc) is says)
 run_cause session s rows status old new is (small user less faults says) = inr (less, faults)
 run_cause session s rows status old new is (no_memory stands place left) = absurd cc
 run_cause session s rows status old new is (unloaded stands h) = inl h.disk
 run_cause session s rows status old new is (run e stands h) = inl (h.disk (disk_ending e (sym stands ∙ is)))
 
-save_cause : (session : Session) (s : System) (rows : Rows) (name : List ℕ) (status : Status) (old new : Outside) → status ≡ Disk → SaveEnds session s rows name status old new → Either (sectors_needed session s rows) old new
+save_cause : (session : Session) (s : ImageSystem) (rows : Rows) (name : List ℕ) (status : Status) (old new : Host) → status ≡ Disk → SaveSessionEnds session s rows name status old new → Either (sectors_needed session s rows) old new
 save_cause session s rows name status old new is (too_small less faults says) = inr (less, faults)
 save_cause session s rows name status old new is (out_of_memory stands place left) = absurd cc
 save_cause session s rows name status old new is (not_loaded stands h) = inl h.disk
@@ -264,12 +264,12 @@ save_cause session s rows name status old new is (was_saved stands left) = absur
 save_cause session s rows name status old new is (was_unput stands left) = absurd cc
 save_cause session s rows name status old new is (was_unsaid stands left) = absurd cc
 
-resume_cause : (session : Session) (s : System) (rows : Rows) (words : List ℕ) (status : Status) (old new : Outside) → status ≡ Disk → ResumeEnds session s rows words status old new → Either (sectors_needed session s rows) old new
+resume_cause : (session : Session) (s : ImageSystem) (rows : Rows) (words : List ℕ) (status : Status) (old new : Host) → status ≡ Disk → ResumeEnds session s rows words status old new → Either (sectors_needed session s rows) old new
 resume_cause session s rows words status old new is (small_for_it less faults says) = inr (less, faults)
 resume_cause session s rows words status old new is (no_room stands left) = absurd cc
 resume_cause session s rows words status old new is (went_on e stands h) = inl (h.disk (disk_end e (sym stands ∙ is)))
 
-plan_cause : (p : Plan) (status : Status) (old new : Outside) → status ≡ Disk → NoDisk p → Ends p status old new → Rose old.disk.faults new.disk.faults ⊎ (NeedsMore p old.disk.size × (new.disk.faults ≡ old.disk.faults))
+plan_cause : (p : Plan) (status : Status) (old new : Host) → status ≡ Disk → NoDisk p → PlanEnds p status old new → Rose old.disk.faults new.disk.faults ⊎ (NeedsMore p old.disk.size × (new.disk.faults ≡ old.disk.faults))
 plan_cause bad_words status old new is none says = absurd (other_row Words status _ old new (λ e. cc) is says)
 plan_cause (refuses r) status old new is none says = absurd (other_row (refusal_status r) status _ old new (no_status r none) is says)
 plan_cause (puts name bytes) status old new is none h = absurd (subst (λ (x : Status). PutEnds name bytes x old new) is h)
@@ -279,7 +279,7 @@ plan_cause (resumes session s rows words) status old new is none h = resume_caus
 plan_cause (prints text) status old new is none says = absurd (other_row Done status _ old new (λ e. cc) is says)
 
 -- AND OF A COMMAND
-pub disk_cause : (words : List (List ℕ)) (status : Status) (old new : Outside) → CommandEnds words status old new → status ≡ Disk → DiskFails words old new
+pub disk_cause : (words : List (List ℕ)) (status : Status) (old new : Host) → CommandEnds words status old new → status ≡ Disk → DiskFails words old new
 disk_cause words status old new (done p comes took h) is = elim (plan_cause p status old new is (comes_no_disk words old.shelf.file p comes.comes) h) [
   | inl rose ↦ inl rose
   | inr more ↦ inr (record { plan = p; is_plan = comes; more = more.0 }, more.1)

@@ -7,7 +7,7 @@ use Rattle.std.proofs.lemmas.Slice.Eq.{bytes_eq-Decides}
 use Rattle.cvm_outside.specs.Told.{AppendsPart, TOO_LONG, retold}
 use Rattle.schedule_file.specs.Rows.{Rows}
 use Rattle.real_layer.specs.Image.{layer_image}
-use Rattle.kernel_linker.specs.Accept.{System}
+use Rattle.kernel_linker.specs.Accept.{ImageSystem}
 use Rattle.cvm_shell.specs.declared.status.Status.{Status}
 use Rattle.cvm_shell.specs.declared.status.Status.TheVariants.{Done, Words, Shelf, Sink, Memory}
 use Rattle.cvm_shell.specs.declared.boot.Stop.{Stop}
@@ -18,10 +18,10 @@ use Rattle.cvm_shell.specs.declared.boot.Session.{Session}
 use Rattle.boot_turns.specs.declared.answers.View.{View}
 use Rattle.boot_turns.specs.declared.answers.View.TheVariants as view
 use Rattle.cvm_shell.specs.Command.{Boot, Command, boot, trace, save, resume, compile_user, compile_kernel, compile_program, link, migrate, sample, IsCommand, IsNoCommand, GetsFiles, boot_session, trace_session, command_of, check}
-use Rattle.cvm_shell.specs.Outside.{Files, Outside, SameSectors, Leaves, Says, said, broken}
+use Rattle.cvm_shell.specs.Outside.{Files, Host, SameSectors, LeavesHost, Says, said, broken}
 use Rattle.cvm_shell.specs.Refusal.{Refusal, too_long, refusal_text, refusal_status}
-use Rattle.cvm_shell.specs.Plan.{Plan, bad_words, refuses, puts, boots, saves, resumes, BootPlan, SavePlan, ResumePlan, UserPlan, KernelPlan, ProgramPlan, LinkPlan, MigratePlan, SamplePlan, ComesTo, no_command, boot_plan, trace_plan, save_plan, resume_plan, user_plan, kernel_plan, image_plan, link_plan, migrate_plan, sample_plan, AllTold, IsPlan, prints, CheckPlan, check_plan}
-use Rattle.cvm_shell.specs.Boot.{RunEnds}
+use Rattle.cvm_shell.specs.Plan.{Plan, bad_words, refuses, puts, boots, saves, resumes, BootPlan, SavePlan, ResumePlan, UserPlan, KernelPlan, ProgramPlan, LinkPlan, MigratePlan, SamplePlan, PlanComesTo, no_command, boot_plan, trace_plan, save_plan, resume_plan, user_plan, kernel_plan, image_plan, link_plan, migrate_plan, sample_plan, AllTold, IsPlan, prints, CheckPlan, check_plan}
+use Rattle.cvm_shell.specs.Boot.{SessionEnds}
 use Rattle.cvm_shell.specs.Outcome.{HasPut, CommandEnds, done, undone}
 use Rattle.cvm_shell.specs.Stages.{IsBootPlan, IsSavePlan, IsResumePlan, IsUserPlan, IsKernelPlan, IsProgramPlan, IsLinkPlan, IsMigratePlan, IsSamplePlan, IsCheckPlan}
 use Rattle.cvm_shell.specs.Views.{refusal_view}
@@ -61,7 +61,7 @@ its_command : (words : List (List ℕ)) (file : List ℕ → Option (List ℕ)) 
 its_command words file c d q is other got = let P : Command → Type 0 = λ x. CommandPlan file x q in subst P (sym (one_command words c d is other)) got
 
 -- what words and files come to is what the files of their command come to
-pub its_plan : (words : List (List ℕ)) (file : List ℕ → Option (List ℕ)) (c : Command) → IsCommand words c → (q : Plan) → ComesTo words file q → CommandPlan file c q
+pub its_plan : (words : List (List ℕ)) (file : List ℕ → Option (List ℕ)) (c : Command) → IsCommand words c → (q : Plan) → PlanComesTo words file q → CommandPlan file c q
 its_plan words file c is q (no_command none) = absurd (none c is)
 its_plan words file c is q (boot_plan b r other got) = its_command words file c (boot b) r is other got
 its_plan words file c is q (trace_plan t r other got) = its_command words file c (trace t) r is other got
@@ -75,10 +75,10 @@ its_plan words file c is q (migrate_plan m r other got) = its_command words file
 its_plan words file c is q (sample_plan x r other got) = its_command words file c (sample x) r is other got
 its_plan words file c is q (check_plan d r other got) = its_command words file c (check d) r is other got
 
-only_plan : (words : List (List ℕ)) (file : List ℕ → Option (List ℕ)) (c : Command) (p : Plan) → IsCommand words c → ((r : Plan) → CommandPlan file c r → r ≡ p) → (q : Plan) → ComesTo words file q → q ≡ p
+only_plan : (words : List (List ℕ)) (file : List ℕ → Option (List ℕ)) (c : Command) (p : Plan) → IsCommand words c → ((r : Plan) → CommandPlan file c r → r ≡ p) → (q : Plan) → PlanComesTo words file q → q ≡ p
 only_plan words file c p is only q comes = only q (its_plan words file c is q comes)
 
-only_none : (words : List (List ℕ)) (file : List ℕ → Option (List ℕ)) → IsNoCommand words → (q : Plan) → ComesTo words file q → q ≡ bad_words
+only_none : (words : List (List ℕ)) (file : List ℕ → Option (List ℕ)) → IsNoCommand words → (q : Plan) → PlanComesTo words file q → q ≡ bad_words
 only_none words file none q (no_command also) = refl
 only_none words file none q (boot_plan b r other got) = absurd (none (boot b) other)
 only_none words file none q (trace_plan t r other got) = absurd (none (trace t) other)
@@ -92,7 +92,7 @@ only_none words file none q (migrate_plan m r other got) = absurd (none (migrate
 only_none words file none q (sample_plan x r other got) = absurd (none (sample x) other)
 only_none words file none q (check_plan c r other got) = absurd (none (check c) other)
 
-pub plan_of : (words : List (List ℕ)) (file : List ℕ → Option (List ℕ)) (c : Command) (p : Plan) → IsCommand words c → FilesPlan file c p → IsPlan (AllTold words file) (ComesTo words file) p
+pub plan_of : (words : List (List ℕ)) (file : List ℕ → Option (List ℕ)) (c : Command) (p : Plan) → IsCommand words c → FilesPlan file c p → IsPlan (AllTold words file) (PlanComesTo words file) p
 plan_of words file (boot b) p is plan = record { comes = boot_plan b p is plan.comes; only = λ told q h. only_plan words file (boot b) p is (plan.only (told (boot b) is)) q h }
 plan_of words file (trace t) p is plan = record { comes = trace_plan t p is plan.comes; only = λ told q h. only_plan words file (trace t) p is (plan.only (told (trace t) is)) q h }
 plan_of words file (save c) p is plan = record { comes = save_plan c p is plan.comes; only = λ told q h. only_plan words file (save c) p is (plan.only (told (save c) is)) q h }
@@ -165,13 +165,13 @@ took_refused r taken long = elim (which r) [
   | inr e ↦ (λ h. absurd (e (one_refusal _ _ h)), λ h. ap (λ (x : ByCode). refuses (refusal_view x)) (one_stop r by.TooLong (long.1 h)))
 ]
 
-took_boots : (session : Session) (s : System) (rows : Rows) (taken : ℕ) → taken ≢ TOO_LONG → Tells_long (boots session s rows) taken
+took_boots : (session : Session) (s : ImageSystem) (rows : Rows) (taken : ℕ) → taken ≢ TOO_LONG → Tells_long (boots session s rows) taken
 took_boots session s rows taken few = (λ h. absurd cc, λ h. absurd (few h))
 
-pub took_saves : (session : Session) (s : System) (rows : Rows) (name : List ℕ) (taken : ℕ) → taken ≢ TOO_LONG → Tells_long (saves session s rows name) taken
+pub took_saves : (session : Session) (s : ImageSystem) (rows : Rows) (name : List ℕ) (taken : ℕ) → taken ≢ TOO_LONG → Tells_long (saves session s rows name) taken
 took_saves session s rows name taken few = (λ h. absurd cc, λ h. absurd (few h))
 
-pub took_resumes : (session : Session) (s : System) (rows : Rows) (words : List ℕ) (taken : ℕ) → taken ≢ TOO_LONG → Tells_long (resumes session s rows words) taken
+pub took_resumes : (session : Session) (s : ImageSystem) (rows : Rows) (words : List ℕ) (taken : ℕ) → taken ≢ TOO_LONG → Tells_long (resumes session s rows words) taken
 took_resumes session s rows words taken few = (λ h. absurd cc, λ h. absurd (few h))
 
 took_puts : (name bytes : List ℕ) (taken : ℕ) → taken ≢ TOO_LONG → Tells_long (puts name bytes) taken
@@ -182,7 +182,7 @@ took_prints text taken few = (λ h. absurd cc, λ h. absurd (few h))
 
 -- The exits.
 
-pub record Unchanged (old new : Outside) : Type 0 where
+pub record Unchanged (old new : Host) : Type 0 where
   pub files : (n : List ℕ) → new.shelf.file n ≡ old.shelf.file n
   pub disk : SameSectors old.disk new.disk
 
@@ -191,14 +191,14 @@ append_nothing : (text : Option (List ℕ)) → append_known text [] ≡ text
 append_nothing None = refl
 append_nothing (Some xs) = ap (λ (l : List ℕ). Some l) (append-nil xs)
 
-leaves : (old new : Outside) (text : List ℕ) → Unchanged old new → new.sink.text ≡ append_known old.sink.text text → Leaves old new text
+leaves : (old new : Host) (text : List ℕ) → Unchanged old new → new.sink.text ≡ append_known old.sink.text text → LeavesHost old new text
 leaves old new text same e = record { printed = e; files = same.files; disk = same.disk }
 
-pub nothing : (old new : Outside) → Unchanged old new → new.sink.text ≡ old.sink.text → Leaves old new []
+pub nothing : (old new : Host) → Unchanged old new → new.sink.text ≡ old.sink.text → LeavesHost old new []
 nothing old new same e = leaves old new [] same (e ∙ sym (append_nothing old.sink.text))
 
 -- a row was said, as far as the sink took it
-pub row_said : (stated status : Status) (row : List ℕ) (old new : Outside) → Unchanged old new → (status ≡ stated) ⊎ (status ≡ Sink) → (status ≡ stated → new.sink.text ≡ append_known old.sink.text row)
+pub row_said : (stated status : Status) (row : List ℕ) (old new : Host) → Unchanged old new → (status ≡ stated) ⊎ (status ≡ Sink) → (status ≡ stated → new.sink.text ≡ append_known old.sink.text row)
     → (status ≡ Sink → AppendsPart old.sink.text new.sink.text row) → Says stated row old new status
 row_said stated status row old new same (inl e) all part = subst (Says stated row old new) (sym e) (said (leaves old new row same (all e)))
 row_said stated status row old new same (inr e) all part =
@@ -206,13 +206,13 @@ row_said stated status row old new same (inr e) all part =
     subst (Says stated row old new) (sym e) (broken p.0 (leaves old new (take p.0 row) same p.1))
 
 -- the words are no command
-pub bad_words_end : (words : List (List ℕ)) (status : Status) (old new : Outside) → IsNoCommand words → Unchanged old new → (status ≡ Words) ⊎ (status ≡ Sink)
+pub bad_words_end : (words : List (List ℕ)) (status : Status) (old new : Host) → IsNoCommand words → Unchanged old new → (status ≡ Words) ⊎ (status ≡ Sink)
     → (status ≡ Words → new.sink.text ≡ append_known old.sink.text (codes "bad words\n")) → (status ≡ Sink → AppendsPart old.sink.text new.sink.text (codes "bad words\n")) → CommandEnds words status old new
 bad_words_end words status old new none same cases all part =
     done bad_words (record { comes = no_command none; only = λ told q h. only_none words old.shelf.file none q h }) (λ c is gets. absurd (none c is)) (row_said Words status (codes "bad words\n") old new same cases all part)
 
 -- a file is refused
-pub refused_end : (words : List (List ℕ)) (c : Command) (r : ByCode) (status : Status) (old new : Outside) → IsCommand words c → FilesPlan old.shelf.file c (refuses (refusal_view r))
+pub refused_end : (words : List (List ℕ)) (c : Command) (r : ByCode) (status : Status) (old new : Host) → IsCommand words c → FilesPlan old.shelf.file c (refuses (refusal_view r))
     → Long (Stops.Refused r) new.shelf.taken → Unchanged old new → (status ≡ refusal_status (refusal_view r)) ⊎ (status ≡ Sink)
     → (status ≡ refusal_status (refusal_view r) → new.sink.text ≡ append_known old.sink.text (refusal_text (refusal_view r)))
     → (status ≡ Sink → AppendsPart old.sink.text new.sink.text (refusal_text (refusal_view r))) → CommandEnds words status old new
@@ -221,13 +221,13 @@ refused_end words c r status old new is plan many same cases all part =
     (row_said (refusal_status (refusal_view r)) status (refusal_text (refusal_view r)) old new same cases all part)
 
 -- a text is printed
-pub told_end : (words : List (List ℕ)) (c : Command) (text : List ℕ) (status : Status) (old new : Outside) → IsCommand words c → FilesPlan old.shelf.file c (prints text) → new.shelf.taken ≢ TOO_LONG
+pub told_end : (words : List (List ℕ)) (c : Command) (text : List ℕ) (status : Status) (old new : Host) → IsCommand words c → FilesPlan old.shelf.file c (prints text) → new.shelf.taken ≢ TOO_LONG
     → Unchanged old new → (status ≡ Done) ⊎ (status ≡ Sink) → (status ≡ Done → new.sink.text ≡ append_known old.sink.text text) → (status ≡ Sink → AppendsPart old.sink.text new.sink.text text) → CommandEnds words status old new
 told_end words c text status old new is plan few same cases all part =
     done (prints text) (plan_of words old.shelf.file c (prints text) is plan) (λ d other gets. took_prints text new.shelf.taken few) (row_said Done status text old new same cases all part)
 
 -- the shelf or memory failed before a plan was there
-pub undone_end : (words : List (List ℕ)) (c : Command) (status : Status) (old new : Outside) → IsCommand words c → GetsFiles c → (status ≡ Memory) ⊎ (status ≡ Shelf) → new.shelf.taken ≢ TOO_LONG → Unchanged old new
+pub undone_end : (words : List (List ℕ)) (c : Command) (status : Status) (old new : Host) → IsCommand words c → GetsFiles c → (status ≡ Memory) ⊎ (status ≡ Shelf) → new.shelf.taken ≢ TOO_LONG → Unchanged old new
     → new.sink.text ≡ old.sink.text → CommandEnds words status old new
 undone_end words c status old new is gets (inl m) few same e = undone c is (inl m) (λ h. few) (nothing old new same e)
 undone_end words c status old new is gets (inr s) few same e = undone c is (inr (s, gets)) (λ h. few) (nothing old new same e)
@@ -246,8 +246,8 @@ viewed_gets b view.Boot = tt
 viewed_gets b (view.Trace u) = tt
 
 -- a system was run
-pub run_end : (words : List (List ℕ)) (c : Command) (session : Session) (s : System) (rows : Rows) (status : Status) (old new : Outside) → IsCommand words c
-    → FilesPlan old.shelf.file c (boots session s rows) → new.shelf.taken ≢ TOO_LONG → RunEnds session s rows status old new → CommandEnds words status old new
+pub run_end : (words : List (List ℕ)) (c : Command) (session : Session) (s : ImageSystem) (rows : Rows) (status : Status) (old new : Host) → IsCommand words c
+    → FilesPlan old.shelf.file c (boots session s rows) → new.shelf.taken ≢ TOO_LONG → SessionEnds session s rows status old new → CommandEnds words status old new
 run_end words c session s rows status old new is plan few ends =
     done (boots session s rows) (plan_of words old.shelf.file c (boots session s rows) is plan) (λ d other gets. took_boots session s rows new.shelf.taken few) ends
 
@@ -260,7 +260,7 @@ pub record Put (name put : List ℕ) (old mid new : Files) : Type 0 where
 moved : (told other : Option (List ℕ)) (a b : List ℕ) → told ≡ other → a ≡ b → retold told a ≡ retold other b
 moved told other a b e f = ap (λ (o : Option (List ℕ)). retold o a) e ∙ ap (retold other) f
 
-has_put : (name put bytes : List ℕ) (mid : Files) (old new : Outside) → Put name put old.shelf mid new.shelf → put ≡ bytes → new.sink.text ≡ old.sink.text → SameSectors old.disk new.disk
+has_put : (name put bytes : List ℕ) (mid : Files) (old new : Host) → Put name put old.shelf mid new.shelf → put ≡ bytes → new.sink.text ≡ old.sink.text → SameSectors old.disk new.disk
     → new.shelf.file name ≡ retold (mid.file name) put → HasPut name bytes old new
 has_put name put bytes mid old new p e text disk f = record {
   put = f ∙ moved (mid.file name) (old.shelf.file name) put bytes (p.before name) e;
@@ -270,7 +270,7 @@ has_put name put bytes mid old new p e text disk f = record {
 }
 
 -- what was made was put
-pub put_end : (words : List (List ℕ)) (c : Command) (name put bytes : List ℕ) (mid : Files) (old new : Outside) → IsCommand words c → FilesPlan old.shelf.file c (puts name bytes) → mid.taken ≢ TOO_LONG
+pub put_end : (words : List (List ℕ)) (c : Command) (name put bytes : List ℕ) (mid : Files) (old new : Host) → IsCommand words c → FilesPlan old.shelf.file c (puts name bytes) → mid.taken ≢ TOO_LONG
     → Put name put old.shelf mid new.shelf → put ≡ bytes → new.sink.text ≡ old.sink.text → SameSectors old.disk new.disk
     → new.shelf.file name ≡ retold (mid.file name) put → CommandEnds words Done old new
 put_end words c name put bytes mid old new is plan few p e text disk f =
@@ -287,14 +287,14 @@ kept_file name mid new kept others n =
     every_file name n (bytes_eq n name) (new.file n) (mid.file n) d.0 (λ e h. let t = d.1 h in absurd cc) (λ e. let P : List ℕ → Type 0 = λ x. new.file x ≡ mid.file x in subst P (sym e) kept) (others n)
 
 -- or the put failed
-broken_put : (name put bytes : List ℕ) (mid : Files) (old new : Outside) → Put name put old.shelf mid new.shelf → put ≡ bytes → new.sink.text ≡ old.sink.text → SameSectors old.disk new.disk
-    → (new.shelf.file name ≡ mid.file name) ⊎ ((n : ℕ) × (new.shelf.file name ≡ retold (mid.file name) (take n put))) → Leaves old new [] ⊎ ((n : ℕ) × HasPut name (take n bytes) old new)
+broken_put : (name put bytes : List ℕ) (mid : Files) (old new : Host) → Put name put old.shelf mid new.shelf → put ≡ bytes → new.sink.text ≡ old.sink.text → SameSectors old.disk new.disk
+    → (new.shelf.file name ≡ mid.file name) ⊎ ((n : ℕ) × (new.shelf.file name ≡ retold (mid.file name) (take n put))) → LeavesHost old new [] ⊎ ((n : ℕ) × HasPut name (take n bytes) old new)
 broken_put name put bytes mid old new p e text disk (inl kept) =
     inl (nothing old new (record { files = λ n. kept_file name mid new.shelf kept p.others n ∙ p.before n; disk = disk }) text)
 broken_put name put bytes mid old new p e text disk (inr (n, f)) =
     inr (n, has_put name (take n put) (take n bytes) mid old new (record { before = p.before; others = p.others; taken = p.taken }) (ap (take n) e) text disk f)
 
-pub put_broken : (words : List (List ℕ)) (c : Command) (name put bytes : List ℕ) (mid : Files) (old new : Outside) → IsCommand words c → FilesPlan old.shelf.file c (puts name bytes) → mid.taken ≢ TOO_LONG
+pub put_broken : (words : List (List ℕ)) (c : Command) (name put bytes : List ℕ) (mid : Files) (old new : Host) → IsCommand words c → FilesPlan old.shelf.file c (puts name bytes) → mid.taken ≢ TOO_LONG
     → Put name put old.shelf mid new.shelf → put ≡ bytes → new.sink.text ≡ old.sink.text → SameSectors old.disk new.disk
     → (new.shelf.file name ≡ mid.file name) ⊎ ((n : ℕ) × (new.shelf.file name ≡ retold (mid.file name) (take n put))) → CommandEnds words Shelf old new
 put_broken words c name put bytes mid old new is plan few p e text disk f =

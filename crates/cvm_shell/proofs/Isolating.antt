@@ -22,13 +22,13 @@ use Rattle.boot_turns.specs.Headline.{Ending, TextAt, ending_of}
 use Rattle.boot_turns.specs.declared.answers.View.{View}
 use Rattle.boot_turns.specs.declared.answers.View.TheVariants as view
 use Rattle.boot_run.specs.LoadEnds.{SeesUser}
-use Rattle.kernel_linker.specs.Accept.{System}
+use Rattle.kernel_linker.specs.Accept.{ImageSystem}
 use Rattle.cvm_shell.specs.declared.status.Status.{Status}
 use Rattle.cvm_shell.specs.declared.status.Status.TheVariants.{Done, KernelFault}
 use Rattle.cvm_shell.specs.declared.boot.Session.{Session}
-use Rattle.cvm_shell.specs.Outside.{Outside}
+use Rattle.cvm_shell.specs.Outside.{Host}
 use Rattle.cvm_shell.specs.Boot.{booted, around, first_state, ended_as, Headline}
-use Rattle.cvm_shell.specs.Isolation.{replayed_text, Isolated, TellTheSame, EqualJournalsTellTheSame}
+use Rattle.cvm_shell.specs.Isolation.{replayed_text, IsolatedTrace, TellTheSame, EqualJournalsTellTheSame}
 use Rattle.cvm_shell.specs.Stages.{JournalsReplay}
 
 -- the law of every system, from those of the model
@@ -129,8 +129,8 @@ status_by : (status : Status) (e : Ending) → status ≡ ended_as e → (status
 status_by status e is (inl finished) = inl (sym is ∙ finished)
 status_by status e is (inr fault) = inr (sym is ∙ fault)
 
-pub isolated : TurnLaws → JournalsReplay → (session : Session) (u : ℕ) (s : System) (rows : Rows) (before : List (List ℕ)) (old new : Outside) (status : Status) → Headline session s rows before old new status
-    → SeesUser session.view (length s.users) → session.view ≡ view.Trace u → (status ≡ Done) ⊎ (status ≡ KernelFault) → Isolated session u s rows before old new status
+pub isolated : TurnLaws → JournalsReplay → (session : Session) (u : ℕ) (s : ImageSystem) (rows : Rows) (before : List (List ℕ)) (old new : Host) (status : Status) → Headline session s rows before old new status
+    → SeesUser session.view (length s.users) → session.view ≡ view.Trace u → (status ≡ Done) ⊎ (status ≡ KernelFault) → IsolatedTrace session u s rows before old new status
 isolated laws law session u s rows before old new status h sees traced ends =
     let x = around rows old in
     let y = booted s rows in

@@ -21,7 +21,7 @@ use Rattle.boot_turns.specs.Headline as headline
 use Rattle.boot_turns.specs.Headline.{Ending, TextAt}
 use Rattle.boot_turns.specs.declared.answers.View.{View}
 use Rattle.boot_run.specs.LoadEnds.{SeesUser}
-use Rattle.kernel_linker.specs.Accept.{System}
+use Rattle.kernel_linker.specs.Accept.{ImageSystem}
 use Rattle.user_c0.specs.Image.{image_words}
 use Rattle.user_c0.specs.Events.{IsAnswered}
 use Rattle.user_c0.specs.Program.{ImagesRun, Follows}
@@ -36,7 +36,7 @@ started f [] i d words e = absurd (cc)
 started f (w ∷ users) zero d words e = let same : w ≡ words = cc in ap f same
 started f (w ∷ users) (suc i) d words e = started f users i d words e
 
-starts : (program : Source) (s : System) (rows : Rows) (u : ℕ) → HasProgram program s u → first_of (booted s rows) u ≡ first_flat (image_words (unit_view program))
+starts : (program : Source) (s : ImageSystem) (rows : Rows) (u : ℕ) → HasProgram program s u → first_of (booted s rows) u ≡ first_flat (image_words (unit_view program))
 starts program s rows u has = started first_flat s.users (u - 1) no_flat (image_words (unit_view program)) has.words
 
 -- what is mapped was there
@@ -45,7 +45,7 @@ there f None text e = absurd (cc)
 there f (Some last) text e = (last, refl)
 
 -- each journal of such a user that can be replayed is that of the program
-runs : ImagesRun → (program : Source) (s : System) (rows : Rows) (u : ℕ) (j : List JournalEntry) (last : Flat) → HasProgram program s u → replay (first_of (booted s rows) u) j ≡ Some last
+runs : ImagesRun → (program : Source) (s : ImageSystem) (rows : Rows) (u : ℕ) (j : List JournalEntry) (last : Flat) → HasProgram program s u → replay (first_of (booted s rows) u) j ≡ Some last
     → (answered : IsAnswered j) → Follows (unit_view program) (first_flat (image_words (unit_view program))) answered.events
 runs law program s rows u j last has replayed answered = law program has.checked has.small j answered last (ap (λ f. replay f j) (sym (starts program s rows u has)) ∙ replayed)
 

@@ -18,7 +18,7 @@ use Rattle.boot_image.specs.Reading.{answer as image_of}
 use Rattle.object_file.specs.Parts.{Parts as Object}
 use Rattle.schedule_file.specs.Rows.{Rows}
 use Rattle.kernel_linker.specs.Answers.{Comes}
-use Rattle.kernel_linker.specs.Accept.{System}
+use Rattle.kernel_linker.specs.Accept.{ImageSystem}
 use Rattle.kernel_linker.specs.Link.{fitting, link_answer}
 use Rattle.kernel_linker.specs.Object.{object_of}
 use Rattle.kernel_linker.specs.declared.fault.LinkFault.{LinkFault}
@@ -144,7 +144,7 @@ parts_booted made one layer session parts bytes schedule r h same plan =
     (subst (λ (text : List ℕ). IsPlan ⊤ (AfterFiles layer session bytes text) p) same is)))) r plan
 
 -- parts that are linked to an accepted image, with a valid schedule, come to the run of their system
-pub parts_run : (session : Session) (parts : Sampled) (s : System) (rows : Rows) → ArePartsOf parts s rows → PartsPlan layer_image session parts (boots session s rows)
+pub parts_run : (session : Session) (parts : Sampled) (s : ImageSystem) (rows : Rows) → ArePartsOf parts s rows → PartsPlan layer_image session parts (boots session s rows)
 parts_run session parts s rows h =
     let accepted : Accepts layer_image (image_of (image_bytes h.linked.image)) (Ok s) = subst (λ (bs : List ℕ). Accepts layer_image (image_of bs) (Ok s)) h.linked.spelled h.accepted in (
       Ok h.linked.unit,

@@ -17,7 +17,7 @@ use Rattle.saved_file.specs.Answer.{answer as machine_of}
 use Rattle.boot_turns.specs.declared.answers.View.TheVariants as view
 use Rattle.boot_turns.specs.Headline as headline
 use Rattle.boot_turns.specs.Headline.{Ending}
-use Rattle.boot_run.specs.LoadEnds.{HasRoom, LoadFails, pages_needed}
+use Rattle.boot_run.specs.LoadEnds.{HasDiskRoom, LoadFails, pages_needed}
 use Rattle.boot_run.specs.SavedFiles.{wanted_of}
 use Rattle.boot_run.specs.Saving.{EndsInTurn}
 use Rattle.boot_run.specs.Sink.{behind}
@@ -30,19 +30,19 @@ use Rattle.machine_save.specs.Room.{most_words, FILE_ROOM}
 use Rattle.machine_save.specs.SaveRun.{IsSaved as WasSaved, IfUnput, SaveRunEnds, ending_of_saved}
 use Rattle.machine_save.specs.declared.saving.SavedEnd.{SavedEnd}
 use Rattle.machine_save.specs.declared.saving.SavedEnd.TheVariants as by
-use Rattle.kernel_linker.specs.Accept.{System, system_of}
+use Rattle.kernel_linker.specs.Accept.{ImageSystem, system_of}
 use Rattle.cvm_shell.specs.declared.status.Status.{Status}
 use Rattle.cvm_shell.specs.declared.status.Status.TheVariants.{Done, Words, Refused, KernelFault, StepLimit, Disk, Shelf, Sink, Memory}
 use Rattle.cvm_shell.specs.declared.boot.Ready.{Ready}
 use Rattle.cvm_shell.specs.declared.boot.Session.{Session}
 use Rattle.cvm_shell.specs.Command.{Save, save, IsCommand, save_session}
-use Rattle.cvm_shell.specs.Outside.{Files, Outside, SameSectors, Says}
+use Rattle.cvm_shell.specs.Outside.{Files, Host, SameSectors, Says}
 use Rattle.cvm_shell.specs.Refusal.{small_disk, refusal_text, too_long}
-use Rattle.cvm_shell.specs.Plan.{Plan, refuses, boots, saves, wanted_by, ComesTo, save_plan, AllTold}
-use Rattle.cvm_shell.specs.Boot.{booted, around, first_state, sectors_needed, ended_as, GoesOn, HasPlace}
-use Rattle.cvm_shell.specs.Saves.{saved_row, HasHalted, Stopped, IsSaved, IsUnput, IsUnsaid, IsLeft, EndsAsBoot, IsEnded, SaveEnds, too_small, out_of_memory, not_loaded, ended, was_saved, was_unput, was_unsaid, IsHonestSave, SaveHolds, as_boot, is_saved}
-use Rattle.cvm_shell.specs.Outcome.{Ends, CommandEnds, done, undone, CausedBy, HasSteps}
-use Rattle.cvm_shell.specs.Stages.{SaveAnswers, with_files, status_of_saved}
+use Rattle.cvm_shell.specs.Plan.{Plan, refuses, boots, saves, wanted_by, PlanComesTo, save_plan, AllTold}
+use Rattle.cvm_shell.specs.Boot.{booted, around, first_state, sectors_needed, CallsOf, ended_as, SessionGoesOn, HasPlace}
+use Rattle.cvm_shell.specs.Saves.{saved_row, SessionHalted, Stopped, IsSavedIn, IsUnput, IsUnsaid, IsLeft, EndsAsBoot, IsEnded, SaveSessionEnds, too_small, out_of_memory, not_loaded, ended, was_saved, was_unput, was_unsaid, IsHonestSave, SaveHolds, as_boot, is_saved}
+use Rattle.cvm_shell.specs.Outcome.{PlanEnds, CommandEnds, done, undone, CausedBy, HasSteps}
+use Rattle.cvm_shell.specs.Stages.{SaveCallAnswers, with_files, status_of_saved}
 use Rattle.cvm_shell.proofs.Endings.{nothing, row_said, FilesPlan, plan_of, took_saves}
 use Rattle.cvm_shell.proofs.StartAnswers.{same_count, same_need}
 use Rattle.cvm_shell.proofs.BootEndings.{some_is, is_told, not_memory, all_told, comes_to_run, gets_told, no_room_for, shelf_rose, in_time}
@@ -82,10 +82,10 @@ unput_err (Ok end) P h = tt
 unput_err (Err e) P h = h
 
 -- the answer over other files that tell the same
-pub moved_answers : (r : Ready) (c : Save) (answer : Result SavedEnd LoadFault) (old new : Outside) (f : Files) → ((n : List ℕ) → old.shelf.file n ≡ f.file n) → SaveAnswers r c answer old new
-    → SaveAnswers r c answer (with_files f old) new
+pub moved_answers : (r : Ready) (c : Save) (answer : Result SavedEnd LoadFault) (old new : Host) (f : Files) → ((n : List ℕ) → old.shelf.file n ≡ f.file n) → SaveCallAnswers r c answer old new
+    → SaveCallAnswers r c answer (with_files f old) new
 moved_answers r c answer old new f same h = record {
-  ends = subst (λ (o : Option (List ℕ)). SaveRunEnds r.boot r.schedule old.disk.size c.boot.turns c.boot.steps old.disk.sectors new.disk.sectors old.sink.text new.sink.text o (new.shelf.file c.file) answer)
+  ends = subst (λ (o : Option (List ℕ)). SaveRunEnds r.boot r.schedule old.disk.size c.boot.turns c.boot.steps old.disk.sectors new.disk.sectors old.disk.calls new.disk.calls old.sink.text new.sink.text o (new.shelf.file c.file) answer)
       (same c.file) h.ends;
   goes_on = h.goes_on;
   some = h.some;
@@ -104,9 +104,9 @@ moved_answers r c answer old new f same h = record {
 }
 
 -- a run was made that was to be saved
-pub save_end : (words : List (List ℕ)) (c : Save) (s : System) (rows : Rows) (status : Status) (old : Outside) (mid : Files) (new : Outside) → IsCommand words (save c)
+pub save_end : (words : List (List ℕ)) (c : Save) (s : ImageSystem) (rows : Rows) (status : Status) (old : Host) (mid : Files) (new : Host) → IsCommand words (save c)
     → FilesPlan old.shelf.file (save c) (saves (save_session c) s rows c.file) → mid.taken ≢ TOO_LONG → new.shelf.taken ≡ mid.taken → ((n : List ℕ) → mid.file n ≡ old.shelf.file n)
-    → ((before : Files) → ((n : List ℕ) → mid.file n ≡ before.file n) → SaveEnds (save_session c) s rows c.file status (with_files before old) new) → CommandEnds words status old new
+    → ((before : Files) → ((n : List ℕ) → mid.file n ≡ before.file n) → SaveSessionEnds (save_session c) s rows c.file status (with_files before old) new) → CommandEnds words status old new
 save_end words c s rows status old mid new is plan few taken files ends =
     done (saves (save_session c) s rows c.file) (plan_of words old.shelf.file (save c) (saves (save_session c) s rows c.file) is plan)
     (λ d other gets. took_saves (save_session c) s rows c.file new.shelf.taken (λ h. few (sym taken ∙ h))) (ends old.shelf files)
@@ -172,7 +172,7 @@ ends_no_words (by.Ended ends.OutOfSteps) h = cc
 ends_no_words (by.Ended ends.DiskFault) h = cc
 ends_no_words (by.Ended ends.SinkFault) h = cc
 
-pub save_caused : (status : Status) (old new : Outside) → (status ≢ Disk → new.disk.faults ≡ old.disk.faults) → (status ≡ Sink → Rose old.sink.faults new.sink.faults)
+pub save_caused : (status : Status) (old new : Host) → (status ≢ Disk → new.disk.faults ≡ old.disk.faults) → (status ≡ Sink → Rose old.sink.faults new.sink.faults)
     → (status ≢ Sink → new.sink.faults ≡ old.sink.faults) → (status ≡ Shelf → Rose old.shelf.faults new.shelf.faults) → (status ≢ Shelf → new.shelf.faults ≡ old.shelf.faults) → CausedBy status old new
 save_caused Done old new d r s t u = record { shelf = u (λ e. cc); sink = s (λ e. cc); disk = d (λ e. cc) }
 save_caused Words old new d r s t u = record { shelf = u (λ e. cc); sink = s (λ e. cc); disk = d (λ e. cc) }
@@ -193,14 +193,14 @@ done_end ends.DiskFault h = absurd (cc)
 done_end ends.SinkFault h = absurd (cc)
 
 -- where it is done the kernel halted
-halts : (session : Session) (s : System) (rows : Rows) (e : Ending) (before : List (List ℕ)) (old new : Outside) → EndsAsBoot session s rows e before old new → e ≡ headline.Done
-    → HasHalted session s rows before old
+halts : (session : Session) (s : ImageSystem) (rows : Rows) (e : Ending) (before : List (List ℕ)) (old new : Host) → EndsAsBoot session s rows e before old new → e ≡ headline.Done
+    → SessionHalted session s rows before old
 halts session s rows e before old new r h = by r.end (done_end r.end (r.is_end ∙ h)) r.halted
   where
     InTurn : RunEnd → Type 0
-    InTurn end = EndsInTurn (around rows old) (booted s rows) (first_state session s rows before) r.after session.turns session.steps (behind old.sink.text) new.sink.text end
+    InTurn end = EndsInTurn (around rows old) (booted s rows) (first_state session s rows before) r.after session.turns session.steps (CallsOf session s rows before old new) (behind old.sink.text) new.sink.text end
 
-    by : (end : RunEnd) → end ≡ ends.Done → HasHalted session s rows before old ⊎ InTurn end → HasHalted session s rows before old
+    by : (end : RunEnd) → end ≡ ends.Done → SessionHalted session s rows before old ⊎ InTurn end → SessionHalted session s rows before old
     by end q (inl a) = a
     by end q (inr b) = absurd (subst InTurn q b)
 
@@ -209,18 +209,18 @@ short_file : (frames : ℕ) (words : List ℕ) → length words ≤ most_words f
 short_file frames words few room = let four : length (flat_map word words) ≡ 4 * length words = length_words words in omega (arith, four, few, room)
 
 -- THE EXITS, of the run of what was read for a save
-module _ (r : Ready) (c : Save) (old new : Outside) where
-  place : HasRoom r.boot view.Boot (pages_needed r.boot) old.disk.size → ((n : List ℕ) → new.shelf.file n ≡ old.shelf.file n) → new.disk.size ≡ old.disk.size
+module _ (r : Ready) (c : Save) (old new : Host) where
+  place : HasDiskRoom r.boot view.Boot (pages_needed r.boot) old.disk.size → ((n : List ℕ) → new.shelf.file n ≡ old.shelf.file n) → new.disk.size ≡ old.disk.size
       → HasPlace (save_session c) (system_of r.boot) r.schedule old new
   place room files size = record { user = tt; room = subst (λ (n : ℕ). n ≤ old.disk.size) (same_need r.boot r.schedule) room.room; files = files; size = size }
 
   -- the machine comes to the end of every turn
-  turns_end : WholeGoesOn r.boot r.schedule old.disk.size old.disk.sectors → HasRoom r.boot view.Boot (pages_needed r.boot) old.disk.size
-      → (before : List (List ℕ)) → old.disk.sectors ≡ Some before → GoesOn (save_session c) old (system_of r.boot) r.schedule before
+  turns_end : WholeGoesOn r.boot r.schedule old.disk.size old.disk.sectors → HasDiskRoom r.boot view.Boot (pages_needed r.boot) old.disk.size
+      → (before : List (List ℕ)) → old.disk.sectors ≡ Some before → SessionGoesOn (save_session c) old (system_of r.boot) r.schedule before
   turns_end goes room before told = λ k x is. let (t, end, within) = goes before told room.room k x is in (t, end, omega (arith, within))
 
   -- the run stopped, over told sectors
-  stopped : (answer : Result SavedEnd LoadFault) (end : SavedEnd) → SaveAnswers r c answer old new → HasRoom r.boot view.Boot (pages_needed r.boot) old.disk.size
+  stopped : (answer : Result SavedEnd LoadFault) (end : SavedEnd) → SaveCallAnswers r c answer old new → HasDiskRoom r.boot view.Boot (pages_needed r.boot) old.disk.size
       → (before after : List (List ℕ)) → old.disk.sectors ≡ Some before → new.disk.sectors ≡ Some after
       → (is : WasSaved (around r.schedule old) (booted (system_of r.boot) r.schedule) (first_state (save_session c) (system_of r.boot) r.schedule before)
       (sectors_needed (save_session c) (system_of r.boot) r.schedule) (most_words (memory_frames (map_of (boot_of r.boot)))) before after c.boot.turns c.boot.steps
@@ -244,10 +244,10 @@ module _ (r : Ready) (c : Save) (old new : Outside) where
   }
 
   -- the sectors behind it are told
-  retells : (answer : Result SavedEnd LoadFault) → SaveAnswers r c answer old new → (before : List (List ℕ)) → old.disk.sectors ≡ Some before → (after : List (List ℕ)) × (new.disk.sectors ≡ Some after)
+  retells : (answer : Result SavedEnd LoadFault) → SaveCallAnswers r c answer old new → (before : List (List ℕ)) → old.disk.sectors ≡ Some before → (after : List (List ℕ)) × (new.disk.sectors ≡ Some after)
   retells answer answers before told = some_is new.disk.sectors (answers.told (is_told old.disk.sectors before told))
 
-  saved_made : SaveAnswers r c (Ok by.Saved) old new → IsLeft (save_session c) (system_of r.boot) r.schedule c.file old new (IsSaved c.file old new)
+  saved_made : SaveCallAnswers r c (Ok by.Saved) old new → IsLeft (save_session c) (system_of r.boot) r.schedule c.file old new (IsSavedIn c.file old new)
   saved_made answers = record {
     room = subst (λ (n : ℕ). n ≤ old.disk.size) (same_need r.boot r.schedule) answers.loaded.room;
     size = answers.size;
@@ -255,11 +255,11 @@ module _ (r : Ready) (c : Save) (old new : Outside) where
     told = λ before told.
         let (after, retold) = retells (Ok by.Saved) answers before told in
         let is = answers.ends before after told retold in
-        stopped (Ok by.Saved) by.Saved answers answers.loaded before after told retold is (IsSaved c.file old new)
+        stopped (Ok by.Saved) by.Saved answers answers.loaded before after told retold is (IsSavedIn c.file old new)
         (is.put, is.printed ∙ told_twice old.sink.text is.shown saved_row);
   }
 
-  unput_made : SaveAnswers r c (Ok by.ShelfFault) old new → IsLeft (save_session c) (system_of r.boot) r.schedule c.file old new (IsUnput c.file old new)
+  unput_made : SaveCallAnswers r c (Ok by.ShelfFault) old new → IsLeft (save_session c) (system_of r.boot) r.schedule c.file old new (IsUnput c.file old new)
   unput_made answers = record {
     room = subst (λ (n : ℕ). n ≤ old.disk.size) (same_need r.boot r.schedule) answers.loaded.room;
     size = answers.size;
@@ -270,7 +270,7 @@ module _ (r : Ready) (c : Save) (old new : Outside) where
         stopped (Ok by.ShelfFault) by.ShelfFault answers answers.loaded before after told retold is (IsUnput c.file old new) (is.printed, is.put);
   }
 
-  unsaid_made : SaveAnswers r c (Ok by.RowFault) old new → IsLeft (save_session c) (system_of r.boot) r.schedule c.file old new (IsUnsaid c.file old new)
+  unsaid_made : SaveCallAnswers r c (Ok by.RowFault) old new → IsLeft (save_session c) (system_of r.boot) r.schedule c.file old new (IsUnsaid c.file old new)
   unsaid_made answers = record {
     room = subst (λ (n : ℕ). n ≤ old.disk.size) (same_need r.boot r.schedule) answers.loaded.room;
     size = answers.size;
@@ -282,7 +282,7 @@ module _ (r : Ready) (c : Save) (old new : Outside) where
         (is.put, (is.printed.0, is.printed.1 ∙ told_twice old.sink.text is.shown (take is.printed.0 saved_row)));
   }
 
-  ended_made : (e : RunEnd) → SaveAnswers r c (Ok (by.Ended e)) old new → IsEnded (save_session c) (system_of r.boot) r.schedule (ending_of_end e) old new
+  ended_made : (e : RunEnd) → SaveCallAnswers r c (Ok (by.Ended e)) old new → IsEnded (save_session c) (system_of r.boot) r.schedule (ending_of_end e) old new
   ended_made e answers = record {
     place = place answers.loaded answers.unput answers.size;
     loaded = not_memory e;
@@ -304,14 +304,14 @@ module _ (r : Ready) (c : Save) (old new : Outside) where
   }
 
   -- A RUN that was loaded
-  pub ok_saved : (end : SavedEnd) (status : Status) → SaveAnswers r c (Ok end) old new → status ≡ status_of_saved end → SaveEnds (save_session c) (system_of r.boot) r.schedule c.file status old new
+  pub ok_saved : (end : SavedEnd) (status : Status) → SaveCallAnswers r c (Ok end) old new → status ≡ status_of_saved end → SaveSessionEnds (save_session c) (system_of r.boot) r.schedule c.file status old new
   ok_saved by.Saved status answers stands = was_saved stands (saved_made answers)
   ok_saved by.ShelfFault status answers stands = was_unput stands (unput_made answers)
   ok_saved by.RowFault status answers stands = was_unsaid stands (unsaid_made answers)
   ok_saved (by.Ended e) status answers stands = ended (ending_of_end e) stands (ended_made e answers)
 
   -- one whose sectors could not be written
-  pub disk_saved : SaveAnswers r c (Err load.Disk) old new → new.sink.text ≡ old.sink.text → SaveEnds (save_session c) (system_of r.boot) r.schedule c.file Disk old new
+  pub disk_saved : SaveCallAnswers r c (Err load.Disk) old new → new.sink.text ≡ old.sink.text → SaveSessionEnds (save_session c) (system_of r.boot) r.schedule c.file Disk old new
   disk_saved answers text =
       let stopped = answers.stopped refl in
       not_loaded refl (record {
@@ -329,8 +329,8 @@ module _ (r : Ready) (c : Save) (old new : Outside) where
       })
 
   -- one for which there was no memory
-  pub memory_saved : SaveAnswers r c (Err load.Memory) old new → SameSectors old.disk new.disk → new.sink.text ≡ old.sink.text
-      → SaveEnds (save_session c) (system_of r.boot) r.schedule c.file Memory old new
+  pub memory_saved : SaveCallAnswers r c (Err load.Memory) old new → SameSectors old.disk new.disk → new.sink.text ≡ old.sink.text
+      → SaveSessionEnds (save_session c) (system_of r.boot) r.schedule c.file Memory old new
   memory_saved answers disk text =
       out_of_memory refl (place answers.refused answers.unput answers.size) (nothing old new (record { files = answers.unput; disk = disk }) text)
 
@@ -338,7 +338,7 @@ module _ (r : Ready) (c : Save) (old new : Outside) where
   pub small_saved : (need have : ℕ) (status : Status) → ((n : List ℕ) → new.shelf.file n ≡ old.shelf.file n)
       → LoadFails r.boot view.Boot (pages_needed r.boot) old.disk.size old.disk.faults new.disk.faults (load.SmallDisk need have) → SameSectors old.disk new.disk → new.disk.faults ≡ old.disk.faults
       → (status ≡ Disk) ⊎ (status ≡ Sink) → (status ≡ Disk → new.sink.text ≡ append_known old.sink.text (refusal_text (small_disk need have)))
-      → (status ≡ Sink → AppendsPart old.sink.text new.sink.text (refusal_text (small_disk need have))) → SaveEnds (save_session c) (system_of r.boot) r.schedule c.file status old new
+      → (status ≡ Sink → AppendsPart old.sink.text new.sink.text (refusal_text (small_disk need have))) → SaveSessionEnds (save_session c) (system_of r.boot) r.schedule c.file status old new
   small_saved need have status files (user, n, h, less) disk faults cases all part =
       let needed : need ≡ sectors_needed (save_session c) (system_of r.boot) r.schedule = n ∙ same_need r.boot r.schedule in
       let row : refusal_text (small_disk need have) ≡ refusal_text (small_disk (sectors_needed (save_session c) (system_of r.boot) r.schedule) old.disk.size) =
@@ -351,8 +351,8 @@ module _ (r : Ready) (c : Save) (old new : Outside) where
 -- THE THEOREM OF SAVE
 
 -- what words and files ask for is their plan, and they have no other
-asked_save : (words : List (List ℕ)) (c : Save) (s : System) (rows : Rows) (before : List (List ℕ)) (old new : Outside) → IsHonestSave words c s rows before old new
-    → ComesTo words old.shelf.file (saves (save_session c) s rows c.file) × AllTold words old.shelf.file
+asked_save : (words : List (List ℕ)) (c : Save) (s : ImageSystem) (rows : Rows) (before : List (List ℕ)) (old new : Host) → IsHonestSave words c s rows before old new
+    → PlanComesTo words old.shelf.file (saves (save_session c) s rows c.file) × AllTold words old.shelf.file
 asked_save words c s rows before old new h = (
   save_plan c (saves (save_session c) s rows c.file) h.asked
       (boots (save_session c) s rows, comes_to_run old.shelf.file c.boot (save_session c) s rows h.files, sym (short_plan (save_session c) s rows c.file h.short)),
@@ -360,7 +360,7 @@ asked_save words c s rows before old new h = (
 )
 
 -- an end with no failed call
-clean_end : (c : Save) (s : System) (rows : Rows) (e : Ending) (before : List (List ℕ)) (status : Status) (old new : Outside) → EndsAsBoot (save_session c) s rows e before old new → status ≡ ended_as e
+clean_end : (c : Save) (s : ImageSystem) (rows : Rows) (e : Ending) (before : List (List ℕ)) (status : Status) (old new : Host) → EndsAsBoot (save_session c) s rows e before old new → status ≡ ended_as e
     → CausedBy status old new → (e ≡ headline.DiskFault → Rose old.disk.faults new.disk.faults) → (Rose old.disk.faults new.disk.faults → ⊥) → (Rose old.sink.faults new.sink.faults → ⊥)
     → status ≢ Memory → ((n : List ℕ) → new.shelf.file n ≡ old.shelf.file n) → SaveHolds c s rows before old new status
 clean_end c s rows headline.Done before status old new r stands why rose disk sink memory files =
@@ -373,11 +373,11 @@ clean_end c s rows headline.DiskFault before status old new r stands why rose di
 clean_end c s rows headline.SinkFault before status old new r stands why rose disk sink memory files = absurd (sink ((subst (λ (x : Status). CausedBy x old new) stands why).0))
 clean_end c s rows headline.NoMemory before status old new r stands why rose disk sink memory files = absurd (memory stands)
 
-not_long : (session : Session) (s : System) (rows : Rows) (name : List ℕ) → saves session s rows name ≢ refuses too_long
+not_long : (session : Session) (s : ImageSystem) (rows : Rows) (name : List ℕ) → saves session s rows name ≢ refuses too_long
 not_long session s rows name e = cc
 
-ends_hold : (words : List (List ℕ)) (c : Save) (s : System) (rows : Rows) (before : List (List ℕ)) (status : Status) (old new : Outside) → IsHonestSave words c s rows before old new
-    → SaveEnds (save_session c) s rows c.file status old new → CausedBy status old new → new.shelf.taken ≢ TOO_LONG → status ≢ Memory → SaveHolds c s rows before old new status
+ends_hold : (words : List (List ℕ)) (c : Save) (s : ImageSystem) (rows : Rows) (before : List (List ℕ)) (status : Status) (old new : Host) → IsHonestSave words c s rows before old new
+    → SaveSessionEnds (save_session c) s rows c.file status old new → CausedBy status old new → new.shelf.taken ≢ TOO_LONG → status ≢ Memory → SaveHolds c s rows before old new status
 ends_hold words c s rows before status old new h (too_small less faults says) why few memory = absurd (no_room_for (sectors_needed (save_session c) s rows) old.disk.size less h.enough)
 ends_hold words c s rows before status old new h (out_of_memory stands place left) why few memory = absurd (memory stands)
 ends_hold words c s rows before status old new h (not_loaded stands is) why few memory = absurd (h.disk_done is.disk)
@@ -387,19 +387,19 @@ ends_hold words c s rows before status old new h (was_saved stands left) why few
 ends_hold words c s rows before status old new h (was_unput stands left) why few memory = absurd (h.shelf_done (shelf_rose status old new stands few why))
 ends_hold words c s rows before status old new h (was_unsaid stands left) why few memory = absurd (h.sink_done ((subst (λ (x : Status). CausedBy x old new) stands why).0))
 
-pub saves_hold : (words : List (List ℕ)) (c : Save) (s : System) (rows : Rows) (before : List (List ℕ)) (status : Status) (old new : Outside) → CommandEnds words status old new → CausedBy status old new
+pub saves_hold : (words : List (List ℕ)) (c : Save) (s : ImageSystem) (rows : Rows) (before : List (List ℕ)) (status : Status) (old new : Host) → CommandEnds words status old new → CausedBy status old new
     → IsHonestSave words c s rows before old new → status ≢ Memory → SaveHolds c s rows before old new status
 saves_hold words c s rows before status old new (done p plan took ends) why h memory =
     let asked = asked_save words c s rows before old new h in
     let same : saves (save_session c) s rows c.file ≡ p = plan.only asked.1 (saves (save_session c) s rows c.file) asked.0 in
-    let P : Plan → Type 0 = λ q. Ends q status old new in
+    let P : Plan → Type 0 = λ q. PlanEnds q status old new in
     let few : new.shelf.taken ≢ TOO_LONG = λ e. not_long (save_session c) s rows c.file (same ∙ (took (save c) h.asked tt).1 e) in
     ends_hold words c s rows before status old new h (subst P (sym same) ends) why few memory
 saves_hold words c s rows before status old new (undone d is (inl m) few same) why h memory = absurd (memory m)
 saves_hold words c s rows before status old new (undone d is (inr (e, gets)) few same) why h memory = absurd (h.shelf_done (shelf_rose status old new e (few gets) why))
 
 -- ENOUGH STEPS
-pub saves_complete : TurnLaws → (words : List (List ℕ)) (c : Save) (s : System) (rows : Rows) (before : List (List ℕ)) (status : Status) (old new : Outside) → CommandEnds words status old new → CausedBy status old new
+pub saves_complete : TurnLaws → (words : List (List ℕ)) (c : Save) (s : ImageSystem) (rows : Rows) (before : List (List ℕ)) (status : Status) (old new : Host) → CommandEnds words status old new → CausedBy status old new
     → IsHonestSave words c s rows before old new → status ≢ Memory → HasSteps (save_session c) s rows before old → (status ≡ Done) ⊎ (status ≡ KernelFault)
 saves_complete laws words c s rows before status old new ends why h memory has = by (saves_hold words c s rows before status old new ends why h memory)
   where

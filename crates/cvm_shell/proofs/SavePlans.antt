@@ -9,7 +9,7 @@ use Rattle.saved_file.specs.declared.fault.SaveFault.{SaveFault}
 use Rattle.saved_file.specs.declared.fault.SaveFault.TheVariants as saving
 use Rattle.machine_save.specs.Room.{Filled, IsRoom, most_words, FILE_ROOM}
 use Rattle.schedule_file.specs.Rows.{Rows}
-use Rattle.kernel_linker.specs.Accept.{System}
+use Rattle.kernel_linker.specs.Accept.{ImageSystem}
 use Rattle.cvm_shell.specs.declared.boot.Session.{Session}
 use Rattle.cvm_shell.specs.declared.boot.Stop.{Stop}
 use Rattle.cvm_shell.specs.declared.boot.Stop.TheVariants.{Refused, Shelf, Memory}
@@ -53,18 +53,18 @@ chosen_first : (b : Bool) (p q : Plan) → b ≡ true → (if b then p else q) �
 chosen_first true p q e = refl
 chosen_first false p q e = absurd cc
 
-pub short_plan : (session : Session) (s : System) (rows : Rows) (name : List ℕ) → most_bytes s ≤ FILE_ROOM → saved_plan name (boots session s rows) ≡ saves session s rows name
+pub short_plan : (session : Session) (s : ImageSystem) (rows : Rows) (name : List ℕ) → most_bytes s ≤ FILE_ROOM → saved_plan name (boots session s rows) ≡ saves session s rows name
 short_plan session s rows name few =
     chosen (nat_lt FILE_ROOM (most_bytes s)) (refuses (bad_save (saving.TooLarge (most_bytes s)))) (saves session s rows name) (not_below FILE_ROOM (most_bytes s) few)
 
-pub save_short : (layer : Layers) (file : Told) (c : Save) (s : System) (rows : Rows) → IsBootPlan layer file c.boot (save_session c) (boots (save_session c) s rows) → most_bytes s ≤ FILE_ROOM
+pub save_short : (layer : Layers) (file : Told) (c : Save) (s : ImageSystem) (rows : Rows) → IsBootPlan layer file c.boot (save_session c) (boots (save_session c) s rows) → most_bytes s ≤ FILE_ROOM
     → IsSavePlan layer file c (saves (save_session c) s rows c.file)
 save_short layer file c s rows is few =
     subst (IsSavePlan layer file c) (short_plan (save_session c) s rows c.file few)
     (saved_comes layer file c (boots (save_session c) s rows) is)
 
 -- there is none
-pub save_no_room : (layer : Layers) (file : Told) (c : Save) (s : System) (rows : Rows) (t : Stop) → IsBootPlan layer file c.boot (save_session c) (boots (save_session c) s rows) → HasNoRoom s t
+pub save_no_room : (layer : Layers) (file : Told) (c : Save) (s : ImageSystem) (rows : Rows) (t : Stop) → IsBootPlan layer file c.boot (save_session c) (boots (save_session c) s rows) → HasNoRoom s t
     → IfRefused (IsSavePlan layer file c) t
 save_no_room layer file c s rows (Refused r) is (e, many) =
     subst (λ (x : ByCode). IsSavePlan layer file c (refuses (refusal_view x))) (sym e)
@@ -133,7 +133,7 @@ module _ (layer : Layers) (file : Told) (c : Save) where
       (three_stopped layer (save_session c) image schedule bytes s h)
 
 -- no room for a machine of so many frames
-pub room_fault : (frames : ℕ) (s : System) (f : SaveFault) → frames ≡ frames_of s → IsRoom frames (Err f) → HasNoRoom s (save_stop f)
+pub room_fault : (frames : ℕ) (s : ImageSystem) (f : SaveFault) → frames ≡ frames_of s → IsRoom frames (Err f) → HasNoRoom s (save_stop f)
 room_fault frames s (saving.TooLarge bytes) e (is, many) =
     let same : bytes ≡ most_bytes s = is ∙ ap (λ (n : ℕ). 4 * most_words n) e in
     (ap (λ (n : ℕ). by.BadSave (saving.TooLarge n)) same, subst (λ (n : ℕ). FILE_ROOM < n) same many)
@@ -147,8 +147,8 @@ room_fault frames s (saving.SizeTooLarge user pages) e h = absurd h
 room_fault frames s (saving.TurnsDone done wanted) e h = absurd h
 
 -- there is room for one
-pub room_short : (frames : ℕ) (s : System) (room : Filled) → frames ≡ frames_of s → IsRoom frames (Ok room) → most_bytes s ≤ FILE_ROOM
+pub room_short : (frames : ℕ) (s : ImageSystem) (room : Filled) → frames ≡ frames_of s → IsRoom frames (Ok room) → most_bytes s ≤ FILE_ROOM
 room_short frames s room e (few, words, file) = subst (λ (n : ℕ). 4 * most_words n ≤ FILE_ROOM) e few
 
-pub room_words : (frames : ℕ) (s : System) (room : Filled) → frames ≡ frames_of s → IsRoom frames (Ok room) → room.words ≡ most_words (frames_of s)
+pub room_words : (frames : ℕ) (s : ImageSystem) (room : Filled) → frames ≡ frames_of s → IsRoom frames (Ok room) → room.words ≡ most_words (frames_of s)
 room_words frames s room e (few, words, file) = words ∙ ap most_words e

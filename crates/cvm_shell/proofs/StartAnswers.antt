@@ -11,7 +11,7 @@ use Rattle.mips_table.specs.Machine.{State}
 use Rattle.cvm_model.specs.Cvm.{System as Run}
 use Rattle.layer_contract.specs.declared.boot.Boot.{Boot as Booted}
 use Rattle.boot_turns.specs.declared.answers.View.{View}
-use Rattle.boot_run.specs.LoadEnds.{pages_needed, rom_needed, HasRoom, LoadFails}
+use Rattle.boot_run.specs.LoadEnds.{pages_needed, rom_needed, HasDiskRoom, LoadFails}
 use Rattle.boot_run.specs.Whole.{AnswerEnds, WholeEnds, WholeGoesOn, WholeStopped, RomEnds, RomGoesOn, RomStopped, IsDiskFault}
 use Rattle.boot_run.specs.declared.load.LoadFault.{LoadFault}
 use Rattle.boot_run.specs.declared.load.LoadFault.TheVariants as load
@@ -21,8 +21,8 @@ use Rattle.cvm_shell.specs.declared.boot.Ready.{Ready}
 use Rattle.cvm_shell.specs.declared.boot.Session.{Session}
 use Rattle.cvm_shell.specs.declared.boot.Start.{Start}
 use Rattle.cvm_shell.specs.declared.boot.Start.TheVariants.{Loaded, Rom}
-use Rattle.cvm_shell.specs.Outside.{Outside}
-use Rattle.cvm_shell.specs.Boot.{booted, around, held_of, first_state}
+use Rattle.cvm_shell.specs.Outside.{Host}
+use Rattle.cvm_shell.specs.Boot.{booted, around, held_of, first_state, CallsOf}
 use Rattle.cvm_shell.specs.Stages.{CallAnswers}
 
 -- the users are counted alike
@@ -37,10 +37,10 @@ pub same_rom_need : (b : Booted) (rows : Rows) → rom_needed b ≡ held_of Rom 
 same_rom_need b rows = ap (λ (n : ℕ). n + (length b.words.items + 1023) / 1024) (same_need b rows)
 
 -- what the two calls say alike, of a run that needs so many sectors
-pub record Called (b : Booted) (session : Session) (need : ℕ) (answer : Result RunEnd LoadFault) (old new : Outside) : Type 0 where
+pub record Called (b : Booted) (session : Session) (need : ℕ) (answer : Result RunEnd LoadFault) (old new : Host) : Type 0 where
   pub told : IsSome old.disk.sectors → IsSome new.disk.sectors
   pub refused : IfErr answer (LoadFails b session.view need old.disk.size old.disk.faults new.disk.faults)
-  pub loaded : IfOk answer (λ e. HasRoom b session.view need old.disk.size)
+  pub loaded : IfOk answer (λ e. HasDiskRoom b session.view need old.disk.size)
   pub size : new.disk.size ≡ old.disk.size
   pub rose : IsDiskFault answer → Rose old.disk.faults new.disk.faults
 
@@ -53,35 +53,35 @@ if_done (Ok e) P Q f h = f h
 if_done (Err f) P Q g h = h
 
 -- AT THE LOADED MACHINE
-pub loaded_answers : (r : Ready) (session : Session) (answer : Result RunEnd LoadFault) (old new : Outside) → session.start ≡ Loaded
-    → WholeEnds r.boot r.schedule old.disk.size session.view session.turns session.steps old.disk.sectors new.disk.sectors old.sink.text new.sink.text answer
+pub loaded_answers : (r : Ready) (session : Session) (answer : Result RunEnd LoadFault) (old new : Host) → session.start ≡ Loaded
+    → WholeEnds r.boot r.schedule old.disk.size session.view session.turns session.steps old.disk.sectors new.disk.sectors old.disk.calls new.disk.calls old.sink.text new.sink.text answer
     → WholeGoesOn r.boot r.schedule old.disk.size old.disk.sectors → (answer ≡ Err load.Disk → WholeStopped r.boot r.schedule old.disk.sectors new.disk.sectors old.disk.calls new.disk.calls)
     → Called r.boot session (pages_needed r.boot) answer old new → CallAnswers r session answer old new
 loaded_answers r session answer old new start ends goes_on stopped called =
     subst (λ (a : Start). CallAnswers r (from a session) answer old new) (sym start) (record {
       ends = ends;
-      goes_on = if_done answer (HasRoom r.boot session.view (pages_needed r.boot) old.disk.size) _
+      goes_on = if_done answer (HasDiskRoom r.boot session.view (pages_needed r.boot) old.disk.size) _
           (λ room before told k c is. let (t, end, within) = goes_on before told room.room k c is in (t, end, omega (arith, within))) called.loaded;
       told = called.told;
       refused = subst (λ (n : ℕ). IfErr answer (LoadFails r.boot session.view n old.disk.size old.disk.faults new.disk.faults)) (same_need r.boot r.schedule) called.refused;
-      loaded = subst (λ (n : ℕ). IfOk answer (λ e. HasRoom r.boot session.view n old.disk.size)) (same_need r.boot r.schedule) called.loaded;
+      loaded = subst (λ (n : ℕ). IfOk answer (λ e. HasDiskRoom r.boot session.view n old.disk.size)) (same_need r.boot r.schedule) called.loaded;
       size = called.size;
       rose = called.rose;
       stopped = stopped;
     })
 
 -- AT THE ROM
-pub rom_answers : (r : Ready) (session : Session) (answer : Result RunEnd LoadFault) (old new : Outside) → session.start ≡ Rom
-    → RomEnds r.boot r.schedule old.disk.size session.view session.turns session.steps old.disk.sectors new.disk.sectors old.sink.text new.sink.text answer
+pub rom_answers : (r : Ready) (session : Session) (answer : Result RunEnd LoadFault) (old new : Host) → session.start ≡ Rom
+    → RomEnds r.boot r.schedule old.disk.size session.view session.turns session.steps old.disk.sectors new.disk.sectors old.disk.calls new.disk.calls old.sink.text new.sink.text answer
     → RomGoesOn r.boot r.schedule old.disk.size old.disk.sectors → (answer ≡ Err load.Disk → RomStopped r.boot r.schedule old.disk.sectors new.disk.sectors old.disk.calls new.disk.calls)
     → Called r.boot session (rom_needed r.boot) answer old new → CallAnswers r session answer old new
 rom_answers r session answer old new start ends goes_on stopped called =
     subst (λ (a : Start). CallAnswers r (from a session) answer old new) (sym start) (record {
       ends = ends;
-      goes_on = if_done answer (HasRoom r.boot session.view (rom_needed r.boot) old.disk.size) _ (λ room before told. goes_on before told room.room) called.loaded;
+      goes_on = if_done answer (HasDiskRoom r.boot session.view (rom_needed r.boot) old.disk.size) _ (λ room before told. goes_on before told room.room) called.loaded;
       told = called.told;
       refused = subst (λ (n : ℕ). IfErr answer (LoadFails r.boot session.view n old.disk.size old.disk.faults new.disk.faults)) (same_rom_need r.boot r.schedule) called.refused;
-      loaded = subst (λ (n : ℕ). IfOk answer (λ e. HasRoom r.boot session.view n old.disk.size)) (same_rom_need r.boot r.schedule) called.loaded;
+      loaded = subst (λ (n : ℕ). IfOk answer (λ e. HasDiskRoom r.boot session.view n old.disk.size)) (same_rom_need r.boot r.schedule) called.loaded;
       size = called.size;
       rose = called.rose;
       stopped = stopped;
@@ -91,12 +91,12 @@ rom_answers r session answer old new start ends goes_on stopped called =
 one_disk : (a b : List (List ℕ)) → Some a ≡ Some b → b ≡ a
 one_disk a b e = cc
 
-unmade_ends : (x : Surroundings) (y : Run) (s : State) (held : ℕ) (old now : List (List ℕ)) (v : View) (turns steps : ℕ) (before after : Option (List ℕ)) (f : LoadFault) → f ≢ load.Disk
-    → now ≡ old → after ≡ before → AnswerEnds x y s held old now v turns steps before after (Err f)
-unmade_ends x y s held old now v turns steps before after load.Memory other same text = (same, text)
-unmade_ends x y s held old now v turns steps before after load.Disk other same text = absurd (other refl)
-unmade_ends x y s held old now v turns steps before after (load.SmallDisk need have) other same text = (same, text)
-unmade_ends x y s held old now v turns steps before after (load.NoSuchUser user users) other same text = (same, text)
+unmade_ends : (x : Surroundings) (y : Run) (s : State) (held : ℕ) (old now : List (List ℕ)) (v : View) (turns steps : ℕ) (calls : State → Type 0) (before after : Option (List ℕ)) (f : LoadFault) → f ≢ load.Disk
+    → now ≡ old → after ≡ before → AnswerEnds x y s held old now v turns steps calls before after (Err f)
+unmade_ends x y s held old now v turns steps calls before after load.Memory other same text = (same, text)
+unmade_ends x y s held old now v turns steps calls before after load.Disk other same text = absurd (other refl)
+unmade_ends x y s held old now v turns steps calls before after (load.SmallDisk need have) other same text = (same, text)
+unmade_ends x y s held old now v turns steps calls before after (load.NoSuchUser user users) other same text = (same, text)
 
 unmade_fails : (b : Booted) (v : View) (need count before now : ℕ) (f : LoadFault) → f ≢ load.Disk → LoadFails b v need count 0 0 f → LoadFails b v need count before now f
 unmade_fails b v need count before now load.Memory other h = h
@@ -111,12 +111,12 @@ not_disk (load.SmallDisk need have) other h = absurd (cc)
 not_disk (load.NoSuchUser user users) other h = absurd (cc)
 
 -- what is seen of the disk and the sink stays
-pub record Stays (old new : Outside) : Type 0 where
+pub record Stays (old new : Host) : Type 0 where
   pub sectors : new.disk.sectors ≡ old.disk.sectors
   pub size : new.disk.size ≡ old.disk.size
   pub text : new.sink.text ≡ old.sink.text
 
-pub unmade_answers : (r : Ready) (session : Session) (f : LoadFault) (have : ℕ) (old new : Outside) → session.start ≡ Rom → have ≡ old.disk.size → Stays old new → f ≢ load.Disk
+pub unmade_answers : (r : Ready) (session : Session) (f : LoadFault) (have : ℕ) (old new : Host) → session.start ≡ Rom → have ≡ old.disk.size → Stays old new → f ≢ load.Disk
     → LoadFails r.boot session.view (rom_needed r.boot) have 0 0 f → CallAnswers r session (Err f) old new
 unmade_answers r session f have old new start count stays other fails =
     let told : IsSome old.disk.sectors → IsSome new.disk.sectors = λ h. subst (λ (o : Option (List (List ℕ))). IsSome o) (sym stays.sectors) h in
@@ -126,7 +126,7 @@ unmade_answers r session f have old new start count stays other fails =
     subst (λ (a : Start). CallAnswers r (from a session) (Err f) old new) (sym start) (record {
       ends = λ before after is now.
           unmade_ends (around r.schedule old) (booted (system_of r.boot) r.schedule) (first_state (from Rom session) (system_of r.boot) r.schedule before) (held_of Rom (booted (system_of r.boot) r.schedule)) before after
-          session.view session.turns session.steps old.sink.text new.sink.text f other (one_disk before after (sym is ∙ sym stays.sectors ∙ now)) stays.text;
+          session.view session.turns session.steps (CallsOf (from Rom session) (system_of r.boot) r.schedule before old new) old.sink.text new.sink.text f other (one_disk before after (sym is ∙ sym stays.sectors ∙ now)) stays.text;
       goes_on = tt;
       told = told;
       refused = unmade_fails r.boot session.view (held_of Rom (booted (system_of r.boot) r.schedule)) old.disk.size old.disk.faults new.disk.faults f other needed;

@@ -19,7 +19,7 @@ use Rattle.boot_image.specs.Parts.{Parts as Image}
 use Rattle.real_layer.specs.Image.{layer_image}
 use Rattle.cvm_model.specs.KernelMeaning.{kernel_meaning}
 use Rattle.kernel_linker.specs.Linked.{linked, sizes_of}
-use Rattle.kernel_linker.specs.Accept.{System, ◌>>=◌, stored, accept_answer}
+use Rattle.kernel_linker.specs.Accept.{ImageSystem, ◌>>=◌, stored, accept_answer}
 use Rattle.kernel_linker.specs.Open.{open_answer}
 use Rattle.kernel_linker.specs.Laws.{OpenedUnitsAreTheirSources}
 use Rattle.kernel_linker.specs.declared.fault.AcceptFault.{AcceptFault}
@@ -28,12 +28,12 @@ use Rattle.cvm_shell.specs.declared.status.Status.{Status}
 use Rattle.cvm_shell.specs.declared.status.Status.TheVariants.{Done}
 use Rattle.cvm_shell.specs.Check.{Told, TellsUnit, has_longest, has_loop, TellsOpened, TellsObject, no_object, has_object}
 use Rattle.cvm_shell.specs.Command.{check}
-use Rattle.cvm_shell.specs.Outside.{Outside, Leaves, Says, said, broken}
+use Rattle.cvm_shell.specs.Outside.{Host, LeavesHost, Says, said, broken}
 use Rattle.cvm_shell.specs.Refusal as refusal
 use Rattle.cvm_shell.specs.Refusal.{Refusal, refusal_status, refusal_text}
 use Rattle.cvm_shell.specs.Plan.{Plan, Got, long, whole, told_plan, AfterChecked}
 use Rattle.cvm_shell.specs.Boot.{booted}
-use Rattle.cvm_shell.specs.Outcome.{Ends, CommandEnds, done, undone}
+use Rattle.cvm_shell.specs.Outcome.{PlanEnds, CommandEnds, done, undone}
 use Rattle.cvm_shell.specs.Suffices.{SaysYes, HasStack, NeverOut}
 use Rattle.cvm_shell.proofs.Endings.{its_plan}
 use Rattle.cvm_shell.proofs.Fronts.{OneAnswer}
@@ -57,7 +57,7 @@ parts (suc n) [] = refl
 parts (suc n) (x ∷ text) = ap (λ (t : List ℕ). x ∷ t) (parts n text)
 
 -- if it begins with `yes`, so does the row that was to be printed
-said_yes : (stated status : Status) (row : List ℕ) (old new : Outside) (before rest : List ℕ) → old.sink.text ≡ Some before → new.sink.text ≡ Some (before ++ (codes "yes " ++ rest))
+said_yes : (stated status : Status) (row : List ℕ) (old new : Host) (before rest : List ℕ) → old.sink.text ≡ Some before → new.sink.text ≡ Some (before ++ (codes "yes " ++ rest))
     → Says stated row old new status → (more : List ℕ) × (row ≡ codes "yes " ++ more)
 said_yes stated status row old new before rest told print (said leaves) = (rest, one_text old.sink.text before row (codes "yes " ++ rest) told (sym leaves.printed ∙ print))
 said_yes stated status row old new before rest told print (broken n leaves) =
@@ -82,12 +82,12 @@ record Begun (told : Told) : Type 0 where
   more : List ℕ
   begins : text ≡ codes "yes " ++ more
 
-begun : (told : Told) (status : Status) (old new : Outside) (before rest : List ℕ) → old.sink.text ≡ Some before → new.sink.text ≡ Some (before ++ (codes "yes " ++ rest)) → Ends (told_plan told) status old new → Begun told
+begun : (told : Told) (status : Status) (old new : Host) (before rest : List ℕ) → old.sink.text ≡ Some before → new.sink.text ≡ Some (before ++ (codes "yes " ++ rest)) → PlanEnds (told_plan told) status old new → Begun told
 begun (Ok text) status old new before rest stood print ends = let (more, e) = said_yes Done status text old new before rest stood print ends in record { text = text; is = refl; more = more; begins = e }
 begun (Err r) status old new before rest stood print ends = let (more, e) = said_yes (refusal_status r) status (refusal_text r) old new before rest stood print ends in absurd (not_refused r more e)
 
 -- where nothing was printed, nothing begins with `yes`
-not_nothing : (old new : Outside) (before rest : List ℕ) → old.sink.text ≡ Some before → new.sink.text ≡ Some (before ++ (codes "yes " ++ rest)) → Leaves old new [] → ⊥
+not_nothing : (old new : Host) (before rest : List ℕ) → old.sink.text ≡ Some before → new.sink.text ≡ Some (before ++ (codes "yes " ++ rest)) → LeavesHost old new [] → ⊥
 not_nothing old new before rest told print leaves =
     other_letter 0 [] (codes "yes " ++ rest) (one_text old.sink.text before [] (codes "yes " ++ rest) told (sym leaves.printed ∙ print)) refl refl (omega arith)
 
@@ -135,28 +135,28 @@ told_bytes : (file : Option (List ℕ)) (bytes other : List ℕ) → file ≡ So
 told_bytes file bytes other e h = let P : Option (List ℕ) → Type 0 = λ o. Tells o other in subst P e h
 
 -- the plan of a check
-room_of : OneObject → OpenedUnitsAreTheirSources → (words : List (List ℕ)) (source : List ℕ) (stack : ℕ) (status : Status) (old new : Outside) (y : SaysYes words source stack old new) (p : Plan)
-    → Got (old.shelf.file y.check.object) (AfterChecked y.check.stack) p → Ends p status old new → (u : CUnit) × IsAnswer y.object.source (Ok u) × Roomy y.check.stack u
+room_of : OneObject → OpenedUnitsAreTheirSources → (words : List (List ℕ)) (source : List ℕ) (stack : ℕ) (status : Status) (old new : Host) (y : SaysYes words source stack old new) (p : Plan)
+    → Got (old.shelf.file y.check.object) (AfterChecked y.check.stack) p → PlanEnds p status old new → (u : CUnit) × IsAnswer y.object.source (Ok u) × Roomy y.check.stack u
 room_of read law words source stack status old new y p (long bytes t many) ends =
     let (more, e) = said_yes (refusal_status refusal.too_long) status (refusal_text refusal.too_long) old new y.before y.rest y.before_told y.printed ends in absurd (not_refused refusal.too_long more e)
 room_of read law words source stack status old new y p (whole bytes r t short (told, tells, e)) ends =
-    let P : Plan → Type 0 = λ q. Ends q status old new in
+    let P : Plan → Type 0 = λ q. PlanEnds q status old new in
     let b = begun told status old new y.before y.rest y.before_told y.printed (subst P e ends) in
     told_room read law y.check.stack y.bytes y.object told b.text b.more y.object_is b.is b.begins (subst (λ (bs : List ℕ). TellsObject y.check.stack bs told) (told_bytes (old.shelf.file y.check.object) y.bytes bytes y.bytes_told t) tells)
 
 -- THE SYSTEM of an accepted image has the unit of its source
 
-through : (c : Result (Unit {0}) AcceptFault) (r s : System) → Ok s ≡ (c >>= λ same. Ok r) → r ≡ s
+through : (c : Result (Unit {0}) AcceptFault) (r s : ImageSystem) → Ok s ≡ (c >>= λ same. Ok r) → r ≡ s
 through (Ok x) r s e = cc
 through (Err f) r s e = absurd cc
 
-accepted_unit : (layer : Map → List ℕ → List ℕ) (i : Image) (front : Result CUnit SourceFault) (s : System) → Ok s ≡ accept_answer layer i front → front ≡ Ok s.unit
+accepted_unit : (layer : Map → List ℕ → List ℕ) (i : Image) (front : Result CUnit SourceFault) (s : ImageSystem) → Ok s ≡ accept_answer layer i front → front ≡ Ok s.unit
 unfolding accept_answer
 accepted_unit layer i (Err f) s e = absurd cc
 accepted_unit layer i (Ok u) s e =
-    ap (λ (x : System). Ok x.unit) (through (stored i (linked layer u i.params (sizes_of i.users))) (record { params = i.params; unit = u; words = linked layer u i.params (sizes_of i.users); users = i.users }) s e)
+    ap (λ (x : ImageSystem). Ok x.unit) (through (stored i (linked layer u i.params (sizes_of i.users))) (record { params = i.params; unit = u; words = linked layer u i.params (sizes_of i.users); users = i.users }) s e)
 
-system_unit : OneAnswer → (source : List ℕ) (stack : ℕ) (s : System) (u : CUnit) → IsAnswer source (Ok u) → HasStack source stack s → s.unit ≡ u
+system_unit : OneAnswer → (source : List ℕ) (stack : ℕ) (s : ImageSystem) (u : CUnit) → IsAnswer source (Ok u) → HasStack source stack s → s.unit ≡ u
 system_unit one source stack s u is has =
     let (front, of, e) = has.accepted in
     let mine : front ≡ Ok s.unit = accepted_unit layer_image has.image front s e in
@@ -165,12 +165,12 @@ system_unit one source stack s u is has =
     cc
 
 -- THE STACK IS ENOUGH
-never_out : LongestIsKept → (stack : ℕ) (u : CUnit) (s : System) → Roomy stack u → s.unit ≡ u → stack ≤ s.params.stack → NeverOut s
+never_out : LongestIsKept → (stack : ℕ) (u : CUnit) (s : ImageSystem) → Roomy stack u → s.unit ≡ u → stack ≤ s.params.stack → NeverOut s
 never_out law stack u s r same enough rows lines k c is =
     let room : r.words ≤ s.params.stack = let a = r.room in omega (arith, a, enough) in
     law u r.words r.functions (booted s rows) r.longest (ap (λ (x : CUnit). kernel_meaning x s.params) same) room lines k c is
 
-pub suffices : OneAnswer → OneObject → OpenedUnitsAreTheirSources → LongestIsKept → (words : List (List ℕ)) (source : List ℕ) (stack : ℕ) (s : System) (status : Status) (old new : Outside)
+pub suffices : OneAnswer → OneObject → OpenedUnitsAreTheirSources → LongestIsKept → (words : List (List ℕ)) (source : List ℕ) (stack : ℕ) (s : ImageSystem) (status : Status) (old new : Host)
     → CommandEnds words status old new → SaysYes words source stack old new → HasStack source stack s → NeverOut s
 suffices one read opened law words source stack s status old new (done p plan took ends) y has =
     let (u, is, room) = room_of read opened words source stack status old new y p (its_plan words old.shelf.file (check y.check) y.asked p plan.comes) ends in

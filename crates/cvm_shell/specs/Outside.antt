@@ -25,7 +25,7 @@ pub record Drive : Type 0 where
   pub faults : ℕ
   pub calls : ℕ
 
-pub record Outside : Type 0 where
+pub record Host : Type 0 where
   pub shelf : Files
   pub sink : Output
   pub disk : Drive
@@ -41,15 +41,15 @@ abbrev pub drive : {D : Type 0} → sectors_of.Ghosts D → D → Drive
 drive told d = record { sectors = told.sectors d; size = told.size d; faults = told.faults d; calls = told.calls d }
 
 -- the three objects of a command as one outside
-abbrev pub seen : {S O D : Type 0} → shelf_of.Ghosts S → sink_of.Ghosts O → sectors_of.Ghosts D → S × O × D → Outside
+abbrev pub seen : {S O D : Type 0} → shelf_of.Ghosts S → sink_of.Ghosts O → sectors_of.Ghosts D → S × O × D → Host
 seen shelf sink disk (s, o, d) = record { shelf = files shelf s; sink = output sink o; disk = drive disk d }
 
 -- a shelf and a sink beside a disk that stays as it is
-abbrev pub beside : {S O : Type 0} → shelf_of.Ghosts S → sink_of.Ghosts O → Drive → S × O → Outside
+abbrev pub beside : {S O : Type 0} → shelf_of.Ghosts S → sink_of.Ghosts O → Drive → S × O → Host
 beside shelf sink disk (s, o) = record { shelf = files shelf s; sink = output sink o; disk = disk }
 
 -- a sink and a disk beside files
-abbrev pub within : {O D : Type 0} → sink_of.Ghosts O → sectors_of.Ghosts D → Files → O × D → Outside
+abbrev pub within : {O D : Type 0} → sink_of.Ghosts O → sectors_of.Ghosts D → Files → O × D → Host
 within sink disk shelf (o, d) = record { shelf = shelf; sink = output sink o; disk = drive disk d }
 
 -- the disk's sectors are as before
@@ -58,12 +58,12 @@ pub record SameSectors (old new : Drive) : Type 0 where
   pub size : new.size ≡ old.size
 
 -- a text was printed, and nothing else changed
-pub record Leaves (old new : Outside) (text : List ℕ) : Type 0 where
+pub record LeavesHost (old new : Host) (text : List ℕ) : Type 0 where
   pub printed : new.sink.text ≡ append_known old.sink.text text
   pub files : (n : List ℕ) → new.shelf.file n ≡ old.shelf.file n
   pub disk : SameSectors old.disk new.disk
 
 -- a row is printed beside a status, or a failing sink took a part of it; nothing else changes
-pub data Says (stated : Status) (row : List ℕ) (old new : Outside) : Status → Type 0 where
-  said : Leaves old new row → Says stated row old new stated
-  broken : (n : ℕ) → Leaves old new (take n row) → Says stated row old new Sink
+pub data Says (stated : Status) (row : List ℕ) (old new : Host) : Status → Type 0 where
+  said : LeavesHost old new row → Says stated row old new stated
+  broken : (n : ℕ) → LeavesHost old new (take n row) → Says stated row old new Sink

@@ -33,7 +33,7 @@ use Rattle.boot_image.specs.Format.{spelling as image_bytes}
 use Rattle.boot_image.specs.Parts.{Parts as Image}
 use Rattle.boot_image.specs.Reading.{answer as image_of, old_answer as old_image_of}
 use Rattle.boot_image.specs.declared.fault.ImageFault.{ImageFault}
-use Rattle.kernel_linker.specs.Accept.{System, accept_answer}
+use Rattle.kernel_linker.specs.Accept.{ImageSystem, accept_answer}
 use Rattle.kernel_linker.specs.Migrate.{migrate_answer}
 use Rattle.kernel_linker.specs.Fault.{accept_file_fault}
 use Rattle.kernel_linker.specs.declared.fault.AcceptFault.{AcceptFault}
@@ -69,11 +69,11 @@ pub data Plan : Type 0 where
   -- make the bytes of this file these
   puts : (name bytes : List ℕ) → Plan
   -- run this system so, under this schedule
-  boots : Session → System → Rows → Plan
+  boots : Session → ImageSystem → Rows → Plan
   -- run it so, and save its machine to this file where the run stops
-  saves : Session → System → Rows → (name : List ℕ) → Plan
+  saves : Session → ImageSystem → Rows → (name : List ℕ) → Plan
   -- go on so with the run of it whose machine has these words
-  resumes : Session → System → Rows → (words : List ℕ) → Plan
+  resumes : Session → ImageSystem → Rows → (words : List ℕ) → Plan
   -- print this text
   prints : (text : List ℕ) → Plan
 
@@ -88,7 +88,7 @@ Answered due (Err f) answer = answer ≡ Err (accept_file_fault f)
 Answered due (Ok image) answer = (front : Result Unit SourceFault) × IsAnswer image.source front × (answer ≡ due image front)
 
 -- WHAT IS ACCEPTED: what linking its own source, parameters and users answers
-abbrev pub Accepts : (layer : Map → List ℕ → List ℕ) → Result Image ImageFault → Result System AcceptFault → Type 0
+abbrev pub Accepts : (layer : Map → List ℕ → List ℕ) → Result Image ImageFault → Result ImageSystem AcceptFault → Type 0
 Accepts layer image answer = Answered (accept_answer layer) image answer
 
 -- WHAT IS MIGRATED: the image of its own source, parameters and users, whose linked words are made anew
@@ -96,29 +96,29 @@ abbrev pub Renews : (layer : Map → List ℕ → List ℕ) → Result Image Ima
 Renews layer old answer = Answered (migrate_answer layer) old answer
 
 -- AFTER THE IMAGE the schedule is read
-abbrev pub scheduled_plan : Session → System → Result Rows ScheduleFault → Plan
+abbrev pub scheduled_plan : Session → ImageSystem → Result Rows ScheduleFault → Plan
 scheduled_plan session s (Ok rows) = boots session s rows
 scheduled_plan session s (Err f) = refuses (bad_schedule f)
 
-abbrev pub accepted_plan : Session → Result Rows ScheduleFault → Result System AcceptFault → Plan
+abbrev pub accepted_plan : Session → Result Rows ScheduleFault → Result ImageSystem AcceptFault → Plan
 accepted_plan session rows (Ok s) = scheduled_plan session s rows
 accepted_plan session rows (Err f) = refuses (unaccepted f)
 
 -- AFTER THE FILES of a boot or a trace the image is accepted
 abbrev pub AfterFiles : (layer : Map → List ℕ → List ℕ) → Session → (image schedule : List ℕ) → Plan → Type 0
 AfterFiles layer session image schedule p =
-    (answer : Result System AcceptFault) × Accepts layer (image_of image) answer × (p ≡ accepted_plan session (schedule_of schedule) answer)
+    (answer : Result ImageSystem AcceptFault) × Accepts layer (image_of image) answer × (p ≡ accepted_plan session (schedule_of schedule) answer)
 
 -- boot IMAGE SCHEDULE TURNS STEPS gets the image, then the schedule; and so does a trace, with another session
 abbrev pub BootPlan : (layer : Map → List ℕ → List ℕ) → (List ℕ → Option (List ℕ)) → Boot → Session → Plan → Type 0
 BootPlan layer file b session p = Got (file b.image) (λ image. Got (file b.schedule) (AfterFiles layer session image)) p
 
 -- the frames of memory of a system's machine
-abbrev pub frames_of : System → ℕ
+abbrev pub frames_of : ImageSystem → ℕ
 frames_of s = memory_frames (map_of (record { params = s.params; meaning = kernel_meaning s.unit s.params; words = s.words; users = s.users }))
 
 -- the most bytes that the file of its machine may have, with a full log
-abbrev pub most_bytes : System → ℕ
+abbrev pub most_bytes : ImageSystem → ℕ
 most_bytes s = 4 * most_words (frames_of s)
 
 -- WHAT WOULD BE BOOTED is saved, unless its file may be too long for a file; what is refused of the image and the schedule is refused here, too
@@ -131,12 +131,12 @@ abbrev pub SavePlan : (layer : Map → List ℕ → List ℕ) → (List ℕ → 
 SavePlan layer file c p = (q : Plan) × BootPlan layer file c.boot (save_session c) q × (p ≡ saved_plan c.file q)
 
 -- what a saved machine has to fit to be taken up as this system's, under this schedule, for so many turns
-abbrev pub wanted_by : System → Rows → (turns : ℕ) → Wanted
+abbrev pub wanted_by : ImageSystem → Rows → (turns : ℕ) → Wanted
 wanted_by s rows turns =
     record { frames = frames_of s; users = length s.users; pages = s.params.pages; inputs = rows.inputs; linked = s.words; turns = turns }
 
 -- AFTER THE FILE of a saved machine it is taken up
-abbrev pub taken_plan : Session → System → Rows → Result (List ℕ) SaveFault → Plan
+abbrev pub taken_plan : Session → ImageSystem → Rows → Result (List ℕ) SaveFault → Plan
 taken_plan session s rows (Ok words) = resumes session s rows words
 taken_plan session s rows (Err f) = refuses (bad_save f)
 
@@ -290,19 +290,19 @@ abbrev pub CheckPlan : (List ℕ → Option (List ℕ)) → Check → Plan → T
 CheckPlan file c p = Got (file c.object) (AfterChecked c.stack) p
 
 -- THE PLAN that words and files come to
-pub data ComesTo (words : List (List ℕ)) (file : List ℕ → Option (List ℕ)) : Plan → Type 0 where
-  no_command : IsNoCommand words → ComesTo words file bad_words
-  boot_plan : (b : Boot) (p : Plan) → IsBoot words b → BootPlan layer_image file b (boot_session b) p → ComesTo words file p
-  trace_plan : (t : Trace) (p : Plan) → IsTrace words t → BootPlan layer_image file t.boot (trace_session t) p → ComesTo words file p
-  save_plan : (c : Save) (p : Plan) → IsSave words c → SavePlan layer_image file c p → ComesTo words file p
-  resume_plan : (c : Save) (p : Plan) → IsResume words c → ResumePlan layer_image file c p → ComesTo words file p
-  user_plan : (c : CompileUser) (p : Plan) → IsCompileUser words c → UserPlan file c p → ComesTo words file p
-  kernel_plan : (c : CompileKernel) (p : Plan) → IsCompileKernel words c → KernelPlan file c p → ComesTo words file p
-  image_plan : (c : CompileProgram) (p : Plan) → IsCompileProgram words c → ProgramPlan file c p → ComesTo words file p
-  link_plan : (l : Link) (p : Plan) → IsLink words l → LinkPlan layer_image file l p → ComesTo words file p
-  migrate_plan : (m : Migrate) (p : Plan) → IsMigrate words m → MigratePlan layer_image file m p → ComesTo words file p
-  sample_plan : (x : Sample) (p : Plan) → IsSample words x → SamplePlan layer_image x.number p → ComesTo words file p
-  check_plan : (c : Check) (p : Plan) → IsCheck words c → CheckPlan file c p → ComesTo words file p
+pub data PlanComesTo (words : List (List ℕ)) (file : List ℕ → Option (List ℕ)) : Plan → Type 0 where
+  no_command : IsNoCommand words → PlanComesTo words file bad_words
+  boot_plan : (b : Boot) (p : Plan) → IsBoot words b → BootPlan layer_image file b (boot_session b) p → PlanComesTo words file p
+  trace_plan : (t : Trace) (p : Plan) → IsTrace words t → BootPlan layer_image file t.boot (trace_session t) p → PlanComesTo words file p
+  save_plan : (c : Save) (p : Plan) → IsSave words c → SavePlan layer_image file c p → PlanComesTo words file p
+  resume_plan : (c : Save) (p : Plan) → IsResume words c → ResumePlan layer_image file c p → PlanComesTo words file p
+  user_plan : (c : CompileUser) (p : Plan) → IsCompileUser words c → UserPlan file c p → PlanComesTo words file p
+  kernel_plan : (c : CompileKernel) (p : Plan) → IsCompileKernel words c → KernelPlan file c p → PlanComesTo words file p
+  image_plan : (c : CompileProgram) (p : Plan) → IsCompileProgram words c → ProgramPlan file c p → PlanComesTo words file p
+  link_plan : (l : Link) (p : Plan) → IsLink words l → LinkPlan layer_image file l p → PlanComesTo words file p
+  migrate_plan : (m : Migrate) (p : Plan) → IsMigrate words m → MigratePlan layer_image file m p → PlanComesTo words file p
+  sample_plan : (x : Sample) (p : Plan) → IsSample words x → SamplePlan layer_image x.number p → PlanComesTo words file p
+  check_plan : (c : Check) (p : Plan) → IsCheck words c → CheckPlan file c p → PlanComesTo words file p
 
 -- files are told
 abbrev pub AreTold : (List ℕ → Option (List ℕ)) → List (List ℕ) → Type 0

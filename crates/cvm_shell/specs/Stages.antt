@@ -21,14 +21,14 @@ use Rattle.kernel_linker.specs.declared.fault.LinkFault.{LinkFault}
 use Rattle.kernel_linker.specs.declared.fault.LinkFault.TheVariants as link
 use Rattle.kernel_linker.specs.declared.fault.AcceptFault.{AcceptFault}
 use Rattle.kernel_linker.specs.declared.fault.AcceptFault.TheVariants as accept
-use Rattle.kernel_linker.specs.Accept.{System, system_of}
+use Rattle.kernel_linker.specs.Accept.{ImageSystem, system_of}
 use Rattle.cvm_model.specs.Primitives.{user_of}
 use Rattle.cvm_model.specs.Cvm.{Cvm, IsCvm, cvm}
 use Rattle.cvm_model.specs.Journal.{journal, replay}
 use Rattle.layer_contract.specs.Boots.{BootFollows}
 use Rattle.boot_turns.specs.TurnEnds.{first_of}
 use Rattle.boot_turns.specs.declared.answers.View.TheVariants as view
-use Rattle.boot_run.specs.LoadEnds.{HasRoom, LoadFails, pages_needed}
+use Rattle.boot_run.specs.LoadEnds.{HasDiskRoom, LoadFails, pages_needed}
 use Rattle.boot_run.specs.Whole.{AnswerEnds, LoadStopped, WholeGoesOn, WholeStopped, IsDiskFault, ending_of_end}
 use Rattle.machine_save.specs.SavedBoots.{AreDisk, AreTakenUp}
 use Rattle.machine_save.specs.SaveRun.{SaveRunEnds, IfUnput, IsSavedDiskFault}
@@ -60,10 +60,10 @@ use Rattle.cvm_shell.specs.Plan.{Plan, puts, boots, saves, most_bytes, wanted_by
 use Rattle.cvm_shell.specs.Check.{Check}
 use Rattle.boot_turns.specs.declared.answers.View.{View}
 use Rattle.cvm_shell.specs.Views.{IfPlan}
-use Rattle.cvm_shell.specs.Outside.{Drive, Files, Outside, Leaves}
-use Rattle.cvm_shell.specs.Boot.{booted, around, first_state, is_written, sectors_needed, ended_as, GoesOn, RunEnds}
-use Rattle.cvm_shell.specs.Outcome.{Ends, CommandEnds}
-use Rattle.cvm_shell.specs.Saves.{SaveEnds}
+use Rattle.cvm_shell.specs.Outside.{Drive, Files, Host, LeavesHost}
+use Rattle.cvm_shell.specs.Boot.{booted, around, first_state, is_written, sectors_needed, ended_as, CallsOf, SessionGoesOn, SessionEnds}
+use Rattle.cvm_shell.specs.Outcome.{PlanEnds, CommandEnds}
+use Rattle.cvm_shell.specs.Saves.{SaveSessionEnds}
 
 -- what a fault of the shelf comes to
 abbrev pub stop_of : ShelfFault → Stop
@@ -149,15 +149,15 @@ abbrev pub PlanCounts : {T : Type 0} → ℕ → ℕ → Result T Stop → Type 
 PlanCounts before now result = MatchResult result (λ _. now ≡ before) (StopCount before now)
 
 -- how a command ends, whatever the disk, which it leaves alone
-abbrev pub EndsAs : {A : Type 0} → Command → (Drive → A → Outside) → Status → (old new : A) → Type 0
-EndsAs c see status old new = (words : List (List ℕ)) (disk : Drive) → IsCommand words c → CommandEnds words status (see disk old) (see disk new)
+abbrev pub CommandEndsAs : {A : Type 0} → Command → (Drive → A → Host) → Status → (old new : A) → Type 0
+CommandEndsAs c see status old new = (words : List (List ℕ)) (disk : Drive) → IsCommand words c → CommandEnds words status (see disk old) (see disk new)
 
 -- how a boot or a trace ends, which may change the disk
-abbrev pub BootEndsAs : {A : Type 0} → Boot → View → (A → Outside) → Status → (old new : A) → Type 0
+abbrev pub BootEndsAs : {A : Type 0} → Boot → View → (A → Host) → Status → (old new : A) → Type 0
 BootEndsAs b view see status old new = (words : List (List ℕ)) → IsCommand words (command_of b view) → CommandEnds words status (see old) (see new)
 
 -- how a sample ends, whatever the files, which it leaves alone
-abbrev pub SampleEndsAs : {A : Type 0} → (number : ℕ) → (Files → A → Outside) → Status → (old new : A) → Type 0
+abbrev pub SampleEndsAs : {A : Type 0} → (number : ℕ) → (Files → A → Host) → Status → (old new : A) → Type 0
 SampleEndsAs number see status old new = (words : List (List ℕ)) (shelf : Files) → IsSample words (record { number = number }) → CommandEnds words status (see shelf old) (see shelf new)
 
 -- the sectors that a run of a session needs
@@ -165,39 +165,39 @@ abbrev pub needs : Ready → Session → ℕ
 needs r session = sectors_needed session (system_of r.boot) r.schedule
 
 -- how a call that loads a system and runs it ends, over told sectors
-abbrev pub AnswersFrom : Session → System → Rows → Result RunEnd LoadFault → (old new : Outside) → Type 0
+abbrev pub AnswersFrom : Session → ImageSystem → Rows → Result RunEnd LoadFault → (old new : Host) → Type 0
 AnswersFrom session s rows answer old new = (before after : List (List ℕ)) → old.disk.sectors ≡ Some before → new.disk.sectors ≡ Some after →
     AnswerEnds (around rows old) (booted s rows) (first_state session s rows before) (sectors_needed session s rows) before after session.view session.turns session.steps
-    old.sink.text new.sink.text answer
+    (CallsOf session s rows before old new) old.sink.text new.sink.text answer
 
 -- where the disk failed in the load
-abbrev pub StoppedFrom : Session → System → Rows → (old new : Outside) → Type 0
+abbrev pub StoppedFrom : Session → ImageSystem → Rows → (old new : Host) → Type 0
 StoppedFrom session s rows old new = LoadStopped (first_state session s rows) (is_written session.start (booted s rows)) (sectors_needed session s rows)
     old.disk.sectors new.disk.sectors old.disk.calls new.disk.calls
 
 -- WHAT A CALL ANSWERS that loads a system and runs it, of what is seen around it
-pub record CallAnswers (r : Ready) (session : Session) (answer : Result RunEnd LoadFault) (old new : Outside) : Type 0 where
+pub record CallAnswers (r : Ready) (session : Session) (answer : Result RunEnd LoadFault) (old new : Host) : Type 0 where
   pub ends : AnswersFrom session (system_of r.boot) r.schedule answer old new
-  pub goes_on : IfOk answer (λ _. (before : List (List ℕ)) → old.disk.sectors ≡ Some before → GoesOn session old (system_of r.boot) r.schedule before)
+  pub goes_on : IfOk answer (λ _. (before : List (List ℕ)) → old.disk.sectors ≡ Some before → SessionGoesOn session old (system_of r.boot) r.schedule before)
   pub told : IsSome old.disk.sectors → IsSome new.disk.sectors
   pub refused : IfErr answer (LoadFails r.boot session.view (needs r session) old.disk.size old.disk.faults new.disk.faults)
-  pub loaded : IfOk answer (λ _. HasRoom r.boot session.view (needs r session) old.disk.size)
+  pub loaded : IfOk answer (λ _. HasDiskRoom r.boot session.view (needs r session) old.disk.size)
   pub size : new.disk.size ≡ old.disk.size
   pub rose : IsDiskFault answer → Rose old.disk.faults new.disk.faults
   pub stopped : answer ≡ Err load.Disk → StoppedFrom session (system_of r.boot) r.schedule old new
 
 -- whatever the files, which it leaves alone
-abbrev pub AnswersAs : {A : Type 0} → Ready → Session → (Files → A → Outside) → Result RunEnd LoadFault → (old new : A) → Type 0
+abbrev pub AnswersAs : {A : Type 0} → Ready → Session → (Files → A → Host) → Result RunEnd LoadFault → (old new : A) → Type 0
 AnswersAs r session see answer old new = (before after : Files) → CallAnswers r session answer (see before old) (see after new)
 
 -- how the run of a system ends, whatever the files, which it leaves alone
-abbrev pub RunsAs : {A : Type 0} → Ready → Session → (Files → A → Outside) → Status → (old new : A) → Type 0
+abbrev pub RunsAs : {A : Type 0} → Ready → Session → (Files → A → Host) → Status → (old new : A) → Type 0
 RunsAs r session see status old new = (before after : Files) → ((n : List ℕ) → after.file n ≡ before.file n)
-    → RunEnds session (system_of r.boot) r.schedule status (see before old) (see after new)
+    → SessionEnds session (system_of r.boot) r.schedule status (see before old) (see after new)
 
 -- a system belongs to its layer
-abbrev pub Follows : Ready → Type 0
-Follows r = BootFollows r.layer.words r.layer.sizes r.layer.map r.boot
+abbrev pub SystemFollows : Ready → Type 0
+SystemFollows r = BootFollows r.layer.words r.layer.sizes r.layer.map r.boot
 
 -- the plans of the commands, by what their stages found
 abbrev pub ready_for : Session → Ready → Plan
@@ -211,21 +211,21 @@ resumable_for c r =
     taken_plan (save_session c) (system_of r.ready.boot) r.ready.schedule (machine_of (wanted_by (system_of r.ready.boot) r.ready.schedule c.boot.turns) r.bytes.items)
 
 -- why there is no room for a saved machine of a system: its file may be too long, or there was no memory
-abbrev pub HasNoRoom : System → Stop → Type 0
+abbrev pub HasNoRoom : ImageSystem → Stop → Type 0
 HasNoRoom s (stop.Refused r) = (r ≡ refusal.BadSave (saving.TooLarge (most_bytes s))) × (FILE_ROOM < most_bytes s)
 HasNoRoom s stop.Shelf = ⊥
 HasNoRoom s stop.Memory = ⊤
 
 -- how a save and how a resume ends, which may change the file and the disk
-abbrev pub SaveEndsAs : {A : Type 0} → Save → (A → Outside) → Status → (old new : A) → Type 0
+abbrev pub SaveEndsAs : {A : Type 0} → Save → (A → Host) → Status → (old new : A) → Type 0
 SaveEndsAs c see status old new = (words : List (List ℕ)) → IsCommand words (save c) → CommandEnds words status (see old) (see new)
 
-abbrev pub ResumeEndsAs : {A : Type 0} → Save → (A → Outside) → Status → (old new : A) → Type 0
+abbrev pub ResumeEndsAs : {A : Type 0} → Save → (A → Host) → Status → (old new : A) → Type 0
 ResumeEndsAs c see status old new = (words : List (List ℕ)) → IsCommand words (resume c) → CommandEnds words status (see old) (see new)
 
 -- WHAT A CALL ANSWERS that runs a system which is to be saved, of what is seen around it
-pub record SaveAnswers (r : Ready) (c : Save) (answer : Result SavedEnd LoadFault) (old new : Outside) : Type 0 where
-  pub ends : SaveRunEnds r.boot r.schedule old.disk.size c.boot.turns c.boot.steps old.disk.sectors new.disk.sectors old.sink.text new.sink.text
+pub record SaveCallAnswers (r : Ready) (c : Save) (answer : Result SavedEnd LoadFault) (old new : Host) : Type 0 where
+  pub ends : SaveRunEnds r.boot r.schedule old.disk.size c.boot.turns c.boot.steps old.disk.sectors new.disk.sectors old.disk.calls new.disk.calls old.sink.text new.sink.text
       (old.shelf.file c.file) (new.shelf.file c.file) answer
   pub goes_on : WholeGoesOn r.boot r.schedule old.disk.size old.disk.sectors
   pub some : 1 ≤ c.boot.turns
@@ -237,22 +237,22 @@ pub record SaveAnswers (r : Ready) (c : Save) (answer : Result SavedEnd LoadFaul
   pub unput : IfUnput answer ((n : List ℕ) → new.shelf.file n ≡ old.shelf.file n)
   pub told : IsSome old.disk.sectors → IsSome new.disk.sectors
   pub refused : IfErr answer (LoadFails r.boot view.Boot (pages_needed r.boot) old.disk.size old.disk.faults new.disk.faults)
-  pub loaded : IfOk answer (λ _. HasRoom r.boot view.Boot (pages_needed r.boot) old.disk.size)
+  pub loaded : IfOk answer (λ _. HasDiskRoom r.boot view.Boot (pages_needed r.boot) old.disk.size)
   pub size : new.disk.size ≡ old.disk.size
   pub rose : IsSavedDiskFault answer → Rose old.disk.faults new.disk.faults
   pub stopped : answer ≡ Err load.Disk → WholeStopped r.boot r.schedule old.disk.sectors new.disk.sectors old.disk.calls new.disk.calls
 
 -- the same with other files
-abbrev pub with_files : Files → Outside → Outside
+abbrev pub with_files : Files → Host → Host
 with_files f o = record { shelf = f; sink = o.sink; disk = o.disk }
 
-abbrev pub SaveIs : {A : Type 0} → Saveable → Save → (A → Outside) → Result SavedEnd LoadFault → (old new : A) → Type 0
-SaveIs r c see answer old new = SaveAnswers r.ready c answer (see old) (see new)
+abbrev pub SaveIs : {A : Type 0} → Saveable → Save → (A → Host) → Result SavedEnd LoadFault → (old new : A) → Type 0
+SaveIs r c see answer old new = SaveCallAnswers r.ready c answer (see old) (see new)
 
 -- how the run of a system ends that is to be saved, from other files that tell the same
-abbrev pub SavesAs : {A : Type 0} → Saveable → Save → (A → Outside) → Status → (old new : A) → Type 0
+abbrev pub SavesAs : {A : Type 0} → Saveable → Save → (A → Host) → Status → (old new : A) → Type 0
 SavesAs r c see status old new = (before : Files) → ((n : List ℕ) → (see old).shelf.file n ≡ before.file n)
-    → SaveEnds (save_session c) (system_of r.ready.boot) r.ready.schedule c.file status (with_files before (see old)) (see new)
+    → SaveSessionEnds (save_session c) (system_of r.ready.boot) r.ready.schedule c.file status (with_files before (see old)) (see new)
 
 -- the status of a run that was to be saved, by its end
 abbrev pub status_of_saved : SavedEnd → Status
@@ -262,9 +262,9 @@ status_of_saved saved_end.RowFault = Sink
 status_of_saved (saved_end.Ended e) = ended_as (ending_of_end e)
 
 -- how a resume ends, whatever the files, which it leaves alone: as its plan says, or there was no memory
-abbrev pub ResumesAs : {A : Type 0} → Resumable → Save → (Files → A → Outside) → Status → (old new : A) → Type 0
+abbrev pub ResumesAs : {A : Type 0} → Resumable → Save → (Files → A → Host) → Status → (old new : A) → Type 0
 ResumesAs r c see status old new = (before after : Files) → ((n : List ℕ) → after.file n ≡ before.file n)
-    → ((status ≡ Memory) × Leaves (see before old) (see after new) []) ⊎ Ends (resumable_for c r) status (see before old) (see after new)
+    → ((status ≡ Memory) × LeavesHost (see before old) (see after new) []) ⊎ PlanEnds (resumable_for c r) status (see before old) (see after new)
 
 abbrev pub compiled : CompileUser → Vec ℕ → Plan
 compiled c image = puts c.image image.items
@@ -321,5 +321,5 @@ IsProgramPlan file c p = IsPlan (GetsTold file (compile_program c)) (ProgramPlan
 
 -- a law of every system: with whatever units its run comes to a state, that state is one; and the replay of a user's journal is its machine there
 abbrev pub JournalsReplay : Type 0
-JournalsReplay = (s : System) (rows : Rows) (lines : ℕ → ℕ) (n k u : ℕ) (c d : Cvm) → 1 ≤ u → u ≤ length s.users → cvm (booted s rows) lines n k ≡ Some c → IsCvm (booted s rows) lines k d
+JournalsReplay = (s : ImageSystem) (rows : Rows) (lines : ℕ → ℕ) (n k u : ℕ) (c d : Cvm) → 1 ≤ u → u ≤ length s.users → cvm (booted s rows) lines n k ≡ Some c → IsCvm (booted s rows) lines k d
     → (c ≡ d) × (replay (first_of (booted s rows) u) (journal (booted s rows) lines n u k) ≡ Some (user_of c.core.users u))

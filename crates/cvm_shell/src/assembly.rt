@@ -58,7 +58,7 @@ fn assembled_image(alloc: Global, text: &[u8]) -> Result<Vec<u8>, Stop>
     }
 }
 
-/// The bytes of these words, each little-endian.
+// The bytes of these words, each little-endian.
 pub(crate) fn little_endian(alloc: Global, words: &[u32]) -> Result<Vec<u8>, AllocError>
     ensures { IfOk result (λ v. v.items ≡ bytes_of words.now) }
 {

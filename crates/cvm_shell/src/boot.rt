@@ -7,7 +7,7 @@ ghost use Rattle.boot_run.specs.Whole.{ending_of_end};
 ghost use Rattle.cvm_shell.specs.Boot.{ended_as};
 ghost use Rattle.cvm_shell.specs.Outside.{within};
 ghost use Rattle.cvm_shell.specs.Plan.{AfterFiles, IsPlan};
-ghost use Rattle.cvm_shell.specs.Stages.{stop_of, accept_stop, schedule_stop, PlanCounts, ready_for, IsBootPlan, Follows, RunsAs};
+ghost use Rattle.cvm_shell.specs.Stages.{stop_of, accept_stop, schedule_stop, PlanCounts, ready_for, IsBootPlan, SystemFollows, RunsAs};
 ghost use Rattle.cvm_shell.specs.Views.{boot_view, IfPlan};
 
 use crate::accepted::accept_image;
@@ -106,7 +106,7 @@ pub struct Session {
 /// Gets the files of a boot, the image first; accepts the image, and reads the schedule: what is to be run, by whatever session.
 pub fn plan<S: Shelf>(alloc: Global, boot: &Boot, shelf: &mut S) -> Result<Ready, Stop>
     ensures comes { (session : Session) → IfPlan (ready_for session) (IsBootPlan layer_image (S.file shelf.old) (boot_view boot.now) session) result }
-    ensures follows { IfOk result Follows }
+    ensures follows { IfOk result SystemFollows }
     ensures long { IsErrOf result (Stop.Refused Refusal.TooLong) ↔ (S.taken shelf.new ≡ TOO_LONG) }
     ensures count { PlanCounts (S.faults shelf.old) (S.faults shelf.new) result }
     ensures files { (n : List ℕ) → S.file shelf.new n ≡ S.file shelf.old n }
@@ -119,7 +119,7 @@ pub fn plan<S: Shelf>(alloc: Global, boot: &Boot, shelf: &mut S) -> Result<Ready
 /// What the bytes of an image and of a schedule come to: what is to be run, by whatever session.
 pub fn ready_of(alloc: Global, image: &[u8], schedule: &[u8]) -> Result<Ready, Stop>
     ensures comes { (session : Session) → IfPlan (ready_for session) (IsPlan ⊤ (AfterFiles layer_image session image.now schedule.now)) result }
-    ensures follows { IfOk result Follows }
+    ensures follows { IfOk result SystemFollows }
     ensures inside { IfErr result (λ s. s ≢ Stop.Shelf) }
     ensures short { IsErrOf result (Stop.Refused Refusal.TooLong) → ⊥ }
 {
@@ -143,7 +143,7 @@ pub fn run_system<O: Sink, D: Sectors>(
     out: &mut O,
     disk: &mut D,
 ) -> Status
-    requires follows { Follows ready }
+    requires follows { SystemFollows ready }
     requires some { 1 ≤ session.turns }
     ensures ends { RunsAs ready session (within O.Sink D.Sectors) result (out.old, disk.old) (out.new, disk.new) }
     ensures rose { result ≡ Status.Sink → Rose (O.faults out.old) (O.faults out.new) }
@@ -162,7 +162,7 @@ pub fn run_system<O: Sink, D: Sectors>(
     }
 }
 
-/// The status of a run by its end.
+// The status of a run by its end.
 pub(crate) fn status_of(end: RunEnd) -> Status
     ensures { result ≡ ended_as (ending_of_end end) }
 {

@@ -8,7 +8,7 @@ ghost use Rattle.cvm_shell.specs.Command as command;
 ghost use Rattle.cvm_shell.specs.Outcome.{Causes};
 ghost use Rattle.cvm_shell.specs.Outside.{Drive, beside};
 ghost use Rattle.cvm_shell.specs.Plan.{AfterChecked, IsPlan};
-ghost use Rattle.cvm_shell.specs.Stages.{EndsAs, PlanCounts, told_text, IsCheckPlan};
+ghost use Rattle.cvm_shell.specs.Stages.{CommandEndsAs, PlanCounts, told_text, IsCheckPlan};
 ghost use Rattle.cvm_shell.specs.Views.{check_view, IfPlan, IsStackNumber};
 
 use crate::boot::Stop;
@@ -82,7 +82,7 @@ pub fn check_object<S: Shelf, O: Sink>(
     shelf: &mut S,
     out: &mut O,
 ) -> Status
-    ensures ends { EndsAs (command.check (check_view check.now)) (beside S.Shelf O.Sink) result (shelf.old, out.old) (shelf.new, out.new) }
+    ensures ends { CommandEndsAs (command.check (check_view check.now)) (beside S.Shelf O.Sink) result (shelf.old, out.old) (shelf.new, out.new) }
     ensures causes { (disk : Drive) → Causes (beside S.Shelf O.Sink disk) result (shelf.old, out.old) (shelf.new, out.new) }
 {
     match stack_text(alloc, check, shelf) {

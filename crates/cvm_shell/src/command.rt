@@ -321,7 +321,7 @@ fn read_sample_number(text: &str) -> Option<u32>
     Some(number as u32)
 }
 
-/// The number of turns, at least 1 and below 2^32, that a text is the decimal spelling of.
+// The number of turns, at least 1 and below 2^32, that a text is the decimal spelling of.
 pub(crate) fn read_turns(text: &str) -> Option<u32>
     ensures { MatchOption result ((n : ℕ) → 1 ≤ n → n < 2 ^ 32 → text.now ≡ decimal n → ⊥) (λ n. (text.now ≡ decimal n) × (1 ≤ n)) }
 {
@@ -349,7 +349,7 @@ fn read_user(text: &str) -> Option<u32>
     Some(number as u32)
 }
 
-/// The number that a text is the decimal spelling of, if it is below 2^64.
+// The number that a text is the decimal spelling of, if it is below 2^64.
 pub(crate) fn read_number(text: &str) -> Option<u64>
     ensures { MatchOption result ((n : ℕ) → n < 2 ^ 64 → text.now ≡ decimal n → ⊥) (λ n. text.now ≡ decimal n) }
 {

@@ -4,12 +4,12 @@
 ghost use Rattle.std.specs.Prelude.{◌≤◌};
 ghost use Rattle.cvm_shell.specs.Command as command;
 ghost use Rattle.cvm_shell.specs.Command.{texts};
-ghost use Rattle.cvm_shell.specs.Outcome.{Outcome, Caused, Causes, Headlines, Completes, SavesComplete, ResumesComplete, Isolates};
+ghost use Rattle.cvm_shell.specs.Outcome.{RunOutcome, Caused, Causes, Headlines, RunCompletes, SavesComplete, ResumesComplete, Isolates};
 ghost use Rattle.cvm_shell.specs.Outside.{Drive, Files, seen, beside, within};
 ghost use Rattle.cvm_shell.specs.Resumes.{Resumes};
 ghost use Rattle.cvm_shell.specs.Saves.{Saves};
 ghost use Rattle.cvm_shell.specs.Suffices.{Suffices};
-ghost use Rattle.cvm_shell.specs.Stages.{EndsAs, BootEndsAs, SampleEndsAs, JournalsReplay};
+ghost use Rattle.cvm_shell.specs.Stages.{CommandEndsAs, BootEndsAs, SampleEndsAs, JournalsReplay};
 ghost use Rattle.cvm_shell.specs.Views.{boot_view, user_view, kernel_view, link_view, migrate_view};
 
 pub mod accepted;
@@ -71,7 +71,8 @@ use std::alloc::Global;
 /// that of the abstract run as of a boot's. A trace runs the machine as its boot does, and prints in place of the boot's rows and report the
 /// start row, the journal, the end and the registers and memory of one user, of those of the image, counted from 1. A migration puts the image
 /// of form 3 of an image of form 2. A sample is the boot of the system that is made from its number, for 100,000 turns and at most
-/// 4,000,000,000 steps. A check prints how much stack the kernel of an object needs: where it prints `yes`, no system of that source with so much stack ever stops for want of stack.
+/// 4,000,000,000 steps. A check prints how much stack the kernel of an object needs: where it prints `yes`, no system of that source with so much
+/// stack ever stops for want of stack.
 ///
 /// A save runs as its boot. Where that would print `stopped`, the machine is put to FILE, and `saved` is printed in place of all from `stopped` on. A
 /// resume goes on from FILE and the disk as it stands; TURNS and STEPS count from the start of the saved run. The rows of the two are together those
@@ -92,16 +93,19 @@ pub fn run<S: Shelf, O: Sink, D: Sectors>(
     out: &mut O,
     disk: &mut D,
 ) -> Status
-    ensures ends { Outcome (seen S.Shelf O.Sink D.Sectors) (texts words.now.items) result (shelf.old, out.old, disk.old) (shelf.new, out.new, disk.new) }
+    ensures ends { RunOutcome (seen S.Shelf O.Sink D.Sectors) (texts words.now.items) result (shelf.old, out.old, disk.old) (shelf.new, out.new, disk.new) }
     ensures causes { Caused (seen S.Shelf O.Sink D.Sectors) (texts words.now.items) result (shelf.old, out.old, disk.old) (shelf.new, out.new, disk.new) }
     ensures headline { Headlines (seen S.Shelf O.Sink D.Sectors) (texts words.now.items) result (shelf.old, out.old, disk.old) (shelf.new, out.new, disk.new) }
-    ensures complete { Completes (seen S.Shelf O.Sink D.Sectors) (texts words.now.items) result (shelf.old, out.old, disk.old) (shelf.new, out.new, disk.new) }
+    ensures complete { RunCompletes (seen S.Shelf O.Sink D.Sectors) (texts words.now.items) result
+        (shelf.old, out.old, disk.old) (shelf.new, out.new, disk.new) }
     ensures isolated { Isolates (seen S.Shelf O.Sink D.Sectors) (texts words.now.items) result (shelf.old, out.old, disk.old) (shelf.new, out.new, disk.new) }
     ensures suffices { Suffices (seen S.Shelf O.Sink D.Sectors) (texts words.now.items) result (shelf.old, out.old, disk.old) (shelf.new, out.new, disk.new) }
     ensures saves { Saves (seen S.Shelf O.Sink D.Sectors) (texts words.now.items) result (shelf.old, out.old, disk.old) (shelf.new, out.new, disk.new) }
-    ensures saves_complete { SavesComplete (seen S.Shelf O.Sink D.Sectors) (texts words.now.items) result (shelf.old, out.old, disk.old) (shelf.new, out.new, disk.new) }
+    ensures saves_complete { SavesComplete (seen S.Shelf O.Sink D.Sectors) (texts words.now.items) result
+        (shelf.old, out.old, disk.old) (shelf.new, out.new, disk.new) }
     ensures resumes { Resumes (seen S.Shelf O.Sink D.Sectors) (texts words.now.items) result (shelf.old, out.old, disk.old) (shelf.new, out.new, disk.new) }
-    ensures resumes_complete { ResumesComplete (seen S.Shelf O.Sink D.Sectors) (texts words.now.items) result (shelf.old, out.old, disk.old) (shelf.new, out.new, disk.new) }
+    ensures resumes_complete { ResumesComplete (seen S.Shelf O.Sink D.Sectors) (texts words.now.items) result
+        (shelf.old, out.old, disk.old) (shelf.new, out.new, disk.new) }
 {
     turns_are_counted();
     journals_replay();
@@ -130,7 +134,7 @@ fn run_command<S: Shelf, O: Sink, D: Sectors>(
     out: &mut O,
     disk: &mut D,
 ) -> Status
-    ensures ends { Outcome (seen S.Shelf O.Sink D.Sectors) (texts words.now.items) result (shelf.old, out.old, disk.old) (shelf.new, out.new, disk.new) }
+    ensures ends { RunOutcome (seen S.Shelf O.Sink D.Sectors) (texts words.now.items) result (shelf.old, out.old, disk.old) (shelf.new, out.new, disk.new) }
     ensures causes { Causes (seen S.Shelf O.Sink D.Sectors) result (shelf.old, out.old, disk.old) (shelf.new, out.new, disk.new) }
 {
     match read_command(words) {
@@ -186,7 +190,7 @@ fn compile_user<S: Shelf, O: Sink>(
     shelf: &mut S,
     out: &mut O,
 ) -> Status
-    ensures ends { EndsAs (command.compile_user (user_view names.now)) (beside S.Shelf O.Sink) result (shelf.old, out.old) (shelf.new, out.new) }
+    ensures ends { CommandEndsAs (command.compile_user (user_view names.now)) (beside S.Shelf O.Sink) result (shelf.old, out.old) (shelf.new, out.new) }
     ensures causes { (disk : Drive) → Causes (beside S.Shelf O.Sink disk) result (shelf.old, out.old) (shelf.new, out.new) }
 {
     let image = match user_image(alloc, names, shelf) {
@@ -208,7 +212,7 @@ fn compile_kernel<S: Shelf, O: Sink>(
     shelf: &mut S,
     out: &mut O,
 ) -> Status
-    ensures ends { EndsAs (command.compile_kernel (kernel_view names.now)) (beside S.Shelf O.Sink) result (shelf.old, out.old) (shelf.new, out.new) }
+    ensures ends { CommandEndsAs (command.compile_kernel (kernel_view names.now)) (beside S.Shelf O.Sink) result (shelf.old, out.old) (shelf.new, out.new) }
     ensures causes { (disk : Drive) → Causes (beside S.Shelf O.Sink disk) result (shelf.old, out.old) (shelf.new, out.new) }
 {
     let object = match kernel_object(alloc, names, shelf) {
@@ -225,7 +229,7 @@ fn compile_kernel<S: Shelf, O: Sink>(
 
 // Puts the image of a system, whose object, parameters and users are got, read and linked.
 fn link_system<S: Shelf, O: Sink>(alloc: Global, names: &Link, shelf: &mut S, out: &mut O) -> Status
-    ensures ends { EndsAs (command.link (link_view names.now)) (beside S.Shelf O.Sink) result (shelf.old, out.old) (shelf.new, out.new) }
+    ensures ends { CommandEndsAs (command.link (link_view names.now)) (beside S.Shelf O.Sink) result (shelf.old, out.old) (shelf.new, out.new) }
     ensures causes { (disk : Drive) → Causes (beside S.Shelf O.Sink disk) result (shelf.old, out.old) (shelf.new, out.new) }
 {
     let linked = match system_image::<RealLayer, S>(alloc, names, shelf) {
@@ -247,7 +251,7 @@ fn migrate_image<S: Shelf, O: Sink>(
     shelf: &mut S,
     out: &mut O,
 ) -> Status
-    ensures ends { EndsAs (command.migrate (migrate_view names.now)) (beside S.Shelf O.Sink) result (shelf.old, out.old) (shelf.new, out.new) }
+    ensures ends { CommandEndsAs (command.migrate (migrate_view names.now)) (beside S.Shelf O.Sink) result (shelf.old, out.old) (shelf.new, out.new) }
     ensures causes { (disk : Drive) → Causes (beside S.Shelf O.Sink disk) result (shelf.old, out.old) (shelf.new, out.new) }
 {
     let made = match migrated_image::<RealLayer, S>(alloc, names, shelf) {

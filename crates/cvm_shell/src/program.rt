@@ -1,12 +1,12 @@
 // The image of a user program: its source, read, checked and compiled.
-ghost use Rattle.std.specs.Prelude.{◌≡◌, ◌≢◌, ◌≤◌, ◌↔◌, ⊤, ℕ, List, length, IfOk, IfErr, IfSome, IfNone, IsErrOf, Some, option_map};
+ghost use Rattle.std.specs.Prelude.{◌≡◌, ◌≢◌, ◌↔◌, ⊤, ℕ, List, IfErr, IfSome, IfNone, IsErrOf, Some, option_map};
 ghost use Rattle.cvm_outside.specs.Told.{TOO_LONG};
 ghost use Rattle.cvm_shell.specs.Command as command;
 ghost use Rattle.cvm_shell.specs.CompileProgram as compiling;
 ghost use Rattle.cvm_shell.specs.Outcome.{Causes};
 ghost use Rattle.cvm_shell.specs.Outside.{Drive, beside};
 ghost use Rattle.cvm_shell.specs.Plan.{AfterProgram, IsPlan};
-ghost use Rattle.cvm_shell.specs.Stages.{program_stop, EndsAs, PlanCounts, runnable, IsProgramPlan};
+ghost use Rattle.cvm_shell.specs.Stages.{program_stop, CommandEndsAs, PlanCounts, runnable, IsProgramPlan};
 ghost use Rattle.cvm_shell.specs.Views.{program_view, IfPlan};
 
 use crate::assembly::little_endian;
@@ -99,7 +99,7 @@ pub fn compile_program<S: Shelf, O: Sink>(
     shelf: &mut S,
     out: &mut O,
 ) -> Status
-    ensures ends { EndsAs (command.compile_program (program_view names.now)) (beside S.Shelf O.Sink) result (shelf.old, out.old) (shelf.new, out.new) }
+    ensures ends { CommandEndsAs (command.compile_program (program_view names.now)) (beside S.Shelf O.Sink) result (shelf.old, out.old) (shelf.new, out.new) }
     ensures causes { (disk : Drive) → Causes (beside S.Shelf O.Sink disk) result (shelf.old, out.old) (shelf.new, out.new) }
 {
     let image = match program_image(alloc, names, shelf) {

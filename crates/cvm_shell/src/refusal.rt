@@ -1,5 +1,5 @@
 // The refusals, with the row and the status of each.
-ghost use Rattle.std.specs.Prelude.{◌≡◌, ◌≢◌, ◌≤◌, ◌+◌, ◌++◌, [], ◌∷◌, length, codes, decimal};
+ghost use Rattle.std.specs.Prelude.{◌≡◌, ◌≢◌, ◌≤◌, ◌+◌, ◌++◌, [], ◌∷◌, length, decimal};
 ghost use Rattle.c0_types.specs.declared.source_fault.SourceFault.TheVariants.{Reading, Typing};
 ghost use Rattle.cvm_shell.specs.Refusal.{refusal_text, refusal_status, field_text, signed_field_text, start_of, end_of};
 ghost use Rattle.cvm_shell.specs.Refusal.{text_fault_row, source_fault_row, object_fault_row, schedule_fault_row};

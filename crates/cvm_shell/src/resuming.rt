@@ -1,5 +1,5 @@
 // A resume: what its files come to, and the run that goes on.
-ghost use Rattle.std.specs.Prelude.{◌≡◌, ◌≢◌, ◌⊎◌, ◌↔◌, ⊤, ℕ, List, IfOk, IsErrOf};
+ghost use Rattle.std.specs.Prelude.{◌≡◌, ◌≢◌, ◌⊎◌, ◌↔◌, ℕ, List, IfOk, IsErrOf};
 ghost use Rattle.std.specs.Io.KnownBytes.{append_known};
 ghost use Rattle.cvm_outside.specs.Causes.{Rose};
 ghost use Rattle.cvm_outside.specs.Told.{AppendsPart, TOO_LONG};
@@ -7,7 +7,7 @@ ghost use Rattle.real_layer.specs.Image.{layer_image};
 ghost use Rattle.cvm_shell.specs.Outcome.{Causes};
 ghost use Rattle.cvm_shell.specs.Outside.{seen, within};
 ghost use Rattle.cvm_shell.specs.Refusal.{bad_save, refusal_text};
-ghost use Rattle.cvm_shell.specs.Stages.{resumable_for, Follows, IsResumePlan, PlanCounts, ResumeEndsAs, ResumesAs};
+ghost use Rattle.cvm_shell.specs.Stages.{resumable_for, SystemFollows, IsResumePlan, PlanCounts, ResumeEndsAs, ResumesAs};
 ghost use Rattle.cvm_shell.specs.Views.{save_view, IfPlan};
 
 use crate::boot::{Ready, Stop, ready_of, status_of};
@@ -31,7 +31,7 @@ pub struct Resumable {
 /// Gets the files of a resume: the image, the schedule and the saved machine, in this order; then accepts the image and reads the schedule.
 pub fn plan_resume<S: Shelf>(alloc: Global, resume: &Save, shelf: &mut S) -> Result<Resumable, Stop>
     ensures comes { IfPlan (resumable_for (save_view resume.now)) (IsResumePlan layer_image (S.file shelf.old) (save_view resume.now)) result }
-    ensures follows { IfOk result (λ r. Follows r.ready) }
+    ensures follows { IfOk result (λ r. SystemFollows r.ready) }
     ensures long { IsErrOf result (Stop.Refused Refusal.TooLong) ↔ (S.taken shelf.new ≡ TOO_LONG) }
     ensures count { PlanCounts (S.faults shelf.old) (S.faults shelf.new) result }
     ensures files { (n : List ℕ) → S.file shelf.new n ≡ S.file shelf.old n }
@@ -70,7 +70,7 @@ fn resume_system<O: Sink, D: Sectors>(
     out: &mut O,
     disk: &mut D,
 ) -> Status
-    requires follows { Follows resumable.ready }
+    requires follows { SystemFollows resumable.ready }
     ensures ends { ResumesAs resumable (save_view resume.now) (within O.Sink D.Sectors) result (out.old, disk.old) (out.new, disk.new) }
     ensures rose { result ≡ Status.Sink → Rose (O.faults out.old) (O.faults out.new) }
     ensures same { result ≢ Status.Sink → O.faults out.new ≡ O.faults out.old }

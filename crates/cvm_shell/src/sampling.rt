@@ -4,7 +4,7 @@ ghost use Rattle.real_layer.specs.Image.{layer_image};
 ghost use Rattle.cvm_shell.specs.declared.boot.Stop.TheVariants as stop;
 ghost use Rattle.cvm_shell.specs.Command.{sample_session};
 ghost use Rattle.cvm_shell.specs.Plan.{PartsPlan, IsLinkedTo, IsPlan};
-ghost use Rattle.cvm_shell.specs.Stages.{ready_for, IsSamplePlan, Follows};
+ghost use Rattle.cvm_shell.specs.Stages.{ready_for, IsSamplePlan, SystemFollows};
 ghost use Rattle.cvm_shell.specs.Views.{IfPlan, IfRefused};
 
 use crate::boot::{Ready, Session, Stop, ready_of};
@@ -29,7 +29,7 @@ impl From<AllocError> for Stop {
 /// Makes the parts of the sample of a number, links them, and accepts what is linked: what is to be run.
 pub fn sampled(alloc: Global, number: u32) -> Result<Ready, Stop>
     ensures comes { IfPlan (ready_for sample_session) (IsSamplePlan layer_image number) result }
-    ensures follows { IfOk result Follows }
+    ensures follows { IfOk result SystemFollows }
     ensures inside { IfErr result (λ s. s ≢ Stop.Shelf) }
     ensures short { IsErrOf result (Stop.Refused Refusal.TooLong) → ⊥ }
 {

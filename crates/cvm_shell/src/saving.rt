@@ -1,5 +1,5 @@
 // A save: what its files come to, and the run that is saved.
-ghost use Rattle.std.specs.Prelude.{◌≡◌, ◌≢◌, ◌↔◌, ◌<◌, ◌≤◌, ◌^◌, ⊤, ℕ, List, IfOk, IfErr, OnErr, IsErrOf, Err};
+ghost use Rattle.std.specs.Prelude.{◌≡◌, ◌≢◌, ◌↔◌, ◌<◌, ◌≤◌, ◌^◌, ℕ, List, IfOk, IfErr, OnErr, IsErrOf, Err};
 ghost use Rattle.cvm_outside.specs.Causes.{Rose};
 ghost use Rattle.cvm_outside.specs.Told.{TOO_LONG};
 ghost use Rattle.kernel_linker.specs.Accept.{system_of};
@@ -9,7 +9,7 @@ ghost use Rattle.real_layer.specs.Image.{layer_image};
 ghost use Rattle.cvm_shell.specs.Outcome.{Causes};
 ghost use Rattle.cvm_shell.specs.Outside.{seen};
 ghost use Rattle.cvm_shell.specs.Plan.{frames_of, most_bytes};
-ghost use Rattle.cvm_shell.specs.Stages.{save_stop, saveable_for, status_of_saved, Follows, HasNoRoom, IsSavePlan, PlanCounts};
+ghost use Rattle.cvm_shell.specs.Stages.{save_stop, saveable_for, status_of_saved, SystemFollows, HasNoRoom, IsSavePlan, PlanCounts};
 ghost use Rattle.cvm_shell.specs.Stages.{SaveEndsAs, SaveIs, SavesAs};
 ghost use Rattle.cvm_shell.specs.Views.{save_view, IfPlan};
 
@@ -47,7 +47,7 @@ pub struct Saveable {
 /// Gets the files of a save, the image first; accepts the image, reads the schedule, and takes the room for the file: what is to be run.
 pub fn plan_save<S: Shelf>(alloc: Global, save: &Save, shelf: &mut S) -> Result<Saveable, Stop>
     ensures comes { IfPlan (saveable_for (save_view save.now)) (IsSavePlan layer_image (S.file shelf.old) (save_view save.now)) result }
-    ensures follows { IfOk result (λ r. Follows r.ready) }
+    ensures follows { IfOk result (λ r. SystemFollows r.ready) }
     ensures room { IfOk result (λ r. r.room.words ≡ most_words (frames_of (system_of r.ready.boot))) }
     ensures short { IfOk result (λ r. most_bytes (system_of r.ready.boot) ≤ FILE_ROOM) }
     ensures long { IsErrOf result (Stop.Refused Refusal.TooLong) ↔ (S.taken shelf.new ≡ TOO_LONG) }
@@ -61,7 +61,7 @@ pub fn plan_save<S: Shelf>(alloc: Global, save: &Save, shelf: &mut S) -> Result<
 
 // The room for the file of a system's machine.
 fn room_for(alloc: Global, ready: &Ready) -> Result<Room, Stop>
-    requires { Follows ready.now }
+    requires { SystemFollows ready.now }
     ensures room { IfOk result (λ r. r.words ≡ most_words (frames_of (system_of ready.now.boot))) }
     ensures short { IfOk result (λ _. most_bytes (system_of ready.now.boot) ≤ FILE_ROOM) }
     ensures stops { IfErr result (HasNoRoom (system_of ready.now.boot)) }
@@ -101,7 +101,7 @@ fn save_system<S: Shelf, O: Sink, D: Sectors>(
     out: &mut O,
     disk: &mut D,
 ) -> Status
-    requires follows { Follows saveable.ready }
+    requires follows { SystemFollows saveable.ready }
     requires room { saveable.room.words ≡ most_words (frames_of (system_of saveable.ready.boot)) }
     requires short { most_bytes (system_of saveable.ready.boot) ≤ FILE_ROOM }
     requires some { 1 ≤ (save_view save.now).boot.turns }
@@ -134,7 +134,7 @@ fn save_ready<S: Shelf, O: Sink, D: Sectors>(
     out: &mut O,
     disk: &mut D,
 ) -> Result<SavedEnd, LoadFault>
-    requires follows { Follows saveable.ready }
+    requires follows { SystemFollows saveable.ready }
     requires room { saveable.room.words ≡ most_words (frames_of (system_of saveable.ready.boot)) }
     requires short { most_bytes (system_of saveable.ready.boot) ≤ FILE_ROOM }
     requires some { 1 ≤ (save_view save.now).boot.turns }

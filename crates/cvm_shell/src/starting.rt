@@ -6,7 +6,7 @@ ghost use Rattle.boot_run.specs.Loading.{system_of};
 ghost use Rattle.boot_run.specs.LoadEnds.{LoadFails, SeesUser, rom_needed};
 ghost use Rattle.boot_run.specs.Whole.{IsDiskFault, IsSinkFault};
 ghost use Rattle.cvm_shell.specs.Outside.{within};
-ghost use Rattle.cvm_shell.specs.Stages.{AnswersAs, Follows};
+ghost use Rattle.cvm_shell.specs.Stages.{AnswersAs, SystemFollows};
 
 use crate::boot::{Ready, Session, Start};
 use boot_rom::rom_words;
@@ -23,7 +23,7 @@ pub(crate) fn load_and_run<O: Sink, D: Sectors>(
     out: &mut O,
     disk: &mut D,
 ) -> Result<RunEnd, LoadFault>
-    requires follows { Follows ready }
+    requires follows { SystemFollows ready }
     requires some { 1 ≤ session.turns }
     ensures answers { AnswersAs ready session (within O.Sink D.Sectors) result (out.old, disk.old) (out.new, disk.new) }
     ensures unprinted { IfErr result (λ _. out.new ≡ out.old) }
@@ -46,7 +46,7 @@ fn run_loaded<O: Sink, D: Sectors>(
     out: &mut O,
     disk: &mut D,
 ) -> Result<RunEnd, LoadFault>
-    requires follows { Follows ready }
+    requires follows { SystemFollows ready }
     requires some { 1 ≤ session.turns }
     requires start { session.start ≡ Start.Loaded }
     ensures answers { AnswersAs ready session (within O.Sink D.Sectors) result (out.old, disk.old) (out.new, disk.new) }
@@ -77,7 +77,7 @@ fn run_from_rom<O: Sink, D: Sectors>(
     out: &mut O,
     disk: &mut D,
 ) -> Result<RunEnd, LoadFault>
-    requires follows { Follows ready }
+    requires follows { SystemFollows ready }
     requires some { 1 ≤ session.turns }
     requires start { session.start ≡ Start.Rom }
     ensures answers { AnswersAs ready session (within O.Sink D.Sectors) result (out.old, disk.old) (out.new, disk.new) }
@@ -104,7 +104,7 @@ fn run_from_rom<O: Sink, D: Sectors>(
 
 // The words of the ROM that loads a system, for a view that there is and a disk with sectors enough.
 fn rom_for(alloc: Global, ready: &Ready, view: View, have: u32) -> Result<Vec<u32>, LoadFault>
-    requires { Follows ready.now }
+    requires { SystemFollows ready.now }
     ensures words { IfOk result (λ v. v.items ≡ own_rom (system_of ready.now.boot ready.now.schedule)) }
     ensures few { IfOk result (λ v. length v.items ≤ 1024) }
     ensures fault { IfErr result (LoadFails ready.now.boot view (rom_needed ready.now.boot) have 0 0) }

@@ -1,5 +1,5 @@
 // How a command ended.
-ghost use Rattle.std.specs.Prelude.{◌≡◌, ◌≤◌};
+ghost use Rattle.std.specs.Prelude.{◌≡◌};
 ghost use Rattle.cvm_shell.specs.Status.{code_of};
 
 /// How a command ended, in the order of the codes 0 to 8.

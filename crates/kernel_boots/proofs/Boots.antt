@@ -15,12 +15,12 @@ use Rattle.real_layer.specs.Image.{layer_image}
 use Rattle.boot_image.specs.Parts.{Parts as Image}
 use Rattle.boot_image.specs.declared.fault.ImageFault.{ImageFault}
 use Rattle.boot_image.specs.Reading.{answer as image_of}
-use Rattle.kernel_linker.specs.Accept.{System}
+use Rattle.kernel_linker.specs.Accept.{ImageSystem}
 use Rattle.kernel_linker.specs.Sources.{IsOfImage, AcceptedAreOfImages}
 use Rattle.cvm_shell.specs.declared.status.Status.{Status as Shown}
 use Rattle.cvm_shell.specs.declared.status.Status.TheVariants.{KernelFault}
 use Rattle.cvm_shell.specs.declared.boot.Session.{Session}
-use Rattle.cvm_shell.specs.Outside.{Outside}
+use Rattle.cvm_shell.specs.Outside.{Host}
 use Rattle.cvm_shell.specs.Plan.{Accepts}
 use Rattle.cvm_shell.specs.Boot.{booted, around, first_state, sectors_needed, ended_as, AskFor, by_boot, by_trace, by_sample, Headline}
 use Rattle.kernel_boots.specs.Boots.{OfStates, AlwaysHas, TextOfState, Shows, BootsShow, HasSource, AsksSource, RunsItsSource, BootsOf}
@@ -80,13 +80,13 @@ module _ (P : OfStates) (x : Surroundings) (y : Booted) (always : AlwaysHas y P)
   ran_safe e text h safe = subst NoFault (sym h.status) (no_fault _ h.past.status (safe _ _ h.past (has _ h.past h.cvm)))
 
 -- the schedule that is asked for raises eight lines
-asked_eight : (words : List (List ℕ)) (file : List ℕ → Option (List ℕ)) (session : Session) (s : System) (rows : Rows) → AskFor words file session s rows → (old : Outside) → HasEightLines (around rows old)
+asked_eight : (words : List (List ℕ)) (file : List ℕ → Option (List ℕ)) (session : Session) (s : ImageSystem) (rows : Rows) → AskFor words file session s rows → (old : Host) → HasEightLines (around rows old)
 asked_eight words file session s rows (by_boot b is same files) old = eight_of files.schedule rows files.valid
 asked_eight words file session s rows (by_trace t is same files) old = eight_of files.schedule rows files.valid
 asked_eight words file session s rows (by_sample n is same parts) old = eight_of _ rows parts.valid
 
 -- and has no more input words than there is room for
-asked_few : (words : List (List ℕ)) (file : List ℕ → Option (List ℕ)) (session : Session) (s : System) (rows : Rows) → AskFor words file session s rows → length rows.inputs ≤ 4096
+asked_few : (words : List (List ℕ)) (file : List ℕ → Option (List ℕ)) (session : Session) (s : ImageSystem) (rows : Rows) → AskFor words file session s rows → length rows.inputs ≤ 4096
 asked_few words file session s rows (by_boot b is same files) = few_of files.schedule rows files.valid
 asked_few words file session s rows (by_trace t is same files) = few_of files.schedule rows files.valid
 asked_few words file session s rows (by_sample n is same parts) = few_of _ rows parts.valid
@@ -109,22 +109,22 @@ boots_show P words status old new headlines session s rows before honest some vi
 same_image : (i j : Image) → ◌≡◌ {A = Result Image ImageFault} (Ok i) (Ok j) → i ≡ j
 same_image i j e = cc
 
-of_image : AcceptedAreOfImages → (source bytes : List ℕ) (s : System) → Accepts layer_image (image_of bytes) (Ok s) → (h : HasSource source bytes) → IsOfImage h.0 s
+of_image : AcceptedAreOfImages → (source bytes : List ℕ) (s : ImageSystem) → Accepts layer_image (image_of bytes) (Ok s) → (h : HasSource source bytes) → IsOfImage h.0 s
 of_image law source bytes s accepted h =
     let a = subst (λ r. Accepts layer_image r (Ok s)) h.1 accepted in
     law layer_image h.0 a.0 s a.1 a.2
 
 -- the unit of what is run is that of its source, and it has room
-record IsRead (source : List ℕ) (s : System) : Type 0 where
+record IsRead (source : List ℕ) (s : ImageSystem) : Type 0 where
   unit : IsUnitOf source s.unit
   room : Roomy s
 
-read_of_image : AcceptedAreOfImages → (source bytes : List ℕ) (s : System) → Accepts layer_image (image_of bytes) (Ok s) → HasSource source bytes → IsRead source s
+read_of_image : AcceptedAreOfImages → (source bytes : List ℕ) (s : ImageSystem) → Accepts layer_image (image_of bytes) (Ok s) → HasSource source bytes → IsRead source s
 read_of_image law source bytes s accepted h =
     let is : IsOfImage h.0 s = of_image law source bytes s accepted h in
     record { unit = subst (λ t. IsUnitOf t s.unit) h.2 is.unit; room = roomy h.0 s (room_of bytes h.0 h.1) is }
 
-asked_read : AcceptedAreOfImages → (source : List ℕ) (words : List (List ℕ)) (file : List ℕ → Option (List ℕ)) (session : Session) (s : System) (rows : Rows)
+asked_read : AcceptedAreOfImages → (source : List ℕ) (words : List (List ℕ)) (file : List ℕ → Option (List ℕ)) (session : Session) (s : ImageSystem) (rows : Rows)
     → (a : AskFor words file session s rows) → AsksSource source a → IsRead source s
 asked_read law source words file session s rows (by_boot b is same files) h = read_of_image law source files.image s files.accepted h
 asked_read law source words file session s rows (by_trace t is same files) h = read_of_image law source files.image s files.accepted h
@@ -135,8 +135,8 @@ runs_its_source law source words session s rows before old new h a = (asked_read
 
 -- EACH BOOT OF A SOURCE shows a property that excludes faults, where the run of each system with that source's unit, with room for 64 words of stack and
 -- for its users, always has it
-pub boots_of : AcceptedAreOfImages → (source : List ℕ) (Is : System → Type 0) (P : Booted → OfStates)
-    → ((s : System) (rows : Rows) → IsUnitOf source s.unit → Roomy s → Is s → length rows.inputs ≤ 4096 → AlwaysHas (booted s rows) (P (booted s rows)))
+pub boots_of : AcceptedAreOfImages → (source : List ℕ) (Is : ImageSystem → Type 0) (P : Booted → OfStates)
+    → ((s : ImageSystem) (rows : Rows) → IsUnitOf source s.unit → Roomy s → Is s → length rows.inputs ≤ 4096 → AlwaysHas (booted s rows) (P (booted s rows)))
     → ((y : Booted) (lines : ℕ → ℕ) (k : ℕ) (c : Cvm) → P y lines k c → IsSafe c.status) → BootsOf source Is P
 boots_of law source Is P always safe words status old new headlines session s rows before h some view asks is =
     let read : IsRead source s = asked_read law source words old.shelf.file session s rows h.asked asks in

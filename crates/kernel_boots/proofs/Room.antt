@@ -10,11 +10,11 @@ use Rattle.boot_image.specs.declared.fault.ImageFault.{ImageFault}
 use Rattle.boot_image.specs.Parts.{Parts as Image}
 use Rattle.boot_image.specs.Format.{most_words}
 use Rattle.boot_image.specs.Reading.{◌>>=◌, mark_at, number_at, form_at, params_at, counts_at, bare_at, system_at, header_of, parts_of, image_of, users_of, answer}
-use Rattle.kernel_linker.specs.Accept.{System}
+use Rattle.kernel_linker.specs.Accept.{ImageSystem}
 use Rattle.kernel_linker.specs.Sources.{IsOfImage}
 
 -- a system that has room
-pub record Roomy (s : System) : Type 0 where
+pub record Roomy (s : ImageSystem) : Type 0 where
   pub stack : 64 ≤ s.params.stack
   pub users : All (λ words. length words ≤ 1024 * s.params.pages) s.users
 
@@ -135,7 +135,7 @@ room_of bytes i h =
     (record { stack = head.stack; users = users_in a.x.0.params.pages a.x.1.0 b.x.1.1 head.sizes })
 
 -- and so the system that is that of an image
-pub roomy : (i : Image) (s : System) → RoomIn i → IsOfImage i s → Roomy s
+pub roomy : (i : Image) (s : ImageSystem) → RoomIn i → IsOfImage i s → Roomy s
 roomy i s room is =
     let users = subst (λ (p : Params). All (λ words. length words ≤ 1024 * p.pages) i.users) (sym is.params) room.users in
     record { stack = subst (λ (p : Params). 64 ≤ p.stack) (sym is.params) room.stack; users = subst (All (λ words. length words ≤ 1024 * s.params.pages)) (sym is.users) users }

@@ -9,11 +9,11 @@ use Rattle.c0_types.specs.Front.{IsUnitOf}
 use Rattle.cvm_model.specs.Cvm.{System as Booted, Cvm, IsCvm}
 use Rattle.cvm_model.specs.Invariant.{HasEight, IsSafe}
 use Rattle.cvm_model.specs.Text.{rows_text, boot_text}
-use Rattle.kernel_linker.specs.Accept.{System}
+use Rattle.kernel_linker.specs.Accept.{ImageSystem}
 use Rattle.cvm_shell.specs.declared.status.Status.{Status}
 use Rattle.cvm_shell.specs.declared.status.Status.TheVariants.{KernelFault, StepLimit, Memory}
 use Rattle.cvm_shell.specs.declared.boot.Session.{Session}
-use Rattle.cvm_shell.specs.Outside.{Outside}
+use Rattle.cvm_shell.specs.Outside.{Host}
 use Rattle.cvm_shell.specs.Boot.{booted, AskFor, by_boot, by_trace, by_sample, IsHonest}
 use Rattle.cvm_shell.specs.Outcome.{Headlines}
 
@@ -40,14 +40,14 @@ pub record Shows (y : Booted) (P : OfStates) (status : Status) (text : List ℕ)
   pub text_is : TextOfState y status state text
 
 -- A BOOT SHOWS IT: what it printed is the text of such a state; and where the property excludes faults, its status is not that of a kernel's fault
-pub record BootShows (y : Booted) (P : OfStates) (old new : Outside) (status : Status) : Type 0 where
+pub record BootShows (y : Booted) (P : OfStates) (old new : Host) (status : Status) : Type 0 where
   pub printed : (text : List ℕ) × (new.sink.text ≡ append_known old.sink.text text) × Shows y P status text
   pub no_fault : ((lines : ℕ → ℕ) (k : ℕ) (c : Cvm) → P lines k c → IsSafe c.status) → status ≢ KernelFault
 
 -- THE COROLLARY, for any property of states: by the headline of `run` each boot with no failed call shows it, where the system's run always has it
 abbrev pub BootsShow : Type 1
-BootsShow = (P : OfStates) (words : List (List ℕ)) (status : Status) (old new : Outside) → Headlines (λ (o : Outside). o) words status old new
-    → (session : Session) (s : System) (rows : Rows) (before : List (List ℕ)) → IsHonest words session s rows before old new
+BootsShow = (P : OfStates) (words : List (List ℕ)) (status : Status) (old new : Host) → Headlines (λ (o : Host). o) words status old new
+    → (session : Session) (s : ImageSystem) (rows : Rows) (before : List (List ℕ)) → IsHonest words session s rows before old new
     → status ≢ Memory → session.view ≡ Boot → AlwaysHas (booted s rows) P → BootShows (booted s rows) P old new status
 
 -- the bytes of an image that has this source
@@ -55,7 +55,7 @@ abbrev pub HasSource : List ℕ → List ℕ → Type 0
 HasSource source bytes = (i : Image) × (image_of bytes ≡ Ok i) × (i.source ≡ source)
 
 -- words and files ask for a run of an image with this source: the file that is named, or what a sample is linked to
-abbrev pub AsksSource : List ℕ → {words : List (List ℕ)} → {file : List ℕ → Option (List ℕ)} → {session : Session} → {s : System} → {rows : Rows}
+abbrev pub AsksSource : List ℕ → {words : List (List ℕ)} → {file : List ℕ → Option (List ℕ)} → {session : Session} → {s : ImageSystem} → {rows : Rows}
     → AskFor words file session s rows → Type 0
 AsksSource source (by_boot b is same files) = HasSource source files.image
 AsksSource source (by_trace t is same files) = HasSource source files.image
@@ -63,16 +63,16 @@ AsksSource source (by_sample x is same parts) = HasSource source parts.image
 
 -- a law: the unit of the system that is run is that of this source
 abbrev pub RunsItsSource : Type 0
-RunsItsSource = (source : List ℕ) (words : List (List ℕ)) (session : Session) (s : System) (rows : Rows) (before : List (List ℕ)) (old new : Outside)
+RunsItsSource = (source : List ℕ) (words : List (List ℕ)) (session : Session) (s : ImageSystem) (rows : Rows) (before : List (List ℕ)) (old new : Host)
     → (h : IsHonest words session s rows before old new) → AsksSource source h.asked → IsUnitOf source s.unit
 
 -- what it printed is the text of a state that has the property, and its status is no kernel's fault
-abbrev pub ShowsOf : Booted → OfStates → (old new : Outside) → Status → Type 0
+abbrev pub ShowsOf : Booted → OfStates → (old new : Host) → Status → Type 0
 ShowsOf y P old new status = (status ≢ KernelFault) × ((text : List ℕ) × (new.sink.text ≡ append_known old.sink.text text) × Shows y P status text)
 
 -- EACH BOOT of an image with this source: where a fact of its system is given (how many users it has), it shows a property that excludes faults. A boot is
 -- one by `boot`, `rom` or `sample` under the headline's premises, with a status other than 8.
-abbrev pub BootsOf : (source : List ℕ) → (System → Type 0) → (Booted → OfStates) → Type 0
-BootsOf source Is P = (words : List (List ℕ)) (status : Status) (old new : Outside) → Headlines (λ (o : Outside). o) words status old new
-    → (session : Session) (s : System) (rows : Rows) (before : List (List ℕ)) → (h : IsHonest words session s rows before old new)
+abbrev pub BootsOf : (source : List ℕ) → (ImageSystem → Type 0) → (Booted → OfStates) → Type 0
+BootsOf source Is P = (words : List (List ℕ)) (status : Status) (old new : Host) → Headlines (λ (o : Host). o) words status old new
+    → (session : Session) (s : ImageSystem) (rows : Rows) (before : List (List ℕ)) → (h : IsHonest words session s rows before old new)
     → status ≢ Memory → session.view ≡ Boot → AsksSource source h.asked → Is s → ShowsOf (booted s rows) (P (booted s rows)) old new status

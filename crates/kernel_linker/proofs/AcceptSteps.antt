@@ -14,7 +14,7 @@ use Rattle.c0_types.specs.declared.source_fault.SourceFault.{SourceFault}
 use Rattle.c0_types.specs.declared.source_fault.SourceFault.TheVariants.{Reading}
 use Rattle.kernel_linker.specs.Linked.{linked, sizes_of}
 use Rattle.kernel_linker.specs.Fault.{accept_source_fault, accept_file_fault}
-use Rattle.kernel_linker.specs.Accept.{System, AnswersBy, Answers, ◌>>=◌, stored, accept_answer}
+use Rattle.kernel_linker.specs.Accept.{ImageSystem, AnswersBy, Answers, ◌>>=◌, stored, accept_answer}
 use Rattle.kernel_linker.specs.declared.fault.AcceptFault.{AcceptFault}
 use Rattle.kernel_linker.specs.declared.fault.AcceptFault.TheVariants.{Memory}
 
@@ -48,7 +48,7 @@ unfolding accept_answer
 source_stops layer i f = refl
 
 -- the words are others than are made
-pub forged_image : {X : Type 0} (layer : Map → List ℕ → List ℕ) (view : X → System) (r : Result Image ImageFault) (i : Image) (result : Result X AcceptFault) (e f : AcceptFault) (u : CUnit) (source words : List ℕ) →
+pub forged_image : {X : Type 0} (layer : Map → List ℕ → List ℕ) (view : X → ImageSystem) (r : Result Image ImageFault) (i : Image) (result : Result X AcceptFault) (e f : AcceptFault) (u : CUnit) (source words : List ℕ) →
     Gives (Ok i) r → result ≡ Err e → e ≡ f → IsUnitOf source u → source ≡ i.source → Err f ≡ stored i words → words ≡ linked layer u i.params (sizes_of i.users) → Answers layer view r result
 unfolding accept_answer
 forged_image layer view r i result e f u source words given h k found same differ made =
@@ -56,7 +56,7 @@ forged_image layer view r i result e f u source words given h k found same diffe
     of_image (accept_answer layer) view r i result given (subst (Answers layer view (Ok i)) (sym (h ∙ ap Err k)) (Ok u, subst (λ (s : List ℕ). IsUnitOf s u) same found, inr (rw (← other) refl)))
 
 -- all is well
-pub accepted_image : {X : Type 0} (layer : Map → List ℕ → List ℕ) (view : X → System) (r : Result Image ImageFault) (i : Image) (a : X) (u : CUnit) (source words : List ℕ) (users : List (List ℕ)) (x : Unit {0}) →
+pub accepted_image : {X : Type 0} (layer : Map → List ℕ → List ℕ) (view : X → ImageSystem) (r : Result Image ImageFault) (i : Image) (a : X) (u : CUnit) (source words : List ℕ) (users : List (List ℕ)) (x : Unit {0}) →
     Gives (Ok i) r → IsUnitOf source u → source ≡ i.source → Ok x ≡ stored i words → words ≡ linked layer u i.params (sizes_of i.users) →
     users ≡ i.users → view a ≡ record { params = i.params; unit = u; words = words; users = users } → Answers layer view r (Ok a)
 unfolding accept_answer

@@ -18,14 +18,14 @@ use Rattle.kernel_linker.specs.declared.fault.AcceptFault.{AcceptFault}
 use Rattle.kernel_linker.specs.declared.fault.AcceptFault.TheVariants.{Memory}
 
 -- what is booted, as lists: the parameters, the checked unit, the linked words, and the words of each user
-pub record System : Type 0 where
+pub record ImageSystem : Type 0 where
   pub params : Params
   pub unit : CUnit
   pub words : List ℕ
   pub users : List (List ℕ)
 
 -- a boot as lists
-abbrev pub system_of : Boot → System
+abbrev pub system_of : Boot → ImageSystem
 system_of b = record { params = b.params; unit = unit_view b.unit; words = b.words.items; users = map (λ u. u.items) b.users.items }
 
 -- a step, and then another by its value
@@ -49,7 +49,7 @@ abbrev pub stored : Image → (made : List ℕ) → Result (Unit {0}) AcceptFaul
 stored i made = if nat_eq i.form 1 then Ok tt else unforged (compared i.words made)
 
 -- ACCEPT, over a layer that has these words for a map and sizes, where the front came to this on the image's source
-unfoldable pub accept_answer : (layer : Map → List ℕ → List ℕ) → Image → Result CUnit SourceFault → Result System AcceptFault
+unfoldable pub accept_answer : (layer : Map → List ℕ → List ℕ) → Image → Result CUnit SourceFault → Result ImageSystem AcceptFault
 accept_answer layer i front = do
   u ← unit_in front
   same ← stored i (linked layer u i.params (sizes_of i.users))
@@ -62,5 +62,5 @@ AnswersBy due view (Ok i) result = (front : Result CUnit SourceFault) × Comes i
 AnswersBy due view (Err f) result = result ≡ Err (accept_file_fault f)
 
 -- what is due is whether the image is accepted, over a layer that has these words for a map and sizes
-abbrev pub Answers : {X : Type 0} → (layer : Map → List ℕ → List ℕ) → (X → System) → Result Image ImageFault → Result X AcceptFault → Type 0
+abbrev pub Answers : {X : Type 0} → (layer : Map → List ℕ → List ℕ) → (X → ImageSystem) → Result Image ImageFault → Result X AcceptFault → Type 0
 Answers layer view read result = AnswersBy (accept_answer layer) view read result

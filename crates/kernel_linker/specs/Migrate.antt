@@ -7,7 +7,7 @@ use Rattle.boot_image.specs.declared.fault.ImageFault.{ImageFault}
 use Rattle.c0_tree.specs.Tree.{CUnit}
 use Rattle.c0_types.specs.declared.source_fault.SourceFault.{SourceFault}
 use Rattle.kernel_linker.specs.Linked.{linked, sizes_of}
-use Rattle.kernel_linker.specs.Accept.{System, ◌>>=◌, unit_in, accept_answer, AnswersBy}
+use Rattle.kernel_linker.specs.Accept.{ImageSystem, ◌>>=◌, unit_in, accept_answer, AnswersBy}
 use Rattle.kernel_linker.specs.declared.fault.AcceptFault.{AcceptFault}
 
 -- MIGRATE, over a layer that has these words for a map and sizes, where the front came to this on the image's source

@@ -13,7 +13,7 @@ use Rattle.saved_file.specs.Answer.{answer}
 use Rattle.boot_run.specs.LoadEnds.{Kept, pages_needed}
 use Rattle.boot_run.specs.Saving.{IsTakenUp}
 use Rattle.boot_run.specs.SavedFiles.{wanted_of}
-use Rattle.machine_save.specs.Resume.{Resumes}
+use Rattle.machine_save.specs.Resume.{ResumesFile}
 
 abbrev asked : (frames users pages turns : ℕ) → (inputs linked : List ℕ) → Wanted
 asked frames users pages turns inputs linked = record { frames = frames; users = users; pages = pages; inputs = inputs; linked = linked; turns = turns }
@@ -31,7 +31,7 @@ room_is b s have count users pages same enough =
     subst (λ (n : ℕ). n * b.params.pages ≤ count) users (subst (λ (n : ℕ). s.users * n ≤ count) pages (subst (λ (n : ℕ). s.users * s.pages ≤ n) same enough))
 
 -- the answer with the run, where the file was read under what is asked
-pub taken : {L : Type 0} (layer : L) (b : Booted) (rows : Rows) (turns count have : ℕ) (bytes words from : List ℕ) (w : Wanted) (r : Kept L) → w ≡ wanted_of b rows turns → answer w bytes ≡ Ok words → flat_map word words ≡ bytes → CanBeResumed w words → pages_needed b ≤ count → have ≡ count → from ≡ words → IsTakenUp layer b rows have from r → Resumes layer b rows turns count bytes (Ok r)
+pub taken : {L : Type 0} (layer : L) (b : Booted) (rows : Rows) (turns count have : ℕ) (bytes words from : List ℕ) (w : Wanted) (r : Kept L) → w ≡ wanted_of b rows turns → answer w bytes ≡ Ok words → flat_map word words ≡ bytes → CanBeResumed w words → pages_needed b ≤ count → have ≡ count → from ≡ words → IsTakenUp layer b rows have from r → ResumesFile layer b rows turns count bytes (Ok r)
 taken layer b rows turns count have bytes words from w r asks is spelled can room same file up = (
   words,
   subst (λ (v : Wanted). answer v bytes ≡ Ok words) asks is,

@@ -5,7 +5,7 @@ use Rattle.std.specs.List.{flat_map}
 use Rattle.cvm_words.specs.Bytes.{word}
 use Rattle.schedule_file.specs.Rows.{Rows}
 use Rattle.mips_table.specs.Device.{Outside}
-use Rattle.mips_table.specs.Machine.{State}
+use Rattle.mips_table.specs.Machine.{State, run}
 use Rattle.mips_machine.specs.Machine.{state_of}
 use Rattle.mips_machine.specs.Saved.{saved, CanBeSaved, SavedOnce}
 use Rattle.mips_machine.specs.Steps.{outside_of}
@@ -19,10 +19,10 @@ use Rattle.boot_run.specs.LoadEnds.{Kept, pages_needed}
 use Rattle.boot_run.specs.Resuming.{SavedAt}
 use Rattle.boot_run.specs.Saving.{saved_run, AreBoots, GoesOnAnyhow, GoesOnAs, IsDisk, IsResumed, IsTakenUp, JoinsBoot}
 use Rattle.boot_run.specs.SavedFiles.{wanted_of}
-use Rattle.boot_run.specs.Whole.{ending_of_end}
+use Rattle.boot_run.specs.Whole.{CallsFrom, ending_of_end}
 use Rattle.boot_run.specs.declared.whole.RunEnd.{RunEnd}
 use Rattle.boot_run.specs.declared.whole.RunEnd.TheVariants.{Done, KernelFaulted, OutOfSteps, DiskFault, SinkFault}
-use Rattle.machine_save.specs.Resume.{Resumes}
+use Rattle.machine_save.specs.Resume.{ResumesFile}
 use Rattle.machine_save.specs.ResumeRun.{GoesOnFromFile, JoinsSaved, Names, ResumeAnswers}
 use Rattle.machine_save.specs.SavedBoots.{AreTakenUp, CanBoot}
 use Rattle.machine_save.specs.declared.resuming.ResumeFault.{ResumeFault}
@@ -37,15 +37,15 @@ no_answer (Ok b) a c e f = absurd (cc)
 no_answer (Err b) a c e f = absurd (cc)
 
 -- THE ANSWER
-pub answers_so : {L : Type 0} (layer : L) (b : Booted) (rows : Rows) (turns count : ℕ) (bytes : List ℕ) (r : Kept L) (e : RunEnd) → Resumes layer b rows turns count bytes (Ok r) → ResumeAnswers b rows turns count bytes (Ok e)
+pub answers_so : {L : Type 0} (layer : L) (b : Booted) (rows : Rows) (turns count : ℕ) (bytes : List ℕ) (r : Kept L) (e : RunEnd) → ResumesFile layer b rows turns count bytes (Ok r) → ResumeAnswers b rows turns count bytes (Ok e)
 answers_so layer b rows turns count bytes r e (words, is, spelled, can, room, up) = (words, is, spelled, can, room)
 
-pub refused_so : {L : Type 0} (layer : L) (b : Booted) (rows : Rows) (turns count : ℕ) (bytes : List ℕ) (fault : ResumeFault) → Resumes layer b rows turns count bytes (Err fault) → ResumeAnswers b rows turns count bytes (Err fault)
+pub refused_so : {L : Type 0} (layer : L) (b : Booted) (rows : Rows) (turns count : ℕ) (bytes : List ℕ) (fault : ResumeFault) → ResumesFile layer b rows turns count bytes (Err fault) → ResumeAnswers b rows turns count bytes (Err fault)
 refused_so layer b rows turns count bytes (Save e) h = h
 refused_so layer b rows turns count bytes (SmallDisk need have) h = h
 
 -- no more turns are complete than are wanted
-pub done_few : {L : Type 0} (layer : L) (b : Booted) (rows : Rows) (turns count : ℕ) (bytes : List ℕ) (r : Kept L) → Resumes layer b rows turns count bytes (Ok r) → r.turns ≤ turns
+pub done_few : {L : Type 0} (layer : L) (b : Booted) (rows : Rows) (turns count : ℕ) (bytes : List ℕ) (r : Kept L) → ResumesFile layer b rows turns count bytes (Ok r) → r.turns ≤ turns
 done_few layer b rows turns count bytes r (words, is, spelled, can, room, up) =
     let done : r.turns ≡ slice_index words 5 = ap (λ (l : List ℕ). slice_index l 5) up.words_are in
     let few : slice_index words 5 ≤ turns = can.turns in
@@ -59,18 +59,18 @@ pub is_no_end : (a b : RunEnd) → (◌≡◌ {A = Result RunEnd ResumeFault} (O
 is_no_end a b none e = none (ap (λ (end : RunEnd). Ok end) e)
 
 -- THE JOINT THEOREM, of a run that was taken up of these words
-abbrev JoinsAt : {L : Type 0} → Booted → Rows → (count : ℕ) → Kept L → (words : List ℕ) → (turns steps : ℕ) → (told retold : Option (List (List ℕ))) → (had has : Option (List ℕ)) → RunEnd → Type 0
-JoinsAt b rows count r words turns steps told retold had has e =
+abbrev JoinsAt : {L : Type 0} → Booted → Rows → (count : ℕ) → Kept L → (words : List ℕ) → (turns steps : ℕ) → (told retold : Option (List (List ℕ))) → (made remade : ℕ) → (had has : Option (List ℕ)) → RunEnd → Type 0
+JoinsAt b rows count r words turns steps told retold made remade had has e =
     (old left now : List (List ℕ)) (few spent : ℕ) (shown : List ℕ) → AreBoots b rows count → IsResumed r → IsDisk count old → spent ≤ steps → told ≡ Some left → retold ≡ Some now →
-    SavedAt (outside_of rows count) (system_of b rows) (loaded (system_of b rows) old) few spent words left shown →
-    GoesOnAs (outside_of rows count) (system_of b rows) old now turns steps shown had has (ending_of_end e)
+    (w : SavedAt (outside_of rows count) (system_of b rows) (loaded (system_of b rows) old) few spent words left shown) →
+    GoesOnAs (outside_of rows count) (system_of b rows) old now turns steps (CallsFrom (run (outside_of rows count) (loaded (system_of b rows) old) w.at) made remade) shown had has (ending_of_end e)
 
-joins_at : {L : Type 0} (layer : L) (b : Booted) (rows : Rows) (count : ℕ) (words : List ℕ) (r : Kept L) (turns steps : ℕ) (told retold : Option (List (List ℕ))) (had has : Option (List ℕ)) (e : RunEnd) →
-    IsTakenUp layer b rows count words r → JoinsBoot count r turns steps told retold had has e → JoinsAt b rows count r words turns steps told retold had has e
-joins_at layer b rows count words r turns steps told retold had has e up joins =
-    subst (λ (l : List ℕ). JoinsAt b rows count r l turns steps told retold had has e) up.words_are
-    (subst (λ (q : Rows). JoinsAt b q count r (saved_run r) turns steps told retold had has e) up.rows_are
-    (subst (λ (c : Booted). JoinsAt c r.machine.rows count r (saved_run r) turns steps told retold had has e) up.boot_is joins))
+joins_at : {L : Type 0} (layer : L) (b : Booted) (rows : Rows) (count : ℕ) (words : List ℕ) (r : Kept L) (turns steps : ℕ) (told retold : Option (List (List ℕ))) (made remade : ℕ) (had has : Option (List ℕ)) (e : RunEnd) →
+    IsTakenUp layer b rows count words r → JoinsBoot count r turns steps told retold made remade had has e → JoinsAt b rows count r words turns steps told retold made remade had has e
+joins_at layer b rows count words r turns steps told retold made remade had has e up joins =
+    subst (λ (l : List ℕ). JoinsAt b rows count r l turns steps told retold made remade had has e) up.words_are
+    (subst (λ (q : Rows). JoinsAt b q count r (saved_run r) turns steps told retold made remade had has e) up.rows_are
+    (subst (λ (c : Booted). JoinsAt c r.machine.rows count r (saved_run r) turns steps told retold made remade had has e) up.boot_is joins))
 
 -- the bytes of a saved run are read back as its words
 read_back : (b : Booted) (rows : Rows) (turns steps count : ℕ) (bytes : List ℕ) (old left : List (List ℕ)) (few spent : ℕ) (words shown : List ℕ) → AreTakenUp b rows count → turns < 2 ^ 32 → steps < 2 ^ 64 → IsDisk count old →
@@ -80,24 +80,24 @@ read_back b rows turns steps count bytes old left few spent words shown up bits 
     subst (λ (l : List ℕ). answer (wanted_of b rows turns) l ≡ Ok words) (sym spelled)
     (up old left few spent turns words shown room disk at some enough bits (omega (arith, within, limit))).1
 
-pub joins_so : {L : Type 0} (layer : L) (b : Booted) (rows : Rows) (turns steps count : ℕ) (bytes : List ℕ) (told retold : Option (List (List ℕ))) (had has : Option (List ℕ)) (r : Kept L) (e : RunEnd) →
-    CanBoot b rows count → AreTakenUp b rows count → turns < 2 ^ 32 → steps < 2 ^ 64 → Resumes layer b rows turns count bytes (Ok r) → JoinsBoot count r turns steps told retold had has e →
-    JoinsSaved b rows turns steps count bytes told retold had has (Ok e)
-joins_so layer b rows turns steps count bytes told retold had has r e boots ups bits limit (words, is, spelled, can, enough, up) joins = λ old left now few spent saved shown disk room tells retells at spells some more within.
+pub joins_so : {L : Type 0} (layer : L) (b : Booted) (rows : Rows) (turns steps count : ℕ) (bytes : List ℕ) (told retold : Option (List (List ℕ))) (made remade : ℕ) (had has : Option (List ℕ)) (r : Kept L) (e : RunEnd) →
+    CanBoot b rows count → AreTakenUp b rows count → turns < 2 ^ 32 → steps < 2 ^ 64 → ResumesFile layer b rows turns count bytes (Ok r) → JoinsBoot count r turns steps told retold made remade had has e →
+    JoinsSaved b rows turns steps count bytes told retold made remade had has (Ok e)
+joins_so layer b rows turns steps count bytes told retold made remade had has r e boots ups bits limit (words, is, spelled, can, enough, up) joins = λ old left now few spent saved shown disk room tells retells at spells some more within.
     let back = read_back b rows turns steps count bytes old left few spent saved shown ups bits limit disk room at spells some more within in
     let same : words ≡ saved = one_answer (answer (wanted_of b rows turns) bytes) words saved is back in
-    joins_at layer b rows count words r turns steps told retold had has e up joins old left now few spent shown (boots room) up.resumed disk within tells retells
-    (subst (λ (l : List ℕ). SavedAt (outside_of rows count) (system_of b rows) (loaded (system_of b rows) old) few spent l left shown) (sym same) at)
+    subst (λ (l : List ℕ). JoinsAt b rows count r l turns steps told retold made remade had has e) same (joins_at layer b rows count words r turns steps told retold made remade had has e up joins)
+    old left now few spent shown (boots room) up.resumed disk within tells retells at
 
-no_memory : {L : Type 0} (layer : L) (b : Booted) (rows : Rows) (turns count : ℕ) (bytes words : List ℕ) (fault : ResumeFault) → Resumes layer b rows turns count bytes (Err fault) → pages_needed b ≤ count →
+no_memory : {L : Type 0} (layer : L) (b : Booted) (rows : Rows) (turns count : ℕ) (bytes words : List ℕ) (fault : ResumeFault) → ResumesFile layer b rows turns count bytes (Err fault) → pages_needed b ≤ count →
     answer (wanted_of b rows turns) bytes ≡ Ok words → fault ≡ Save Memory
 no_memory layer b rows turns count bytes words (Save e) (inl memory) room is = ap Save memory
 no_memory layer b rows turns count bytes words (Save e) (inr fails) room is = absurd (no_answer (answer (wanted_of b rows turns) bytes) words e is fails)
 no_memory layer b rows turns count bytes words (SmallDisk need have) (other, back, wants, has, less) room is = absurd (omega (arith, wants, has, less, room))
 
-pub refused_joins : {L : Type 0} (layer : L) (b : Booted) (rows : Rows) (turns steps count : ℕ) (bytes : List ℕ) (told retold : Option (List (List ℕ))) (had has : Option (List ℕ)) (fault : ResumeFault) →
-    AreTakenUp b rows count → turns < 2 ^ 32 → steps < 2 ^ 64 → Resumes layer b rows turns count bytes (Err fault) → JoinsSaved b rows turns steps count bytes told retold had has (Err fault)
-refused_joins layer b rows turns steps count bytes told retold had has fault ups bits limit refused = λ old left now few spent saved shown disk room tells retells at spells some more within.
+pub refused_joins : {L : Type 0} (layer : L) (b : Booted) (rows : Rows) (turns steps count : ℕ) (bytes : List ℕ) (told retold : Option (List (List ℕ))) (made remade : ℕ) (had has : Option (List ℕ)) (fault : ResumeFault) →
+    AreTakenUp b rows count → turns < 2 ^ 32 → steps < 2 ^ 64 → ResumesFile layer b rows turns count bytes (Err fault) → JoinsSaved b rows turns steps count bytes told retold made remade had has (Err fault)
+refused_joins layer b rows turns steps count bytes told retold made remade had has fault ups bits limit refused = λ old left now few spent saved shown disk room tells retells at spells some more within.
     no_memory layer b rows turns count bytes saved fault refused room (read_back b rows turns steps count bytes old left few spent saved shown ups bits limit disk room at spells some more within)
 
 -- ANY WORDS
@@ -105,7 +105,7 @@ abbrev AnyAt : (rows : Rows) → (count : ℕ) → State → (more budget : ℕ)
 AnyAt rows count z more budget retold e = AnyEnds (outside_of rows count) z more budget false retold e
 
 pub any_so : {L : Type 0} (layer : L) (b : Booted) (rows : Rows) (turns steps count : ℕ) (bytes : List ℕ) (told retold : Option (List (List ℕ))) (r : Kept L) (e : RunEnd) → SavedOnce →
-    Resumes layer b rows turns count bytes (Ok r) → GoesOnAnyhow count r turns steps told retold e → GoesOnFromFile b rows turns steps count bytes told retold (Ok e)
+    ResumesFile layer b rows turns count bytes (Ok r) → GoesOnAnyhow count r turns steps told retold e → GoesOnFromFile b rows turns steps count bytes told retold (Ok e)
 any_so layer b rows turns steps count bytes told retold r e once (words, is, spelled, can, enough, up) goes = λ other left answers tells.
     let same : words ≡ other = one_answer (answer (wanted_of b rows turns) bytes) words other is answers in
     let z = state_of r.machine left in
@@ -137,7 +137,7 @@ any_told x z k total told DiskFault (inr h) = is_some told _ h.sectors
 any_told x z k total told SinkFault h = is_some told _ h.sectors
 
 pub told_so : {L : Type 0} (layer : L) (b : Booted) (rows : Rows) (turns steps count : ℕ) (bytes : List ℕ) (told retold : Option (List (List ℕ))) (r : Kept L) (e : RunEnd) →
-    Resumes layer b rows turns count bytes (Ok r) → GoesOnAnyhow count r turns steps told retold e → IsSome told → IsSome retold
+    ResumesFile layer b rows turns count bytes (Ok r) → GoesOnAnyhow count r turns steps told retold e → IsSome told → IsSome retold
 told_so layer b rows turns steps count bytes None retold r e taken goes h = absurd (cc)
 told_so layer b rows turns steps count bytes (Some left) retold r e (words, is, spelled, can, enough, up) goes h =
     any_told (outside_of r.machine.rows count) (state_of r.machine left) (turns - r.turns) (steps - r.machine.time) retold e (goes left up.resumed refl)

@@ -15,10 +15,10 @@ use Rattle.machine_save.specs.declared.resuming.ResumeFault.TheVariants.{Save, S
 
 -- WHAT IS ANSWERED, for what is booted, the rows of a schedule, the turns that are wanted and a disk of so many sectors: the run of the words that the
 -- bytes spell; what is wrong with the bytes; or, where nothing is, that the disk has too few sectors; or want of memory
-abbrev pub Resumes : {L : Type 0} → (layer : L) → Booted → Rows → (turns count : ℕ) → (bytes : List ℕ) → Result (Kept L) ResumeFault → Type 0
-Resumes layer boot rows turns count bytes (Ok r) =
+abbrev pub ResumesFile : {L : Type 0} → (layer : L) → Booted → Rows → (turns count : ℕ) → (bytes : List ℕ) → Result (Kept L) ResumeFault → Type 0
+ResumesFile layer boot rows turns count bytes (Ok r) =
     (words : List ℕ) × (answer (wanted_of boot rows turns) bytes ≡ Ok words) × (bytes ≡ flat_map word words) × CanBeResumed (wanted_of boot rows turns) words
     × (pages_needed boot ≤ count) × IsTakenUp layer boot rows count words r
-Resumes layer boot rows turns count bytes (Err (Save e)) = (e ≡ Memory) ⊎ (answer (wanted_of boot rows turns) bytes ≡ Err e)
-Resumes layer boot rows turns count bytes (Err (SmallDisk need have)) =
+ResumesFile layer boot rows turns count bytes (Err (Save e)) = (e ≡ Memory) ⊎ (answer (wanted_of boot rows turns) bytes ≡ Err e)
+ResumesFile layer boot rows turns count bytes (Err (SmallDisk need have)) =
     (words : List ℕ) × (answer (wanted_of boot rows turns) bytes ≡ Ok words) × (need ≡ pages_needed boot) × (have ≡ count) × (have < need)

@@ -3,7 +3,7 @@ use Rattle.std.specs.Prelude.{◌≡◌, ℕ, ◌-◌, ◌<◌, ◌≤◌, ◌�
 use Rattle.std.specs.List.{flat_map}
 use Rattle.cvm_words.specs.Bytes.{word}
 use Rattle.mips_table.specs.Device.{Outside}
-use Rattle.mips_table.specs.Machine.{State}
+use Rattle.mips_table.specs.Machine.{State, run}
 use Rattle.schedule_file.specs.Rows.{Rows}
 use Rattle.mips_machine.specs.Saved.{saved, CanBeSaved}
 use Rattle.mips_machine.specs.Steps.{outside_of}
@@ -19,7 +19,7 @@ use Rattle.boot_run.specs.LoadEnds.{pages_needed}
 use Rattle.boot_run.specs.Resuming.{SavedAt}
 use Rattle.boot_run.specs.Saving.{IsDisk, GoesOnAs}
 use Rattle.boot_run.specs.SavedFiles.{wanted_of}
-use Rattle.boot_run.specs.Whole.{ending_of_end}
+use Rattle.boot_run.specs.Whole.{CallsFrom, ending_of_end}
 use Rattle.machine_save.specs.declared.resuming.ResumeFault.{ResumeFault}
 use Rattle.machine_save.specs.declared.resuming.ResumeFault.TheVariants.{Save, SmallDisk}
 
@@ -34,13 +34,14 @@ ResumeAnswers boot rows turns count bytes (Err (SmallDisk need have)) =
 
 -- THE JOINT THEOREM: over a file and sectors that a saved run of a boot left, where no fewer turns and steps are given and the disk has the sectors that are
 -- needed, the call ends as that boot does, whose first part printed `shown`; or there was no memory
-abbrev pub JoinsSaved : Booted → Rows → (turns steps count : ℕ) → (bytes : List ℕ) → (told retold : Option (List (List ℕ))) → (had has : Option (List ℕ)) →
-    Result RunEnd ResumeFault → Type 0
-JoinsSaved boot rows turns steps count bytes told retold had has result =
+abbrev pub JoinsSaved : Booted → Rows → (turns steps count : ℕ) → (bytes : List ℕ) → (told retold : Option (List (List ℕ))) → (made remade : ℕ) →
+    (had has : Option (List ℕ)) → Result RunEnd ResumeFault → Type 0
+JoinsSaved boot rows turns steps count bytes told retold made remade had has result =
     (old left now : List (List ℕ)) (few spent : ℕ) (words shown : List ℕ) → IsDisk count old → pages_needed boot ≤ count →
-    told ≡ Some left → retold ≡ Some now → SavedAt (outside_of rows count) (system_of boot rows) (loaded (system_of boot rows) old) few spent words left shown →
+    told ≡ Some left → retold ≡ Some now → (w : SavedAt (outside_of rows count) (system_of boot rows) (loaded (system_of boot rows) old) few spent words left shown) →
     bytes ≡ flat_map word words → 1 ≤ few → few ≤ turns → spent ≤ steps →
-    MatchResult result (λ e. GoesOnAs (outside_of rows count) (system_of boot rows) old now turns steps shown had has (ending_of_end e))
+    MatchResult result (λ e. GoesOnAs (outside_of rows count) (system_of boot rows) old now turns steps
+    (CallsFrom (run (outside_of rows count) (loaded (system_of boot rows) old) w.at) made remade) shown had has (ending_of_end e))
     (λ fault. fault ≡ Save Memory)
 
 -- these words name a machine that was given this input, over these sectors, with its complete turns and its current user
@@ -66,11 +67,12 @@ GoesOnFromFile boot rows turns steps count bytes told retold result = (words : L
     answer (wanted_of boot rows turns) bytes ≡ Ok words → told ≡ Some left →
     IfOk result (GoesOnFrom (outside_of rows count) rows.inputs words left turns steps retold)
 
--- The call, by the disk and the sink before, and then by those after. The first three words tell the disk's size, its sectors and the sink's text.
-module _ {D O : Type 0} (size : D → ℕ) (sectors : D → Option (List (List ℕ))) (text : O → Option (List ℕ)) where
+-- The call, by the disk and the sink before, and then by those after. The first four words tell the disk's size, its sectors, its count of
+-- calls and the sink's text.
+module _ {D O : Type 0} (size : D → ℕ) (sectors : D → Option (List (List ℕ))) (called : D → ℕ) (text : O → Option (List ℕ)) where
   abbrev pub ResumedJoins : Booted → Rows → (turns steps : ℕ) → (bytes : List ℕ) → D → O → D → O → Result RunEnd ResumeFault → Type 0
   ResumedJoins boot rows turns steps bytes disk out redisk reout result =
-      JoinsSaved boot rows turns steps (size disk) bytes (sectors disk) (sectors redisk) (text out) (text reout) result
+      JoinsSaved boot rows turns steps (size disk) bytes (sectors disk) (sectors redisk) (called disk) (called redisk) (text out) (text reout) result
 
   abbrev pub ResumedGoesOn : Booted → Rows → (turns steps : ℕ) → (bytes : List ℕ) → D → D → Result RunEnd ResumeFault → Type 0
   ResumedGoesOn boot rows turns steps bytes disk redisk result = GoesOnFromFile boot rows turns steps (size disk) bytes (sectors disk) (sectors redisk) result

@@ -24,7 +24,7 @@ use Rattle.boot_run.specs.Resuming.{SavedAt}
 use Rattle.boot_run.specs.Saving.{HasHalted, EndsInTurn}
 use Rattle.boot_run.specs.Sink.{behind}
 use Rattle.boot_run.specs.Saving.{saved_run}
-use Rattle.boot_run.specs.Whole.{AnswerEnds, ending_of_answer}
+use Rattle.boot_run.specs.Whole.{AnswerEnds, WholeCalls, ending_of_answer}
 use Rattle.machine_save.specs.Room.{most_words}
 use Rattle.machine_save.specs.declared.saving.SavedEnd.{SavedEnd}
 use Rattle.machine_save.specs.declared.saving.SavedEnd.TheVariants.{Saved, ShelfFault, RowFault, Ended}
@@ -62,21 +62,22 @@ pub record IsSaved (x : Outside) (y : System) (s : State) (held most : ℕ) (old
   pub put : HoldsSaved file refile (flat_map word words) e
 
 -- HOW THE CALL ENDS: it stopped, and the state was put, or was to be; or it ends as the boot does, and then the machine has halted, or no report was begun
-abbrev pub SavedAnswerEnds : Outside → System → State → (held most : ℕ) → (old now : List (List ℕ)) → (turns steps : ℕ) →
+abbrev pub SavedAnswerEnds : Outside → System → State → (held most : ℕ) → (old now : List (List ℕ)) → (turns steps : ℕ) → (calls : State → Type 0) →
     (before after file refile : Option (List ℕ)) → Result SavedEnd LoadFault → Type 0
-SavedAnswerEnds x y s held most old now turns steps before after file refile (Ok (Ended e)) =
-    AnswerEnds x y s held old now Boot turns steps before after (Ok e) × (HasHalted x s turns steps ⊎ EndsInTurn x y s now turns steps (behind before) after e)
-SavedAnswerEnds x y s held most old now turns steps before after file refile (Ok e) =
+SavedAnswerEnds x y s held most old now turns steps calls before after file refile (Ok (Ended e)) =
+    AnswerEnds x y s held old now Boot turns steps calls before after (Ok e)
+    × (HasHalted x s turns steps ⊎ EndsInTurn x y s now turns steps calls (behind before) after e)
+SavedAnswerEnds x y s held most old now turns steps calls before after file refile (Ok e) =
     IsSaved x y s held most old now turns steps before after file refile e
-SavedAnswerEnds x y s held most old now turns steps before after file refile (Err fault) =
-    AnswerEnds x y s held old now Boot turns steps before after (Err fault)
+SavedAnswerEnds x y s held most old now turns steps calls before after file refile (Err fault) =
+    AnswerEnds x y s held old now Boot turns steps calls before after (Err fault)
 
 -- for what is booted, a schedule's rows and a disk of so many sectors, where it tells them before and after
-abbrev pub SaveRunEnds : Booted → Rows → ℕ → (turns steps : ℕ) → (told left : Option (List (List ℕ))) → (before after file refile : Option (List ℕ)) →
-    Result SavedEnd LoadFault → Type 0
-SaveRunEnds b rows count turns steps told left before after file refile result = (old now : List (List ℕ)) → told ≡ Some old → left ≡ Some now →
+abbrev pub SaveRunEnds : Booted → Rows → ℕ → (turns steps : ℕ) → (told left : Option (List (List ℕ))) → (made remade : ℕ) →
+    (before after file refile : Option (List ℕ)) → Result SavedEnd LoadFault → Type 0
+SaveRunEnds b rows count turns steps told left made remade before after file refile result = (old now : List (List ℕ)) → told ≡ Some old → left ≡ Some now →
     SavedAnswerEnds (outside_of rows count) (system_of b rows) (loaded (system_of b rows) old) (user_sectors (system_of b rows))
-    (most_words (memory_frames (map_of (boot_of b)))) old now turns steps before after file refile result
+    (most_words (memory_frames (map_of (boot_of b)))) old now turns steps (WholeCalls b rows old made remade) before after file refile result
 
 -- how an answer is told as one of a boot, where it can be
 abbrev pub ending_of_saved : Result SavedEnd LoadFault → Option Ending
@@ -102,9 +103,11 @@ IfUnput (Ok (Ended e)) P = P
 IfUnput (Ok e) P = ⊤
 IfUnput (Err fault) P = P
 
--- The call, by the name of the file, the shelf, the disk and the sink before, and then by those after. The first four words tell the shelf's files, the
--- disk's size, its sectors and the sink's text.
-module _ {S D O : Type 0} (file : S → List ℕ → Option (List ℕ)) (size : D → ℕ) (sectors : D → Option (List (List ℕ))) (text : O → Option (List ℕ)) where
+-- The call, by the name of the file, the shelf, the disk and the sink before, and then by those after. The first five words tell the shelf's files, the
+-- disk's size, its sectors, its count of calls and the sink's text.
+module _ {S D O : Type 0} (file : S → List ℕ → Option (List ℕ)) (size : D → ℕ) (sectors : D → Option (List (List ℕ))) (called : D → ℕ)
+    (text : O → Option (List ℕ)) where
   abbrev pub SavesRun : Booted → Rows → (turns steps : ℕ) → (name : List ℕ) → S → D → O → S → D → O → Result SavedEnd LoadFault → Type 0
   SavesRun boot rows turns steps name shelf disk out reshelf redisk reout result =
-      SaveRunEnds boot rows (size disk) turns steps (sectors disk) (sectors redisk) (text out) (text reout) (file shelf name) (file reshelf name) result
+      SaveRunEnds boot rows (size disk) turns steps (sectors disk) (sectors redisk) (called disk) (called redisk) (text out) (text reout)
+      (file shelf name) (file reshelf name) result

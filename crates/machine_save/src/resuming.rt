@@ -1,12 +1,12 @@
 // A run that is taken up from a file.
 
-ghost use Rattle.std.specs.Prelude.{◌≡◌, ◌≢◌, ◌*◌, ◌≤◌, length, IfErr, IfOk, IsSome, Ok};
-ghost use Rattle.cvm_outside.specs.Causes.{Rose};
+ghost use Rattle.std.specs.Prelude.{◌≡◌, ◌*◌, ◌≤◌, length, IfErr, IfOk, IsSome, Ok};
 ghost use Rattle.layer_map.specs.Map.{MapInRange, memory_frames};
 ghost use Rattle.cvm_model.specs.Cvm.{map_of};
 ghost use Rattle.layer_contract.specs.Boots.{BootFollows, boot_of};
+ghost use Rattle.boot_report.specs.Blames.{Blames};
 ghost use Rattle.boot_run.specs.Saving.{AreBoots};
-ghost use Rattle.machine_save.specs.Resume.{Resumes};
+ghost use Rattle.machine_save.specs.Resume.{ResumesFile};
 ghost use Rattle.machine_save.specs.ResumeRun.{ResumeAnswers, ResumedGoesOn, ResumedJoins};
 ghost use Rattle.machine_save.specs.SavedBoots.{BootsGoOn};
 ghost use Rattle.machine_save.specs.declared.resuming.ResumeFault.TheVariants.{Save};
@@ -87,7 +87,7 @@ pub fn resume<L: Layer + Drop, D: Sectors>(
     disk: &mut D,
 ) -> Result<Run<L>, ResumeFault>
     requires follows { BootFollows (L.image layer) (L.sizes layer) (L.map layer) boot }
-    ensures is { Resumes layer boot schedule turns (D.size disk.old) bytes.now result }
+    ensures is { ResumesFile layer boot schedule turns (D.size disk.old) bytes.now result }
     ensures boots { IfOk result (λ _. AreBoots boot schedule (D.size disk.old)) }
     ensures same { disk.new ≡ disk.old }
 {
@@ -121,16 +121,13 @@ pub fn resume_run<L: Layer + Drop, D: Sectors, O: Sink>(
 ) -> Result<RunEnd, ResumeFault>
     requires follows { BootFollows (L.image layer) (L.sizes layer) (L.map layer) boot }
     ensures answers { ResumeAnswers boot schedule turns (D.size disk.old) bytes.now result }
-    ensures joins { ResumedJoins D.size D.sectors O.text boot schedule turns steps bytes.now disk.old out.old disk.new out.new result }
+    ensures joins { ResumedJoins D.size D.sectors D.calls O.text boot schedule turns steps bytes.now disk.old out.old disk.new out.new result }
     ensures goes_on { BootsGoOn boot schedule (D.size disk.old) }
-    ensures any { ResumedGoesOn D.size D.sectors O.text boot schedule turns steps bytes.now disk.old disk.new result }
+    ensures any { ResumedGoesOn D.size D.sectors D.calls O.text boot schedule turns steps bytes.now disk.old disk.new result }
     ensures told { IsSome (D.sectors disk.old) → IsSome (D.sectors disk.new) }
     ensures still { IfErr result (λ _. (disk.new ≡ disk.old) × (out.new ≡ out.old)) }
     ensures size { D.size disk.new ≡ D.size disk.old }
-    ensures disk { result ≡ Ok RunEnd.DiskFault → Rose (D.faults disk.old) (D.faults disk.new) }
-    ensures disk_same { result ≢ Ok RunEnd.DiskFault → D.faults disk.new ≡ D.faults disk.old }
-    ensures sink { result ≡ Ok RunEnd.SinkFault → Rose (O.faults out.old) (O.faults out.new) }
-    ensures sink_same { result ≢ Ok RunEnd.SinkFault → O.faults out.new ≡ O.faults out.old }
+    ensures blame { Blames (result ≡ Ok RunEnd.DiskFault) (result ≡ Ok RunEnd.SinkFault) D.faults disk.old disk.new O.faults out.old out.new }
 {
     boots_hold(&layer, &boot, &schedule, disk);
     saved_machines_differ();

@@ -1,14 +1,14 @@
 // A boot that is to be saved: its state is put to a file where it stops, and else it ends as a boot does.
 
-ghost use Rattle.std.specs.Prelude.{◌≡◌, ◌≢◌, ℕ, ◌≤◌, IfOk, IfErr, IsSome, OnErr, Err, List};
+ghost use Rattle.std.specs.Prelude.{◌≡◌, ◌≢◌, ℕ, ◌≤◌, List};
 ghost use Rattle.cvm_outside.specs.Causes.{Rose};
 ghost use Rattle.layer_map.specs.Map.{memory_frames};
 ghost use Rattle.cvm_model.specs.Cvm.{map_of};
 ghost use Rattle.layer_contract.specs.Boots.{BootFollows, boot_of};
 ghost use Rattle.boot_turns.specs.declared.answers.View.TheVariants.{Boot as OfBoot};
-ghost use Rattle.boot_run.specs.LoadEnds.{HasRoom, LoadFails, pages_needed};
+ghost use Rattle.boot_report.specs.Blames.{Blames};
+ghost use Rattle.boot_run.specs.LoadEnds.{LoadsRun, pages_needed};
 ghost use Rattle.boot_run.specs.Whole.{WholeGoesOn, WholeStopped};
-ghost use Rattle.boot_run.specs.declared.load.LoadFault.TheVariants.{Disk as DiskFailed};
 ghost use Rattle.machine_save.specs.Room.{most_words};
 ghost use Rattle.machine_save.specs.SaveRun.{IfUnput, IsSavedDiskFault, IsSavedShelfFault, IsSavedSinkFault, PutsState, SavesRun, ShowsSaved};
 
@@ -56,22 +56,15 @@ pub fn save_run<L: Layer + Drop, S: Shelf, D: Sectors, O: Sink>(
     requires follows { BootFollows (L.image layer) (L.sizes layer) (L.map layer) boot }
     requires some { 1 ≤ turns }
     requires room { room.words ≡ most_words (memory_frames (map_of (boot_of boot))) }
-    ensures ends { SavesRun S.file D.size D.sectors O.text boot schedule turns steps name.now shelf.old disk.old out.old shelf.new disk.new out.new result }
+    ensures ends { SavesRun S.file D.size D.sectors D.calls O.text boot schedule turns steps name.now
+        shelf.old disk.old out.old shelf.new disk.new out.new result }
     ensures goes_on { WholeGoesOn boot schedule (D.size disk.old) (D.sectors disk.old) }
     ensures others { (n : List ℕ) → n ≢ name.now → S.file shelf.new n ≡ S.file shelf.old n }
     ensures unput { IfUnput result (shelf.new ≡ shelf.old) }
     ensures taken { S.taken shelf.new ≡ S.taken shelf.old }
-    ensures told { IsSome (D.sectors disk.old) → IsSome (D.sectors disk.new) }
-    ensures refused { IfErr result (LoadFails boot OfBoot (pages_needed boot) (D.size disk.old) (D.faults disk.old) (D.faults disk.new)) }
-    ensures stopped { result ≡ Err DiskFailed → WholeStopped boot schedule (D.sectors disk.old) (D.sectors disk.new) (D.calls disk.old) (D.calls disk.new) }
-    ensures loaded { IfOk result (λ _. HasRoom boot OfBoot (pages_needed boot) (D.size disk.old)) }
-    ensures unprinted { IfErr result (λ _. out.new ≡ out.old) }
-    ensures still { result ≢ Err DiskFailed → OnErr result (disk.new ≡ disk.old) }
-    ensures size { D.size disk.new ≡ D.size disk.old }
-    ensures disk { IsSavedDiskFault result → Rose (D.faults disk.old) (D.faults disk.new) }
-    ensures disk_same { (IsSavedDiskFault result → ⊥) → D.faults disk.new ≡ D.faults disk.old }
-    ensures sink { IsSavedSinkFault result → Rose (O.faults out.old) (O.faults out.new) }
-    ensures sink_same { (IsSavedSinkFault result → ⊥) → O.faults out.new ≡ O.faults out.old }
+    ensures loads { LoadsRun D.size D.sectors D.faults D.calls boot OfBoot (pages_needed boot) (WholeStopped boot schedule)
+        disk.old out.old disk.new out.new result }
+    ensures blame { Blames (IsSavedDiskFault result) (IsSavedSinkFault result) D.faults disk.old disk.new O.faults out.old out.new }
     ensures shelf { IsSavedShelfFault result → Rose (S.faults shelf.old) (S.faults shelf.new) }
     ensures shelf_same { (IsSavedShelfFault result → ⊥) → S.faults shelf.new ≡ S.faults shelf.old }
 {

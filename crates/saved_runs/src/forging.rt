@@ -8,17 +8,17 @@ use std::alloc::{AllocError, Global};
 /// How many words are set in a file of pseudo-random words.
 const WORDS_A_FILE: u32 = 8;
 
-/// The next state of a generator: a linear congruence modulo 2^32 (Numerical Recipes).
+// The next state of a generator: a linear congruence modulo 2^32 (Numerical Recipes).
 fn next(state: u32) -> u32 {
     state.wrapping_mul(1_664_525).wrapping_add(1_013_904_223)
 }
 
-/// A word of two states of the generator: the upper half of each, in this order.
+// A word of two states of the generator: the upper half of each, in this order.
 fn random_word(first: u32, second: u32) -> u32 {
     first / 65536 * 65536 + second / 65536
 }
 
-/// A copy of the file `f` with this word set.
+// A copy of the file `f` with this word set.
 fn put_word(
     alloc: Global,
     world: &mut World,
@@ -91,7 +91,7 @@ pub fn put_cuts(
     tally.put(out)
 }
 
-/// Sets eight words among so many to pseudo-random ones, and tells the generator's state behind them.
+// Sets eight words among so many to pseudo-random ones, and tells the generator's state behind them.
 fn scatter(bytes: &mut [u8], first: u32, count: u32, seed: u32) -> u32 {
     let mut state = seed;
     for _ in 0..WORDS_A_FILE {

@@ -33,7 +33,7 @@ use std::fmt::Write;
 use std::{env, fs, io, str};
 use turns::put_every;
 
-/// The number in the field with this number, from 0, of a line that is cut at spaces; 0 where there is none.
+// The number in the field with this number, from 0, of a line that is cut at spaces; 0 where there is none.
 fn number(line: &str, field: usize) -> u32 {
     line.split(' ')
         .nth(field)
@@ -42,7 +42,7 @@ fn number(line: &str, field: usize) -> u32 {
         .unwrap_or(0)
 }
 
-/// Places a file of so many zeros.
+// Places a file of so many zeros.
 fn place_room(
     alloc: Global,
     world: &mut World,
@@ -54,7 +54,7 @@ fn place_room(
     world.place(alloc, name, &zeros)
 }
 
-/// Runs a command, and prints its text and its status.
+// Runs a command, and prints its text and its status.
 fn put_run(
     alloc: Global,
     world: &mut World,
@@ -66,7 +66,7 @@ fn put_run(
     writeln!(out, "status {}", ended.code)
 }
 
-/// Places a file that is another one but for a word, or that is cut.
+// Places a file that is another one but for a word, or that is cut.
 fn forge(alloc: Global, world: &mut World, kind: &str, line: &str) -> Result<(), AllocError> {
     let name = line.split(' ').next().unwrap_or("");
     let mut bytes = world.bytes(alloc, name);
@@ -78,7 +78,7 @@ fn forge(alloc: Global, world: &mut World, kind: &str, line: &str) -> Result<(),
     world.place(alloc, "forged", &bytes)
 }
 
-/// Does what a case says.
+// Does what a case says.
 fn do_case(
     alloc: Global,
     world: &mut World,
@@ -111,7 +111,7 @@ fn do_case(
     }
 }
 
-/// The words are the names of files, whose cases are done.
+// The words are the names of files, whose cases are done.
 fn main(rt: HostRuntime) -> io::Result<()> {
     let alloc = rt.alloc();
     let mut out = String::new(alloc);

@@ -30,7 +30,7 @@ pub struct World {
     disk: MemSectors,
 }
 
-/// The words of a line, between blanks.
+// The words of a line, between blanks.
 fn words_of(alloc: Global, line: &str) -> Result<Vec<String>, AllocError> {
     let mut words = Vec::new(alloc);
     for word in line.split(' ') {
@@ -39,12 +39,12 @@ fn words_of(alloc: Global, line: &str) -> Result<Vec<String>, AllocError> {
     Ok(words)
 }
 
-/// A disk of zeros.
+// A disk of zeros.
 fn new_disk(alloc: Global) -> Result<MemSectors, AllocError> {
     MemSectors::new(alloc, SECTORS, Vec::new(alloc))
 }
 
-/// The words of a sector; zeros where there is none.
+// The words of a sector; zeros where there is none.
 fn sector_of(disk: &mut MemSectors, sector: u32) -> [u32; 1024] {
     let mut words = [0; 1024];
     if sector < disk.count() && disk.read(sector, &mut words).is_err() {
@@ -53,7 +53,7 @@ fn sector_of(disk: &mut MemSectors, sector: u32) -> [u32; 1024] {
     words
 }
 
-/// Writes a sector of one disk to the same of another.
+// Writes a sector of one disk to the same of another.
 fn copy_sector(from: &mut MemSectors, to: &mut MemSectors, sector: u32) {
     let words = sector_of(from, sector);
     if sector < to.count() {

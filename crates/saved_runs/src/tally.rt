@@ -20,13 +20,13 @@ const HEAD: u32 = 56;
 /// How many words stand between the log and memory: the buffer's.
 const BUFFER: u32 = 1024;
 
-/// The number in the field with this number, from 0, of a row that is cut at spaces; 0 where there is none.
+// The number in the field with this number, from 0, of a row that is cut at spaces; 0 where there is none.
 fn field(text: &str, number: usize) -> u32 {
     let field = text.split(' ').nth(number).unwrap_or("");
     field.trim_end().parse::<u32>().unwrap_or(0)
 }
 
-/// The word of a file at this place of memory.
+// The word of a file at this place of memory.
 fn memory_word(bytes: &[u8], place: u32) -> u32 {
     let log = word_of(bytes, HEAD - 1);
     let first = HEAD.saturating_add(log).saturating_add(BUFFER);

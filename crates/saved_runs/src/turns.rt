@@ -15,7 +15,7 @@ struct Booted {
     disk: MemSectors,
 }
 
-/// The third and fourth word of a line: turns and steps.
+// The third and fourth word of a line: turns and steps.
 fn limits(line: &str) -> (&str, &str) {
     let mut words = line.split(' ').skip(2);
     let turns = words.next().unwrap_or("");
@@ -23,7 +23,7 @@ fn limits(line: &str) -> (&str, &str) {
     (turns, steps)
 }
 
-/// Boots `img` under `s` over a new disk.
+// Boots `img` under `s` over a new disk.
 fn boot(alloc: Global, world: &mut World, line: &str) -> Result<Option<Booted>, AllocError> {
     let (turns, steps) = limits(line);
     world.change_disk(alloc)?;
@@ -38,7 +38,7 @@ fn boot(alloc: Global, world: &mut World, line: &str) -> Result<Option<Booted>, 
     }))
 }
 
-/// Whether a save after so many turns and a resume come to what the boot came to, over a new disk.
+// Whether a save after so many turns and a resume come to what the boot came to, over a new disk.
 fn joins(
     alloc: Global,
     world: &mut World,

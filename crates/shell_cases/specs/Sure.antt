@@ -2,16 +2,16 @@
 use Rattle.std.specs.Prelude.{◌≡◌, ℕ, List, None}
 use Rattle.cvm_outside.specs.Told.{TOO_LONG}
 use Rattle.cvm_shell.specs.Refusal.{too_long}
-use Rattle.cvm_shell.specs.Plan.{Plan, refuses, ComesTo}
+use Rattle.cvm_shell.specs.Plan.{Plan, refuses, PlanComesTo}
 use Rattle.cvm_shell.specs.Outcome.{NeedsMore}
 
 -- these words come to the refusal of a file that is too long, of which the last `get` took 67,108,865 bytes
 pub record IsTooLong (words : List (List ℕ)) (taken : ℕ) : Type 0 where
-  pub comes : ComesTo words (λ name. None) (refuses too_long)
+  pub comes : PlanComesTo words (λ name. None) (refuses too_long)
   pub taken_is : taken ≡ TOO_LONG
 
 -- these words come to the run of a system that needs more sectors
 pub record IsTooSmall (words : List (List ℕ)) (sectors : ℕ) : Type 0 where
   pub plan : Plan
-  pub comes : ComesTo words (λ name. None) plan
+  pub comes : PlanComesTo words (λ name. None) plan
   pub more : NeedsMore plan sectors

@@ -5,7 +5,7 @@ use case_file::Case;
 use std::alloc::{AllocError, Global};
 use std::fmt::Write;
 
-/// A text with a number in the place of each `@`.
+// A text with a number in the place of each `@`.
 fn with_number(alloc: Global, text: &[u8], number: u32) -> Result<Vec<u8>, AllocError> {
     let digits = format!(in alloc; "{number}")?;
     let mut bytes = Vec::new(alloc);
@@ -19,7 +19,7 @@ fn with_number(alloc: Global, text: &[u8], number: u32) -> Result<Vec<u8>, Alloc
     Ok(bytes)
 }
 
-/// Prints how often a text came in succession, and the text.
+// Prints how often a text came in succession, and the text.
 fn put_times(out: &mut String, count: u32, text: &str) -> Result<(), AllocError> {
     if count > 0 {
         writeln!(out, "{count} x")?;

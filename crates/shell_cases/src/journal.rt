@@ -2,7 +2,7 @@
 use std::alloc::AllocError;
 use std::str;
 
-/// Whether a row ends what is said of a run.
+// Whether a row ends what is said of a run.
 fn ends(row: &str) -> bool {
     row == "halted" || row == "stopped" || row.starts_with("fault ")
 }

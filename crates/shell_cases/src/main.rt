@@ -68,7 +68,7 @@ struct Options {
     alter: Option<Alteration>,
 }
 
-/// Reads the numbers of a text that stand between blanks.
+// Reads the numbers of a text that stand between blanks.
 fn numbers(alloc: Global, text: &str) -> Result<Vec<u64>, AllocError> {
     let mut numbers = Vec::new(alloc);
     for word in text.split(' ') {
@@ -79,7 +79,7 @@ fn numbers(alloc: Global, text: &str) -> Result<Vec<u64>, AllocError> {
     Ok(numbers)
 }
 
-/// The alteration that a text's sector, place and word say.
+// The alteration that a text's sector, place and word say.
 fn alteration_in(text: &str) -> Option<Alteration> {
     let mut words = text.split(' ');
     let sector = words.next()?.parse::<u32>().ok()?;
@@ -92,7 +92,7 @@ fn alteration_in(text: &str) -> Option<Alteration> {
     })
 }
 
-/// Reads the lines of a case.
+// Reads the lines of a case.
 fn read_options(alloc: Global, lines: &str) -> Result<Options, AllocError> {
     let mut options = Options {
         shelf: Vec::new(alloc),
@@ -118,7 +118,7 @@ fn read_options(alloc: Global, lines: &str) -> Result<Options, AllocError> {
     Ok(options)
 }
 
-/// A new outside.
+// A new outside.
 fn world_of(alloc: Global, lines: &[u8]) -> Result<World, AllocError> {
     let options = read_options(alloc, str::from_utf8(lines).unwrap_or(""))?;
     let sink = match options.room {
@@ -137,7 +137,7 @@ fn world_of(alloc: Global, lines: &[u8]) -> Result<World, AllocError> {
     })
 }
 
-/// Prints bytes: printed ASCII as it is, and `\xHH` for each other one.
+// Prints bytes: printed ASCII as it is, and `\xHH` for each other one.
 fn put_bytes(out: &mut String, bytes: &[u8]) -> Result<(), AllocError> {
     for byte in bytes {
         if *byte >= b' ' && *byte <= b'~' && *byte != b'\\' {
@@ -149,7 +149,7 @@ fn put_bytes(out: &mut String, bytes: &[u8]) -> Result<(), AllocError> {
     Ok(())
 }
 
-/// Prints the text of a command, and that its last line was cut off.
+// Prints the text of a command, and that its last line was cut off.
 fn put_text(out: &mut String, text: &[u8]) -> Result<(), AllocError> {
     out.push_str(str::from_utf8(text).unwrap_or("(no text)"))?;
     if !text.is_empty() && text.last() != Some(&b'\n') {
@@ -158,7 +158,7 @@ fn put_text(out: &mut String, text: &[u8]) -> Result<(), AllocError> {
     Ok(())
 }
 
-/// The words of a line, between blanks.
+// The words of a line, between blanks.
 fn words_of(alloc: Global, line: &str) -> Result<Vec<String>, AllocError> {
     let mut words = Vec::new(alloc);
     if !line.is_empty() {
@@ -169,7 +169,7 @@ fn words_of(alloc: Global, line: &str) -> Result<Vec<String>, AllocError> {
     Ok(words)
 }
 
-/// Prints what the sink took since it was shown.
+// Prints what the sink took since it was shown.
 fn put_shown(world: &mut World, out: &mut String) -> Result<(), AllocError> {
     let text = world.sink.bytes();
     put_text(out, text.get(world.shown..).unwrap_or(b""))?;
@@ -178,7 +178,7 @@ fn put_shown(world: &mut World, out: &mut String) -> Result<(), AllocError> {
     Ok(())
 }
 
-/// Runs a command.
+// Runs a command.
 fn run_words(
     alloc: Global,
     world: &mut World,
@@ -197,7 +197,7 @@ fn run_words(
     writeln!(out, "status {}", status.code())
 }
 
-/// Runs a trace, and prints what it says of the user's calls.
+// Runs a trace, and prints what it says of the user's calls.
 fn run_journal(
     alloc: Global,
     world: &mut World,
@@ -219,7 +219,7 @@ fn run_journal(
     writeln!(out, "status {}", status.code())
 }
 
-/// Runs a command over copies of its files, where no call fails.
+// Runs a command over copies of its files, where no call fails.
 fn run_sure(
     alloc: Global,
     world: &mut World,
@@ -232,7 +232,7 @@ fn run_sure(
     writeln!(out, "status {}", status.code())
 }
 
-/// Loads the system of a boot, and asks for its turns one by one.
+// Loads the system of a boot, and asks for its turns one by one.
 fn run_turns(
     alloc: Global,
     world: &mut World,
@@ -268,7 +268,7 @@ fn run_turns(
     put_shown(world, out)
 }
 
-/// Prints the bytes of a file.
+// Prints the bytes of a file.
 fn show_file(
     alloc: Global,
     world: &mut World,
@@ -282,7 +282,7 @@ fn show_file(
     out.push('\n')
 }
 
-/// Prints bytes of a file: its name, the first byte's place and their number stand between blanks.
+// Prints bytes of a file: its name, the first byte's place and their number stand between blanks.
 fn show_part(
     alloc: Global,
     world: &mut World,
@@ -303,7 +303,7 @@ fn show_part(
     out.push('\n')
 }
 
-/// Prints the source of an object, and how many words it has.
+// Prints the source of an object, and how many words it has.
 fn show_object(
     alloc: Global,
     world: &mut World,
@@ -323,7 +323,7 @@ fn show_object(
     }
 }
 
-/// Prints the words of a sector that aren't 0.
+// Prints the words of a sector that aren't 0.
 fn show_sector(world: &mut World, out: &mut String, number: &str) -> Result<(), AllocError> {
     let mut words = [0; 1024];
     let sector = number.parse::<u32>().unwrap_or(0);
@@ -338,7 +338,7 @@ fn show_sector(world: &mut World, out: &mut String, number: &str) -> Result<(), 
     Ok(())
 }
 
-/// Places a file of so many zeros.
+// Places a file of so many zeros.
 fn place_zeros(
     alloc: Global,
     world: &mut World,
@@ -350,7 +350,7 @@ fn place_zeros(
     world.shelf.place(alloc, name, &zeros)
 }
 
-/// Turns the lowest bit of a byte of a file.
+// Turns the lowest bit of a byte of a file.
 fn flip_bit(alloc: Global, world: &mut World, name: &str, place: &[u8]) -> Result<(), AllocError> {
     let place = str::from_utf8(place).unwrap_or("").parse::<usize>();
     let Ok(mut bytes) = world.shelf.get(alloc, name) else {
@@ -362,7 +362,7 @@ fn flip_bit(alloc: Global, world: &mut World, name: &str, place: &[u8]) -> Resul
     world.shelf.place(alloc, name, &bytes)
 }
 
-/// Places the file `forged`: the first bytes of a file, as many as stand behind its name, with zeros where it has fewer.
+// Places the file `forged`: the first bytes of a file, as many as stand behind its name, with zeros where it has fewer.
 fn cut_file(alloc: Global, world: &mut World, line: &str) -> Result<(), AllocError> {
     let (name, count) = line.split_once(' ').unwrap_or((line, ""));
     let Ok(mut bytes) = world.shelf.get(alloc, name) else {
@@ -372,7 +372,7 @@ fn cut_file(alloc: Global, world: &mut World, line: &str) -> Result<(), AllocErr
     world.shelf.place(alloc, "forged", &bytes)
 }
 
-/// Places the file `forged`: a file with another word at a place, which stand behind its name, the place first.
+// Places the file `forged`: a file with another word at a place, which stand behind its name, the place first.
 fn set_word(alloc: Global, world: &mut World, line: &str) -> Result<(), AllocError> {
     let (name, rest) = line.split_once(' ').unwrap_or((line, ""));
     let (place, value) = rest.split_once(' ').unwrap_or((rest, ""));
@@ -389,7 +389,7 @@ fn set_word(alloc: Global, world: &mut World, line: &str) -> Result<(), AllocErr
     world.shelf.place(alloc, "forged", &bytes)
 }
 
-/// Puts a new disk of so many sectors in the place of the one there.
+// Puts a new disk of so many sectors in the place of the one there.
 fn change_disk(alloc: Global, world: &mut World, count: &str) -> Result<(), AllocError> {
     let sectors = count.parse::<u32>().unwrap_or(0);
     let disk = MemSectors::new(alloc, sectors, Vec::new(alloc))?;
@@ -397,7 +397,7 @@ fn change_disk(alloc: Global, world: &mut World, count: &str) -> Result<(), Allo
     Ok(())
 }
 
-/// Places a file with the bytes of a file of the folder.
+// Places a file with the bytes of a file of the folder.
 fn place_host(rt: &HostRuntime, world: &mut World, part: &Case) -> io::Result<()> {
     let text = fs::read_to_string(rt, str::from_utf8(&part.source).unwrap_or(""))?;
     world
@@ -406,7 +406,7 @@ fn place_host(rt: &HostRuntime, world: &mut World, part: &Case) -> io::Result<()
     Ok(())
 }
 
-/// Says whether the text of the last command is that of a file of the folder.
+// Says whether the text of the last command is that of a file of the folder.
 fn put_same(rt: &HostRuntime, world: &World, out: &mut String, path: &str) -> io::Result<()> {
     let text = fs::read_to_string(rt, path)?;
     let same = world.sink.bytes().get(world.before..world.shown) == Some(text.as_bytes());
@@ -418,7 +418,7 @@ fn put_same(rt: &HostRuntime, world: &World, out: &mut String, path: &str) -> io
     Ok(())
 }
 
-/// Does what a part of a case says.
+// Does what a part of a case says.
 fn do_part(
     alloc: Global,
     world: &mut World,
@@ -456,7 +456,7 @@ fn do_part(
     Ok(())
 }
 
-/// The words are the names of files, whose cases are tried.
+// The words are the names of files, whose cases are tried.
 fn main(rt: HostRuntime) -> io::Result<()> {
     let alloc = rt.alloc();
     let mut out = String::new(alloc);

@@ -7,7 +7,7 @@ use layer_contract::Layer;
 use std::alloc::AllocError;
 use std::fmt::Write;
 
-/// Prints an answer, and how often it came in succession.
+// Prints an answer, and how often it came in succession.
 fn put_answer(
     out: &mut String,
     answer: Result<Turn, RunFault>,

@@ -24,7 +24,7 @@ pub fn run_surely(
     run(alloc, words, shelf, sink, disk)
 }
 
-/// A shelf with the files that have these names on another.
+// A shelf with the files that have these names on another.
 fn copied(
     alloc: Global,
     names: &Vec<String>,

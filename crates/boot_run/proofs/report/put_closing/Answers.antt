@@ -4,7 +4,7 @@ use Rattle.cvm_outside.proofs.Parts.{part-front}
 use Rattle.mips_machine.specs.Machine.{state_of}
 use Rattle.cvm_model.specs.Paged.{paged_of}
 use Rattle.boot_report.specs.Texts.{users_rows}
-use Rattle.boot_report.specs.Leaves.{Printed}
+use Rattle.boot_report.specs.Leaves.{PrintsAll}
 use Rattle.boot_report.proofs.Leaves.{broken}
 use Rattle.boot_run.specs.Report.{kernel_rows, runs_now}
 use Rattle.boot_run.proofs.Rows.{then_printed}
@@ -25,5 +25,5 @@ returns-clause-put g c = λ ss e f.
     let mid = g.O.Sink.text c.put_kernel.new.out in
     let last = g.O.Sink.text c.put_users.new.out in
     then_printed (g.O.Sink.text c.args.out.now) mid last first _ c.put_users.result c.in_ok-put_kernel.ensures.ok
-    (subst (λ u. Printed mid last (users_rows c.args.places.now.map c.args.machine.now paged u c.args.places.now.map.users) c.put_users.result)
+    (subst (λ u. PrintsAll mid last (users_rows c.args.places.now.map c.args.machine.now paged u c.args.places.now.map.users) c.put_users.result)
     c.runs_now-running.ensures (c.put_users.ensures.put ss e f))

@@ -5,7 +5,7 @@ use Rattle.mips_machine.specs.Machine.{state_of}
 use Rattle.cvm_model.specs.Paged.{paged_of}
 use Rattle.cvm_model.specs.Text.{steps_row}
 use Rattle.boot_report.specs.Texts.{rows_of_user}
-use Rattle.boot_report.specs.Leaves.{Printed}
+use Rattle.boot_report.specs.Leaves.{PrintsAll}
 use Rattle.boot_report.proofs.Leaves.{broken}
 use Rattle.boot_run.specs.Report.{end_row, runs_now}
 use Rattle.boot_run.proofs.Rows.{front_part, part_behind, then_printed, of_err}
@@ -28,9 +28,9 @@ returns-clause-put g c = λ ss e f.
     let mid = g.O.Sink.text c.put_last.new.out in
     let last = g.O.Sink.text c.put_user_rows.new.out in
     let rows = rows_of_user c.args.map.now c.args.machine.now paged (runs_now c.args.halted c.args.current) c.args.tracer.user in
-    subst (λ w. Printed old last w c.put_user_rows.result) (append_assoc a b rows)
+    subst (λ w. PrintsAll old last w c.put_user_rows.result) (append_assoc a b rows)
     (then_printed old mid last (a ++ b) rows c.put_user_rows.result c.in_ok-put_last.ensures.ok
-    (subst (λ n. Printed mid last (rows_of_user c.args.map.now c.args.machine.now paged n c.args.tracer.user) c.put_user_rows.result)
+    (subst (λ n. PrintsAll mid last (rows_of_user c.args.map.now c.args.machine.now paged n c.args.tracer.user) c.put_user_rows.result)
     c.runs_now-running.ensures (c.put_user_rows.ensures.put ss e f)))
 
 pub returns-clause-rows : goal.returns-clause-rows

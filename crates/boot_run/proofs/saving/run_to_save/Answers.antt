@@ -5,8 +5,9 @@ use Rattle.mips_machine.specs.Steps.{outside_of}
 use Rattle.layer_contract.specs.Follows.{loaded}
 use Rattle.layer_contract.specs.Starts.{user_sectors}
 use Rattle.boot_turns.specs.declared.answers.View.TheVariants.{Boot}
-use Rattle.boot_run.specs.Loading.{system_of, user_pages}
+use Rattle.boot_run.specs.Loading.{calls_made, system_of, user_pages}
 use Rattle.boot_run.specs.LoadEnds.{pages_needed}
+use Rattle.boot_run.specs.Whole.{WholeCalls}
 use Rattle.boot_run.proofs.Loads.{needed_is}
 use Rattle.boot_run.proofs.Booting.{load_stopped, refused, refused_told}
 use Rattle.boot_run.proofs.ToSave.{saves_so, saves_told, save_disk, save_sink, no_save_disk, no_save_sink, load_rose, no_load_disk, no_load_sink}
@@ -17,33 +18,52 @@ returns-in_err-run-clause-ends g c =
     let w = err_from_is_err_and c.from_residual.result c.from_residual.ensures.1 in
     rw (w.1, w.2)
     (refused (outside_of c.args.schedule (g.D.Sectors.size c.args.disk.now)) (system_of c.args.boot c.args.schedule) (loaded (system_of c.args.boot c.args.schedule)) (user_sectors (system_of c.args.boot c.args.schedule))
-    Boot c.args.turns c.args.steps (g.D.Sectors.sectors c.args.disk.now) (g.D.Sectors.sectors c.load.new.disk) (g.O.Sink.text c.args.out.now) (g.O.Sink.text c.args.out.now) refl
+    Boot c.args.turns c.args.steps (g.D.Sectors.sectors c.args.disk.now) (g.D.Sectors.sectors c.load.new.disk)
+    (λ old. WholeCalls c.args.boot c.args.schedule old (g.D.Sectors.calls c.args.disk.now) (g.D.Sectors.calls c.load.new.disk)) (g.O.Sink.text c.args.out.now) (g.O.Sink.text c.args.out.now) refl
     c.in_err-run.field-0.0 (λ ne. ap g.D.Sectors.sectors (c.in_err-run.ensures.still (λ q. ne (let h = q in cc)))))
 
-pub returns-in_err-run-clause-stopped : goal.returns-in_err-run-clause-stopped
-returns-in_err-run-clause-stopped g c = λ e.
+pub returns-in_err-run-clause-loads : goal.returns-in_err-run-clause-loads
+returns-in_err-run-clause-loads g c =
     let w = err_from_is_err_and c.from_residual.result c.from_residual.ensures.1 in
-    load_stopped (loaded (system_of c.args.boot c.args.schedule)) (pages_needed c.args.boot) (user_sectors (system_of c.args.boot c.args.schedule)) (user_pages (system_of c.args.boot c.args.schedule)).live (g.D.Sectors.sectors c.args.disk.now) (g.D.Sectors.sectors c.load.new.disk) (g.D.Sectors.calls c.args.disk.now) (g.D.Sectors.calls c.load.new.disk)
-    (sym (needed_is c.args.boot c.args.schedule)) (c.in_err-run.ensures.torn (let h = e in let i = w.1 in let j = w.2 in cc))
-
-pub returns-in_err-run-clause-told : goal.returns-in_err-run-clause-told
-returns-in_err-run-clause-told g c =
-    refused_told (pages_needed c.args.boot) (λ ss. (loaded (system_of c.args.boot c.args.schedule) ss).device.sectors) (user_pages (system_of c.args.boot c.args.schedule)).live (g.D.Sectors.sectors c.args.disk.now) (g.D.Sectors.sectors c.load.new.disk) (g.D.Sectors.calls c.args.disk.now) (g.D.Sectors.calls c.load.new.disk)
-    c.in_err-run.field-0.0 (λ ne. ap g.D.Sectors.sectors (c.in_err-run.ensures.still (λ q. ne (let h = q in cc)))) (λ e. c.in_err-run.ensures.torn (let h = e in cc))
+    rw (w.1, w.2)
+    (record {
+      refused = c.in_err-run.ensures.fault;
+      stopped = λ e. load_stopped (loaded (system_of c.args.boot c.args.schedule)) (pages_needed c.args.boot) (user_sectors (system_of c.args.boot c.args.schedule)) (user_pages (system_of c.args.boot c.args.schedule)).live (g.D.Sectors.sectors c.args.disk.now) (g.D.Sectors.sectors c.load.new.disk)
+          (g.D.Sectors.calls c.args.disk.now) (g.D.Sectors.calls c.load.new.disk) (sym (needed_is c.args.boot c.args.schedule)) (c.in_err-run.ensures.torn (let h = e in cc));
+      loaded = tt;
+      unprinted = refl;
+      still = λ ne. c.in_err-run.ensures.still (λ q. ne (let h = q in cc));
+      same_size = c.in_err-run.ensures.size;
+      told = refused_told (pages_needed c.args.boot) (λ ss. (loaded (system_of c.args.boot c.args.schedule) ss).device.sectors) (user_pages (system_of c.args.boot c.args.schedule)).live (g.D.Sectors.sectors c.args.disk.now) (g.D.Sectors.sectors c.load.new.disk)
+          (g.D.Sectors.calls c.args.disk.now) (g.D.Sectors.calls c.load.new.disk) c.in_err-run.field-0.0 (λ ne. ap g.D.Sectors.sectors (c.in_err-run.ensures.still (λ q. ne (let h = q in cc)))) (λ e. c.in_err-run.ensures.torn (let h = e in cc));
+    })
 
 pub returns-clause-ends : goal.returns-clause-ends
 returns-clause-ends g c =
     saves_so c.args.layer c.args.boot c.args.schedule (pages_needed c.args.boot) (g.D.Sectors.size c.args.disk.now) (g.D.Sectors.size c.load.new.disk) c.args.turns c.args.steps
-    (g.D.Sectors.sectors c.args.disk.now) (g.D.Sectors.sectors c.load.new.disk) (g.D.Sectors.sectors c.run_to_stop-end.new.disk) (g.O.Sink.text c.args.out.now) (g.O.Sink.text c.run_to_stop-end.new.out)
+    (g.D.Sectors.sectors c.args.disk.now) (g.D.Sectors.sectors c.load.new.disk) (g.D.Sectors.sectors c.run_to_stop-end.new.disk)
+    (g.D.Sectors.calls c.args.disk.now) (g.D.Sectors.calls c.run_to_stop-end.new.disk) (g.D.Sectors.calls c.load.new.disk) (g.O.Sink.text c.args.out.now) (g.O.Sink.text c.run_to_stop-end.new.out)
     c.in_ok-run.run' c.run_to_stop-end.new.run c.run_to_stop-end.result c.in_ok-run.ensures.fresh c.in_ok-run.ensures.size c.requires.some
-    (λ old is. c.premises_hold.ensures old is c.in_ok-run.ensures.fresh.has_room.room) c.in_ok-run.ensures.ready c.run_to_stop-end.ensures.ends
+    (λ old is. c.premises_hold.ensures old is c.in_ok-run.ensures.fresh.has_room.room) c.in_ok-run.ensures.ready
+    (c.in_ok-run.ensures.calls ∙ ap (λ n. calls_made (user_pages (system_of c.args.boot c.args.schedule)).live n (g.D.Sectors.calls c.args.disk.now)) (sym (needed_is c.args.boot c.args.schedule)))
+    c.run_to_stop-end.ensures.ends
 
-pub returns-clause-told : goal.returns-clause-told
-returns-clause-told g c =
-    saves_told c.args.layer c.args.boot c.args.schedule (pages_needed c.args.boot) (g.D.Sectors.size c.args.disk.now) (g.D.Sectors.size c.load.new.disk) c.args.turns c.args.steps
-    (g.D.Sectors.sectors c.args.disk.now) (g.D.Sectors.sectors c.load.new.disk) (g.D.Sectors.sectors c.run_to_stop-end.new.disk) (g.O.Sink.text c.args.out.now) (g.O.Sink.text c.run_to_stop-end.new.out)
-    c.in_ok-run.run' c.run_to_stop-end.new.run c.run_to_stop-end.result c.in_ok-run.ensures.fresh c.in_ok-run.ensures.size c.requires.some
-    (λ old is. c.premises_hold.ensures old is c.in_ok-run.ensures.fresh.has_room.room) c.in_ok-run.ensures.ready c.run_to_stop-end.ensures.ends
+pub returns-clause-loads : goal.returns-clause-loads
+returns-clause-loads g c = record {
+  refused = tt;
+  stopped = λ e. absurd (cc);
+  loaded = c.in_ok-run.ensures.fresh.has_room;
+  unprinted = tt;
+  still = λ ne. tt;
+  same_size = c.run_to_stop-end.ensures.size ∙ c.in_ok-run.ensures.size;
+  told = saves_told c.args.layer c.args.boot c.args.schedule (pages_needed c.args.boot) (g.D.Sectors.size c.args.disk.now) (g.D.Sectors.size c.load.new.disk) c.args.turns c.args.steps
+      (g.D.Sectors.sectors c.args.disk.now) (g.D.Sectors.sectors c.load.new.disk) (g.D.Sectors.sectors c.run_to_stop-end.new.disk)
+      (g.D.Sectors.calls c.args.disk.now) (g.D.Sectors.calls c.run_to_stop-end.new.disk) (g.D.Sectors.calls c.load.new.disk) (g.O.Sink.text c.args.out.now) (g.O.Sink.text c.run_to_stop-end.new.out)
+      c.in_ok-run.run' c.run_to_stop-end.new.run c.run_to_stop-end.result c.in_ok-run.ensures.fresh c.in_ok-run.ensures.size c.requires.some
+      (λ old is. c.premises_hold.ensures old is c.in_ok-run.ensures.fresh.has_room.room) c.in_ok-run.ensures.ready
+      (c.in_ok-run.ensures.calls ∙ ap (λ n. calls_made (user_pages (system_of c.args.boot c.args.schedule)).live n (g.D.Sectors.calls c.args.disk.now)) (sym (needed_is c.args.boot c.args.schedule)))
+      c.run_to_stop-end.ensures.ends;
+}
 
 pub returns-clause-memory : goal.returns-clause-memory
 returns-clause-memory g c = λ stopped. c.run_to_stop-end.ensures.memory stopped ∙ c.in_ok-run.ensures.memory

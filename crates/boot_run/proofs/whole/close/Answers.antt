@@ -3,7 +3,7 @@ use Rattle.mips_machine.specs.Machine.{Held}
 use Rattle.boot_run.specs.TurnCalls.{around}
 use Rattle.boot_run.specs.declared.whole.RunEnd.{RunEnd}
 use Rattle.boot_run.specs.Shown.{has_faulted}
-use Rattle.boot_run.specs.Whole.{CloseRuns}
+use Rattle.boot_run.specs.Pieces.{CloseRuns}
 use Rattle.boot_run.specs.AnyRun.{is_faulted}
 use Rattle.boot_run.proofs.AnyEnding.{fault_is}
 use Rattle.boot_run.proofs.Ending.{closes_done, closes_failed}

@@ -3,9 +3,10 @@ use Rattle.std.proofs.lemmas.Result.{err_from_is_err_and}
 use Rattle.cvm_outside.specs.Causes.{Rose}
 use Rattle.mips_machine.specs.Steps.{outside_of}
 use Rattle.boot_turns.specs.Rom.{rom_loaded, rom_sectors, rom_steps}
-use Rattle.boot_run.specs.Loading.{system_of, rom_pages}
+use Rattle.boot_run.specs.Loading.{system_of, rom_pages, calls_made}
 use Rattle.boot_run.specs.LoadEnds.{rom_needed}
-use Rattle.boot_run.specs.Whole.{AnswerEnds, Bootable, LoadStopped, rom_start_of}
+use Rattle.boot_run.specs.Whole.{AnswerEnds, CallsFrom, LoadStopped, rom_start_of}
+use Rattle.boot_run.specs.Pieces.{Bootable}
 use Rattle.boot_run.proofs.RomLoads.{rom_needed_is}
 use Rattle.boot_run.proofs.Looping.{machines}
 use Rattle.boot_run.proofs.Booting.{load_stopped, refused, refused_told, ran_so, whole_told, end_disk, end_sink, disk_end, sink_end, within_more}
@@ -15,12 +16,13 @@ pub returns-in_err-run-clause-ends : goal.returns-in_err-run-clause-ends
 returns-in_err-run-clause-ends g c =
     let w = err_from_is_err_and c.from_residual.result c.from_residual.ensures.1 in
     let so = refused (outside_of c.args.schedule (g.D.Sectors.size c.args.disk.now)) (system_of c.args.boot c.args.schedule) (rom_loaded (system_of c.args.boot c.args.schedule) c.args.rom.now.items) (rom_sectors (system_of c.args.boot c.args.schedule))
-    c.args.view c.args.turns c.args.steps (g.D.Sectors.sectors c.args.disk.now) (g.D.Sectors.sectors c.load_rom.new.disk) (g.O.Sink.text c.args.out.now) (g.O.Sink.text c.args.out.now) refl
+    c.args.view c.args.turns c.args.steps (g.D.Sectors.sectors c.args.disk.now) (g.D.Sectors.sectors c.load_rom.new.disk)
+    (λ old. CallsFrom (rom_loaded (system_of c.args.boot c.args.schedule) c.args.rom.now.items old) (calls_made (rom_pages (system_of c.args.boot c.args.schedule)).live (rom_sectors (system_of c.args.boot c.args.schedule)) (g.D.Sectors.calls c.args.disk.now)) (g.D.Sectors.calls c.load_rom.new.disk)) (g.O.Sink.text c.args.out.now) (g.O.Sink.text c.args.out.now) refl
     c.in_err-run.field-0.0 (λ ne. ap g.D.Sectors.sectors (c.in_err-run.ensures.still (λ q. ne (let h = q in cc)))) in
     rw (w.1, w.2)
     (subst (λ (ws : List ℕ). (old now : List (List ℕ)) → g.D.Sectors.sectors c.args.disk.now ≡ Some old → g.D.Sectors.sectors c.load_rom.new.disk ≡ Some now →
     AnswerEnds (outside_of c.args.schedule (g.D.Sectors.size c.args.disk.now)) (system_of c.args.boot c.args.schedule) (rom_loaded (system_of c.args.boot c.args.schedule) ws old) (rom_sectors (system_of c.args.boot c.args.schedule)) old now c.args.view c.args.turns c.args.steps
-    (g.O.Sink.text c.args.out.now) (g.O.Sink.text c.args.out.now) (Err c.in_err-run.field-0.0)) c.requires.rom so)
+    (CallsFrom (rom_loaded (system_of c.args.boot c.args.schedule) ws old) (calls_made (rom_pages (system_of c.args.boot c.args.schedule)).live (rom_sectors (system_of c.args.boot c.args.schedule)) (g.D.Sectors.calls c.args.disk.now)) (g.D.Sectors.calls c.load_rom.new.disk)) (g.O.Sink.text c.args.out.now) (g.O.Sink.text c.args.out.now) (Err c.in_err-run.field-0.0)) c.requires.rom so)
 
 pub returns-in_err-run-clause-goes_on : goal.returns-in_err-run-clause-goes_on
 returns-in_err-run-clause-goes_on g c = λ old is room.
@@ -29,29 +31,36 @@ returns-in_err-run-clause-goes_on g c = λ old is room.
     within_more (outside_of c.args.schedule (g.D.Sectors.size c.args.disk.now)) (system_of c.args.boot c.args.schedule) (rom_start_of (system_of c.args.boot c.args.schedule) old) (p.late - 1) (rom_steps (system_of c.args.boot c.args.schedule)) (omega (arith, within))
     (machines c.machines_run.ensures c.args.boot c.args.schedule (g.D.Sectors.size c.args.disk.now) (system_of c.args.boot c.args.schedule) (rom_start_of (system_of c.args.boot c.args.schedule) old) p.late (rom_sectors (system_of c.args.boot c.args.schedule)) old p.bootable).goes_on
 
-pub returns-in_err-run-clause-stopped : goal.returns-in_err-run-clause-stopped
-returns-in_err-run-clause-stopped g c = λ e.
+pub returns-in_err-run-clause-loads : goal.returns-in_err-run-clause-loads
+returns-in_err-run-clause-loads g c =
     let w = err_from_is_err_and c.from_residual.result c.from_residual.ensures.1 in
-    subst (λ (ws : List ℕ). LoadStopped (rom_loaded (system_of c.args.boot c.args.schedule) ws) (rom_pages (system_of c.args.boot c.args.schedule)).live (rom_sectors (system_of c.args.boot c.args.schedule)) (g.D.Sectors.sectors c.args.disk.now) (g.D.Sectors.sectors c.load_rom.new.disk) (g.D.Sectors.calls c.args.disk.now) (g.D.Sectors.calls c.load_rom.new.disk)) c.requires.rom
-    (load_stopped (rom_loaded (system_of c.args.boot c.args.schedule) c.args.rom.now.items) (rom_needed c.args.boot) (rom_sectors (system_of c.args.boot c.args.schedule)) (rom_pages (system_of c.args.boot c.args.schedule)).live (g.D.Sectors.sectors c.args.disk.now) (g.D.Sectors.sectors c.load_rom.new.disk) (g.D.Sectors.calls c.args.disk.now) (g.D.Sectors.calls c.load_rom.new.disk)
-    (sym (rom_needed_is c.args.boot c.args.schedule)) (c.in_err-run.ensures.torn (let h = e in let i = w.1 in let j = w.2 in cc)))
-
-pub returns-in_err-run-clause-told : goal.returns-in_err-run-clause-told
-returns-in_err-run-clause-told g c =
-    refused_told (rom_needed c.args.boot) (λ ss. (rom_loaded (system_of c.args.boot c.args.schedule) c.args.rom.now.items ss).device.sectors) (rom_pages (system_of c.args.boot c.args.schedule)).live (g.D.Sectors.sectors c.args.disk.now) (g.D.Sectors.sectors c.load_rom.new.disk) (g.D.Sectors.calls c.args.disk.now) (g.D.Sectors.calls c.load_rom.new.disk)
-    c.in_err-run.field-0.0 (λ ne. ap g.D.Sectors.sectors (c.in_err-run.ensures.still (λ q. ne (let h = q in cc)))) (λ e. c.in_err-run.ensures.torn (let h = e in cc))
+    rw (w.1, w.2) (record {
+      refused = c.in_err-run.ensures.fault;
+      stopped = λ e. subst (λ (ws : List ℕ). LoadStopped (rom_loaded (system_of c.args.boot c.args.schedule) ws) (rom_pages (system_of c.args.boot c.args.schedule)).live (rom_sectors (system_of c.args.boot c.args.schedule)) (g.D.Sectors.sectors c.args.disk.now) (g.D.Sectors.sectors c.load_rom.new.disk)
+          (g.D.Sectors.calls c.args.disk.now) (g.D.Sectors.calls c.load_rom.new.disk)) c.requires.rom
+          (load_stopped (rom_loaded (system_of c.args.boot c.args.schedule) c.args.rom.now.items) (rom_needed c.args.boot) (rom_sectors (system_of c.args.boot c.args.schedule)) (rom_pages (system_of c.args.boot c.args.schedule)).live (g.D.Sectors.sectors c.args.disk.now) (g.D.Sectors.sectors c.load_rom.new.disk)
+          (g.D.Sectors.calls c.args.disk.now) (g.D.Sectors.calls c.load_rom.new.disk) (sym (rom_needed_is c.args.boot c.args.schedule)) (c.in_err-run.ensures.torn (let h = e in cc)));
+      loaded = tt;
+      unprinted = refl;
+      still = λ ne. c.in_err-run.ensures.still (λ q. ne (let h = q in cc));
+      same_size = c.in_err-run.ensures.size;
+      told = refused_told (rom_needed c.args.boot) (λ ss. (rom_loaded (system_of c.args.boot c.args.schedule) c.args.rom.now.items ss).device.sectors) (rom_pages (system_of c.args.boot c.args.schedule)).live (g.D.Sectors.sectors c.args.disk.now) (g.D.Sectors.sectors c.load_rom.new.disk)
+          (g.D.Sectors.calls c.args.disk.now) (g.D.Sectors.calls c.load_rom.new.disk) c.in_err-run.field-0.0 (λ ne. ap g.D.Sectors.sectors (c.in_err-run.ensures.still (λ q. ne (let h = q in cc)))) (λ e. c.in_err-run.ensures.torn (let h = e in cc));
+    })
 
 pub returns-clause-ends : goal.returns-clause-ends
 returns-clause-ends g c =
     let so = ran_so c.args.layer c.args.boot c.args.schedule (rom_needed c.args.boot) (g.D.Sectors.size c.args.disk.now) (g.D.Sectors.size c.load_rom.new.disk) c.args.view c.args.turns c.args.steps
-    (g.D.Sectors.sectors c.args.disk.now) (g.D.Sectors.sectors c.load_rom.new.disk) (g.D.Sectors.sectors c.run_to_end.new.disk) (g.O.Sink.text c.args.out.now) (g.O.Sink.text c.run_to_end.new.out)
+    (g.D.Sectors.sectors c.args.disk.now) (g.D.Sectors.sectors c.load_rom.new.disk) (g.D.Sectors.sectors c.run_to_end.new.disk)
+    (calls_made (rom_pages (system_of c.args.boot c.args.schedule)).live (rom_sectors (system_of c.args.boot c.args.schedule)) (g.D.Sectors.calls c.args.disk.now)) (g.D.Sectors.calls c.load_rom.new.disk) (g.D.Sectors.calls c.run_to_end.new.disk) (g.O.Sink.text c.args.out.now) (g.O.Sink.text c.run_to_end.new.out)
     c.in_ok-run.run' c.run_to_end.result c.in_ok-run.ensures.fresh c.in_ok-run.ensures.size c.requires.some (rom_loaded (system_of c.args.boot c.args.schedule) c.args.rom.now.items) (rom_sectors (system_of c.args.boot c.args.schedule))
     (λ old is. let p = c.rom_premises_hold.ensures old is c.in_ok-run.ensures.fresh.has_room.room in
     (p.late, subst (λ (ws : List ℕ). Bootable c.args.boot c.args.schedule (g.D.Sectors.size c.args.disk.now) (system_of c.args.boot c.args.schedule) (rom_loaded (system_of c.args.boot c.args.schedule) ws old) p.late (rom_sectors (system_of c.args.boot c.args.schedule)) old) (sym c.requires.rom) p.bootable))
-    c.in_ok-run.ensures.ready c.run_to_end.ensures.ends in
+    c.in_ok-run.ensures.ready
+    (c.in_ok-run.ensures.calls ∙ ap (λ n. calls_made (rom_pages (system_of c.args.boot c.args.schedule)).live n (g.D.Sectors.calls c.args.disk.now)) (sym (rom_needed_is c.args.boot c.args.schedule))) c.run_to_end.ensures.ends in
     subst (λ (ws : List ℕ). (old now : List (List ℕ)) → g.D.Sectors.sectors c.args.disk.now ≡ Some old → g.D.Sectors.sectors c.run_to_end.new.disk ≡ Some now →
     AnswerEnds (outside_of c.args.schedule (g.D.Sectors.size c.args.disk.now)) (system_of c.args.boot c.args.schedule) (rom_loaded (system_of c.args.boot c.args.schedule) ws old) (rom_sectors (system_of c.args.boot c.args.schedule)) old now c.args.view c.args.turns c.args.steps
-    (g.O.Sink.text c.args.out.now) (g.O.Sink.text c.run_to_end.new.out) (Ok c.run_to_end.result)) c.requires.rom so
+    (CallsFrom (rom_loaded (system_of c.args.boot c.args.schedule) ws old) (calls_made (rom_pages (system_of c.args.boot c.args.schedule)).live (rom_sectors (system_of c.args.boot c.args.schedule)) (g.D.Sectors.calls c.args.disk.now)) (g.D.Sectors.calls c.run_to_end.new.disk)) (g.O.Sink.text c.args.out.now) (g.O.Sink.text c.run_to_end.new.out) (Ok c.run_to_end.result)) c.requires.rom so
 
 pub returns-clause-goes_on : goal.returns-clause-goes_on
 returns-clause-goes_on g c = λ old is room.
@@ -60,24 +69,28 @@ returns-clause-goes_on g c = λ old is room.
     within_more (outside_of c.args.schedule (g.D.Sectors.size c.args.disk.now)) (system_of c.args.boot c.args.schedule) (rom_start_of (system_of c.args.boot c.args.schedule) old) (p.late - 1) (rom_steps (system_of c.args.boot c.args.schedule)) (omega (arith, within))
     (machines c.machines_run.ensures c.args.boot c.args.schedule (g.D.Sectors.size c.args.disk.now) (system_of c.args.boot c.args.schedule) (rom_start_of (system_of c.args.boot c.args.schedule) old) p.late (rom_sectors (system_of c.args.boot c.args.schedule)) old p.bootable).goes_on
 
-pub returns-clause-told : goal.returns-clause-told
-returns-clause-told g c =
-    whole_told c.args.layer c.args.boot c.args.schedule (rom_needed c.args.boot) (g.D.Sectors.size c.args.disk.now) (g.D.Sectors.size c.load_rom.new.disk) c.args.view c.args.turns c.args.steps
-    (g.D.Sectors.sectors c.args.disk.now) (g.D.Sectors.sectors c.load_rom.new.disk) (g.D.Sectors.sectors c.run_to_end.new.disk) (g.O.Sink.text c.args.out.now) (g.O.Sink.text c.run_to_end.new.out)
-    c.in_ok-run.run' c.run_to_end.result c.in_ok-run.ensures.fresh c.in_ok-run.ensures.size c.requires.some (rom_loaded (system_of c.args.boot c.args.schedule) c.args.rom.now.items) (rom_sectors (system_of c.args.boot c.args.schedule))
-    (λ old is. let p = c.rom_premises_hold.ensures old is c.in_ok-run.ensures.fresh.has_room.room in
-    (p.late, subst (λ (ws : List ℕ). Bootable c.args.boot c.args.schedule (g.D.Sectors.size c.args.disk.now) (system_of c.args.boot c.args.schedule) (rom_loaded (system_of c.args.boot c.args.schedule) ws old) p.late (rom_sectors (system_of c.args.boot c.args.schedule)) old) (sym c.requires.rom) p.bootable))
-    c.in_ok-run.ensures.ready c.run_to_end.ensures.ends
+pub returns-clause-loads : goal.returns-clause-loads
+returns-clause-loads g c = record {
+  refused = tt;
+  stopped = λ e. absurd (cc);
+  loaded = c.in_ok-run.ensures.fresh.has_room;
+  unprinted = tt;
+  still = λ ne. tt;
+  same_size = c.run_to_end.ensures.size ∙ c.in_ok-run.ensures.size;
+  told = whole_told c.args.layer c.args.boot c.args.schedule (rom_needed c.args.boot) (g.D.Sectors.size c.args.disk.now) (g.D.Sectors.size c.load_rom.new.disk) c.args.view c.args.turns c.args.steps
+      (g.D.Sectors.sectors c.args.disk.now) (g.D.Sectors.sectors c.load_rom.new.disk) (g.D.Sectors.sectors c.run_to_end.new.disk)
+      (calls_made (rom_pages (system_of c.args.boot c.args.schedule)).live (rom_sectors (system_of c.args.boot c.args.schedule)) (g.D.Sectors.calls c.args.disk.now)) (g.D.Sectors.calls c.load_rom.new.disk) (g.D.Sectors.calls c.run_to_end.new.disk) (g.O.Sink.text c.args.out.now) (g.O.Sink.text c.run_to_end.new.out)
+      c.in_ok-run.run' c.run_to_end.result c.in_ok-run.ensures.fresh c.in_ok-run.ensures.size c.requires.some (rom_loaded (system_of c.args.boot c.args.schedule) c.args.rom.now.items) (rom_sectors (system_of c.args.boot c.args.schedule))
+      (λ old is. let p = c.rom_premises_hold.ensures old is c.in_ok-run.ensures.fresh.has_room.room in
+      (p.late, subst (λ (ws : List ℕ). Bootable c.args.boot c.args.schedule (g.D.Sectors.size c.args.disk.now) (system_of c.args.boot c.args.schedule) (rom_loaded (system_of c.args.boot c.args.schedule) ws old) p.late (rom_sectors (system_of c.args.boot c.args.schedule)) old) (sym c.requires.rom) p.bootable))
+      c.in_ok-run.ensures.ready
+      (c.in_ok-run.ensures.calls ∙ ap (λ n. calls_made (rom_pages (system_of c.args.boot c.args.schedule)).live n (g.D.Sectors.calls c.args.disk.now)) (sym (rom_needed_is c.args.boot c.args.schedule))) c.run_to_end.ensures.ends;
+}
 
-pub returns-clause-disk : goal.returns-clause-disk
-returns-clause-disk g c = λ h.
-    subst (λ n. Rose n (g.D.Sectors.faults c.run_to_end.new.disk)) (c.in_ok-run.ensures.same (λ q. absurd (cc))) (c.run_to_end.ensures.blame.disk_rose (end_disk c.run_to_end.result h))
-
-pub returns-clause-disk_same : goal.returns-clause-disk_same
-returns-clause-disk_same g c = λ h. c.run_to_end.ensures.blame.disk_same (disk_end c.run_to_end.result h) ∙ c.in_ok-run.ensures.same (λ q. absurd (cc))
-
-pub returns-clause-sink : goal.returns-clause-sink
-returns-clause-sink g c = λ h. c.run_to_end.ensures.blame.sink_rose (end_sink c.run_to_end.result h)
-
-pub returns-clause-sink_same : goal.returns-clause-sink_same
-returns-clause-sink_same g c = λ h. c.run_to_end.ensures.blame.sink_same (sink_end c.run_to_end.result h)
+pub returns-clause-blame : goal.returns-clause-blame
+returns-clause-blame g c = record {
+  disk_rose = λ h. subst (λ n. Rose n (g.D.Sectors.faults c.run_to_end.new.disk)) (c.in_ok-run.ensures.same (λ q. absurd (cc))) (c.run_to_end.ensures.blame.disk_rose (end_disk c.run_to_end.result h));
+  disk_same = λ h. c.run_to_end.ensures.blame.disk_same (disk_end c.run_to_end.result h) ∙ c.in_ok-run.ensures.same (λ q. absurd (cc));
+  sink_rose = λ h. c.run_to_end.ensures.blame.sink_rose (end_sink c.run_to_end.result h);
+  sink_same = λ h. c.run_to_end.ensures.blame.sink_same (sink_end c.run_to_end.result h);
+}

@@ -19,7 +19,10 @@ use Rattle.mips_table.specs.Turns.{rests}
 use Rattle.boot_turns.specs.Completes.{seen, Skips, StepFails, Open, Progress, turn_began, KeptUser, StepBegan}
 use Rattle.boot_turns.specs.Tracing.{Tracing, CanTrace, tracer_at, tracing}
 use Rattle.layer_map.specs.Map.{Map}
+use Rattle.sector_disk.specs.Ports.{CallsKeepUp}
 use Rattle.mips_table.specs.Fits.{NamesSector}
+use Rattle.boot_turns.proofs.CallCounts.{calls_stay, calls_join}
+use Rattle.boot_turns.proofs.Quietly.{progress_passed}
 use Rattle.boot_turns.proofs.Opening.{one_step, step_stops, skips_more, skips_passed, Opened, seen_rests, seen_note}
 use Rattle.boot_turns.proofs.Tracking.{Tracks, tracks_none, tracks_limit, tracks_whole, tracks_more, tracks_stop}
 use Rattle.boot_turns.proofs.completion.complete.Given.{Over}
@@ -78,6 +81,14 @@ tracked g c =
     (tracing c.step_traced.new.tracer (g.O.Sink.text c.step_traced.new.out) (c.loop-begun.budget - 1)) (omega (arith, p))
     c.step_traced.new.machine (g.D.Sectors.sectors c.step_traced.new.disk) c.in_ok-stepped.stepped c.in_ok-stepped.ensures.traced (c.in_ok-stepped.ensures.ran (is_done c.in_ok-stepped.stepped Disk))
 
+-- the disk was called once for each command through the step
+calls_kept : (g : Over) (c : In_ok-stepped g) → c.args.tracer.now ≡ None →
+    CallsKeepUp c.args.machine.now.hardware.ports c.step_traced.new.machine.hardware.ports (g.D.Sectors.calls c.args.disk.now) (g.D.Sectors.calls c.step_traced.new.disk)
+calls_kept g c e =
+    calls_join c.args.machine.now.hardware.ports c.loop-begun.machine.hardware.ports c.step_traced.new.machine.hardware.ports
+    (g.D.Sectors.calls c.args.disk.now) (g.D.Sectors.calls c.loop-begun.disk) (g.D.Sectors.calls c.step_traced.new.disk)
+    (c.loop-begun.invariant.calls e) (c.in_ok-stepped.ensures.calls (c.loop-begun.invariant.untraced e).0)
+
 -- the step is the next of a run, and what is noted then says how far the turn is
 opened : (g : Over) (c : After-note g) (s : State) (t u : ℕ) → t ≤ u →
     seen (g.D.Sectors.sectors c.loop-begun.disk) c.loop-begun.machine ≡ Some (run (outside_of c.args.machine.now.rows (g.D.Sectors.size c.args.disk.now)) s u) →
@@ -106,6 +117,7 @@ loop-begun-init g c = record {
   can = c.requires.can;
   user = refl;
   untraced = λ e. (e, refl);
+  calls = λ e. calls_stay c.args.machine.now.hardware.ports (g.D.Sectors.calls c.args.disk.now);
   sink_faults = refl;
   tracks = tracks_none (outside_of c.args.machine.now.rows (g.D.Sectors.size c.args.disk.now)) c.args.map.now (seen (g.D.Sectors.sectors c.args.disk.now) c.args.machine.now)
       (tracing c.args.tracer.now (g.O.Sink.text c.args.out.now) c.args.budget.now);
@@ -205,12 +217,12 @@ returns-in_err-stepped-clause-traced g c =
     (tracing c.step_traced.new.tracer (g.O.Sink.text c.step_traced.new.out) (c.loop-begun.budget - 1)) (omega (arith, p))
     c.step_traced.new.machine (g.D.Sectors.sectors c.step_traced.new.disk) c.in_err-stepped.field-0.0 c.in_err-stepped.ensures.traced (λ e. c.in_err-stepped.ensures.ran (at_sink c.in_err-stepped.field-0.0 e)))
 
-pub returns-then-at_rest-clause-ends : goal.returns-then-at_rest-clause-ends
-returns-then-at_rest-clause-ends g c = λ s t h.
+pub returns-in-Some-clause-ends : goal.returns-in-Some-clause-ends
+returns-in-Some-clause-ends g c = λ s t h.
     let i = c.loop-begun.invariant.ran s t h in
     let x = outside_of c.args.machine.now.rows (g.D.Sectors.size c.args.disk.now) in
     let n : ℕ = c.loop-begun.skipped in
-    let r = opened g (goal.at.returns-then-at_rest-clause-ends g c).After-note s (t + n) i.0 i.1 i.3 i.4 in
+    let r = opened g (goal.at.returns-in-Some-clause-ends g c).After-note s (t + n) i.0 i.1 i.3 i.4 in
     let o : Open x s (t + n) (suc i.0) c.in-Some.b = subst (Opened x s (t + n) (suc i.0)) c.in-Some.is r.1 in
     let le = i.1 in
     let b = i.2 in
@@ -221,41 +233,22 @@ returns-then-at_rest-clause-ends g c = λ s t h.
       c.loop-begun.invariant.few,
       small,
       i.5,
-      (refl, (suc i.0, inl (record { opened = o; rest = sym (seen_rests (g.D.Sectors.sectors c.step_traced.new.disk) c.step_traced.new.machine _ r.0) ∙ sym c.at_rest.ensures ∙ c.if-at_rest.true }), r.0, spent)),
+      (refl, (suc i.0, inl (record { opened = o; rest = sym (seen_rests (g.D.Sectors.sectors c.step_traced.new.disk) c.step_traced.new.machine _ r.0) ∙ sym c.at_rest.ensures ∙ c.if-not-at_rest.false }), r.0, spent)),
     )
 
-pub returns-then-at_rest-clause-traced : goal.returns-then-at_rest-clause-traced
-returns-then-at_rest-clause-traced g c =
+pub returns-in-Some-clause-traced : goal.returns-in-Some-clause-traced
+returns-in-Some-clause-traced g c =
     tracks_whole (g.D.Sectors.size c.args.disk.now) c.args.map.now c.args.machine.now c.step_traced.new.machine (g.D.Sectors.sectors c.args.disk.now) (g.D.Sectors.sectors c.step_traced.new.disk) _ _
-    (tracked g (goal.at.returns-then-at_rest-clause-traced g c).In_ok-stepped) c.step_traced.new.machine (g.D.Sectors.sectors c.step_traced.new.disk) (c.loop-begun.skipped, c.in-Some.b)
+    (tracked g (goal.at.returns-in-Some-clause-traced g c).In_ok-stepped) c.step_traced.new.machine (g.D.Sectors.sectors c.step_traced.new.disk) (c.loop-begun.skipped, c.in-Some.b)
 
-pub loop-begun-preserved-else-at_rest : goal.loop-begun-preserved-else-at_rest
-loop-begun-preserved-else-at_rest g c = record {
-  rows = c.in_ok-stepped.ensures.stays.rows ∙ c.loop-begun.invariant.rows;
-  memory = c.in_ok-stepped.ensures.stays.memory ∙ c.loop-begun.invariant.memory;
-  sector = c.in_ok-stepped.ensures.stays.sector;
-  size = c.in_ok-stepped.ensures.stays.size ∙ c.loop-begun.invariant.size;
-  faults = c.in_ok-stepped.ensures.blame.disk_same (is_done c.in_ok-stepped.stepped Disk) ∙ c.loop-begun.invariant.faults;
-  time = let a = c.in_ok-stepped.ensures.time in let b = c.loop-begun.invariant.time in let p = c.if-budget-eq0.false in omega (arith, a, b, p);
-  few = c.loop-begun.invariant.few;
-  limit = let e = c.loop-begun.invariant.limit in omega (arith, e);
-  fresh = λ l. absurd (omega (arith, l));
-  ran = λ s t h.
-      let i = c.loop-begun.invariant.ran s t h in
-      let x = outside_of c.args.machine.now.rows (g.D.Sectors.size c.args.disk.now) in
-      let n : ℕ = c.loop-begun.skipped in
-      let r = opened g (goal.at.loop-begun-preserved-else-at_rest g c).After-note s (t + n) i.0 i.1 i.3 i.4 in
-      let le = i.1 in
-      let b = i.2 in
-      let p = c.if-budget-eq0.false in
-      let o : Open x s (t + n) (suc i.0) c.in-Some.b = subst (Opened x s (t + n) (suc i.0)) c.in-Some.is r.1 in
-      (suc i.0, omega (arith, le), omega (arith, b, p), r.0, (o, sym (seen_rests (g.D.Sectors.sectors c.step_traced.new.disk) c.step_traced.new.machine _ r.0) ∙ sym c.at_rest.ensures ∙ c.if-at_rest.false), i.5, λ l. absurd (omega (arith, l)), was_on x s t i.0 (here_on (g.D.Sectors.sectors c.loop-begun.disk) c.loop-begun.machine (run x s i.0) i.3 (off_none _ _ _ c.off.ensures c.is_none.ensures c.loop-begun-test.true)) i.7);
-  can = c.in_ok-stepped.ensures.trace.can;
-  user = c.in_ok-stepped.ensures.trace.user ∙ c.loop-begun.invariant.user;
-  untraced = λ e. let i = c.loop-begun.invariant.untraced e in let n = c.in_ok-stepped.ensures.trace.untraced i.0 in (n.0, n.1 ∙ i.1);
-  sink_faults = c.in_ok-stepped.ensures.blame.sink_same (is_done c.in_ok-stepped.stepped Sink) ∙ c.loop-begun.invariant.sink_faults;
-  tracks = tracked g (goal.at.loop-begun-preserved-else-at_rest g c).In_ok-stepped;
-}
+pub returns-in-Some-clause-calls : goal.returns-in-Some-clause-calls
+returns-in-Some-clause-calls g c = calls_kept g (goal.at.returns-in-Some-clause-calls g c).In_ok-stepped
+
+pub returns-in_err-stepped-clause-calls : goal.returns-in_err-stepped-clause-calls
+returns-in_err-stepped-clause-calls g c = λ e.
+    calls_join c.args.machine.now.hardware.ports c.loop-begun.machine.hardware.ports c.step_traced.new.machine.hardware.ports
+    (g.D.Sectors.calls c.args.disk.now) (g.D.Sectors.calls c.loop-begun.disk) (g.D.Sectors.calls c.step_traced.new.disk)
+    (c.loop-begun.invariant.calls e) (c.in_err-stepped.ensures.calls (c.loop-begun.invariant.untraced e).0)
 
 pub loop-begun-preserved : goal.loop-begun-preserved
 loop-begun-preserved g c = record {
@@ -281,6 +274,7 @@ loop-begun-preserved g c = record {
   can = c.in_ok-stepped.ensures.trace.can;
   user = c.in_ok-stepped.ensures.trace.user ∙ c.loop-begun.invariant.user;
   untraced = λ e. let i = c.loop-begun.invariant.untraced e in let n = c.in_ok-stepped.ensures.trace.untraced i.0 in (n.0, n.1 ∙ i.1);
+  calls = calls_kept g (goal.at.loop-begun-preserved g c).In_ok-stepped;
   sink_faults = c.in_ok-stepped.ensures.blame.sink_same (is_done c.in_ok-stepped.stepped Sink) ∙ c.loop-begun.invariant.sink_faults;
   tracks = tracked g (goal.at.loop-begun-preserved g c).In_ok-stepped;
 }
@@ -363,9 +357,60 @@ loop-begun-preserved-then-skipped-limit g c =
           c.step_traced.new.tracer c.pass-skipped.ensures.memory (ap (λ (h : Held). h.time) rest) c.in_ok-stepped.ensures.trace.can;
       user = c.in_ok-stepped.ensures.trace.user ∙ c.loop-begun.invariant.user;
       untraced = λ e. let i = c.loop-begun.invariant.untraced e in let n = c.in_ok-stepped.ensures.trace.untraced i.0 in (n.0, n.1 ∙ i.1);
+      calls = λ e. subst (λ (h : Held). CallsKeepUp c.args.machine.now.hardware.ports h.hardware.ports (g.D.Sectors.calls c.args.disk.now) (g.D.Sectors.calls c.step_traced.new.disk)) (sym rest)
+          (calls_kept g (goal.at.loop-begun-preserved-then-skipped-limit g c).In_ok-stepped e);
       sink_faults = c.in_ok-stepped.ensures.blame.sink_same (is_done c.in_ok-stepped.stepped Sink) ∙ c.loop-begun.invariant.sink_faults;
       tracks = tracks_passed (outside_of c.args.machine.now.rows (g.D.Sectors.size c.args.disk.now)) c.args.map.now (seen (g.D.Sectors.sectors c.args.disk.now) c.args.machine.now)
           (tracing c.args.tracer.now (g.O.Sink.text c.args.out.now) c.args.budget.now) (g.D.Sectors.sectors c.step_traced.new.disk) c.step_traced.new.machine c.pass-skipped.new.machine c.step_traced.new.tracer c.args.tracer.now (g.O.Sink.text c.step_traced.new.out)
           (c.loop-begun.budget - 1) c.pass-skipped.new.budget c.pass-skipped.result (c.in_ok-stepped.ensures.trace.user ∙ c.loop-begun.invariant.user) refl c.pass-skipped.ensures.traced spent
           (tracked g (goal.at.loop-begun-preserved-then-skipped-limit g c).In_ok-stepped);
+    }
+
+-- the machine isn't at rest, so the turn goes on
+goes_on : (x : Outside) (s : State) (t u : ℕ) (b : Option Begun) → Opened x s t u b → rests (run x s u) ≡ false → Progress x s t u b
+goes_on x s t u None o busy = o
+goes_on x s t u (Some b) o busy = (o, busy)
+
+-- a step in system mode, and a stretch behind it
+pub loop-begun-preserved-then-not-at_rest : goal.loop-begun-preserved-then-not-at_rest
+loop-begun-preserved-then-not-at_rest g c =
+    let less = c.pass.ensures.spent in
+    let p = c.if-budget-eq0.false in
+    let m : ℕ = c.pass.result in
+    let rest = c.pass.ensures.passes.rest in record {
+      rows = ap (λ (h : Held). h.rows) rest ∙ c.in_ok-stepped.ensures.stays.rows ∙ c.loop-begun.invariant.rows;
+      memory = c.pass.ensures.memory ∙ c.in_ok-stepped.ensures.stays.memory ∙ c.loop-begun.invariant.memory;
+      sector = subst (λ (h : Held). NamesSector (g.D.Sectors.size c.step_traced.new.disk) h.hardware.ports.pending) (sym rest) c.in_ok-stepped.ensures.stays.sector;
+      size = c.in_ok-stepped.ensures.stays.size ∙ c.loop-begun.invariant.size;
+      faults = c.in_ok-stepped.ensures.blame.disk_same (is_done c.in_ok-stepped.stepped Disk) ∙ c.loop-begun.invariant.faults;
+      time = let a = c.in_ok-stepped.ensures.time in let b = c.loop-begun.invariant.time in let d = ap (λ (h : Held). h.time) rest in omega (arith, a, b, p, d, less);
+      few = c.loop-begun.invariant.few;
+      limit = let e = c.loop-begun.invariant.limit in omega (arith, e);
+      fresh = λ l. absurd (omega (arith, l));
+      ran = λ s t h.
+          let i = c.loop-begun.invariant.ran s t h in
+          let x = outside_of c.args.machine.now.rows (g.D.Sectors.size c.args.disk.now) in
+          let n : ℕ = c.loop-begun.skipped in
+          let le = i.1 in
+          let b = i.2 in
+          let r = opened g (goal.at.loop-begun-preserved-then-not-at_rest g c).After-note s (t + n) i.0 i.1 i.3 i.4 in
+          let busy = sym c.at_rest.ensures ∙ c.if-not-at_rest.true in
+          let far = goes_on x s (t + n) (suc i.0) c.note.new.begun r.1 (sym (seen_rests (g.D.Sectors.sectors c.step_traced.new.disk) c.step_traced.new.machine _ r.0) ∙ busy) in
+          let mid : outside_of c.step_traced.new.machine.rows (g.D.Sectors.size c.args.disk.now) ≡ x = ap (λ rows. outside_of rows (g.D.Sectors.size c.args.disk.now)) (c.in_ok-stepped.ensures.stays.rows ∙ c.loop-begun.invariant.rows) in
+          let q = progress_passed x s (t + n) (suc i.0) m c.note.new.begun (g.D.Sectors.sectors c.step_traced.new.disk) c.step_traced.new.machine c.pass.new.machine (g.D.Sectors.size c.args.disk.now) mid r.0 busy far
+          c.pass.ensures.passes in
+          let on = was_on x s t i.0 (here_on (g.D.Sectors.sectors c.loop-begun.disk) c.loop-begun.machine (run x s i.0) i.3 (off_none _ _ _ c.off.ensures c.is_none.ensures c.loop-begun-test.true)) i.7 in
+          (suc i.0 + m, omega (arith, le), omega (arith, b, p, less), q.0, q.1, i.5, λ l. absurd (omega (arith, l)), λ j from to. ⊎_elim (λ (lt : j < suc i.0). on j from lt) (λ (ge : suc i.0 ≤ j). q.2 j ge to) (cases_lt j (suc i.0)));
+      can = can_pass c.args.map.now (length c.step_traced.new.machine.hardware.memory) c.step_traced.new.machine.time (length c.pass.new.machine.hardware.memory) c.pass.new.machine.time (g.D.Sectors.size c.step_traced.new.disk) m
+          c.step_traced.new.tracer c.pass.ensures.memory (ap (λ (h : Held). h.time) rest) c.in_ok-stepped.ensures.trace.can;
+      user = c.in_ok-stepped.ensures.trace.user ∙ c.loop-begun.invariant.user;
+      untraced = λ e. let i = c.loop-begun.invariant.untraced e in let n = c.in_ok-stepped.ensures.trace.untraced i.0 in (n.0, n.1 ∙ i.1);
+      calls = λ e. subst (λ (h : Held). CallsKeepUp c.args.machine.now.hardware.ports h.hardware.ports (g.D.Sectors.calls c.args.disk.now) (g.D.Sectors.calls c.step_traced.new.disk)) (sym rest)
+          (calls_kept g (goal.at.loop-begun-preserved-then-not-at_rest g c).In_ok-stepped e);
+      sink_faults = c.in_ok-stepped.ensures.blame.sink_same (is_done c.in_ok-stepped.stepped Sink) ∙ c.loop-begun.invariant.sink_faults;
+      tracks = tracks_passed (outside_of c.args.machine.now.rows (g.D.Sectors.size c.args.disk.now)) c.args.map.now (seen (g.D.Sectors.sectors c.args.disk.now) c.args.machine.now)
+          (tracing c.args.tracer.now (g.O.Sink.text c.args.out.now) c.args.budget.now) (g.D.Sectors.sectors c.step_traced.new.disk) c.step_traced.new.machine c.pass.new.machine c.step_traced.new.tracer c.args.tracer.now (g.O.Sink.text c.step_traced.new.out)
+          (c.loop-begun.budget - 1) c.pass.new.budget m (c.in_ok-stepped.ensures.trace.user ∙ c.loop-begun.invariant.user) refl
+          c.pass.ensures.traced less
+          (tracked g (goal.at.loop-begun-preserved-then-not-at_rest g c).In_ok-stepped);
     }

@@ -1,7 +1,7 @@
 use Rattle.std.proofs.Common.{◌≡◌, Bool, true, false, Result, Ok, Err, slice_index, refl, sym, ap, ◌∙◌, subst, eq-eqb, ne_eqb}
 use Rattle.std.specs.Prelude.{◌==◌, OnErr}
 use Rattle.boot_turns.specs.Completes.{turn_began, stepped_as, StepBegan}
-use Rattle.boot_turns.proofs.Events.{event_told, event_told_at, user_begins, untaken_begins, steps_reset, steps_on, steps_seen, steps_time, fails_time, fails_torn}
+use Rattle.boot_turns.proofs.Events.{event_told, event_told_at, user_begins, untaken_begins, steps_reset, steps_on, steps_seen, steps_time, fails_time, fails_torn, fails_ports}
 use Rattle.boot_turns.proofs.completion.step_once.Goals as goal
 
 on_err : {T E P : Type 0} (r : Result T E) → P → OnErr r P
@@ -37,6 +37,11 @@ pub returns-in_err-event-clause-torn : goal.returns-in_err-event-clause-torn
 returns-in_err-event-clause-torn g c =
     on_err c.from_residual.result
     (fails_torn (g.D.Sectors.size c.args.disk.now) c.args.machine.now c.step.new.self (g.D.Sectors.sectors c.args.disk.now) (g.D.Sectors.sectors c.step.new.disk) c.in_err-event.ensures.fault)
+
+pub returns-in_err-event-clause-ports : goal.returns-in_err-event-clause-ports
+returns-in_err-event-clause-ports g c =
+    on_err c.from_residual.result
+    (fails_ports (g.D.Sectors.size c.args.disk.now) c.args.machine.now c.step.new.self (g.D.Sectors.sectors c.args.disk.now) (g.D.Sectors.sectors c.step.new.disk) c.in_err-event.ensures.fault)
 
 pub returns-then-special-eq1-clause-began : goal.returns-then-special-eq1-clause-began
 returns-then-special-eq1-clause-began g c =

@@ -4,7 +4,7 @@ use Rattle.mips_machine.specs.Machine.{Held}
 use Rattle.boot_report.specs.Texts.{SameButViewed}
 use Rattle.boot_turns.specs.declared.completion.Stepped.{Stepped}
 use Rattle.boot_turns.specs.declared.completion.Stepped.TheVariants.{Kept}
-use Rattle.boot_turns.specs.Completes.{seen, KeptUser, StepTorn, StepFails, StepBegan, turn_began}
+use Rattle.boot_turns.specs.Completes.{seen, KeptUser, StepTorn, StepFails, PortsStepped, StepBegan, turn_began}
 use Rattle.boot_turns.proofs.Counted.{step_counted}
 use Rattle.std.proofs.lemmas.Result.{err_from_is_err_and}
 use Rattle.mips_machine.specs.Steps.{outside_of}
@@ -42,13 +42,13 @@ returns-in_err-stepped-clause-traced g c =
     c.from_residual.result w.0 c.requires.on w.1 w.2 c.in_err-stepped.ensures.torn
 
 -- the transfer of the step failed, or the step is done
-torn_as : (count : ℕ) (old new : Held) (told retold : Option (List (List ℕ))) (traced : Bool) → StepTorn count old told retold → StepFails count old new told retold traced
-torn_as count old new told retold false h = h
-torn_as count old new told retold true h = inl h
+torn_as : (count : ℕ) (old new : Held) (told retold : Option (List (List ℕ))) (traced : Bool) → StepTorn count old told retold → PortsStepped count old new → StepFails count old new told retold traced
+torn_as count old new told retold false torn ports = (torn, ports)
+torn_as count old new told retold true torn ports = inl torn
 
 pub returns-in_err-stepped-clause-torn : goal.returns-in_err-stepped-clause-torn
 returns-in_err-stepped-clause-torn g c = λ e.
-    torn_as (g.D.Sectors.size c.args.disk.now) c.args.machine.now c.step_once.new.machine (g.D.Sectors.sectors c.args.disk.now) (g.D.Sectors.sectors c.step_once.new.disk) (is_some c.args.tracer.now) c.in_err-stepped.ensures.torn
+    torn_as (g.D.Sectors.size c.args.disk.now) c.args.machine.now c.step_once.new.machine (g.D.Sectors.sectors c.args.disk.now) (g.D.Sectors.sectors c.step_once.new.disk) (is_some c.args.tracer.now) c.in_err-stepped.ensures.torn c.in_err-stepped.ensures.ports
 
 pub returns-in_err-follow-clause-torn : goal.returns-in_err-follow-clause-torn
 returns-in_err-follow-clause-torn g c = λ e.

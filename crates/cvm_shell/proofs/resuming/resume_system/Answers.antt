@@ -19,11 +19,11 @@ returns-in-Ok-clause-ends g c = λ before after files.
     let r = c.args.resumable in
     let v = save_view c.args.resume.now in
     let P : List ℕ → Type 0 = λ bs. ResumeAnswers r.ready.boot r.ready.schedule v.boot.turns old.disk.size bs (Ok c.in-Ok.end) in
-    let Q : List ℕ → Type 0 = λ bs. JoinsSaved r.ready.boot r.ready.schedule v.boot.turns v.boot.steps old.disk.size bs old.disk.sectors new.disk.sectors old.sink.text new.sink.text (Ok c.in-Ok.end) in
+    let Q : List ℕ → Type 0 = λ bs. JoinsSaved r.ready.boot r.ready.schedule v.boot.turns v.boot.steps old.disk.size bs old.disk.sectors new.disk.sectors old.disk.calls new.disk.calls old.sink.text new.sink.text (Ok c.in-Ok.end) in
     let R : List ℕ → Type 0 = λ bs. GoesOnFromFile r.ready.boot r.ready.schedule v.boot.turns v.boot.steps old.disk.size bs old.disk.sectors new.disk.sectors (Ok c.in-Ok.end) in
     inr (resumed_made r v old new c.in-Ok.end _ (subst P c.deref.ensures.value c.in-Ok.ensures.answers) (subst Q c.deref.ensures.value c.in-Ok.ensures.joins)
     c.in-Ok.ensures.goes_on (subst R c.deref.ensures.value c.in-Ok.ensures.any)
-    c.in-Ok.ensures.told c.in-Ok.ensures.size (λ e. c.in-Ok.ensures.disk (ap (λ (x : RunEnd). Ok x) e)) files c.status_of.ensures)
+    c.in-Ok.ensures.told c.in-Ok.ensures.size (λ e. c.in-Ok.ensures.blame.disk_rose (ap (λ (x : RunEnd). Ok x) e)) files c.status_of.ensures)
 
 pub returns-in-Err-SmallDisk-clause-ends : goal.returns-in-Err-SmallDisk-clause-ends
 returns-in-Err-SmallDisk-clause-ends g c = λ before after files.

@@ -13,12 +13,12 @@ returns-clause-is g c = record {
   disk = c.boots_hold.ensures.disk;
   others = c.save_run.ensures.others;
   unput = unput_files c.save_run.result _ _ (λ e n. ap (λ x. g.S.Shelf.file x n) e) c.save_run.ensures.unput;
-  told = c.save_run.ensures.told;
-  refused = c.save_run.ensures.refused;
-  loaded = c.save_run.ensures.loaded;
-  size = c.save_run.ensures.size;
-  rose = c.save_run.ensures.disk;
-  stopped = c.save_run.ensures.stopped;
+  told = c.save_run.ensures.loads.told;
+  refused = c.save_run.ensures.loads.refused;
+  loaded = c.save_run.ensures.loads.loaded;
+  size = c.save_run.ensures.loads.same_size;
+  rose = c.save_run.ensures.blame.disk_rose;
+  stopped = c.save_run.ensures.loads.stopped;
 }
 
 pub returns-clause-unput : goal.returns-clause-unput

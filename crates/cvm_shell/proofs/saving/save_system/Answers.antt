@@ -6,7 +6,7 @@ use Rattle.std.specs.Io.KnownBytes.{append_known}
 use Rattle.cvm_outside.specs.Told.{AppendsPart}
 use Rattle.cvm_shell.specs.Outside.{seen}
 use Rattle.cvm_shell.specs.Refusal.{small_disk, refusal_text}
-use Rattle.cvm_shell.specs.Stages.{SaveAnswers, with_files}
+use Rattle.cvm_shell.specs.Stages.{SaveCallAnswers, with_files}
 use Rattle.cvm_shell.specs.Views.{save_view}
 use Rattle.cvm_shell.proofs.BootEndings.{small_named}
 use Rattle.cvm_shell.proofs.SaveEndings.{ok_saved, disk_saved, memory_saved, small_saved, moved_answers, no_trace, ends_disk, ends_sink, sink_ends, shelf_ends, ends_shelf, ends_no_words}
@@ -56,7 +56,7 @@ returns-in-Err-Disk-clause-ends g c = λ before same.
     let old = seen g.S.Shelf g.O.Sink g.D.Sectors (c.args.shelf.now, c.args.out.now, c.args.disk.now) in
     let new = seen g.S.Shelf g.O.Sink g.D.Sectors (c.save_ready.new.shelf, c.save_ready.new.out, c.save_ready.new.disk) in
     disk_saved c.args.saveable.ready (save_view c.args.save.now) (with_files before old) new
-    (moved_answers c.args.saveable.ready (save_view c.args.save.now) _ old new before same (subst (λ (f : LoadFault). SaveAnswers c.args.saveable.ready (save_view c.args.save.now) (Err f) old new) c.in-Err-Disk.field-0-is c.in-Err-Disk.ensures.is))
+    (moved_answers c.args.saveable.ready (save_view c.args.save.now) _ old new before same (subst (λ (f : LoadFault). SaveCallAnswers c.args.saveable.ready (save_view c.args.save.now) (Err f) old new) c.in-Err-Disk.field-0-is c.in-Err-Disk.ensures.is))
     (ap g.O.Sink.text c.in-Err-Disk.ensures.unprinted)
 
 pub returns-in-Err-Memory-clause-ends : goal.returns-in-Err-Memory-clause-ends
@@ -66,7 +66,7 @@ returns-in-Err-Memory-clause-ends g c = λ before same.
     let answers = c.in-Err-Memory.ensures.is in
     let still : c.save_ready.new.disk ≡ c.args.disk.now = c.in-Err-Memory.ensures.still (λ e. let d = c.in-Err-Memory.field-0-is in cc) in
     memory_saved c.args.saveable.ready (save_view c.args.save.now) (with_files before old) new
-    (moved_answers c.args.saveable.ready (save_view c.args.save.now) _ old new before same (subst (λ (f : LoadFault). SaveAnswers c.args.saveable.ready (save_view c.args.save.now) (Err f) old new) c.in-Err-Memory.field-0-is answers))
+    (moved_answers c.args.saveable.ready (save_view c.args.save.now) _ old new before same (subst (λ (f : LoadFault). SaveCallAnswers c.args.saveable.ready (save_view c.args.save.now) (Err f) old new) c.in-Err-Memory.field-0-is answers))
     (record { sectors = ap g.D.Sectors.sectors still; size = answers.size }) (ap g.O.Sink.text c.in-Err-Memory.ensures.unprinted)
 
 pub returns-in-Err-NoSuchUser-clause-ends : goal.returns-in-Err-NoSuchUser-clause-ends

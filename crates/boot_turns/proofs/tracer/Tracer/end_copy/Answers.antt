@@ -2,13 +2,13 @@
 use Rattle.std.proofs.Common.{◌≡◌, ℕ, List, subst}
 use Rattle.std.specs.Prelude.{OnOk}
 use Rattle.mips_machine.specs.Machine.{state_of}
-use Rattle.boot_report.specs.Leaves.{Printed}
+use Rattle.boot_report.specs.Leaves.{PrintsAll}
 use Rattle.boot_turns.proofs.Followed.{copied_rows, copied_steps}
 use Rattle.boot_turns.proofs.tracer.Tracer.end_copy.Goals as goal
 
 pub returns-clause-put : goal.returns-clause-put
 returns-clause-put g c = λ ss words e told placed.
-    subst (λ (rows : List ℕ). Printed (g.O.Sink.text c.args.out.now) (g.O.Sink.text c.put_words.new.out) rows c.put_words.result)
+    subst (λ (rows : List ℕ). PrintsAll (g.O.Sink.text c.args.out.now) (g.O.Sink.text c.put_words.new.out) rows c.put_words.result)
     (copied_rows c.args.map.now (state_of c.args.machine.now ss) c.args.self.now.user c.args.self.now.steps c.args.answer c.args.call.now words c.if-answer-ne1.false c.if-user-self.false c.requires.copy told placed)
     (c.put_words.ensures.put ss e told.entries)
 

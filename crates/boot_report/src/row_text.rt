@@ -7,7 +7,7 @@ use arrayvec::ArrayString;
 use cvm_model::{Next, Row};
 use cvm_text::{decimal_u64, hex8};
 
-/// Who is next, as the end of a row says it.
+// Who is next, as the end of a row says it.
 fn next_text(next: Next) -> ArrayString<40>
     ensures { result.bytes ≡ next_text next }
 {
