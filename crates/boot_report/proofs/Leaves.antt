@@ -1,11 +1,15 @@
 -- What a call leaves, by what its calls left.
-use Rattle.std.proofs.Common.{◌≡◌, ℕ, ◌≤◌, ◌++◌, List, Option, Result, Ok, Err, OnOk, OnErr, sym, ◌∙◌, subst, arith}
+use Rattle.std.proofs.Common.{◌≡◌, ℕ, zero, suc, ◌+◌, ◌≤◌, ◌++◌, List, Option, Result, Ok, Err, OnOk, OnErr, refl, sym, ap, ap₂, ◌∙◌, subst, arith}
 use Rattle.std.specs.Io.KnownBytes.{append_known}
 use Rattle.cvm_outside.specs.Causes.{Counts, Rose}
+use Rattle.cvm_outside.specs.Numbering.{Tally, until_fault}
 use Rattle.cvm_outside.specs.Told.{AppendsPart}
 use Rattle.cvm_outside.proofs.Parts.{puts-both, part-back}
+use Rattle.sector_disk.specs.Ports.{called}
 use Rattle.mips_machine.specs.Machine.{Held}
-use Rattle.boot_report.specs.Leaves.{OnlyViews, PrintsAll, Puts}
+use Rattle.boot_report.specs.declared.fault.ReportFault.{ReportFault}
+use Rattle.boot_report.specs.declared.fault.ReportFault.TheVariants.{Disk, Sink}
+use Rattle.boot_report.specs.Leaves.{Asks, OnlyViews, PrintsAll, Puts}
 use Rattle.boot_report.proofs.Texts.{on_ok, on_err}
 use Rattle.boot_report.proofs.MemoryLemmas.{same_twice}
 
@@ -47,3 +51,28 @@ module _ {T E : Type 0} (old new : Option (List ℕ)) (rows : List ℕ) where
 
 pub views_twice : {D : Type 0} (told : D → Option (List (List ℕ))) (large : D → ℕ) (a b c : Held) (one two three : D) → OnlyViews a b told large one two → OnlyViews b c told large two three → OnlyViews a c told large one three
 views_twice told large a b c one two three v w = record { same = same_twice a b c v.same w.same; sectors = w.sectors ∙ v.sectors; size = w.size ∙ v.size }
+
+-- calls behind calls, where none of the first failed
+pub called_behind : (p q : ℕ) (x y : Tally) → y.faults ≡ x.faults → y.calls ≡ called q x → called p y ≡ called (p + q) x
+called_behind zero q x y same e = e ∙ ap (λ k. called k x) (let z : q ≡ 0 + q = omega arith in z)
+called_behind (suc p) q x y same e = ap₂ until_fault same (called_behind p q x y same e) ∙ ap (λ k. called k x) (let z : suc (p + q) ≡ suc p + q = omega arith in z)
+
+-- nothing was asked of the disk
+pub asks_none : (P : Type 0) (x : Tally) → (P → ⊥) → Asks P x x
+asks_none P x never = record { made = 0; calls = refl; some = λ h. absurd (never h) }
+
+-- what was asked of it in two parts, where the first met no fault
+pub asks_twice : (O P : Type 0) (x y z : Tally) → y.faults ≡ x.faults → Asks O x y → Asks P y z → Asks P x z
+asks_twice O P x y z same first then = record {
+  made = then.made + first.made;
+  calls = then.calls ∙ called_behind then.made first.made x y same first.calls;
+  some = λ h. let e = then.some h in omega (arith, e);
+}
+
+-- what was asked of it, where another answer says whose fault that was
+pub asks_as : (O P : Type 0) (x y : Tally) → (P → O) → Asks O x y → Asks P x y
+asks_as O P x y of a = record { made = a.made; calls = a.calls; some = λ h. a.some (of h) }
+
+-- a fault of the sink is none of the disk
+pub not_disk : {T : Type 0} (r : Result T ReportFault) (f : ReportFault) → r ≡ Err f → f ≡ Sink → r ≡ Err Disk → ⊥
+not_disk r f is at_sink e = cc

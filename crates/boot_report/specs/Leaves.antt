@@ -1,6 +1,8 @@
 -- What a call leaves in its sink and its disk.
-use Rattle.std.specs.Prelude.{◌≡◌, ℕ, Option, List, Result, Err}
+use Rattle.std.specs.Prelude.{◌≡◌, ℕ, ◌≤◌, Option, List, Result, Err}
 use Rattle.cvm_outside.specs.Causes.{Counts}
+use Rattle.cvm_outside.specs.Numbering.{Tally}
+use Rattle.sector_disk.specs.Ports.{called}
 use Rattle.mips_machine.specs.Machine.{Held}
 use Rattle.boot_report.specs.Blames.{Blames}
 use Rattle.boot_report.specs.declared.fault.ReportFault.{ReportFault}
@@ -24,6 +26,12 @@ pub record OnlyViews {D : Type 0} (old new : Held) (told : D → Option (List (L
   pub same : SameButViewed old new
   pub sectors : told redisk ≡ told disk
   pub size : large redisk ≡ large disk
+
+-- a disk was called so often, at least once where it is blamed; by what an answer says that blames it, and the disk's counts before and after
+pub record Asks (OfDisk : Type 0) (before after : Tally) : Type 0 where
+  pub made : ℕ
+  pub calls : after.calls ≡ called made before
+  pub some : OfDisk → 1 ≤ made
 
 -- and each error is a fault of the disk or of the sink, of which each has a count
 pub record Reads {T D O : Type 0} (old new : Held) (told : D → Option (List (List ℕ))) (large broke : D → ℕ) (disk redisk : D) (cut : O → ℕ) (out reout : O)

@@ -1,11 +1,12 @@
 // The rows of a user's memory.
 ghost use Rattle.std.specs.Prelude.{◌≡◌, ◌+◌, ◌*◌, ◌/◌, ◌%◌, ◌<◌, ◌≤◌, ◌^◌};
-ghost use Rattle.std.specs.Prelude.{ℕ, length, slice_index, true, IfSome, IfOk};
+ghost use Rattle.std.specs.Prelude.{ℕ, length, slice_index, true, is_err, IfSome, IfOk, Err};
 ghost use Rattle.cvm_outside.specs.Causes.{Counts};
+ghost use Rattle.cvm_outside.specs.Numbering.{tally};
 ghost use Rattle.layer_map.specs.Map.{memory_frames};
 ghost use Rattle.boot_report.specs.Told.{user_word, WherePaged};
 ghost use Rattle.boot_report.specs.Texts.{texts, memory_row, page_word, pages_rows, ShowsPage};
-ghost use Rattle.boot_report.specs.Leaves.{OnlyViews, PrintsAll, Puts, Reads};
+ghost use Rattle.boot_report.specs.Leaves.{Asks, OnlyViews, PrintsAll, Puts, Reads};
 ghost use Rattle.boot_report.specs.Stand.{PagesStand};
 
 use crate::fault::ReportFault;
@@ -89,6 +90,7 @@ fn find_page<D: Sectors>(
     ensures shown { WherePaged (D.sectors disk.old) machine.old map.now (λ a. IfOk result (λ o. ShowsPage machine.new o a q)) }
     ensures view { OnlyViews machine.old machine.new D.sectors D.size disk.old disk.new }
     ensures count { Counts (D.faults disk.old) (D.faults disk.new) result }
+    ensures asks { Asks (is_err result ≡ true) (tally D.faults D.calls disk.old) (tally D.faults D.calls disk.new) }
 {
     let entry = machine.word(map.page_tables() + 4 * q);
     let frame = entry / 4096;
@@ -118,6 +120,7 @@ pub fn read_user_word<D: Sectors>(
     ensures shown { WherePaged (D.sectors disk.old) machine.old map.now (λ a. IfOk result (λ w. w ≡ user_word map.now a user k)) }
     ensures view { OnlyViews machine.old machine.new D.sectors D.size disk.old disk.new }
     ensures count { Counts (D.faults disk.old) (D.faults disk.new) result }
+    ensures asks { Asks (is_err result ≡ true) (tally D.faults D.calls disk.old) (tally D.faults D.calls disk.new) }
 {
     let page = (user - 1) * map.params().pages + k / 1024;
     let frame = find_page(machine, map, page, disk)?;
@@ -142,6 +145,7 @@ pub(crate) fn put_memory<D: Sectors, O: Sink>(
     requires pages { PagesStand map.now (length machine.old.hardware.memory) (D.size disk.old) }
     ensures put { WherePaged (D.sectors disk.old) machine.old map.now (λ a. PrintsAll (O.text out.old) (O.text out.new) (pages_rows a first pages) result) }
     ensures leaves { Reads machine.old machine.new D.sectors D.size D.faults disk.old disk.new O.faults out.old out.new result }
+    ensures asks { Asks (result ≡ Err ReportFault.Disk) (tally D.faults D.calls disk.old) (tally D.faults D.calls disk.new) }
 {
     for p in 0..pages {
         let frame = find_page(machine, map, first + p, disk)?;

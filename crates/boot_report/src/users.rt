@@ -1,10 +1,11 @@
 // The rows of the users.
 ghost use Rattle.std.specs.Prelude.{◌≡◌, ◌+◌, ◌-◌, ◌*◌, ◌<◌, ◌≤◌, ◌==◌};
-ghost use Rattle.std.specs.Prelude.{length, min, slice_index};
+ghost use Rattle.std.specs.Prelude.{length, min, slice_index, Err};
+ghost use Rattle.cvm_outside.specs.Numbering.{tally};
 ghost use Rattle.layer_map.specs.Map.{block_at};
 ghost use Rattle.boot_report.specs.Texts.{cpu_of, register_rows, processor_rows, log_rows};
 ghost use Rattle.boot_report.specs.Told.{ForUser, ForUsers};
-ghost use Rattle.boot_report.specs.Leaves.{PrintsAll, Puts, Reads};
+ghost use Rattle.boot_report.specs.Leaves.{Asks, PrintsAll, Puts, Reads};
 ghost use Rattle.boot_report.specs.Stand.{BlockStands, BlocksStand, PagesStand, UserStands};
 
 use crate::fault::ReportFault;
@@ -120,6 +121,7 @@ fn put_one<D: Sectors, O: Sink>(
     requires pages { PagesStand map.now (length machine.old.hardware.memory) (D.size disk.old) }
     ensures put { ForUser (D.sectors disk.old) machine.old map.now runs user (PrintsAll (O.text out.old) (O.text out.new)) result }
     ensures leaves { Reads machine.old machine.new D.sectors D.size D.faults disk.old disk.new O.faults out.old out.new result }
+    ensures asks { Asks (result ≡ Err ReportFault.Disk) (tally D.faults D.calls disk.old) (tally D.faults D.calls disk.new) }
 {
     let most = map.params().pages;
     let pages = block_word(machine, user, BLOCK_SIZE).min(most);
@@ -144,6 +146,7 @@ pub fn put_user_rows<D: Sectors, O: Sink>(
     requires pages { PagesStand map.now (length machine.old.hardware.memory) (D.size disk.old) }
     ensures put { ForUser (D.sectors disk.old) machine.old map.now (user == running) user (PrintsAll (O.text out.old) (O.text out.new)) result }
     ensures leaves { Reads machine.old machine.new D.sectors D.size D.faults disk.old disk.new O.faults out.old out.new result }
+    ensures asks { Asks (result ≡ Err ReportFault.Disk) (tally D.faults D.calls disk.old) (tally D.faults D.calls disk.new) }
 {
     put_one(machine, map, user == running, user, disk, out)
 }
@@ -164,6 +167,7 @@ pub fn put_users<D: Sectors, O: Sink>(
     requires pages { PagesStand map.now (length machine.old.hardware.memory) (D.size disk.old) }
     ensures put { ForUsers (D.sectors disk.old) machine.old map.now running (PrintsAll (O.text out.old) (O.text out.new)) result }
     ensures leaves { Reads machine.old machine.new D.sectors D.size D.faults disk.old disk.new O.faults out.old out.new result }
+    ensures asks { Asks (result ≡ Err ReportFault.Disk) (tally D.faults D.calls disk.old) (tally D.faults D.calls disk.new) }
 {
     for i in 0..map.users() {
         put_user_rows(machine, map, running, i + 1, disk, out)?;

@@ -6,7 +6,7 @@ use Rattle.mips_table.specs.Machine.{State, run}
 use Rattle.mips_machine.specs.Machine.{Held}
 use Rattle.mips_machine.specs.Steps.{outside_of}
 use Rattle.boot_turns.specs.AnyTurns.{NoSooner, BrokeOff}
-use Rattle.boot_turns.specs.Completes.{seen, SeenTorn, DiskLeaves}
+use Rattle.boot_turns.specs.Completes.{seen, SeenPorts, SeenTorn, DiskLeaves}
 use Rattle.boot_turns.specs.declared.answers.RunFault.{RunFault}
 use Rattle.boot_turns.specs.declared.answers.RunFault.TheVariants.{StepLimit, Disk, Sink}
 use Rattle.boot_run.specs.declared.whole.RunEnd.{RunEnd}
@@ -59,7 +59,8 @@ module _ (x : Outside) (s : State) (k t : ℕ) (told : Option (List (List ℕ)))
   torn_as : (traced : Bool) (at : ℕ) → NoSooner x s k (suc at) → left + suc at ≡ budget + t → DiskLeaves x s at traced (seen told held) → StepFailsWithin x s k (budget + t) traced told
   torn_as false at sooner spent ((now, is, torn), ports) = record { at = at; sooner = sooner; less = omega (arith, spent); now = now; told_is = stand_told told held now is; torn = inl torn }
   torn_as true at sooner spent leaves = ⊎_elim
-      (λ (h : SeenTorn x (run x s at) (seen told held)). record { at = at; sooner = sooner; less = omega (arith, spent); now = h.0; told_is = stand_told told held h.0 h.1; torn = inl h.2 })
+      (λ (h : SeenTorn x (run x s at) (seen told held) × SeenPorts (run x s (suc at)) (seen told held)).
+      record { at = at; sooner = sooner; less = omega (arith, spent); now = h.0.0; told_is = stand_told told held h.0.0 h.0.1; torn = inl h.0.2 })
       (λ (e : seen told held ≡ Some (run x s (suc at))). record {
         at = at;
         sooner = sooner;

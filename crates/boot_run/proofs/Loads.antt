@@ -6,6 +6,7 @@ use Rattle.std.specs.List.{range_with_len}
 use Rattle.std.proofs.lemmas.Bool.{cond-false}
 use Rattle.std.proofs.lemmas.List.{drop-replicate, length-map, length-replicate}
 use Rattle.std.proofs.Math.Nat.{le-div_iff_mul-le}
+use Rattle.cvm_outside.specs.Numbering.{Tally}
 use Rattle.schedule_file.specs.Rows.{Rows}
 use Rattle.layer_map.specs.Map.{memory_frames, memory_words}
 use Rattle.mips_table.specs.Device.{sector_of}
@@ -17,7 +18,7 @@ use Rattle.layer_contract.specs.Boots.{boot_of}
 use Rattle.layer_contract.specs.Follows.{loaded, loaded_memory, loaded_sector}
 use Rattle.boot_turns.specs.Completes.{seen}
 use Rattle.boot_run.specs.Loading.{calls_made, system_of, disk_pages, first_pages, pages_of_users, user_pages, written, with_words, TornAmong}
-use Rattle.boot_run.specs.LoadEnds.{LoadTorn}
+use Rattle.boot_run.specs.LoadEnds.{pages_needed, LoadCalls}
 use Rattle.boot_run.proofs.PageLemmas.{page_or, written_is}
 use Rattle.boot_run.proofs.UserPages.{dead_past}
 
@@ -105,7 +106,7 @@ stands_loaded b rows held told retold count some e h sized le =
     (ap (λ r. seen r (with_words (started (memory_frames (map_of (boot_of b))) rows) 0 b.words.items)) h ∙ fresh b rows some told count sized le)
 
 -- where the writing was broken off, the sectors become those of the start
-pub torn_becomes : (most : ℕ) (f g : List (List ℕ) → List (List ℕ)) (told retold : Option (List (List ℕ))) (live : ℕ → Bool) (made remade : ℕ) → ((ss : List (List ℕ)) → most ≤ length ss → f ss ≡ g ss) →
+pub torn_becomes : (most : ℕ) (f g : List (List ℕ) → List (List ℕ)) (told retold : Option (List (List ℕ))) (live : ℕ → Bool) (made remade : Tally) → ((ss : List (List ℕ)) → most ≤ length ss → f ss ≡ g ss) →
     ((ss : List (List ℕ)) → told ≡ Some ss → most ≤ length ss) → TornAmong most f told retold live made remade → TornAmong most g told retold live made remade
 torn_becomes most f g told retold live made remade same large w = record {
   at = w.at;
@@ -125,20 +126,21 @@ torn_becomes most f g told retold live made remade same large w = record {
 pub told_many : (told : Option (List (List ℕ))) (ss : List (List ℕ)) (count : ℕ) → told ≡ Some ss → IfSome told (λ ss. length ss ≡ count) → length ss ≡ count
 told_many told ss count e h = subst (λ (o : Option (List (List ℕ))). IfSome o (λ ss. length ss ≡ count)) e h
 
-pub torn_loaded : (b : Booted) (rows : Rows) (told retold : Option (List (List ℕ))) (made remade count : ℕ) → 1 ≤ b.params.pages →
+pub torn_loaded : (b : Booted) (rows : Rows) (told retold : Option (List (List ℕ))) (made remade : Tally) (count : ℕ) → 1 ≤ b.params.pages →
     TornAmong (length b.users.items * b.params.pages) (written (user_pages (system_of b rows)) (length b.users.items * b.params.pages)) told retold (user_pages (system_of b rows)).live made remade →
-    IfSome told (λ ss. length ss ≡ count) → length b.users.items * b.params.pages ≤ count → LoadTorn b rows told retold made remade
+    IfSome told (λ ss. length ss ≡ count) → length b.users.items * b.params.pages ≤ count →
+    TornAmong (pages_needed b) (λ ss. (loaded (system_of b rows) ss).device.sectors) told retold (user_pages (system_of b rows)).live made remade
 torn_loaded b rows told retold made remade count some w sized le =
     torn_becomes (length b.users.items * b.params.pages) (written (user_pages (system_of b rows)) (length b.users.items * b.params.pages)) (λ ss. (loaded (system_of b rows) ss).device.sectors) told retold
     (user_pages (system_of b rows)).live made remade
     (λ ss all. sectors_are b rows some ss all) (λ ss e. let many = told_many told ss count e sized in omega (arith, many, le)) w
 
 -- what the code counted, and wrote from its own lists, as the definitions say it
-module _ (b : Booted) (rows : Rows) (us : List (Vec ℕ Global)) (n : ℕ) (told retold : Option (List (List ℕ))) (made remade : ℕ) (users : us ≡ b.users.items) (many : n ≡ length b.users.items) where
-  pub user_calls : remade ≡ calls_made (pages_of_users b.params.pages us []).live (n * b.params.pages) made → remade ≡ calls_made (user_pages (system_of b rows)).live (length b.users.items * b.params.pages) made
+module _ (b : Booted) (rows : Rows) (us : List (Vec ℕ Global)) (n : ℕ) (told retold : Option (List (List ℕ))) (made remade : Tally) (users : us ≡ b.users.items) (many : n ≡ length b.users.items) where
+  pub user_calls : remade.calls ≡ calls_made (pages_of_users b.params.pages us []).live (n * b.params.pages) made → LoadCalls b rows made remade
   user_calls w =
-      subst (λ (vs : List (Vec ℕ Global)). remade ≡ calls_made (pages_of_users b.params.pages vs []).live (length b.users.items * b.params.pages) made) users
-      (subst (λ m. remade ≡ calls_made (pages_of_users b.params.pages us []).live (m * b.params.pages) made) many w)
+      subst (λ (vs : List (Vec ℕ Global)). remade.calls ≡ calls_made (pages_of_users b.params.pages vs []).live (length b.users.items * b.params.pages) made) users
+      (subst (λ m. remade.calls ≡ calls_made (pages_of_users b.params.pages us []).live (m * b.params.pages) made) many w)
 
   -- the writing that was broken off
   abbrev TornOf : List (Vec ℕ Global) → ℕ → Type 0

@@ -1,5 +1,5 @@
 -- Pages written one after another: which sector holds what.
-use Rattle.std.proofs.Common.{◌≡◌, ◌≢◌, ℕ, zero, suc, ◌+◌, ◌<◌, ◌≤◌, Bool, true, false, cond, List, [], ◌∷◌, ◌++◌, take, drop, map, length, get_or, set, Option, None, Some, refl, sym, ap, ◌∙◌, subst, ⊎_elim, arith, length-set, get_or-set_other, get_or-set_same}
+use Rattle.std.proofs.Common.{◌≡◌, ◌≢◌, ℕ, zero, suc, ◌+◌, ◌<◌, ◌≤◌, Bool, true, false, cond, List, [], ◌∷◌, ◌++◌, take, drop, map, length, get_or, set, Option, None, Some, refl, sym, ap, ap₂, ◌∙◌, subst, ⊎_elim, arith, length-set, get_or-set_other, get_or-set_same}
 use Rattle.std.specs.Prelude.{Result, Ok, Err, OnErr}
 use Rattle.std.specs.Option.{option_map}
 use Rattle.std.specs.List.{range_with_len}
@@ -9,7 +9,7 @@ use Rattle.mips_table.specs.Device.{sector_of}
 use Rattle.page_model.specs.Paging.{Pages}
 use Rattle.mips_machine.specs.Machine.{Held}
 use Rattle.boot_run.specs.Loading.{calls_made, with_call, with_page, words_of_page, written, StaysBut, TornAmong}
-use Rattle.cvm_outside.specs.Numbering.{counted}
+use Rattle.cvm_outside.specs.Numbering.{Tally, until_fault}
 
 pub length-with_page : (p : Pages) (ss : List (List ℕ)) (q : ℕ) → length (with_page p ss q) ≡ length ss
 length-with_page p ss q = cond_both (p.live q) (set ss q (words_of_page p q)) ss (λ xs. length xs ≡ length ss) (λ _. length-set ss q (words_of_page p q)) (λ _. refl)
@@ -73,15 +73,17 @@ page_left p q None dead = refl
 page_left p q (Some ss) dead = ap Some (sym (cond-false (p.live q) _ _ dead))
 
 -- one call more, where the number is a page; and none where it is none
-pub call_made : (live : ℕ → Bool) (q made new : ℕ) → live q ≡ true → new ≡ counted made → new ≡ with_call live made q
-call_made live q made new there e = e ∙ sym (cond-true (live q) (counted made) made there)
+pub call_made : (live : ℕ → Bool) (q faults made new : ℕ) → live q ≡ true → new ≡ until_fault faults made → new ≡ with_call live faults made q
+call_made live q faults made new there e = e ∙ sym (cond-true (live q) (until_fault faults made) made there)
 
-pub no_call : (live : ℕ → Bool) (q made : ℕ) → live q ≡ false → made ≡ with_call live made q
-no_call live q made dead = sym (cond-false (live q) (counted made) made dead)
+pub no_call : (live : ℕ → Bool) (q faults made : ℕ) → live q ≡ false → made ≡ with_call live faults made q
+no_call live q faults made dead = sym (cond-false (live q) (until_fault faults made) made dead)
 
--- one more number is done
-pub calls_more : (live : ℕ → Bool) (m n made mid new : ℕ) → n ≡ m + 1 → mid ≡ calls_made live m made → new ≡ with_call live mid m → new ≡ calls_made live n made
-calls_more live m n made mid new e h k = k ∙ ap (λ c. with_call live c m) h ∙ (let f : suc m ≡ n = omega (arith, e) in ap (λ i. calls_made live i made) f)
+-- one more number is done, where no call failed before
+pub calls_more : (live : ℕ → Bool) (m n : ℕ) (made : Tally) (faults mid new : ℕ) → n ≡ m + 1 → faults ≡ made.faults → mid ≡ calls_made live m made → new ≡ with_call live faults mid m →
+    new ≡ calls_made live n made
+calls_more live m n made faults mid new e same h k =
+    k ∙ ap₂ (λ (b c : ℕ). with_call live b c m) same h ∙ (let f : suc m ≡ n = omega (arith, e) in ap (λ i. calls_made live i made) f)
 
 -- a sector that may hold anything
 torn_but : (q : ℕ) (words : List ℕ) (told retold : Option (List (List ℕ))) → retold ≡ option_map (λ ss. set ss q words) told → StaysBut q told retold
@@ -129,16 +131,16 @@ page_there : (p : Pages) (q most : ℕ) (ss : List (List ℕ)) → p.live q ≡ 
 page_there p q most ss live lt le = page_at p most ss q lt le ∙ cond-true (p.live q) (words_of_page p q) (sector_of ss q) live
 
 -- where the pages below a number are written, and the write of that one failed
-pub torn_among : (p : Pages) (q most : ℕ) (told mid retold : Option (List (List ℕ))) (made met remade : ℕ) → q < most → p.live q ≡ true → mid ≡ option_map (written p q) told → StaysBut q mid retold →
-    met ≡ calls_made p.live q made → remade ≡ with_call p.live met q → TornAmong most (written p most) told retold p.live made remade
-torn_among p q most told mid retold made met remade lt live e h before now = record {
+pub torn_among : (p : Pages) (q most : ℕ) (told mid retold : Option (List (List ℕ))) (made remade : Tally) (faults met : ℕ) → q < most → p.live q ≡ true → mid ≡ option_map (written p q) told → StaysBut q mid retold →
+    faults ≡ made.faults → met ≡ calls_made p.live q made → remade.calls ≡ with_call p.live faults met q → TornAmong most (written p most) told retold p.live made remade
+torn_among p q most told mid retold made remade faults met lt live e h same before now = record {
   at = q;
   inside = lt;
   page = λ a b la lb. page_there p q most a live lt la ∙ sym (page_there p q most b live lt lb);
   before = λ k l. h k (λ is. absurd (omega (arith, is, l))) ∙ ap (option_map (λ ss. sector_of ss k)) e ∙ early told k l;
   behind = λ k l. h k (λ is. absurd (omega (arith, is, l))) ∙ ap (option_map (λ ss. sector_of ss k)) e ∙ late told k l;
   is_live = live;
-  calls = now ∙ ap (λ c. with_call p.live c q) before;
+  calls = now ∙ ap₂ (λ (b c : ℕ). with_call p.live b c q) same before;
 }
   where
     early : (o : Option (List (List ℕ))) (k : ℕ) → k < q → option_map (λ ss. sector_of ss k) (option_map (written p q) o) ≡ option_map (λ ss. sector_of (written p most ss) k) o

@@ -1,6 +1,7 @@
 -- A run that was taken up ends as the boot whose words it was taken up from.
 use Rattle.std.proofs.Common.{◌≡◌, ℕ, zero, suc, ◌+◌, ◌-◌, ◌≤◌, Option, Some, None, List, length, refl, sym, ap, ◌∙◌, subst, arith}
 use Rattle.std.specs.Prelude.{slice_index}
+use Rattle.cvm_outside.specs.Numbering.{Tally}
 use Rattle.mips_table.specs.Device.{Outside}
 use Rattle.mips_table.specs.Machine.{State, run}
 use Rattle.mips_table.specs.Steady.{StartSteady}
@@ -61,7 +62,7 @@ pub first_of : StartSteady → (y : System) (old : List (List ℕ)) → IsFirst 
 first_of steady y old = record { time = refl; steady = steady (loaded_memory y.boot) (loaded y old).device.sectors y.input }
 
 module _ {L : Type 0} (run_is : (u : CUnit) → MachinesRun (IsTypedState u)) (steady : StartSteady) (takes : TakesUp) (join : SavedRunsJoin) (count : ℕ) (r : Kept L) (more turns steps budget : ℕ)
-    (told retold : Option (List (List ℕ))) (made remade : ℕ) (had has : Option (List ℕ)) (e : RunEnd) (sum : r.turns + more ≡ turns) (spent : budget ≡ steps - r.machine.time)
+    (told retold : Option (List (List ℕ))) (made remade : Tally) (had has : Option (List ℕ)) (e : RunEnd) (sum : r.turns + more ≡ turns) (spent : budget ≡ steps - r.machine.time)
     (runs : RunsToEnd count r more budget (around r told budget had) retold made remade has e) where
   abbrev x : Outside
   x = outside_of r.machine.rows count
@@ -74,7 +75,7 @@ module _ {L : Type 0} (run_is : (u : CUnit) → MachinesRun (IsTypedState u)) (s
     p : Bootable r.boot r.machine.rows count y (loaded y old) 1 (user_sectors y) old
     p = boots old disk
 
-    abbrev calls : State → Type 0
+    abbrev calls : ℕ → State → Type 0
     calls = CallsFrom (run x (loaded y old) a.at) made remade
 
     -- by the run from there on

@@ -5,6 +5,7 @@ use Rattle.std.specs.Option.{option_map}
 use Rattle.std.specs.List.{range_with_len}
 use Rattle.std.proofs.lemmas.Bool.{cases_lt, cond-true}
 use Rattle.std.proofs.lemmas.List.{drop-replicate, take-replicate, length-replicate}
+use Rattle.cvm_outside.specs.Numbering.{Tally}
 use Rattle.schedule_file.specs.Rows.{Rows}
 use Rattle.layer_map.specs.Map.{Map, memory_frames, memory_words}
 use Rattle.mips_table.specs.Device.{sector_of}
@@ -20,7 +21,7 @@ use Rattle.boot_rom.specs.Boots.{rom_memory}
 use Rattle.boot_turns.specs.Completes.{seen}
 use Rattle.boot_turns.specs.Rom.{page_of, rom_loaded, rom_sector, rom_sectors}
 use Rattle.boot_run.specs.Loading.{calls_made, system_of, disk_pages, pages_of_users, rom_pages, written, with_rom, TornAmong}
-use Rattle.boot_run.specs.LoadEnds.{rom_needed, RomTorn}
+use Rattle.boot_run.specs.LoadEnds.{rom_needed, RomLoadCalls}
 use Rattle.boot_run.proofs.PageLemmas.{written_is}
 use Rattle.boot_run.proofs.Loads.{lists, needed_is, page_if, page_below, page_behind, kept_behind, torn_becomes, told_many}
 
@@ -102,9 +103,9 @@ module _ (b : Booted) (rows : Rows) where
           let enough : rom_needed b ≤ length old = omega (arith, sized, le) in
           ap Some (ap₂ (λ memory sectors. start memory sectors rows.inputs) (memory_is frames rom rows some few) (rom_sectors_are pages old enough))
 
-  pub rom_torn : (rom : List ℕ) (told retold : Option (List (List ℕ))) (made remade count : ℕ) → 1 ≤ b.params.pages →
+  pub rom_torn : (rom : List ℕ) (told retold : Option (List (List ℕ))) (made remade : Tally) (count : ℕ) → 1 ≤ b.params.pages →
       TornAmong (rom_needed b) (written (rom_pages (system_of b rows)) (rom_needed b)) told retold (rom_pages (system_of b rows)).live made remade → IfSome told (λ ss. length ss ≡ count) → rom_needed b ≤ count →
-      RomTorn b rows rom told retold made remade
+      TornAmong (rom_needed b) (λ ss. (rom_loaded (system_of b rows) rom ss).device.sectors) told retold (rom_pages (system_of b rows)).live made remade
   rom_torn rom told retold made remade count some w sized le =
       torn_becomes (rom_needed b) (written (rom_pages (system_of b rows)) (rom_needed b)) (λ ss. (rom_loaded (system_of b rows) rom ss).device.sectors) told retold (rom_pages (system_of b rows)).live made remade
       (λ ss all. rom_sectors_are some ss all) (λ ss e. let many = told_many told ss count e sized in omega (arith, many, le)) w
@@ -124,18 +125,18 @@ module _ (b : Booted) (rows : Rows) where
 pub need_is : (b : Booted) (users behind : ℕ) → users ≡ length b.users.items → behind ≡ (length b.words.items + 1023) / 1024 → users * b.params.pages + behind ≡ rom_needed b
 need_is b users behind e f = ap₂ (λ (n m : ℕ). n * b.params.pages + m) e f
 
-module _ (b : Booted) (rows : Rows) (us : List (Vec ℕ Global)) (ws : List ℕ) (n : ℕ) (told retold : Option (List (List ℕ))) (made remade : ℕ) (users : us ≡ b.users.items) (words : ws ≡ b.words.items) (need : n ≡ rom_needed b) where
+module _ (b : Booted) (rows : Rows) (us : List (Vec ℕ Global)) (ws : List ℕ) (n : ℕ) (told retold : Option (List (List ℕ))) (made remade : Tally) (users : us ≡ b.users.items) (words : ws ≡ b.words.items) (need : n ≡ rom_needed b) where
   pub written_so : retold ≡ option_map (written (pages_of_users b.params.pages us ws) n) told → retold ≡ option_map (written (disk_pages b.params.pages (lists b rows) b.words.items) (rom_needed b)) told
   written_so w =
       subst (λ (vs : List (Vec ℕ Global)). retold ≡ option_map (written (pages_of_users b.params.pages vs b.words.items) (rom_needed b)) told) users
       (subst (λ (vs : List ℕ). retold ≡ option_map (written (pages_of_users b.params.pages us vs) (rom_needed b)) told) words
       (subst (λ m. retold ≡ option_map (written (pages_of_users b.params.pages us ws) m) told) need w))
 
-  pub calls_so : remade ≡ calls_made (pages_of_users b.params.pages us ws).live n made → remade ≡ calls_made (rom_pages (system_of b rows)).live (rom_needed b) made
+  pub calls_so : remade.calls ≡ calls_made (pages_of_users b.params.pages us ws).live n made → RomLoadCalls b rows made remade
   calls_so w =
-      subst (λ (vs : List (Vec ℕ Global)). remade ≡ calls_made (pages_of_users b.params.pages vs b.words.items).live (rom_needed b) made) users
-      (subst (λ (vs : List ℕ). remade ≡ calls_made (pages_of_users b.params.pages us vs).live (rom_needed b) made) words
-      (subst (λ m. remade ≡ calls_made (pages_of_users b.params.pages us ws).live m made) need w))
+      subst (λ (vs : List (Vec ℕ Global)). remade.calls ≡ calls_made (pages_of_users b.params.pages vs b.words.items).live (rom_needed b) made) users
+      (subst (λ (vs : List ℕ). remade.calls ≡ calls_made (pages_of_users b.params.pages us vs).live (rom_needed b) made) words
+      (subst (λ m. remade.calls ≡ calls_made (pages_of_users b.params.pages us ws).live m made) need w))
 
   -- the writing that was broken off
   abbrev TornOf : List (Vec ℕ Global) → List ℕ → ℕ → Type 0

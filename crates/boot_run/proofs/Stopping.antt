@@ -2,6 +2,7 @@
 use Rattle.std.proofs.Common.{◌≡◌, ℕ, suc, Bool, true, false, not, Option, Some, None, List, ◌++◌, length, Ok, Err, ◌⊎◌, inl, inr, refl, sym, ap, ◌∙◌, subst}
 use Rattle.std.specs.Prelude.{is_some, IsSome, ◌&&◌, ◌||◌, ◌==◌, if◌then◌else◌, codes}
 use Rattle.std.proofs.lemmas.Bool.{eqb-true}
+use Rattle.cvm_outside.specs.Numbering.{Tally}
 use Rattle.mips_table.specs.Device.{Outside}
 use Rattle.mips_table.specs.Machine.{State, run}
 use Rattle.mips_table.specs.Turns.{in_user, complete, lines_of, is_end, end_within, TurnLaws}
@@ -16,9 +17,10 @@ use Rattle.cvm_model.specs.declared.row.Next.{Next}
 use Rattle.cvm_model.specs.Text.{rows_text, closing_text, report_text}
 use Rattle.layer_contract.specs.Layer.{Rests}
 use Rattle.layer_contract.specs.Starts.{Beyond}
+use Rattle.boot_report.specs.Leaves.{Asks}
 use Rattle.boot_turns.specs.Completes.{seen, SeenPorts}
 use Rattle.boot_turns.specs.Headline as headline
-use Rattle.boot_turns.specs.Headline.{CallsFit, Ending, RanFrom, EndBroken, RowBroken, StepBroken, ending, ending_of}
+use Rattle.boot_turns.specs.Headline.{CallsFit, ReportCalls, Ending, RanFrom, EndBroken, RowBroken, StepBroken, ending, ending_of}
 use Rattle.boot_turns.specs.Machines.{RunMachines, MachinesRun}
 use Rattle.boot_turns.specs.TurnEnds.{Stood, TextAfter}
 use Rattle.boot_turns.specs.declared.answers.View.{View}
@@ -28,7 +30,7 @@ use Rattle.boot_turns.specs.declared.answers.RunFault.TheVariants.{StepLimit, Di
 use Rattle.boot_run.specs.Loading.{system_of}
 use Rattle.boot_run.specs.LoadEnds.{Kept, SeesUser}
 use Rattle.boot_run.specs.Resuming.{SavedAt}
-use Rattle.boot_run.specs.Saving.{saved_run, EndsInTurn, HasHalted, RunsToStop, RunStops, StopsOrCloses}
+use Rattle.boot_run.specs.Saving.{end_of_stop, saved_run, EndsInTurn, HasHalted, RunsToStop, RunStops, StopsOrCloses}
 use Rattle.boot_run.specs.declared.whole.RunEnd.{RunEnd}
 use Rattle.boot_run.specs.declared.whole.RunEnd.TheVariants as ends
 use Rattle.boot_run.specs.declared.saving.SaveEnd.{SaveEnd}
@@ -37,7 +39,7 @@ use Rattle.boot_turns.specs.Entries.{TracesGrow}
 use Rattle.boot_turns.specs.JournalText.{RowsFollow}
 use Rattle.boot_run.proofs.Ending.{calls_fit, stand_told, to_close}
 use Rattle.boot_run.specs.Sink.{Base}
-use Rattle.boot_run.specs.TurnCalls.{ended_of, Around, around, IsCalled, KeepsLoad, SeesPorts}
+use Rattle.boot_run.specs.TurnCalls.{ended_of, Around, around, IsCalled, KeepsLoad}
 use Rattle.boot_run.specs.Whole.{CallsFrom, ShownRunEnds, ending_of_end}
 use Rattle.boot_run.specs.Pieces.{Gone, GoFails, GoRuns, RunsToEnd, end_of_fault}
 use Rattle.boot_run.proofs.Going.{running_of}
@@ -115,18 +117,19 @@ module _ (counts : TurnLaws) (x : Outside) (y : System) (s0 : State) (delay boun
       let done : ending_of g.past.status ≡ headline.Done = sym (ap (λ (c : Cvm). ending_of c.status) same) ∙ sym there ∙ sym is in
       ap (λ n. (run x s0 n).off) end_is ∙ halted_of g.past.status (run x s0 g.at) (subst (λ o. IsSome o) g.ready.ended over) done g.ready.stood.rests.0
 
-  disk_in : (calls : State → Type 0) → IsSome mid.ended → (now : List (List ℕ)) (after : Option (List ℕ)) (text : List ℕ) → after ≡ base.shows text →
-      ((made : ℕ) × StepBroken x y s0 now Boot turns steps made text × calls (run x s0 made)) ⊎ EndBroken x y s0 now Boot turns steps text → HasHalted x s0 turns steps ⊎ EndsInTurn x y s0 now turns steps calls base after ends.DiskFault
+  disk_in : (calls : ℕ → State → Type 0) → IsSome mid.ended → (now : List (List ℕ)) (after : Option (List ℕ)) (text : List ℕ) → after ≡ base.shows text →
+      ((made : ℕ) × StepBroken x y s0 now Boot turns steps made text × calls 0 (run x s0 made))
+      ⊎ (EndBroken x y s0 now Boot turns steps text × ReportCalls calls (run x s0 (end_within x s0 turns steps))) → HasHalted x s0 turns steps ⊎ EndsInTurn x y s0 now turns steps calls base after ends.DiskFault
   disk_in calls over now after text shows (inl h) = inr (text, h.0, h.1, h.2, shows)
-  disk_in calls over now after text shows (inr h) = inl (halts over h.past h.cvm (sym h.done))
+  disk_in calls over now after text shows (inr (h, made)) = inl (halts over h.past h.cvm (sym h.done))
 
-  sink_in : (calls : State → Type 0) → IsSome mid.ended → (now : List (List ℕ)) (after : Option (List ℕ)) (text : List ℕ) → after ≡ base.shows text →
+  sink_in : (calls : ℕ → State → Type 0) → IsSome mid.ended → (now : List (List ℕ)) (after : Option (List ℕ)) (text : List ℕ) → after ≡ base.shows text →
       RowBroken x y s0 now turns steps text ⊎ EndBroken x y s0 now Boot turns steps text → HasHalted x s0 turns steps ⊎ EndsInTurn x y s0 now turns steps calls base after ends.SinkFault
   sink_in calls over now after text shows (inl h) = inr (text, h, shows)
   sink_in calls over now after text shows (inr h) = inl (halts over h.past h.cvm (sym h.done))
 
   -- so a run that is closed has, or came to no report
-  pub halted_or : (calls : State → Type 0) → IsSome mid.ended → (now : List (List ℕ)) (after : Option (List ℕ)) (e : RunEnd) → ShownRunEnds x y s0 bound old now Boot turns steps calls base after (ending_of_end e) →
+  pub halted_or : (calls : ℕ → State → Type 0) → IsSome mid.ended → (now : List (List ℕ)) (after : Option (List ℕ)) (e : RunEnd) → ShownRunEnds x y s0 bound old now Boot turns steps calls base after (ending_of_end e) →
       HasHalted x s0 turns steps ⊎ EndsInTurn x y s0 now turns steps calls base after e
   halted_or calls over now after ends.Done w = inl (halts over w.1.past w.1.cvm w.1.status)
   halted_or calls over now after ends.KernelFaulted w = inr tt
@@ -183,7 +186,7 @@ module _ (counts : TurnLaws) (x : Outside) (y : System) (s0 : State) (delay boun
 -- the loop is done, and the run goes on: it stops there
 module _ {L : Type 0} (run_is : (u : CUnit) → MachinesRun (IsTypedState u)) (counts : TurnLaws) (count : ℕ) (r mid : Kept L) (turns steps left : ℕ) (told mid_told : Option (List (List ℕ))) (text mid_text : Option (List ℕ))
     (kept : KeepsLoad r mid) (gone : GoRuns count r turns (around r told steps text) (around mid mid_told left mid_text) (Ok tt)) where
-  pub stops : (made remade : ℕ) → mid.ended ≡ None → RunsToStop count r mid turns (around r told steps text) mid_told made remade mid_text Stopped
+  pub stops : (made remade : Tally) → mid.ended ≡ None → RunsToStop count r mid turns (around r told steps text) mid_told made remade mid_text Stopped
   stops made remade on = λ s0 delay bound old base k t wanted total c p view starts some more sum ready.
       let x = outside_of r.machine.rows count in
       let y = system_of r.boot r.machine.rows in
@@ -211,7 +214,7 @@ module _ {L : Type 0} (run_is : (u : CUnit) → MachinesRun (IsTypedState u)) (c
       )
 
   -- or it has ended, and is closed
-  pub closes : (new : Kept L) (retold : Option (List (List ℕ))) (made remade : ℕ) (retext : Option (List ℕ)) (e : RunEnd) → IsSome mid.ended → RunsToEnd count r turns steps (around r told steps text) retold made remade retext e →
+  pub closes : (new : Kept L) (retold : Option (List (List ℕ))) (made remade : Tally) (retext : Option (List ℕ)) (e : RunEnd) → IsSome mid.ended → RunsToEnd count r turns steps (around r told steps text) retold made remade retext e →
       RunsToStop count r new turns (around r told steps text) retold made remade retext (Ended e)
   closes new retold made remade retext e over runs = λ s0 delay bound old base k t wanted total c p view starts some more sum ready.
       let x = outside_of r.machine.rows count in
@@ -220,7 +223,7 @@ module _ {L : Type 0} (run_is : (u : CUnit) → MachinesRun (IsTypedState u)) (c
       let g : Gone x y s0 Boot base wanted total (around mid mid_told left mid_text) =
       subst (λ (v : View). Gone x y s0 v base wanted total (around mid mid_told left mid_text)) view (gone y s0 delay bound old base k t wanted total c p starts some more sum ready) in
       let w = runs y s0 delay bound old base k t wanted total c p (subst (λ (v : View). SeesUser v (length y.boot.users)) (sym view) tt) starts some more sum ready in
-      let calls : State → Type 0 = CallsFrom (run x s0 t) made remade in
+      let calls : ℕ → State → Type 0 = CallsFrom (run x s0 t) made remade in
       let ends_so : ShownRunEnds x y s0 bound old w.0 Boot wanted total calls base retext (ending_of_end e) = subst (λ (v : View). ShownRunEnds x y s0 bound old w.0 v wanted total calls base retext (ending_of_end e)) view w.2 in (
         w.0,
         w.1,
@@ -238,7 +241,7 @@ one_told (Some c) a b e f = cc
 
 -- a fault of the loop ends it, in a turn
 module _ {L : Type 0} (count : ℕ) (r new : Kept L) (turns steps left : ℕ) (told retold : Option (List (List ℕ))) (text retext : Option (List ℕ)) where
-  in_turn : (x : Outside) (y : System) (s0 : State) (base : Base) (wanted total : ℕ) (calls : State → Type 0) → (SeenPorts (run x s0 new.machine.time) (seen retold new.machine) → calls (run x s0 new.machine.time)) →
+  in_turn : (x : Outside) (y : System) (s0 : State) (base : Base) (wanted total : ℕ) (calls : ℕ → State → Type 0) → (SeenPorts (run x s0 new.machine.time) (seen retold new.machine) → calls 0 (run x s0 new.machine.time)) →
       (now : List (List ℕ)) → retold ≡ Some now → (f : RunFault) → GoFails x y s0 Boot base wanted total (around new retold left retext) f → EndsInTurn x y s0 now wanted total calls base retext (end_of_fault f)
   in_turn x y s0 base wanted total calls fit now is StepLimit g = tt
   in_turn x y s0 base wanted total calls fit now is Disk (shown, there, stand, broken, ports, shows) =
@@ -246,7 +249,7 @@ module _ {L : Type 0} (count : ℕ) (r new : Kept L) (turns steps left : ℕ) (t
   in_turn x y s0 base wanted total calls fit now is Sink (shown, there, stand, broken, shows) =
       (shown, subst (λ (n : List (List ℕ)). RowBroken x y s0 n wanted total shown) (one_told retold there now (stand_told retold new.machine there stand) is) broken, shows)
 
-  pub breaks : (made remade : ℕ) → IsCalled r new made remade → (f : RunFault) → GoRuns count r turns (around r told steps text) (around new retold left retext) (Err f) →
+  pub breaks : (made remade : Tally) → IsCalled r new made remade → (f : RunFault) → GoRuns count r turns (around r told steps text) (around new retold left retext) (Err f) →
       RunsToEnd count r turns steps (around r told steps text) retold made remade retext (end_of_fault f) → RunsToStop count r new turns (around r told steps text) retold made remade retext (Ended (end_of_fault f))
   breaks made remade called f fails runs = λ s0 delay bound old base k t wanted total c p view starts some more sum ready.
       let x = outside_of r.machine.rows count in
@@ -254,34 +257,36 @@ module _ {L : Type 0} (count : ℕ) (r new : Kept L) (turns steps left : ℕ) (t
       let w = runs y s0 delay bound old base k t wanted total c p (subst (λ (v : View). SeesUser v (length y.boot.users)) (sym view) tt) starts some more sum ready in
       let g : GoFails x y s0 Boot base wanted total (around new retold left retext) f =
       subst (λ (v : View). GoFails x y s0 v base wanted total (around new retold left retext) f) view (fails y s0 delay bound old base k t wanted total c p starts some more sum ready) in
-      let calls : State → Type 0 = CallsFrom (run x s0 t) made remade in
-      let fit : SeenPorts (run x s0 new.machine.time) (seen retold new.machine) → calls (run x s0 new.machine.time) =
-      subst (λ (v : View). SeesPorts v (run x s0 new.machine.time) (around new retold left retext) → CallsFit v calls (run x s0 new.machine.time)) view
+      let calls : ℕ → State → Type 0 = CallsFrom (run x s0 t) made remade in
+      let fit : SeenPorts (run x s0 new.machine.time) (seen retold new.machine) → calls 0 (run x s0 new.machine.time) =
+      subst (λ (v : View). SeenPorts (run x s0 new.machine.time) (seen retold new.machine) → CallsFit v calls (run x s0 new.machine.time)) view
       (calls_fit x y s0 base k t c r new told retold steps left text retext made remade ready called (run x s0 new.machine.time)) in
       (w.0, w.1, (subst (λ (v : View). ShownRunEnds x y s0 bound old w.0 v wanted total calls base retext (ending_of_end (end_of_fault f))) view w.2, inr (in_turn x y s0 base wanted total calls fit w.0 w.1 f g)))
 
 -- by how it stops
-module _ {L D O : Type 0} (run_is : (u : CUnit) → MachinesRun (IsTypedState u)) (grow : (u : CUnit) → TracesGrow (IsTypedState u)) (follow : RowsFollow) (counts : TurnLaws) (size : D → ℕ) (sectors : D → Option (List (List ℕ))) (calls : D → ℕ) (text : O → Option (List ℕ))
+module _ {L D O : Type 0} (run_is : (u : CUnit) → MachinesRun (IsTypedState u)) (grow : (u : CUnit) → TracesGrow (IsTypedState u)) (follow : RowsFollow) (counts : TurnLaws) (size : D → ℕ) (sectors : D → Option (List (List ℕ))) (calls : D → Tally) (text : O → Option (List ℕ))
     (r mid new : Kept L) (disk mid_disk retold : D) (out mid_out printed : O) (turns steps left : ℕ) (kept : KeepsLoad r mid) (same : size mid_disk ≡ size disk)
-    (gone : GoRuns (size disk) r turns (around r (sectors disk) steps (text out)) (around mid (sectors mid_disk) left (text mid_out)) (Ok tt)) where
-  pub stopped : (e : SaveEnd) → StopsOrCloses size sectors calls text mid mid_disk mid_out new retold printed e → RunStops size sectors calls text turns steps r disk out new retold printed e
-  stopped Stopped (on, a, b, c) =
+    (gone : GoRuns (size disk) r turns (around r (sectors disk) steps (text out)) (around mid (sectors mid_disk) left (text mid_out)) (Ok tt)) (called : IsCalled r mid (calls disk) (calls mid_disk))
+    (fine : (calls mid_disk).faults ≡ (calls disk).faults) where
+  pub stopped : (e : SaveEnd) → Asks (end_of_stop e ≡ ends.DiskFault) (calls mid_disk) (calls retold) → StopsOrCloses size sectors calls text mid mid_disk mid_out new retold printed e →
+      RunStops size sectors calls text turns steps r disk out new retold printed e
+  stopped Stopped asks (on, a, b, c) =
       subst (λ (n : Kept L). RunStops size sectors calls text turns steps r disk out n retold printed Stopped) (sym a)
       (subst (λ (d : D). RunStops size sectors calls text turns steps r disk out mid d printed Stopped) (sym b)
       (subst (λ (o : O). RunStops size sectors calls text turns steps r disk out mid mid_disk o Stopped) (sym c)
       (stops run_is counts (size disk) r mid turns steps left (sectors disk) (sectors mid_disk) (text out) (text mid_out) kept gone (calls disk) (calls mid_disk) on)))
-  stopped (Ended e) (over, w) =
+  stopped (Ended e) asks (over, w) =
       closes run_is counts (size disk) r mid turns steps left (sectors disk) (sectors mid_disk) (text out) (text mid_out) kept gone new (sectors retold) (calls disk) (calls retold) (text printed) e over
-      (to_close run_is grow follow counts (size disk) r turns steps (sectors disk) (text out) (size mid_disk) mid new (sectors mid_disk) (sectors retold) left (text mid_out) (text printed) (calls disk) (calls retold) e kept same gone (w left))
+      (to_close run_is grow follow counts (size disk) r turns steps (sectors disk) (text out) (size mid_disk) mid new (sectors mid_disk) (sectors retold) left (text mid_out) (text printed) (calls disk) (calls mid_disk) (calls retold) e kept same called fine asks gone (w left))
 
 -- one that stopped goes on
-pub stopped_goes_on : {L D O : Type 0} (size : D → ℕ) (sectors : D → Option (List (List ℕ))) (calls : D → ℕ) (text : O → Option (List ℕ)) (mid new : Kept L) (disk retold : D) (out printed : O) (e : SaveEnd) →
+pub stopped_goes_on : {L D O : Type 0} (size : D → ℕ) (sectors : D → Option (List (List ℕ))) (calls : D → Tally) (text : O → Option (List ℕ)) (mid new : Kept L) (disk retold : D) (out printed : O) (e : SaveEnd) →
     StopsOrCloses size sectors calls text mid disk out new retold printed e → e ≡ Stopped → new.ended ≡ None
 stopped_goes_on size sectors calls text mid new disk retold out printed Stopped (on, a, b, c) h = ap (λ (r : Kept _). r.ended) a ∙ on
 stopped_goes_on size sectors calls text mid new disk retold out printed (Ended e) w h = absurd (cc)
 
 -- and has as much memory
-pub stopped_keeps : {L D O : Type 0} (size : D → ℕ) (sectors : D → Option (List (List ℕ))) (calls : D → ℕ) (text : O → Option (List ℕ)) (mid new : Kept L) (disk retold : D) (out printed : O) (e : SaveEnd) →
+pub stopped_keeps : {L D O : Type 0} (size : D → ℕ) (sectors : D → Option (List (List ℕ))) (calls : D → Tally) (text : O → Option (List ℕ)) (mid new : Kept L) (disk retold : D) (out printed : O) (e : SaveEnd) →
     StopsOrCloses size sectors calls text mid disk out new retold printed e → e ≡ Stopped → length new.machine.hardware.memory ≡ length mid.machine.hardware.memory
 stopped_keeps size sectors calls text mid new disk retold out printed Stopped (on, a, b, c) h = ap (λ (r : Kept _). length r.machine.hardware.memory) a
 stopped_keeps size sectors calls text mid new disk retold out printed (Ended e) w h = absurd (cc)

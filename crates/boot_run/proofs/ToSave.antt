@@ -2,6 +2,7 @@
 use Rattle.std.proofs.Common.{◌≡◌, ◌≢◌, ℕ, ◌+◌, ◌≤◌, Option, Some, None, List, Ok, Err, arith, refl, ap, subst}
 use Rattle.std.specs.Prelude.{IsSome}
 use Rattle.cvm_outside.specs.Causes.{Rose}
+use Rattle.cvm_outside.specs.Numbering.{Tally}
 use Rattle.mips_table.specs.Machine.{State, run}
 use Rattle.schedule_file.specs.Rows.{Rows}
 use Rattle.mips_machine.specs.Steps.{outside_of}
@@ -11,7 +12,7 @@ use Rattle.layer_contract.specs.Follows.{loaded}
 use Rattle.layer_contract.specs.Starts.{user_sectors}
 use Rattle.boot_turns.specs.declared.answers.View.{View}
 use Rattle.boot_turns.specs.declared.answers.View.TheVariants.{Boot}
-use Rattle.boot_run.specs.Loading.{calls_made, system_of, user_pages}
+use Rattle.boot_run.specs.Loading.{tally_made, system_of, user_pages}
 use Rattle.boot_run.specs.LoadEnds.{Kept, IsFresh, LoadFails}
 use Rattle.boot_run.specs.declared.load.LoadFault.{LoadFault}
 use Rattle.boot_run.specs.declared.load.LoadFault.TheVariants.{NoSuchUser, SmallDisk, Memory, Disk}
@@ -34,17 +35,17 @@ is_some None now h = absurd (cc)
 is_some (Some x) now h = refl
 
 -- a loaded run to where it stops, of this boot, over these rows and with this view
-abbrev StopsAt : {L : Type 0} → Booted → Rows → View → ℕ → (new : Kept L) → (turns : ℕ) → Around → Option (List (List ℕ)) → (made remade : ℕ) → Option (List ℕ) → SaveEnd → Type 0
+abbrev StopsAt : {L : Type 0} → Booted → Rows → View → ℕ → (new : Kept L) → (turns : ℕ) → Around → Option (List (List ℕ)) → (made remade : Tally) → Option (List ℕ) → SaveEnd → Type 0
 StopsAt b rows v count new turns before retold made remade after e = (s0 : State) (delay bound : ℕ) (old : List (List ℕ)) (base : Base) (k t wanted total : ℕ) (c : Cvm) →
     Bootable b rows count (system_of b rows) s0 delay bound old → v ≡ Boot →
     FirstAt (outside_of rows count) s0 k t → 1 ≤ wanted → k + turns ≡ wanted → before.budget + t ≡ total → Ready (outside_of rows count) (system_of b rows) s0 v base k t c before →
     (now : List (List ℕ)) × (retold ≡ Some now) × StopsOrEnds (outside_of rows count) (system_of b rows) s0 bound old now wanted total (CallsFrom (run (outside_of rows count) s0 t) made remade) base after (saved_run new) e
 
-module _ {L : Type 0} (layer : L) (b : Booted) (rows : Rows) (need count size : ℕ) (turns steps : ℕ) (told mid retold : Option (List (List ℕ))) (made remade amid : ℕ) (before after : Option (List ℕ)) (r new : Kept L) (e : SaveEnd)
+module _ {L : Type 0} (layer : L) (b : Booted) (rows : Rows) (need count size : ℕ) (turns steps : ℕ) (told mid retold : Option (List (List ℕ))) (made remade amid : Tally) (before after : Option (List ℕ)) (r new : Kept L) (e : SaveEnd)
     (fresh : IsFresh layer b Boot rows need count r) (same : size ≡ count) (some : 1 ≤ turns)
     (premises : (old : List (List ℕ)) → told ≡ Some old → Bootable b rows count (system_of b rows) (loaded (system_of b rows) old) 1 (user_sectors (system_of b rows)) old)
     (ready : StandsReady (system_of b rows) (loaded (system_of b rows)) told mid r)
-    (loads : amid ≡ calls_made (user_pages (system_of b rows)).live (user_sectors (system_of b rows)) made)
+    (loads : amid ≡ tally_made (user_pages (system_of b rows)).live (user_sectors (system_of b rows)) made)
     (runs : RunsToStop size r new turns (around r mid steps before) retold amid remade after e) where
   stops_at : StopsAt b rows Boot count new turns (around r mid steps before) retold amid remade after e
   stops_at =
@@ -56,7 +57,7 @@ module _ {L : Type 0} (layer : L) (b : Booted) (rows : Rows) (need count size : 
   ends_at : (old : List (List ℕ)) → told ≡ Some old → (now : List (List ℕ)) × (retold ≡ Some now)
       × StopsOrEnds (outside_of rows count) (system_of b rows) (loaded (system_of b rows) old) (user_sectors (system_of b rows)) old now turns steps (WholeCalls b rows old made remade) (behind before) after (saved_run new) e
   ends_at old is =
-      subst (λ n. (now : List (List ℕ)) × (retold ≡ Some now)
+      subst (λ (n : Tally). (now : List (List ℕ)) × (retold ≡ Some now)
       × StopsOrEnds (outside_of rows count) (system_of b rows) (loaded (system_of b rows) old) (user_sectors (system_of b rows)) old now turns steps (CallsFrom (loaded (system_of b rows) old) n remade) (behind before) after (saved_run new) e) loads
       (stops_at (loaded (system_of b rows) old) 1 (user_sectors (system_of b rows)) old (behind before) 0 0 turns steps (first_cvm (system_of b rows)) (premises old is) refl
       (record { before = λ j h. absurd (omega (arith, h)); on = λ j h. absurd (omega (arith, h)) }) some (omega arith) (omega arith)

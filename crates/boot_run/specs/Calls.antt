@@ -1,6 +1,7 @@
 -- What the calls of a loaded run come to, by the run, the disk, the budget and the sink before, and then by those after. The first three
 -- words of each tell the disk's size, its sectors and the sink's text.
 use Rattle.std.specs.Prelude.{◌≡◌, ℕ, Option, None, List, Result}
+use Rattle.cvm_outside.specs.Numbering.{Tally}
 use Rattle.schedule_file.specs.Rows.{Rows}
 use Rattle.layer_contract.specs.declared.boot.Boot.{Boot as Booted}
 use Rattle.boot_turns.specs.declared.answers.Turn.{Turn}
@@ -60,8 +61,8 @@ module _ {D O : Type 0} (size : D → ℕ) (sectors : D → Option (List (List �
   abbrev pub FinishesAnyhow : {L : Type 0} → (turns steps : ℕ) → Kept L → D → O → D → RunEnd → Type 0
   FinishesAnyhow turns steps run disk out retold result = AnyRunsToEnd (size disk) run turns (around run (sectors disk) steps (text out)) (sectors retold) result
 
--- those that end a run: the disk's count of calls is told, too
-module _ {D O : Type 0} (size : D → ℕ) (sectors : D → Option (List (List ℕ))) (called : D → ℕ) (text : O → Option (List ℕ)) where
+-- those that end a run: the disk's counts are told, too
+module _ {D O : Type 0} (size : D → ℕ) (sectors : D → Option (List (List ℕ))) (called : D → Tally) (text : O → Option (List ℕ)) where
   -- it is run to its end, in so many turns and steps at most
   abbrev pub Finishes : {L : Type 0} → (turns steps : ℕ) → Kept L → D → O → D → O → RunEnd → Type 0
   Finishes turns steps run disk out retold printed result =

@@ -3,6 +3,7 @@ use Rattle.std.specs.Prelude.{◌≡◌, ◌≢◌, ℕ, ◌+◌, ◌*◌, ◌/�
 use Rattle.std.specs.Prelude.{Result, Err, IfOk, IfErr, OnErr}
 use Rattle.std.specs.Option.{option_map}
 use Rattle.cvm_outside.specs.Causes.{Rose}
+use Rattle.cvm_outside.specs.Numbering.{Tally, tally}
 use Rattle.mips_table.specs.Device.{Pending, Idle, Reading, Writing}
 use Rattle.mips_table.specs.Machine.{State}
 use Rattle.schedule_file.specs.Rows.{Rows}
@@ -16,7 +17,7 @@ use Rattle.boot_turns.specs.declared.answers.RunFault.{RunFault}
 use Rattle.boot_turns.specs.declared.tracer.Tracer.{Tracer}
 use Rattle.boot_turns.specs.Completes.{seen}
 use Rattle.boot_turns.specs.Rom.{rom_loaded}
-use Rattle.boot_run.specs.Loading.{system_of, user_pages, rom_pages, TornAmong}
+use Rattle.boot_run.specs.Loading.{system_of, user_pages, rom_pages, calls_made, TornAmong}
 use Rattle.boot_run.specs.declared.load.LoadFault.{LoadFault}
 use Rattle.boot_run.specs.declared.load.LoadFault.TheVariants.{NoSuchUser, SmallDisk, Memory, Disk}
 
@@ -45,15 +46,25 @@ LoadFails b view need count before now (SmallDisk wanted have) = SeesUser view (
 LoadFails b view need count before now Memory = HasDiskRoom b view need count
 LoadFails b view need count before now Disk = HasDiskRoom b view need count × Rose before now
 
--- the disk failed in the load of what is booted, whose sectors and whose count of calls were and are these: of the loaded machine
-abbrev pub LoadTorn : Booted → Rows → (told retold : Option (List (List ℕ))) → (made remade : ℕ) → Type 0
-LoadTorn b rows told retold made remade =
-    TornAmong (pages_needed b) (λ ss. (loaded (system_of b rows) ss).device.sectors) told retold (user_pages (system_of b rows)).live made remade
+-- what a load of what is booted does to the disk, by what tells its sectors and its counts, and the disk before and after
+module _ {D : Type 0} (sectors : D → Option (List (List ℕ))) (count : D → Tally) where
+  -- it failed: of the loaded machine
+  abbrev pub LoadTorn : Booted → Rows → (disk redisk : D) → Type 0
+  LoadTorn b rows disk redisk = TornAmong (pages_needed b) (λ ss. (loaded (system_of b rows) ss).device.sectors) (sectors disk) (sectors redisk)
+      (user_pages (system_of b rows)).live (count disk) (count redisk)
 
--- and of a machine with a boot ROM of these words
-abbrev pub RomTorn : Booted → Rows → (rom : List ℕ) → (told retold : Option (List (List ℕ))) → (made remade : ℕ) → Type 0
-RomTorn b rows rom told retold made remade =
-    TornAmong (rom_needed b) (λ ss. (rom_loaded (system_of b rows) rom ss).device.sectors) told retold (rom_pages (system_of b rows)).live made remade
+  -- and of a machine with a boot ROM of these words
+  abbrev pub RomTorn : Booted → Rows → (rom : List ℕ) → (disk redisk : D) → Type 0
+  RomTorn b rows rom disk redisk = TornAmong (rom_needed b) (λ ss. (rom_loaded (system_of b rows) rom ss).device.sectors) (sectors disk) (sectors redisk)
+      (rom_pages (system_of b rows)).live (count disk) (count redisk)
+
+-- so often it was called by a load that is done: once for each page that words reach into
+abbrev pub LoadCalls : Booted → Rows → (made remade : Tally) → Type 0
+LoadCalls b rows made remade = remade.calls ≡ calls_made (user_pages (system_of b rows)).live (pages_needed b) made
+
+-- and by that of a machine with a boot ROM
+abbrev pub RomLoadCalls : Booted → Rows → (made remade : Tally) → Type 0
+RomLoadCalls b rows made remade = remade.calls ≡ calls_made (rom_pages (system_of b rows)).live (rom_needed b) made
 
 -- what is kept of a trace before the first step
 abbrev pub first_tracer : View → Option Tracer
@@ -113,10 +124,10 @@ names_sector count (Writing left sector) = nat_lt sector count
 -- isn't loaded, and then nothing is printed and, unless the disk failed in the load, nothing changes; where it did, `Stopped` tells what that leaves; the
 -- size of a disk stays, and sectors that are told stay told.
 module _ {D O : Type 0} (size : D → ℕ) (sectors : D → Option (List (List ℕ))) (broke called : D → ℕ) where
-  pub record LoadsRun {A : Type 0} (b : Booted) (view : View) (need : ℕ) (Stopped : (told retold : Option (List (List ℕ))) → (made remade : ℕ) → Type 0)
+  pub record LoadsRun {A : Type 0} (b : Booted) (view : View) (need : ℕ) (Stopped : (told retold : Option (List (List ℕ))) → (made remade : Tally) → Type 0)
       (disk : D) (out : O) (redisk : D) (reout : O) (result : Result A LoadFault) : Type 0 where
     pub refused : IfErr result (LoadFails b view need (size disk) (broke disk) (broke redisk))
-    pub stopped : result ≡ Err Disk → Stopped (sectors disk) (sectors redisk) (called disk) (called redisk)
+    pub stopped : result ≡ Err Disk → Stopped (sectors disk) (sectors redisk) (tally broke called disk) (tally broke called redisk)
     pub loaded : IfOk result (λ _. HasDiskRoom b view need (size disk))
     pub unprinted : IfErr result (λ _. reout ≡ out)
     pub still : result ≢ Err Disk → OnErr result (redisk ≡ disk)

@@ -2,7 +2,7 @@
 use Rattle.std.specs.Prelude.{◌≡◌, ◌≢◌, ℕ, zero, suc, ◌+◌, ◌-◌, ◌*◌, ◌<◌, ◌≤◌, nat_lt, if◌then◌else◌, Bool, true, Option, List, Vec, [], ◌∷◌, ◌++◌, map, take, drop, length, slice_index, slice_set}
 use Rattle.std.specs.Option.{option_map}
 use Rattle.std.specs.List.{range_with_len}
-use Rattle.cvm_outside.specs.Numbering.{counted}
+use Rattle.cvm_outside.specs.Numbering.{Tally, until_fault}
 use Rattle.mips_table.specs.Device.{sector_of}
 use Rattle.page_model.specs.Paging.{Pages}
 use Rattle.schedule_file.specs.Rows.{Rows, longest}
@@ -54,14 +54,18 @@ abbrev pub written : Pages → ℕ → List (List ℕ) → List (List ℕ)
 written p zero sectors = sectors
 written p (suc n) sectors = with_page p (written p n sectors) n
 
--- a disk's count of calls once a number's page is written, if it is one: one more
-abbrev pub with_call : (live : ℕ → Bool) → ℕ → ℕ → ℕ
-with_call live made q = if live q then counted made else made
+-- a disk's count of calls once a number's page is written, if it is one: one more, of a disk with so many faults
+abbrev pub with_call : (live : ℕ → Bool) → (faults made q : ℕ) → ℕ
+with_call live faults made q = if live q then until_fault faults made else made
 
 -- and once the pages of the first n numbers are written: one more for each number that is a page
-abbrev pub calls_made : (live : ℕ → Bool) → ℕ → ℕ → ℕ
-calls_made live zero made = made
-calls_made live (suc n) made = with_call live (calls_made live n made) n
+abbrev pub calls_made : (live : ℕ → Bool) → ℕ → Tally → ℕ
+calls_made live zero made = made.calls
+calls_made live (suc n) made = with_call live made.faults (calls_made live n made) n
+
+-- both its counts then
+abbrev pub tally_made : (live : ℕ → Bool) → ℕ → Tally → Tally
+tally_made live n made = record { faults = made.faults; calls = calls_made live n made }
 
 -- where they are told, all sectors but that of number n are as before
 abbrev pub StaysBut : ℕ → (told retold : Option (List (List ℕ))) → Type 0
@@ -70,14 +74,14 @@ StaysBut n told retold = (q : ℕ) → q ≢ n → option_map (λ ss. sector_of 
 -- the sectors below number `most` were being written, in order, so that they become `wanted`, and the write of one failed, which gets a page: what is
 -- wanted there is the same whatever stood on the disk. Where they are told, those before it are written, it may hold anything, and those behind it are
 -- as before. As many calls of the disk were made as numbers up to its are pages
-pub record TornAmong (most : ℕ) (wanted : List (List ℕ) → List (List ℕ)) (told retold : Option (List (List ℕ))) (live : ℕ → Bool) (made remade : ℕ) : Type 0 where
+pub record TornAmong (most : ℕ) (wanted : List (List ℕ) → List (List ℕ)) (told retold : Option (List (List ℕ))) (live : ℕ → Bool) (made remade : Tally) : Type 0 where
   pub at : ℕ
   pub inside : at < most
   pub page : (some other : List (List ℕ)) → most ≤ length some → most ≤ length other → sector_of (wanted some) at ≡ sector_of (wanted other) at
   pub before : (q : ℕ) → q < at → option_map (λ ss. sector_of ss q) retold ≡ option_map (λ ss. sector_of (wanted ss) q) told
   pub behind : (q : ℕ) → at < q → option_map (λ ss. sector_of ss q) retold ≡ option_map (λ ss. sector_of ss q) told
   pub is_live : live at ≡ true
-  pub calls : remade ≡ calls_made live (suc at) made
+  pub calls : remade.calls ≡ calls_made live (suc at) made
 
 -- a machine whose memory has these words from a place on, and else is as before
 abbrev pub with_words : Held → (at : ℕ) → List ℕ → Held

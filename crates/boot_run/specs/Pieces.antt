@@ -1,5 +1,6 @@
 -- What the pieces of a whole run come to, from which its end is put together: the premises, the loop over turns, what closes a run, and a run to its end.
 use Rattle.std.specs.Prelude.{◌≡◌, ℕ, suc, ◌+◌, ◌<◌, ◌≤◌, ◌⊎◌, true, false, Option, Some, List, [], length, Result, MatchResult}
+use Rattle.cvm_outside.specs.Numbering.{Tally}
 use Rattle.mips_table.specs.Device.{Outside}
 use Rattle.mips_table.specs.Machine.{State, run}
 use Rattle.mips_table.specs.Turns.{is_end, IsEnd, end_within}
@@ -13,6 +14,7 @@ use Rattle.layer_contract.specs.Boots.{boot_of}
 use Rattle.layer_contract.specs.Follows.{loaded}
 use Rattle.layer_contract.specs.Starts.{user_sectors, Beyond}
 use Rattle.boot_turns.specs.AnyTurns.{NoSooner}
+use Rattle.boot_turns.specs.Completes.{SeenPorts}
 use Rattle.boot_turns.specs.TurnEnds.{Printed, Whole, Prefix}
 use Rattle.boot_turns.specs.Headline as headline
 use Rattle.boot_turns.specs.Headline.{RowBroken, StepBroken, ending_of}
@@ -26,7 +28,7 @@ use Rattle.boot_run.specs.declared.whole.RunEnd.{RunEnd}
 use Rattle.boot_run.specs.declared.whole.RunEnd.TheVariants as ends
 use Rattle.boot_run.specs.Loading.{system_of}
 use Rattle.boot_run.specs.LoadEnds.{Kept, SeesUser, pages_needed, rom_needed}
-use Rattle.boot_run.specs.TurnCalls.{Around, Ready, SeesPorts, Stand}
+use Rattle.boot_run.specs.TurnCalls.{Around, Ready, Stand}
 use Rattle.boot_run.specs.Report.{Reported, ReportBroken}
 use Rattle.boot_run.specs.Sink.{Base}
 use Rattle.boot_run.specs.Whole.{CallsFrom, ShownRunEnds, ending_of_end, rom_start_of}
@@ -89,7 +91,7 @@ TurnPutFails x y s now (Trace u) turns steps text = TraceBroken x y s now u turn
 abbrev pub GoFails : Outside → System → State → View → Base → (turns steps : ℕ) → Around → RunFault → Type 0
 GoFails x y s v base turns steps after StepLimit = Late x y s v base turns steps after
 GoFails x y s v base turns steps after Disk = (shown : List ℕ) × (now : List (List ℕ)) × Stand after now × StepBroken x y s now v turns steps after.steps shown
-    × SeesPorts v (run x s after.steps) after × (after.text ≡ base.shows shown)
+    × SeenPorts (run x s after.steps) after.state × (after.text ≡ base.shows shown)
 GoFails x y s v base turns steps after Sink = (shown : List ℕ) × (now : List (List ℕ)) × Stand after now × TurnPutFails x y s now v turns steps shown
     × (after.text ≡ base.shows shown)
 
@@ -122,7 +124,7 @@ CloseRuns count r before after result =
     CloseEnds (outside_of r.machine.rows count) y s r.view base t c before after result
 
 -- a loaded run to its end, of one of the users where it is traced
-abbrev pub RunsToEnd : {L : Type 0} → (count : ℕ) → Kept L → (turns steps : ℕ) → (before : Around) → (retold : Option (List (List ℕ))) → (made remade : ℕ) →
+abbrev pub RunsToEnd : {L : Type 0} → (count : ℕ) → Kept L → (turns steps : ℕ) → (before : Around) → (retold : Option (List (List ℕ))) → (made remade : Tally) →
     (after : Option (List ℕ)) → RunEnd → Type 0
 RunsToEnd count r turns steps before retold made remade after result =
     (y : System) (s : State) (late held : ℕ) (old : List (List ℕ)) (base : Base) (k t wanted total : ℕ) (c : Cvm) →

@@ -1,6 +1,7 @@
 -- What a run that is to be saved comes to, and what one that is taken up from saved words does.
 use Rattle.std.specs.Prelude.{◌≡◌, ℕ, ◌+◌, ◌-◌, ◌≤◌, ◌⊎◌, ⊤, false, Option, Some, None, IsSome, All, List, [], ◌++◌, length, codes, Result, Ok, Err}
 use Rattle.std.specs.Io.KnownBytes.{append_known}
+use Rattle.cvm_outside.specs.Numbering.{Tally}
 use Rattle.mips_table.specs.Device.{Outside}
 use Rattle.mips_table.specs.Fits.{IsPage}
 use Rattle.mips_table.specs.Machine.{State, run}
@@ -40,18 +41,18 @@ abbrev pub HasHalted : Outside → State → (turns steps : ℕ) → Type 0
 HasHalted x s turns steps = (run x s (end_within x s turns steps)).off ≡ Some 0
 
 -- a run came to no report: its kernel faulted, or it is out of steps, or the disk failed in a step, or the sink in the row of a dispatch
-abbrev pub EndsInTurn : Outside → System → State → (now : List (List ℕ)) → (turns steps : ℕ) → (calls : State → Type 0) → Base → (after : Option (List ℕ)) →
+abbrev pub EndsInTurn : Outside → System → State → (now : List (List ℕ)) → (turns steps : ℕ) → (calls : ℕ → State → Type 0) → Base → (after : Option (List ℕ)) →
     RunEnd → Type 0
 EndsInTurn x y s now turns steps calls base after ends.Done = ⊥
 EndsInTurn x y s now turns steps calls base after ends.DiskFault = (text : List ℕ) × (made : ℕ) × StepBroken x y s now Boot turns steps made text
-    × calls (run x s made) × (after ≡ base.shows text)
+    × calls 0 (run x s made) × (after ≡ base.shows text)
 EndsInTurn x y s now turns steps calls base after ends.SinkFault = (text : List ℕ) × RowBroken x y s now turns steps text × (after ≡ base.shows text)
 EndsInTurn x y s now turns steps calls base after other = ⊤
 
 -- HOW A RUN THAT IS TO BE SAVED ENDS, from `s` over a disk that had the sectors `old`. It stops where the boot prints `stopped`: its text is the boot's up
 -- to there, and these words are those of the machine there. Or it ends as the boot does, and then it has halted, or it came to no report: a run that goes
 -- on prints no end row.
-abbrev pub StopsOrEnds : Outside → System → State → (held : ℕ) → (old now : List (List ℕ)) → (turns steps : ℕ) → (calls : State → Type 0) → Base →
+abbrev pub StopsOrEnds : Outside → System → State → (held : ℕ) → (old now : List (List ℕ)) → (turns steps : ℕ) → (calls : ℕ → State → Type 0) → Base →
     (after : Option (List ℕ)) → (words : List ℕ) → SaveEnd → Type 0
 StopsOrEnds x y s held old now turns steps calls base after words Stopped = (shown : List ℕ) × (rest : List ℕ) × SavedAt x y s turns steps words now shown
     × RanFrom x y s held old now Boot turns steps headline.Done (shown ++ (codes "stopped\n" ++ rest)) × (after ≡ base.shows shown)
@@ -59,7 +60,7 @@ StopsOrEnds x y s held old now turns steps calls base after words (Ended e) = Sh
     × (HasHalted x s turns steps ⊎ EndsInTurn x y s now turns steps calls base after e)
 
 -- so it is of a loaded run, from any moment at which turns are complete for the first time
-abbrev pub RunsToStop : {L : Type 0} → (count : ℕ) → (r new : Kept L) → (turns : ℕ) → (before : Around) → (retold : Option (List (List ℕ))) → (made remade : ℕ) →
+abbrev pub RunsToStop : {L : Type 0} → (count : ℕ) → (r new : Kept L) → (turns : ℕ) → (before : Around) → (retold : Option (List (List ℕ))) → (made remade : Tally) →
     (after : Option (List ℕ)) → SaveEnd → Type 0
 RunsToStop count r new turns before retold made remade after result =
     (s : State) (late held : ℕ) (old : List (List ℕ)) (base : Base) (k t wanted total : ℕ) (c : Cvm) →
@@ -70,14 +71,14 @@ RunsToStop count r new turns before retold made remade after result =
     (CallsFrom (run (outside_of r.machine.rows count) s t) made remade) base after (saved_run new) result
 
 -- HOW A CALL ENDS that loads a run to be saved, with the run: as the run; or as a boot that isn't loaded
-abbrev pub SaveAnswerEnds : {L : Type 0} → Outside → System → State → (held : ℕ) → (old now : List (List ℕ)) → (turns steps : ℕ) → (calls : State → Type 0) →
+abbrev pub SaveAnswerEnds : {L : Type 0} → Outside → System → State → (held : ℕ) → (old now : List (List ℕ)) → (turns steps : ℕ) → (calls : ℕ → State → Type 0) →
     (before after : Option (List ℕ)) → Result (Kept L × SaveEnd) LoadFault → Type 0
 SaveAnswerEnds x y s held old now turns steps calls before after (Ok (r, e)) =
     StopsOrEnds x y s held old now turns steps calls (behind before) after (saved_run r) e
 SaveAnswerEnds x y s held old now turns steps calls before after (Err fault) = AnswerEnds x y s held old now Boot turns steps calls before after (Err fault)
 
 -- for what is booted, a schedule's rows and a disk of so many sectors, where it tells them before and after
-abbrev pub WholeSaveEnds : {L : Type 0} → Booted → Rows → ℕ → (turns steps : ℕ) → (told retold : Option (List (List ℕ))) → (made remade : ℕ) →
+abbrev pub WholeSaveEnds : {L : Type 0} → Booted → Rows → ℕ → (turns steps : ℕ) → (told retold : Option (List (List ℕ))) → (made remade : Tally) →
     (before after : Option (List ℕ)) → Result (Kept L × SaveEnd) LoadFault → Type 0
 WholeSaveEnds b rows count turns steps told retold made remade before after result = (old now : List (List ℕ)) → told ≡ Some old → retold ≡ Some now →
     SaveAnswerEnds (outside_of rows count) (system_of b rows) (loaded (system_of b rows) old) (user_sectors (system_of b rows)) old now turns steps
@@ -132,7 +133,7 @@ AreBoots b rows count = (old : List (List ℕ)) → IsDisk count old →
 
 -- HOW A RUN THAT GOES ON ENDS, whose first part printed `shown`: with no failed call its text behind that, its ending and its sectors are the boot's;
 -- and with one they are what this leaves of the boot
-abbrev pub GoesOnAs : Outside → System → (old now : List (List ℕ)) → (turns steps : ℕ) → (calls : State → Type 0) → (shown : List ℕ) →
+abbrev pub GoesOnAs : Outside → System → (old now : List (List ℕ)) → (turns steps : ℕ) → (calls : ℕ → State → Type 0) → (shown : List ℕ) →
     (had has : Option (List ℕ)) → Ending → Type 0
 GoesOnAs x y old now turns steps calls shown had has headline.DiskFault =
     ShownRunEnds x y (loaded y old) (user_sectors y) old now Boot turns steps calls (after_saved had shown) has headline.DiskFault
@@ -141,7 +142,7 @@ GoesOnAs x y old now turns steps calls shown had has headline.SinkFault =
 GoesOnAs x y old now turns steps calls shown had has e = (text : List ℕ) × (has ≡ append_known had text) × Ran x y old now Boot turns steps e (shown ++ text)
 
 -- THE JOINT THEOREM, of a run that was taken up: for each boot that can be saved so, of no more steps, it ends as that boot does
-abbrev pub JoinsBoot : {L : Type 0} → (count : ℕ) → Kept L → (turns steps : ℕ) → (told retold : Option (List (List ℕ))) → (made remade : ℕ) →
+abbrev pub JoinsBoot : {L : Type 0} → (count : ℕ) → Kept L → (turns steps : ℕ) → (told retold : Option (List (List ℕ))) → (made remade : Tally) →
     (had has : Option (List ℕ)) → RunEnd → Type 0
 JoinsBoot count r turns steps told retold made remade had has result =
     (old left now : List (List ℕ)) (few spent : ℕ) (shown : List ℕ) → AreBoots r.boot r.machine.rows count → IsResumed r → IsDisk count old → spent ≤ steps →
@@ -156,8 +157,8 @@ GoesOnAnyhow count r turns steps told retold result = (left : List (List ℕ)) �
     AnyEnds (outside_of r.machine.rows count) (state_of r.machine left) (turns - r.turns) (steps - r.machine.time) false retold result
 
 -- The calls, by the run, the disk and the sink before, and then by those after. The first four words of each tell the disk's size, its sectors, its
--- count of calls and the sink's text.
-module _ {D O : Type 0} (size : D → ℕ) (sectors : D → Option (List (List ℕ))) (called : D → ℕ) (text : O → Option (List ℕ)) where
+-- counts and the sink's text.
+module _ {D O : Type 0} (size : D → ℕ) (sectors : D → Option (List (List ℕ))) (called : D → Tally) (text : O → Option (List ℕ)) where
   -- a loaded run is run to where it can be saved, or to its end
   abbrev pub RunStops : {L : Type 0} → (turns steps : ℕ) → Kept L → D → O → Kept L → D → O → SaveEnd → Type 0
   RunStops turns steps run disk out new retold printed result =

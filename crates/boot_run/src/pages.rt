@@ -2,6 +2,7 @@
 ghost use Rattle.std.specs.Prelude.{◌≡◌, ℕ, ◌+◌, ◌*◌, ◌<◌, ◌≤◌, ◌^◌, length, nat_lt, slice_index, true, OnOk, OnErr};
 ghost use Rattle.std.specs.Option.{option_map};
 ghost use Rattle.cvm_outside.specs.Causes.{Counts};
+ghost use Rattle.cvm_outside.specs.Numbering.{tally};
 ghost use Rattle.boot_run.specs.Loading.{calls_made, pages_of_users, with_call, with_page, written, with_words, StaysBut, TornAmong};
 
 use cvm_outside::{DiskFault, Sectors};
@@ -65,7 +66,7 @@ fn write_page<D: Sectors>(
     ensures page { OnErr result ((pages_of_users per users.now behind.now).live q ≡ true) }
     ensures size { D.size disk.new ≡ D.size disk.old }
     ensures count { Counts (D.faults disk.old) (D.faults disk.new) result }
-    ensures calls { D.calls disk.new ≡ with_call (pages_of_users per users.now behind.now).live (D.calls disk.old) q }
+    ensures calls { D.calls disk.new ≡ with_call (pages_of_users per users.now behind.now).live (D.faults disk.old) (D.calls disk.old) q }
 {
     let (words, first) = page_source(users, per, behind, q);
     if first < words.len() {
@@ -92,8 +93,8 @@ pub(crate) fn write_pages<D: Sectors>(
     requires room { most ≤ D.size disk.old }
     ensures ok { OnOk result (D.sectors disk.new ≡ option_map (written (pages_of_users per users.now behind.now) most) (D.sectors disk.old)) }
     ensures torn { OnErr result (TornAmong most (written (pages_of_users per users.now behind.now) most) (D.sectors disk.old) (D.sectors disk.new)
-        (pages_of_users per users.now behind.now).live (D.calls disk.old) (D.calls disk.new)) }
-    ensures calls { OnOk result (D.calls disk.new ≡ calls_made (pages_of_users per users.now behind.now).live most (D.calls disk.old)) }
+        (pages_of_users per users.now behind.now).live (tally D.faults D.calls disk.old) (tally D.faults D.calls disk.new)) }
+    ensures calls { OnOk result (D.calls disk.new ≡ calls_made (pages_of_users per users.now behind.now).live most (tally D.faults D.calls disk.old)) }
     ensures size { D.size disk.new ≡ D.size disk.old }
     ensures count { Counts (D.faults disk.old) (D.faults disk.new) result }
 {

@@ -1,10 +1,11 @@
 // The end and the report of a run, printed from its machine.
-ghost use Rattle.std.specs.Prelude.{◌≡◌, ◌≤◌, ◌++◌, length};
+ghost use Rattle.std.specs.Prelude.{◌≡◌, ◌≤◌, ◌++◌, length, Err};
+ghost use Rattle.cvm_outside.specs.Numbering.{tally};
 ghost use Rattle.layer_map.specs.Map.{memory_words};
 ghost use Rattle.cvm_model.specs.Text.{steps_row as steps_text};
 ghost use Rattle.boot_report.specs.Globals.{AreInside};
 ghost use Rattle.boot_run.specs.Report.{end_row, kernel_rows, runs_now, ForClosing, ForTraceClosing, StepsStand};
-ghost use Rattle.boot_report.specs.Leaves.{PrintsAll, Puts, Reads};
+ghost use Rattle.boot_report.specs.Leaves.{Asks, PrintsAll, Puts, Reads};
 ghost use Rattle.boot_report.specs.Stand.{BlocksStand, PagesStand, UserStands};
 
 use crate::places::Places;
@@ -73,6 +74,7 @@ pub(crate) fn put_closing<D: Sectors, O: Sink>(
     requires inside { AreInside places.now.map places.now.offsets.items }
     ensures put { ForClosing (D.sectors disk.old) machine.old halted current places.now decls.now (PrintsAll (O.text out.old) (O.text out.new)) result }
     ensures leaves { Reads machine.old machine.new D.sectors D.size D.faults disk.old disk.new O.faults out.old out.new result }
+    ensures asks { Asks (result ≡ Err ReportFault.Disk) (tally D.faults D.calls disk.old) (tally D.faults D.calls disk.new) }
 {
     put_kernel(machine, places, decls, halted, out)?;
     let running = runs_now(halted, current);
@@ -107,6 +109,7 @@ pub(crate) fn put_trace_closing<D: Sectors, O: Sink>(
     ensures put { ForTraceClosing (D.sectors disk.old) machine.old halted current map.now tracer (PrintsAll (O.text out.old) (O.text out.new)) result }
     ensures rows { StepsStand (D.sectors disk.old) machine.old halted current map.now tracer (O.text out.old) (O.text out.new) result }
     ensures leaves { Reads machine.old machine.new D.sectors D.size D.faults disk.old disk.new O.faults out.old out.new result }
+    ensures asks { Asks (result ≡ Err ReportFault.Disk) (tally D.faults D.calls disk.old) (tally D.faults D.calls disk.new) }
 {
     put_last(tracer.steps, halted, out)?;
     let running = runs_now(halted, current);

@@ -1,5 +1,6 @@
 // A run that was taken up from saved words goes on as the run that was saved.
 ghost use Rattle.std.specs.Prelude.{◌≡◌, ℕ, ◌+◌, ◌-◌, ◌<◌, ◌≤◌, ◌^◌, None, List, [], length, slice_index, IfOk, IsSome};
+ghost use Rattle.cvm_outside.specs.Numbering.{tally};
 ghost use Rattle.boot_report.specs.Blames.{Blames};
 ghost use Rattle.layer_map.specs.Map.{memory_words};
 ghost use Rattle.mips_machine.specs.Machine.{state_of};
@@ -98,8 +99,8 @@ pub fn run_on<L: Layer + Drop, D: Sectors, O: Sink>(
     requires fine { run.old.fault ≡ None }
     requires done { run.old.turns ≤ turns }
     ensures size { D.size disk.new ≡ D.size disk.old }
-    ensures joins { Joins D.size D.sectors D.calls O.text turns steps run.old disk.old out.old disk.new out.new result }
-    ensures any { RunsOn D.size D.sectors D.calls O.text turns steps run.old disk.old disk.new result }
+    ensures joins { Joins D.size D.sectors (tally D.faults D.calls) O.text turns steps run.old disk.old out.old disk.new out.new result }
+    ensures any { RunsOn D.size D.sectors (tally D.faults D.calls) O.text turns steps run.old disk.old disk.new result }
     ensures told { IsResumed run.old → IsSome (D.sectors disk.old) → IsSome (D.sectors disk.new) }
     ensures blame { Blames (result ≡ RunEnd.DiskFault) (result ≡ RunEnd.SinkFault) D.faults disk.old disk.new O.faults out.old out.new }
 {

@@ -2,6 +2,7 @@
 ghost use Rattle.std.specs.Prelude.{◌≡◌, ◌≢◌, ◌∷◌, ◌+◌, ◌<◌, ◌≤◌, ◌^◌};
 ghost use Rattle.std.specs.Prelude.{false, [], length, slice_index, IfOk, IfErr, IsSome, OnOk, OnErr, Err, Ok, Some, None};
 ghost use Rattle.std.specs.Result.{result_err};
+ghost use Rattle.cvm_outside.specs.Numbering.{tally};
 ghost use Rattle.layer_map.specs.Map.{memory_words};
 ghost use Rattle.mips_machine.specs.Saved.{AreSaved};
 ghost use Rattle.cvm_model.specs.Cvm.{map_of};
@@ -9,9 +10,9 @@ ghost use Rattle.layer_contract.specs.Boots.{boot_of, BootFollows};
 ghost use Rattle.boot_report.specs.Blames.{Blames};
 ghost use Rattle.layer_contract.specs.Follows.{loaded};
 ghost use Rattle.boot_turns.specs.Rom.{rom_loaded};
-ghost use Rattle.boot_run.specs.Loading.{calls_made, rom_pages, system_of, user_pages};
-ghost use Rattle.boot_run.specs.LoadEnds.{pages_needed, rom_needed, IsFresh, StandsFrom, LoadFails, LoadTorn, RomTorn};
-ghost use Rattle.boot_report.specs.Leaves.{OnlyViews, Puts};
+ghost use Rattle.boot_run.specs.Loading.{system_of};
+ghost use Rattle.boot_run.specs.LoadEnds.{pages_needed, rom_needed, IsFresh, StandsFrom, LoadCalls, LoadFails, LoadTorn, RomLoadCalls, RomTorn};
+ghost use Rattle.boot_report.specs.Leaves.{Asks, OnlyViews, Puts};
 ghost use Rattle.boot_run.specs.Calls.{MakesTurns, Proceeds, ProceedsAnyhow, TakesTurns, Reports};
 ghost use Rattle.boot_run.specs.OneTurn.{CanMake, TurnsLeave, TurnsMake, ReportLeaves, TurnsSay, as_turns};
 ghost use Rattle.boot_run.specs.Saving.{saved_run, AreBoots, IsTakenUp};
@@ -108,8 +109,8 @@ impl<L: Layer + Drop> Run<L> {
         ensures stands { IfOk result (StandsFrom (loaded (system_of boot schedule)) (D.sectors disk.old) (D.sectors disk.new)) }
         ensures ready { IfOk result (StandsReady (system_of boot schedule) (loaded (system_of boot schedule)) (D.sectors disk.old) (D.sectors disk.new)) }
         ensures fault { IfErr result (LoadFails boot view (pages_needed boot) (D.size disk.old) (D.faults disk.old) (D.faults disk.new)) }
-        ensures torn { result ≡ Err LoadFault.Disk → LoadTorn boot schedule (D.sectors disk.old) (D.sectors disk.new) (D.calls disk.old) (D.calls disk.new) }
-        ensures calls { OnOk result (D.calls disk.new ≡ calls_made (user_pages (system_of boot schedule)).live (pages_needed boot) (D.calls disk.old)) }
+        ensures torn { result ≡ Err LoadFault.Disk → LoadTorn D.sectors (tally D.faults D.calls) boot schedule disk.old disk.new }
+        ensures calls { OnOk result (LoadCalls boot schedule (tally D.faults D.calls disk.old) (tally D.faults D.calls disk.new)) }
         ensures still { result ≢ Err LoadFault.Disk → OnErr result (disk.new ≡ disk.old) }
         ensures size { D.size disk.new ≡ D.size disk.old }
         ensures same { result ≢ Err LoadFault.Disk → D.faults disk.new ≡ D.faults disk.old }
@@ -163,9 +164,8 @@ impl<L: Layer + Drop> Run<L> {
         ensures ready { IfOk result
             (StandsReady (system_of boot schedule) (rom_loaded (system_of boot schedule) rom.now.items) (D.sectors disk.old) (D.sectors disk.new)) }
         ensures fault { IfErr result (LoadFails boot view (rom_needed boot) (D.size disk.old) (D.faults disk.old) (D.faults disk.new)) }
-        ensures torn { result ≡ Err LoadFault.Disk →
-            RomTorn boot schedule rom.now.items (D.sectors disk.old) (D.sectors disk.new) (D.calls disk.old) (D.calls disk.new) }
-        ensures calls { OnOk result (D.calls disk.new ≡ calls_made (rom_pages (system_of boot schedule)).live (rom_needed boot) (D.calls disk.old)) }
+        ensures torn { result ≡ Err LoadFault.Disk → RomTorn D.sectors (tally D.faults D.calls) boot schedule rom.now.items disk.old disk.new }
+        ensures calls { OnOk result (RomLoadCalls boot schedule (tally D.faults D.calls disk.old) (tally D.faults D.calls disk.new)) }
         ensures still { result ≢ Err LoadFault.Disk → OnErr result (disk.new ≡ disk.old) }
         ensures size { D.size disk.new ≡ D.size disk.old }
         ensures same { result ≢ Err LoadFault.Disk → D.faults disk.new ≡ D.faults disk.old }
@@ -234,7 +234,7 @@ impl<L: Layer + Drop> Run<L> {
         ensures makes { TurnsMake D.size D.sectors D.faults O.text O.faults most
             self.old disk.old budget.old out.old self.new disk.new budget.new out.new result }
         ensures ends { MakesTurns D.size D.sectors O.text most self.old disk.old budget.old out.old self.new disk.new budget.new out.new result }
-        ensures calls { IsCalled self.old self.new (D.calls disk.old) (D.calls disk.new) }
+        ensures calls { IsCalled self.old self.new (tally D.faults D.calls disk.old) (tally D.faults D.calls disk.new) }
         ensures untraced { self.old.tracer ≡ None → (self.new.tracer ≡ None) × (out.new ≡ out.old) }
         ensures no_sink { self.old.tracer ≡ None → result ≢ Err RunFault.Sink }
     {
@@ -295,7 +295,7 @@ impl<L: Layer + Drop> Run<L> {
             self.old disk.old budget.old out.old self.new disk.new budget.new out.new result }
         ensures ends { Proceeds D.size D.sectors O.text most self.old disk.old budget.old out.old self.new disk.new budget.new out.new result }
         ensures any { ProceedsAnyhow D.size D.sectors O.text most self.old disk.old budget.old out.old self.new disk.new budget.new out.new result }
-        ensures calls { IsCalled self.old self.new (D.calls disk.old) (D.calls disk.new) }
+        ensures calls { IsCalled self.old self.new (tally D.faults D.calls disk.old) (tally D.faults D.calls disk.new) }
     {
         machines_run();
         traces_grow();
@@ -327,7 +327,7 @@ impl<L: Layer + Drop> Run<L> {
             self.old disk.old budget.old out.old self.new disk.new budget.new out.new result }
         ensures ends { TakesTurns D.size D.sectors O.text most self.old disk.old budget.old out.old self.new disk.new budget.new out.new result }
         ensures any { ProceedsAnyhow D.size D.sectors O.text most self.old disk.old budget.old out.old self.new disk.new budget.new out.new result }
-        ensures calls { IsCalled self.old self.new (D.calls disk.old) (D.calls disk.new) }
+        ensures calls { IsCalled self.old self.new (tally D.faults D.calls disk.old) (tally D.faults D.calls disk.new) }
     {
         if let Some(fault) = self.fault {
             return Err(fault);
@@ -356,8 +356,9 @@ impl<L: Layer + Drop> Run<L> {
         out: &mut O,
     ) -> Result<Turn, RunFault>
         requires can { CanMake 1 self.old (D.size disk.old) budget.old }
-        ensures { TurnsSay D.size D.sectors D.faults O.text O.faults 1
+        ensures says { TurnsSay D.size D.sectors D.faults O.text O.faults 1
             self.old disk.old budget.old out.old self.new disk.new budget.new out.new (as_turns result) }
+        ensures calls { IsCalled self.old self.new (tally D.faults D.calls disk.old) (tally D.faults D.calls disk.new) }
     {
         let (_, turn) = self.turns(1, budget, disk, out)?;
         Ok(turn)
@@ -372,6 +373,7 @@ impl<L: Layer + Drop> Run<L> {
         ensures ends { Reports D.size D.sectors O.text self.old disk.old out.old (record self.new { fault = result_err result }) disk.new out.new result }
         ensures limit { result ≢ Err RunFault.StepLimit }
         ensures blame { Blames (result ≡ Err RunFault.Disk) (result ≡ Err RunFault.Sink) D.faults disk.old disk.new O.faults out.old out.new }
+        ensures asks { Asks (result ≡ Err RunFault.Disk) (tally D.faults D.calls disk.old) (tally D.faults D.calls disk.new) }
     {
         machines_run();
         runs_stay_typed();
@@ -426,6 +428,7 @@ impl<L: Layer + Drop> Run<L> {
         requires disk { D.size disk.old ≡ self.old.count }
         ensures rest { ReportLeaves D.size D.sectors D.faults O.text O.faults self.old disk.old out.old self.new disk.new out.new result }
         ensures ends { self.old.fault ≡ None → Reports D.size D.sectors O.text self.old disk.old out.old self.new disk.new out.new result }
+        ensures asks { self.old.fault ≡ None → Asks (result ≡ Err RunFault.Disk) (tally D.faults D.calls disk.old) (tally D.faults D.calls disk.new) }
     {
         if let Some(fault) = self.fault {
             return Err(fault);

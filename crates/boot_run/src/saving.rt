@@ -3,7 +3,9 @@ ghost use Rattle.std.specs.Prelude.{◌≡◌, ◌+◌, ◌<◌, ◌≤◌, ◌^
 ghost use Rattle.layer_map.specs.Map.{memory_words};
 ghost use Rattle.cvm_model.specs.Cvm.{map_of};
 ghost use Rattle.layer_contract.specs.Boots.{boot_of, BootFollows};
+ghost use Rattle.cvm_outside.specs.Numbering.{tally};
 ghost use Rattle.boot_report.specs.Blames.{Blames};
+ghost use Rattle.boot_report.specs.Leaves.{Asks};
 ghost use Rattle.boot_run.specs.LoadEnds.{LoadsRun, pages_needed};
 ghost use Rattle.boot_run.specs.Whole.{WholeStopped};
 ghost use Rattle.boot_run.specs.Saving.{end_of_stop, IsSaveDiskFault, IsSaveSinkFault, RunsToSave, RunStops, StopsOrCloses};
@@ -36,7 +38,8 @@ fn stop<L: Layer + Drop, D: Sectors, O: Sink>(
     requires disk { D.size disk.old ≡ run.old.count }
     requires fine { run.old.fault ≡ None }
     ensures size { D.size disk.new ≡ D.size disk.old }
-    ensures ends { StopsOrCloses D.size D.sectors D.calls O.text run.old disk.old out.old run.new disk.new out.new result }
+    ensures ends { StopsOrCloses D.size D.sectors (tally D.faults D.calls) O.text run.old disk.old out.old run.new disk.new out.new result }
+    ensures asks { Asks (end_of_stop result ≡ RunEnd.DiskFault) (tally D.faults D.calls disk.old) (tally D.faults D.calls disk.new) }
     ensures blame { Blames (end_of_stop result ≡ RunEnd.DiskFault) (end_of_stop result ≡ RunEnd.SinkFault) D.faults disk.old disk.new O.faults out.old out.new }
 {
     let over = run.ended().is_some();
@@ -58,7 +61,7 @@ fn run_to_stop<L: Layer + Drop, D: Sectors, O: Sink>(
     requires steps { run.old.machine.time + steps < 2 ^ 64 }
     requires fine { run.old.fault ≡ None }
     ensures size { D.size disk.new ≡ D.size disk.old }
-    ensures ends { RunStops D.size D.sectors D.calls O.text turns steps run.old disk.old out.old run.new disk.new out.new result }
+    ensures ends { RunStops D.size D.sectors (tally D.faults D.calls) O.text turns steps run.old disk.old out.old run.new disk.new out.new result }
     ensures goes_on { result ≡ SaveEnd.Stopped → run.new.ended ≡ None }
     ensures memory { result ≡ SaveEnd.Stopped → length run.new.machine.hardware.memory ≡ length run.old.machine.hardware.memory }
     ensures blame { Blames (end_of_stop result ≡ RunEnd.DiskFault) (end_of_stop result ≡ RunEnd.SinkFault) D.faults disk.old disk.new O.faults out.old out.new }
@@ -92,7 +95,7 @@ pub fn run_to_save<L: Layer + Drop, D: Sectors, O: Sink>(
 ) -> Result<(Run<L>, SaveEnd), LoadFault>
     requires follows { BootFollows (L.image layer) (L.sizes layer) (L.map layer) boot }
     requires some { 1 ≤ turns }
-    ensures ends { RunsToSave D.size D.sectors D.calls O.text boot schedule turns steps disk.old out.old disk.new out.new result }
+    ensures ends { RunsToSave D.size D.sectors (tally D.faults D.calls) O.text boot schedule turns steps disk.old out.old disk.new out.new result }
     ensures goes_on { IfOk result (λ r. r.1 ≡ SaveEnd.Stopped → r.0.ended ≡ None) }
     ensures memory { IfOk result (λ r. r.1 ≡ SaveEnd.Stopped → length r.0.machine.hardware.memory ≡ memory_words (map_of (boot_of boot))) }
     ensures loads { LoadsRun D.size D.sectors D.faults D.calls boot View.Boot (pages_needed boot) (WholeStopped boot schedule)

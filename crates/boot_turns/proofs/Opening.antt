@@ -8,7 +8,7 @@ use Rattle.mips_table.specs.Machine.{State, MODE, run, step}
 use Rattle.mips_table.specs.Turns.{begins, rests, in_user}
 use Rattle.mips_machine.specs.Machine.{Held, state_of}
 use Rattle.mips_machine.specs.Steps.{outside_of}
-use Rattle.boot_turns.specs.Completes.{seen, note, shown, noted, is_at_rest, Open, Progress, Skips, StepRan, StepFails, DiskLeaves, CompleteErr, Passes}
+use Rattle.boot_turns.specs.Completes.{seen, note, shown, noted, is_at_rest, Open, Progress, Skips, PortsStepped, StepRan, StepTorn, StepFails, DiskLeaves, CompleteErr, Passes}
 use Rattle.boot_turns.specs.declared.completion.Begun.{Begun}
 use Rattle.boot_turns.specs.declared.completion.Stepped.{Stepped}
 use Rattle.boot_turns.specs.declared.answers.RunFault.{RunFault}
@@ -92,7 +92,7 @@ fails_leave : (count : ℕ) (x : Outside) (s : State) (u : ℕ) (told retold : O
     (traced : Bool) → StepFails count old new told retold traced → DiskLeaves x s u traced (seen retold new)
 fails_leave count x s u told retold old new same is false h = (step_torn count x old new told retold (run x s u) same is h.0, step_ports count x old new told retold (run x s u) same is h.0 h.1)
 fails_leave count x s u told retold old new same is true h = ⊎_elim
-    (λ torn. inl (step_torn count x old new told retold (run x s u) same is torn))
+    (λ (h : StepTorn count old told retold × PortsStepped count old new). inl (step_torn count x old new told retold (run x s u) same is h.0, step_ports count x old new told retold (run x s u) same is h.0 h.1))
     (λ (ran : StepRan count old new told retold). inr (seen_more x (seen told old) (seen retold new) (run x s u) (subst (λ (z : Outside). seen retold new ≡ option_map (step z) (seen told old)) same ran) is))
     h
 

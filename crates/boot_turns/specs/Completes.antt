@@ -55,16 +55,16 @@ PortsStepped count old new = (ss : List (List ℕ)) → new.hardware.ports ≡ p
 abbrev pub SeenPorts : State → Option State → Type 0
 SeenPorts s new = option_map (λ (z : State). ports_of z.device) new ≡ Some (ports_of s.device)
 
--- what a fault of the disk in step number t leaves: its transfer failed, and its ports are as after the step; or, where a user is traced, its transfer
--- failed, or the step is done, and a page was read for its rows
+-- what a fault of the disk in step number t leaves: its transfer failed, and its ports are as after the step; or, where a user is traced, the step is
+-- done, and a page was read for its rows
 abbrev pub DiskLeaves : Outside → State → (t : ℕ) → (traced : Bool) → Option State → Type 0
 DiskLeaves x s t false new = SeenTorn x (run x s t) new × SeenPorts (run x s (suc t)) new
-DiskLeaves x s t true new = SeenTorn x (run x s t) new ⊎ (new ≡ Some (run x s (suc t)))
+DiskLeaves x s t true new = (SeenTorn x (run x s t) new × SeenPorts (run x s (suc t)) new) ⊎ (new ≡ Some (run x s (suc t)))
 
 -- the same of one step, over a disk of so many sectors
 abbrev pub StepFails : (count : ℕ) → (old new : Held) → (told retold : Option (List (List ℕ))) → (traced : Bool) → Type 0
 StepFails count old new told retold false = StepTorn count old told retold × PortsStepped count old new
-StepFails count old new told retold true = StepTorn count old told retold ⊎ StepRan count old new told retold
+StepFails count old new told retold true = (StepTorn count old told retold × PortsStepped count old new) ⊎ StepRan count old new told retold
 
 -- the answer is whether that step begins a turn
 abbrev pub StepBegan : (count : ℕ) → Held → Option (List (List ℕ)) → Bool → Type 0

@@ -1,5 +1,5 @@
 -- How a run from a start ends, what is printed of it and which sectors stand; and the headline of a boot, which is that of the loaded machine.
-use Rattle.std.specs.Prelude.{◌≡◌, ℕ, suc, ◌+◌, ◌<◌, ◌≤◌, ◌⊎◌, ⊤, false, if◌then◌else◌, List, [], ◌∷◌, ◌++◌}
+use Rattle.std.specs.Prelude.{◌≡◌, ℕ, suc, ◌+◌, ◌<◌, ◌≤◌, ◌⊎◌, false, if◌then◌else◌, List, [], ◌∷◌, ◌++◌}
 use Rattle.mips_table.specs.Device.{Outside, sector_of}
 use Rattle.mips_table.specs.Machine.{State, run}
 use Rattle.mips_table.specs.Turns.{complete, lines_of, is_end, IsEnd, end_within}
@@ -107,17 +107,23 @@ SinkBroken x y s held old now Boot turns steps text = RowBroken x y s now turns 
 SinkBroken x y s held old now (Trace u) turns steps text =
     (e : Ending) × (clean : List (List ℕ)) × (whole : List ℕ) × RanFrom x y s held old clean (Trace u) turns steps e whole × Prefix [] whole text
 
--- the calls of the disk fit a state: of a boot. A trace reads pages for its rows, too, and nothing is said of how many.
-abbrev pub CallsFit : View → (calls : State → Type 0) → State → Type 0
-CallsFit Boot calls s = calls s
-CallsFit (Trace u) calls s = ⊤
+-- the calls of the disk fit a state, by how many more there were than transfers up to it: none of a boot. A trace reads pages for its rows, too.
+abbrev pub CallsFit : View → (calls : ℕ → State → Type 0) → State → Type 0
+CallsFit Boot calls s = calls 0 s
+CallsFit (Trace u) calls s = (n : ℕ) × calls n s
 
--- HOW A LOADED RUN ENDS. Where the disk failed in a step, the calls that were made of it fit the state behind that step: as many transfers were due up to
--- it, so that rows which come a turn late don't pass for those of an earlier transfer.
-abbrev pub RunEndsFrom : Outside → System → State → (held : ℕ) → (old now : List (List ℕ)) → View → (turns steps : ℕ) → (calls : State → Type 0) → List ℕ →
-    Ending → Type 0
+-- the calls of a disk that failed in the report: one at least beside those of the machine's commands
+abbrev pub ReportCalls : (calls : ℕ → State → Type 0) → State → Type 0
+ReportCalls calls s = (n : ℕ) × calls (suc n) s
+
+-- HOW A LOADED RUN ENDS. Where the disk failed in a step, its calls up to the first that failed fit the state behind that step: as many transfers were due
+-- up to it, so of a boot, over a disk with no fault before, rows which come a turn late don't pass for those of an earlier transfer; and where it failed in
+-- the report, they fit the end of the run, with one at least for the report.
+abbrev pub RunEndsFrom : Outside → System → State → (held : ℕ) → (old now : List (List ℕ)) → View → (turns steps : ℕ) → (calls : ℕ → State → Type 0) →
+    List ℕ → Ending → Type 0
 RunEndsFrom x y s held old now v turns steps calls text DiskFault = Beyond held old now
-    × (((made : ℕ) × StepBroken x y s now v turns steps made text × CallsFit v calls (run x s made)) ⊎ EndBroken x y s now v turns steps text)
+    × (((made : ℕ) × StepBroken x y s now v turns steps made text × CallsFit v calls (run x s made))
+    ⊎ (EndBroken x y s now v turns steps text × ReportCalls calls (run x s (end_within x s turns steps))))
 RunEndsFrom x y s held old now v turns steps calls text SinkFault = Beyond held old now × SinkBroken x y s held old now v turns steps text
 RunEndsFrom x y s held old now v turns steps calls text NoMemory = (text ≡ []) × (now ≡ old)
 RunEndsFrom x y s held old now v turns steps calls text e = RanFrom x y s held old now v turns steps e text

@@ -1,7 +1,9 @@
 -- What every call says that steps a machine, beside what the step or the turn comes to.
-use Rattle.std.specs.Prelude.{◌≡◌, ◌≢◌, ℕ, ◌≤◌, Option, None, List, IfSome, Result, Err, length}
+use Rattle.std.specs.Prelude.{◌≡◌, ◌≢◌, ℕ, ◌≤◌, Bool, false, Option, None, List, IfSome, Result, Err, length}
 use Rattle.std.specs.Option.{option_map}
+use Rattle.cvm_outside.specs.Numbering.{Tally}
 use Rattle.mips_table.specs.Fits.{NamesSector}
+use Rattle.sector_disk.specs.Ports.{CallsWith}
 use Rattle.layer_map.specs.Map.{Map}
 use Rattle.mips_machine.specs.Machine.{Held}
 use Rattle.boot_report.specs.Blames.{Blames}
@@ -17,6 +19,13 @@ pub record Stays {D : Type 0} (old new : Held) (large : D → ℕ) (disk redisk 
   pub memory : length new.hardware.memory ≡ length old.hardware.memory
   pub sector : NamesSector (large redisk) new.hardware.ports.pending
   pub size : large redisk ≡ large disk
+
+-- how often steps called the disk, by its counts before and after: once for each command that is done; where a user is traced, for the pages that its rows
+-- read, too
+pub record StepCalls (traced : Bool) (old new : Held) (before after : Tally) : Type 0 where
+  pub more : ℕ
+  pub none : traced ≡ false → more ≡ 0
+  pub calls : CallsWith more old.hardware.ports new.hardware.ports before after
 
 -- what they keep of a trace: its user, and that it can be printed; where no user is traced nothing is printed, and the sink isn't blamed
 pub record TraceStays {T O : Type 0} (m : Map) (held : Held) (count : ℕ) (old new : Option Tracer) (out reout : O) (result : Result T RunFault) : Type 0 where

@@ -1,11 +1,12 @@
 // The rows of one step of a trace, and what is kept after it.
 ghost use Rattle.std.specs.Prelude.{◌≡◌, ◌*◌, ◌<◌, ◌-◌, ◌^◌, [], length, true, false, None, Err};
+ghost use Rattle.cvm_outside.specs.Numbering.{tally};
 ghost use Rattle.mips_machine.specs.Machine.{state_of};
 ghost use Rattle.boot_turns.specs.Completes.{shown};
 ghost use Rattle.boot_turns.specs.Entries.{notes_on, returned, IsCopyTo, CopyEnds, HasRows};
 ghost use Rattle.boot_turns.specs.Steps.{KeepsTracer, RowsRead};
 ghost use Rattle.boot_turns.specs.Tracing.{CanTrace, counted, ForEnded, EndedKeeps, ForFollowed, FollowedKeeps};
-ghost use Rattle.boot_report.specs.Leaves.{PrintsAll};
+ghost use Rattle.boot_report.specs.Leaves.{Asks, PrintsAll};
 
 use crate::answers::RunFault;
 use crate::completion::Begun;
@@ -74,6 +75,7 @@ impl Tracer {
         ensures reads { result ≡ Err RunFault.Disk → IsCopyTo self.old.user call.now answer }
         ensures keeps { KeepsTracer self.old self.new }
         ensures read { RowsRead machine.old machine.new D.sectors D.size D.faults disk.old disk.new O.faults out.old out.new result }
+        ensures asks { Asks (result ≡ Err RunFault.Disk) (tally D.faults D.calls disk.old) (tally D.faults D.calls disk.new) }
     {
         let [_, _, user, address, count] = call.arguments;
         let most = 1024 * map.params().pages;
@@ -104,6 +106,7 @@ impl Tracer {
         ensures reads { result ≡ Err RunFault.Disk → IsCopyTo self.old.user call.now answer }
         ensures keeps { KeepsTracer self.old self.new }
         ensures read { RowsRead machine.old machine.new D.sectors D.size D.faults disk.old disk.new O.faults out.old out.new result }
+        ensures asks { Asks (result ≡ Err RunFault.Disk) (tally D.faults D.calls disk.old) (tally D.faults D.calls disk.new) }
     {
         if call.primitive == VM_COPY {
             return self.end_copy(machine, map, call, answer, disk, out);
@@ -153,6 +156,7 @@ impl Tracer {
         ensures can { CanTrace map.now (length machine.new.hardware.memory) machine.new.time (D.size disk.new) self.new }
         ensures user { self.new.user ≡ self.old.user }
         ensures read { RowsRead machine.old machine.new D.sectors D.size D.faults disk.old disk.new O.faults out.old out.new result }
+        ensures asks { Asks (result ≡ Err RunFault.Disk) (tally D.faults D.calls disk.old) (tally D.faults D.calls disk.new) }
     {
         if began {
             if current == self.user {

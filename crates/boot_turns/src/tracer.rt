@@ -1,5 +1,6 @@
 // What a trace keeps between two steps, and the rows that it prints.
 ghost use Rattle.std.specs.Prelude.{◌≡◌, ◌*◌, ◌/◌, ◌≤◌, length, Err, ◌+◌, ◌-◌, ◌<◌, ◌^◌, ◌++◌, [], OnOk, OnErr, true};
+ghost use Rattle.cvm_outside.specs.Numbering.{tally};
 ghost use Rattle.mips_machine.specs.Machine.{state_of};
 ghost use Rattle.cvm_model.specs.Text.{steps_row as steps_text};
 ghost use Rattle.boot_turns.specs.Entries.{noted_at, turn_begins, call_ends, IsNoCopy};
@@ -7,7 +8,7 @@ ghost use Rattle.boot_turns.specs.Copies.{steps_left, ForCopied};
 ghost use Rattle.boot_turns.specs.JournalText.{steps_after};
 ghost use Rattle.boot_turns.specs.Steps.{KeepsTracer, RowsRead};
 ghost use Rattle.boot_turns.specs.Tracing.{CanTrace, begun_rows, ended_rows};
-ghost use Rattle.boot_report.specs.Leaves.{PrintsAll, Puts};
+ghost use Rattle.boot_report.specs.Leaves.{Asks, PrintsAll, Puts};
 
 use crate::answers::RunFault;
 use crate::completion::Begun;
@@ -173,6 +174,7 @@ impl Tracer {
         ensures steps { OnOk result (self.new ≡ record self.old { steps = steps_left self.old.steps count }) }
         ensures keeps { KeepsTracer self.old self.new }
         ensures read { RowsRead machine.old machine.new D.sectors D.size D.faults disk.old disk.new O.faults out.old out.new result }
+        ensures asks { Asks (result ≡ Err RunFault.Disk) (tally D.faults D.calls disk.old) (tally D.faults D.calls disk.new) }
         ensures some { result ≡ Err RunFault.Disk → 1 ≤ count }
     {
         for i in 0..count {

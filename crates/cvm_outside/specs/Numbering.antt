@@ -1,20 +1,35 @@
 -- The calls of an object in memory: they are numbered from 0, and those whose number is listed fail.
-use Rattle.std.specs.Prelude.{ℕ, ◌+◌, ◌-◌, ◌^◌, ◌==◌, min, List, Bool, if◌then◌else◌}
+use Rattle.std.specs.Prelude.{ℕ, zero, suc, ◌+◌, ◌-◌, ◌^◌, ◌==◌, min, List, Bool, if◌then◌else◌}
 use Rattle.std.specs.List.{list_any}
 
--- the numbers of the calls that fail, the number of the next call, and the count of faults
+-- the numbers of the calls that fail, the number of the next call, the count of faults, and that of the calls up to the first that failed
 pub record Numbering : Type 0 where
   pub failing : List ℕ
   pub next : ℕ
   pub faults : ℕ
+  pub sound : ℕ
 
 -- no call came yet
 abbrev pub fresh : List ℕ → Numbering
-fresh failing = record { failing = failing; next = 0; faults = 0 }
+fresh failing = record { failing = failing; next = 0; faults = 0; sound = 0 }
 
 -- one more, but a counter of 64 bits stands still at its last value
 abbrev pub counted : ℕ → ℕ
 counted n = min (n + 1) (2 ^ 64 - 1)
+
+-- a count of calls up to the first that failed, that one with it: one more, unless there was a fault before
+abbrev pub until_fault : (faults calls : ℕ) → ℕ
+until_fault zero calls = counted calls
+until_fault (suc n) calls = calls
+
+-- what a disk counts: its faults, and its calls up to the first that failed
+pub record Tally : Type 0 where
+  pub faults : ℕ
+  pub calls : ℕ
+
+-- of a disk, by both counts
+abbrev pub tally : {D : Type 0} → (faults calls : D → ℕ) → D → Tally
+tally faults calls disk = record { faults = faults disk; calls = calls disk }
 
 -- the next call is one of those that fail
 abbrev pub is_listed : Numbering → Bool
@@ -23,4 +38,9 @@ is_listed calls = list_any (λ n. n == calls.next) calls.failing
 -- one call later; a call that failed is one fault more
 abbrev pub after_call : Numbering → Bool → Numbering
 after_call calls failed =
-    record { failing = calls.failing; next = counted calls.next; faults = if failed then counted calls.faults else calls.faults }
+    record {
+      failing = calls.failing;
+      next = counted calls.next;
+      faults = if failed then counted calls.faults else calls.faults;
+      sound = until_fault calls.faults calls.sound;
+    }

@@ -4,12 +4,13 @@ ghost use Rattle.cvm_outside.specs.Numbering.{fresh, counted, is_listed, after_c
 
 use std::marker::Model;
 
-/// Which calls fail, how many calls came, and how many faults there were.
+/// Which calls fail, how many calls came, how many faults there were, and how many calls there were up to the first fault.
 #[derive(Drop)]
 pub(crate) struct Calls {
     failing: Vec<u64>,
     next: u64,
     pub(crate) faults: u64,
+    sound: u64,
 }
 
 impl Model for Calls {
@@ -17,7 +18,7 @@ impl Model for Calls {
 
     ghost Value = { Numbering };
 
-    ghost view = { λ c. record { failing = c.failing.items; next = c.next; faults = c.faults } };
+    ghost view = { λ c. record { failing = c.failing.items; next = c.next; faults = c.faults; sound = c.sound } };
 }
 
 impl Calls {
@@ -29,6 +30,7 @@ impl Calls {
             failing,
             next: 0,
             faults: 0,
+            sound: 0,
         }
     }
 
@@ -39,6 +41,9 @@ impl Calls {
     {
         let listed = self.failing.contains(&self.next);
         self.next = self.next.saturating_add(1);
+        if self.faults == 0 {
+            self.sound = self.sound.saturating_add(1);
+        }
         listed
     }
 

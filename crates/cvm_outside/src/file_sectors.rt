@@ -1,7 +1,7 @@
 // The disk in the file `cvm.disk`.
 ghost use Rattle.std.specs.Prelude.{◌≡◌, ◌<◌, ◌≤◌, length, None};
 ghost use Rattle.cvm_outside.specs.Causes.{Rose};
-ghost use Rattle.cvm_outside.specs.Numbering.{counted};
+ghost use Rattle.cvm_outside.specs.Numbering.{until_fault};
 
 use crate::{DiskFault, Sectors};
 use byteorder::{ByteOrder, LittleEndian};
@@ -54,6 +54,7 @@ impl FileSectors {
         }
     }
 
+    // Reads a sector of the file, which stays open whether that fails or not.
     fn try_read(&mut self, i: u32, into: &mut [u32; 1024]) -> io::Result<()>
         ensures faults { self.new.faults ≡ self.old.faults }
         ensures calls { self.new.calls ≡ self.old.calls }
@@ -64,6 +65,7 @@ impl FileSectors {
         result
     }
 
+    // Writes a sector of the file, which stays open whether that fails or not.
     fn try_write(&mut self, i: u32, from: &[u32; 1024]) -> io::Result<()>
         ensures faults { self.new.faults ≡ self.old.faults }
         ensures calls { self.new.calls ≡ self.old.calls }
@@ -84,12 +86,14 @@ impl FileSectors {
         DiskFault::Failed
     }
 
-    // Counts a call.
+    // Counts a call, unless one has failed before.
     fn count_call(&mut self)
         ensures faults { self.new.faults ≡ self.old.faults }
-        ensures calls { self.new.calls ≡ counted self.old.calls }
+        ensures calls { self.new.calls ≡ until_fault self.old.faults self.old.calls }
     {
-        self.calls = self.calls.saturating_add(1);
+        if self.faults == 0 {
+            self.calls = self.calls.saturating_add(1);
+        }
     }
 }
 
@@ -156,6 +160,7 @@ fn fill<F: Read>(file: &mut F, buffer: &mut [u8; SECTOR_BYTES]) -> io::Result<()
     Ok(())
 }
 
+// Reads the words of sector `i`, with zeros past the file's end.
 fn read_sector<F: Read + Seek>(file: &mut F, i: u32, into: &mut [u32; 1024]) -> io::Result<()> {
     file.seek(SeekFrom::Start(u64::from(i) * SECTOR_BYTES as u64))?;
     let mut bytes = [0; SECTOR_BYTES];
@@ -164,6 +169,7 @@ fn read_sector<F: Read + Seek>(file: &mut F, i: u32, into: &mut [u32; 1024]) -> 
     Ok(())
 }
 
+// Writes the words of sector `i`.
 fn write_sector<F: Write + Seek>(file: &mut F, i: u32, from: &[u32; 1024]) -> io::Result<()> {
     file.seek(SeekFrom::Start(u64::from(i) * SECTOR_BYTES as u64))?;
     let mut bytes = [0; SECTOR_BYTES];

@@ -55,7 +55,7 @@ impl Sectors for MemSectors {
 
     ghost faults = { λ s. s.calls.faults };
 
-    ghost calls = { λ s. s.calls.next };
+    ghost calls = { λ s. s.calls.sound };
 
     ghost sized = { λ _. refl };
 

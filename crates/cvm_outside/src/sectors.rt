@@ -1,7 +1,7 @@
 // A disk of sectors of 1,024 words.
 ghost use Rattle.std.specs.Prelude.{All, IfSome, length, ◌≡◌, ◌<◌, ◌≢◌, ℕ, List, Option, OnOk, OnErr};
 ghost use Rattle.cvm_outside.specs.Causes.{Counts};
-ghost use Rattle.cvm_outside.specs.Numbering.{counted};
+ghost use Rattle.cvm_outside.specs.Numbering.{until_fault};
 ghost use Rattle.cvm_outside.specs.Told.{Tells, IsSector, sector_of, with_sector};
 
 /// Why a call of a disk was not done.
@@ -22,7 +22,8 @@ pub trait Sectors {
     /// How many faults there were.
     ghost faults: { Self → ℕ };
 
-    /// How many calls of `read` and `write` there were: a count that stands still at 2^64 - 1.
+    /// How many calls of `read` and `write` there were up to the first that failed, that one with it: a count that stands still after it, and at
+    /// 2^64 - 1.
     ghost calls: { Self → ℕ };
 
     /// How many sectors there are. The number never changes.
@@ -42,7 +43,7 @@ pub trait Sectors {
         ensures whole { length into.new ≡ 1024 }
         ensures words { OnOk result (Tells (sector_of (sectors self.old) i) into.new) }
         ensures count { Counts (faults self.old) (faults self.new) result }
-        ensures called { calls self.new ≡ counted (calls self.old) };
+        ensures called { calls self.new ≡ until_fault (faults self.old) (calls self.old) };
 
     /// Replaces the words of sector `i`, from 0. After a fault that sector may hold anything, and
     /// the others are as before.
@@ -56,7 +57,7 @@ pub trait Sectors {
         ensures words { OnOk result (sectors self.new ≡ with_sector (sectors self.old) i from.now) }
         ensures torn { OnErr result ((words : List ℕ) × (sectors self.new ≡ with_sector (sectors self.old) i words)) }
         ensures count { Counts (faults self.old) (faults self.new) result }
-        ensures called { calls self.new ≡ counted (calls self.old) };
+        ensures called { calls self.new ≡ until_fault (faults self.old) (calls self.old) };
 
     /// A law: each sector that is told is 1,024 words of 32 bits.
     fn are_sectors(&self)

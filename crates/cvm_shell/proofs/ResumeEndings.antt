@@ -39,7 +39,7 @@ use Rattle.cvm_shell.specs.declared.status.Status.TheVariants.{Done, Refused, Ke
 use Rattle.cvm_shell.specs.declared.resuming.Resumable.{Resumable}
 use Rattle.cvm_shell.specs.declared.boot.Session.{Session}
 use Rattle.cvm_shell.specs.Command.{Save, resume, IsCommand, save_session}
-use Rattle.cvm_shell.specs.Outside.{Host, SameSectors, LeavesHost, Says}
+use Rattle.cvm_shell.specs.Outside.{Host, SameSectors, LeavesHost, Says, counts}
 use Rattle.cvm_shell.specs.Refusal.{bad_save, small_disk, refusal_text}
 use Rattle.cvm_shell.specs.Plan.{Plan, boots, resumes, whole, wanted_by, taken_plan, scheduled_plan, PlanComesTo, resume_plan, GetsTold, AllTold}
 use Rattle.cvm_shell.specs.Boot.{booted, around, first_state, sectors_needed, ended_as, SessionGoesOn}
@@ -119,7 +119,7 @@ module _ (r : Resumable) (c : Save) (old new : Host) where
 
   joined : (e : RunEnd) (left now : List (List ℕ)) (words : List ℕ) → old.disk.sectors ≡ Some left → new.disk.sectors ≡ Some now → r.bytes.items ≡ flat_map word words
       → CanBeResumed (wanted_of r.ready.boot under c.boot.turns) words → pages_needed r.ready.boot ≤ old.disk.size
-      → JoinsFile r.ready.boot under c.boot.turns c.boot.steps old.disk.size r.bytes.items old.disk.sectors new.disk.sectors old.disk.calls new.disk.calls old.sink.text new.sink.text (Ok e)
+      → JoinsFile r.ready.boot under c.boot.turns c.boot.steps old.disk.size r.bytes.items old.disk.sectors new.disk.sectors (counts old.disk) (counts new.disk) old.sink.text new.sink.text (Ok e)
       → JoinsBoots (save_session c) ours under words left now old new (ending_of_end e)
   joined e left now words told retold bytes can room joins = λ before few spent shown disk less w.
       let turns : slice_index words 5 ≡ few = few_turns (around under old) (booted ours under) before left few spent words shown w in
@@ -131,7 +131,7 @@ module _ (r : Resumable) (c : Save) (old new : Host) where
   turns_end goes room before disk = λ k x is. let (t, end, within) = goes before disk room k x is in (t, end, omega (arith, within))
 
   pub resumed_made : (e : RunEnd) (status : Status) → ResumeAnswers r.ready.boot under c.boot.turns old.disk.size r.bytes.items (Ok e)
-      → JoinsFile r.ready.boot under c.boot.turns c.boot.steps old.disk.size r.bytes.items old.disk.sectors new.disk.sectors old.disk.calls new.disk.calls old.sink.text new.sink.text (Ok e)
+      → JoinsFile r.ready.boot under c.boot.turns c.boot.steps old.disk.size r.bytes.items old.disk.sectors new.disk.sectors (counts old.disk) (counts new.disk) old.sink.text new.sink.text (Ok e)
       → BootsGoOn r.ready.boot under old.disk.size
       → GoesOnFromFile r.ready.boot under c.boot.turns c.boot.steps old.disk.size r.bytes.items old.disk.sectors new.disk.sectors (Ok e)
       → (IsSome old.disk.sectors → IsSome new.disk.sectors) → new.disk.size ≡ old.disk.size → (e ≡ ends.DiskFault → Rose old.disk.faults new.disk.faults)
@@ -192,7 +192,7 @@ resumes_hold words c s rows machine left status old new (undone d is (inr (e, ge
 -- THE LAW
 
 -- what a run that goes on with no failed call comes to
-went_clean : (x : Surroundings) (y : Run) (before now : List (List ℕ)) (turns steps : ℕ) (calls : State → Type 0) (shown : List ℕ) (had has : Option (List ℕ)) (e : RunEnd) → e ≢ ends.DiskFault → e ≢ ends.SinkFault
+went_clean : (x : Surroundings) (y : Run) (before now : List (List ℕ)) (turns steps : ℕ) (calls : ℕ → State → Type 0) (shown : List ℕ) (had has : Option (List ℕ)) (e : RunEnd) → e ≢ ends.DiskFault → e ≢ ends.SinkFault
     → GoesOnAs x y before now turns steps calls shown had has (ending_of_end e) → (text : List ℕ) × (has ≡ append_known had text) × RanOf x y before now view.Boot turns steps (ending_of_end e) (shown ++ text)
 went_clean x y before now turns steps calls shown had has ends.Done disk sink h = h
 went_clean x y before now turns steps calls shown had has ends.KernelFaulted disk sink h = h
@@ -205,7 +205,7 @@ behind : (c : Save) (s : ImageSystem) (rows : Rows) (machine : List ℕ) (left b
     → IsSavedRun c s rows machine left before shown old → ResumeHolds c s rows machine left old new status
     → IsBootBehind c s rows before shown old old new status
 behind c s rows machine left before shown status old new saved holds =
-    let so = went_clean (around rows old) (booted s rows) before holds.went.now c.boot.turns c.boot.steps (CallsFrom (run (around rows old) (first_state (save_session c) s rows before) saved.saved_at.at) old.disk.calls new.disk.calls) shown old.sink.text new.sink.text
+    let so = went_clean (around rows old) (booted s rows) before holds.went.now c.boot.turns c.boot.steps (CallsFrom (run (around rows old) (first_state (save_session c) s rows before) saved.saved_at.at) (counts old.disk) (counts new.disk)) shown old.sink.text new.sink.text
     holds.end holds.no_disk holds.no_sink (holds.went.joins before saved.turns saved.steps shown saved.disk saved.fewer saved.saved_at) in
     record {
       after = holds.went.now;

@@ -36,7 +36,7 @@ use Rattle.cvm_shell.specs.declared.status.Status.TheVariants.{Done, Words, Refu
 use Rattle.cvm_shell.specs.declared.boot.Ready.{Ready}
 use Rattle.cvm_shell.specs.declared.boot.Session.{Session}
 use Rattle.cvm_shell.specs.Command.{Save, save, IsCommand, save_session}
-use Rattle.cvm_shell.specs.Outside.{Files, Host, SameSectors, Says}
+use Rattle.cvm_shell.specs.Outside.{Files, Host, SameSectors, Says, counts}
 use Rattle.cvm_shell.specs.Refusal.{small_disk, refusal_text, too_long}
 use Rattle.cvm_shell.specs.Plan.{Plan, refuses, boots, saves, wanted_by, PlanComesTo, save_plan, AllTold}
 use Rattle.cvm_shell.specs.Boot.{booted, around, first_state, sectors_needed, CallsOf, ended_as, SessionGoesOn, HasPlace}
@@ -85,7 +85,7 @@ unput_err (Err e) P h = h
 pub moved_answers : (r : Ready) (c : Save) (answer : Result SavedEnd LoadFault) (old new : Host) (f : Files) → ((n : List ℕ) → old.shelf.file n ≡ f.file n) → SaveCallAnswers r c answer old new
     → SaveCallAnswers r c answer (with_files f old) new
 moved_answers r c answer old new f same h = record {
-  ends = subst (λ (o : Option (List ℕ)). SaveRunEnds r.boot r.schedule old.disk.size c.boot.turns c.boot.steps old.disk.sectors new.disk.sectors old.disk.calls new.disk.calls old.sink.text new.sink.text o (new.shelf.file c.file) answer)
+  ends = subst (λ (o : Option (List ℕ)). SaveRunEnds r.boot r.schedule old.disk.size c.boot.turns c.boot.steps old.disk.sectors new.disk.sectors (counts old.disk) (counts new.disk) old.sink.text new.sink.text o (new.shelf.file c.file) answer)
       (same c.file) h.ends;
   goes_on = h.goes_on;
   some = h.some;

@@ -21,7 +21,7 @@ use Rattle.cvm_shell.specs.declared.boot.Ready.{Ready}
 use Rattle.cvm_shell.specs.declared.boot.Session.{Session}
 use Rattle.cvm_shell.specs.declared.boot.Start.{Start}
 use Rattle.cvm_shell.specs.declared.boot.Start.TheVariants.{Loaded, Rom}
-use Rattle.cvm_shell.specs.Outside.{Host}
+use Rattle.cvm_shell.specs.Outside.{Host, counts}
 use Rattle.cvm_shell.specs.Boot.{booted, around, held_of, first_state, CallsOf}
 use Rattle.cvm_shell.specs.Stages.{CallAnswers}
 
@@ -54,8 +54,8 @@ if_done (Err f) P Q g h = h
 
 -- AT THE LOADED MACHINE
 pub loaded_answers : (r : Ready) (session : Session) (answer : Result RunEnd LoadFault) (old new : Host) → session.start ≡ Loaded
-    → WholeEnds r.boot r.schedule old.disk.size session.view session.turns session.steps old.disk.sectors new.disk.sectors old.disk.calls new.disk.calls old.sink.text new.sink.text answer
-    → WholeGoesOn r.boot r.schedule old.disk.size old.disk.sectors → (answer ≡ Err load.Disk → WholeStopped r.boot r.schedule old.disk.sectors new.disk.sectors old.disk.calls new.disk.calls)
+    → WholeEnds r.boot r.schedule old.disk.size session.view session.turns session.steps old.disk.sectors new.disk.sectors (counts old.disk) (counts new.disk) old.sink.text new.sink.text answer
+    → WholeGoesOn r.boot r.schedule old.disk.size old.disk.sectors → (answer ≡ Err load.Disk → WholeStopped r.boot r.schedule old.disk.sectors new.disk.sectors (counts old.disk) (counts new.disk))
     → Called r.boot session (pages_needed r.boot) answer old new → CallAnswers r session answer old new
 loaded_answers r session answer old new start ends goes_on stopped called =
     subst (λ (a : Start). CallAnswers r (from a session) answer old new) (sym start) (record {
@@ -72,8 +72,8 @@ loaded_answers r session answer old new start ends goes_on stopped called =
 
 -- AT THE ROM
 pub rom_answers : (r : Ready) (session : Session) (answer : Result RunEnd LoadFault) (old new : Host) → session.start ≡ Rom
-    → RomEnds r.boot r.schedule old.disk.size session.view session.turns session.steps old.disk.sectors new.disk.sectors old.disk.calls new.disk.calls old.sink.text new.sink.text answer
-    → RomGoesOn r.boot r.schedule old.disk.size old.disk.sectors → (answer ≡ Err load.Disk → RomStopped r.boot r.schedule old.disk.sectors new.disk.sectors old.disk.calls new.disk.calls)
+    → RomEnds r.boot r.schedule old.disk.size session.view session.turns session.steps old.disk.sectors new.disk.sectors (counts old.disk) (counts new.disk) old.sink.text new.sink.text answer
+    → RomGoesOn r.boot r.schedule old.disk.size old.disk.sectors → (answer ≡ Err load.Disk → RomStopped r.boot r.schedule old.disk.sectors new.disk.sectors (counts old.disk) (counts new.disk))
     → Called r.boot session (rom_needed r.boot) answer old new → CallAnswers r session answer old new
 rom_answers r session answer old new start ends goes_on stopped called =
     subst (λ (a : Start). CallAnswers r (from a session) answer old new) (sym start) (record {
@@ -91,7 +91,7 @@ rom_answers r session answer old new start ends goes_on stopped called =
 one_disk : (a b : List (List ℕ)) → Some a ≡ Some b → b ≡ a
 one_disk a b e = cc
 
-unmade_ends : (x : Surroundings) (y : Run) (s : State) (held : ℕ) (old now : List (List ℕ)) (v : View) (turns steps : ℕ) (calls : State → Type 0) (before after : Option (List ℕ)) (f : LoadFault) → f ≢ load.Disk
+unmade_ends : (x : Surroundings) (y : Run) (s : State) (held : ℕ) (old now : List (List ℕ)) (v : View) (turns steps : ℕ) (calls : ℕ → State → Type 0) (before after : Option (List ℕ)) (f : LoadFault) → f ≢ load.Disk
     → now ≡ old → after ≡ before → AnswerEnds x y s held old now v turns steps calls before after (Err f)
 unmade_ends x y s held old now v turns steps calls before after load.Memory other same text = (same, text)
 unmade_ends x y s held old now v turns steps calls before after load.Disk other same text = absurd (other refl)

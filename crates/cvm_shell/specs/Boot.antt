@@ -2,6 +2,7 @@
 use Rattle.std.specs.Prelude.{◌≡◌, ◌≢◌, ℕ, suc, ◌<◌, ◌≤◌, Bool, true, List, [], length, Option, Some, Ok}
 use Rattle.std.specs.Io.KnownBytes.{append_known}
 use Rattle.cvm_outside.specs.Causes.{Rose}
+use Rattle.cvm_outside.specs.Numbering.{Tally}
 use Rattle.cvm_outside.specs.Told.{TOO_LONG}
 use Rattle.schedule_file.specs.Rows.{Rows, longest}
 use Rattle.schedule_file.specs.Schedule.{schedule_of}
@@ -20,7 +21,7 @@ use Rattle.boot_turns.specs.Headline.{Ending, Done as IsDone, KernelFaulted, Out
 use Rattle.boot_turns.specs.Machines.{GoesOnWithin}
 use Rattle.boot_turns.specs.Rom.{own_rom, rom_loaded, rom_sectors, rom_steps}
 use Rattle.boot_run.specs.LoadEnds.{SeesUser}
-use Rattle.boot_run.specs.Loading.{user_pages, rom_pages, calls_made}
+use Rattle.boot_run.specs.Loading.{user_pages, rom_pages, tally_made}
 use Rattle.boot_run.specs.Whole.{CallsFrom}
 use Rattle.kernel_linker.specs.Accept.{ImageSystem}
 use Rattle.cvm_shell.specs.declared.status.Status.{Status}
@@ -31,7 +32,7 @@ use Rattle.cvm_shell.specs.declared.boot.Start.TheVariants.{Loaded, Rom}
 use Rattle.sample_maker.specs.Parts.{Parts as Sampled}
 use Rattle.sample_maker.specs.Sample.{sample_of}
 use Rattle.cvm_shell.specs.Command.{Boot, Trace, Sample, IsBoot, IsTrace, IsSample, boot_session, trace_session, sample_session}
-use Rattle.cvm_shell.specs.Outside.{Host, LeavesHost, Says}
+use Rattle.cvm_shell.specs.Outside.{Host, LeavesHost, Says, counts}
 use Rattle.cvm_shell.specs.Refusal.{small_disk, no_such_user, refusal_text}
 use Rattle.cvm_shell.specs.Plan.{Accepts, IsLinkedTo}
 
@@ -74,9 +75,9 @@ first_state session s rows sectors = start_of session.start (booted s rows) sect
 abbrev pub sectors_needed : Session → ImageSystem → Rows → ℕ
 sectors_needed session s rows = held_of session.start (booted s rows)
 
--- the disk's count of calls once the load has written the first n sectors: one call for each that it writes
-abbrev pub load_calls : Session → ImageSystem → Rows → (n : ℕ) → (before : ℕ) → ℕ
-load_calls session s rows n before = calls_made (is_written session.start (booted s rows)) n before
+-- the disk's counts once the load has written the first n sectors: one call for each that it writes, or none where a call had failed before
+abbrev pub load_calls : Session → ImageSystem → Rows → (n : ℕ) → (before : Tally) → Tally
+load_calls session s rows n before = tally_made (is_written session.start (booted s rows)) n before
 
 -- so many turns of the abstract run lead to this, with the lines that the machine meets from there
 abbrev pub IsBooted : Session → Host → ImageSystem → Rows → (sectors : List (List ℕ)) → (turns : ℕ) → Cvm → Type 0
@@ -92,13 +93,14 @@ SessionRan session s rows old before after e text =
     RanFrom (around rows old) (booted s rows) (first_state session s rows before) (sectors_needed session s rows) before after
     session.view session.turns session.steps e text
 
--- how often the disk was called fits a state of the run: once the load had made its calls, once for each command of the machine that was done
-abbrev pub CallsOf : Session → ImageSystem → Rows → (sectors : List (List ℕ)) → (old new : Host) → State → Type 0
+-- the disk's calls up to the first that failed fit a state of the run: once the load had made its own, one for each command of the machine that was done,
+-- and so many more
+abbrev pub CallsOf : Session → ImageSystem → Rows → (sectors : List (List ℕ)) → (old new : Host) → (more : ℕ) → State → Type 0
 CallsOf session s rows sectors old new =
-    CallsFrom (first_state session s rows sectors) (load_calls session s rows (sectors_needed session s rows) old.disk.calls) new.disk.calls
+    CallsFrom (first_state session s rows sectors) (load_calls session s rows (sectors_needed session s rows) (counts old.disk)) (counts new.disk)
 
--- by any ending of a run whose load was done: where the disk failed, in the step or the report that it names, with the text up to there; of a boot, in
--- the step that so many calls of the disk tell
+-- by any ending of a run whose load was done: where the disk failed, in the step or the report that it names, with the text up to there. Its calls up to
+-- the first that failed fit that step, with none more of a boot, and some that read pages for rows of a trace; or the end of the run, with one more at least
 abbrev pub EndsLoaded : Session → ImageSystem → Rows → (old new : Host) → (before after : List (List ℕ)) → (text : List ℕ) → Ending → Type 0
 EndsLoaded session s rows old new before after text e =
     RunEndsFrom (around rows old) (booted s rows) (first_state session s rows before) (sectors_needed session s rows) before after
@@ -145,15 +147,16 @@ pub record IsRun (session : Session) (s : ImageSystem) (rows : Rows) (e : Ending
   pub told : (before : List (List ℕ)) → old.disk.sectors ≡ Some before → SessionRuns session s rows e before old new
   pub disk : e ≡ DiskFault → Rose old.disk.faults new.disk.faults
 
--- no run was made, since the disk failed in the load, in the call that was to write a sector: nothing is printed, and as many calls of the disk were made
--- as the load writes sectors up to that one. So a program that has loaded a system, and ran it until the disk failed, made too many of them.
+-- no run was made, since the disk failed in the load, in the call that was to write a sector: nothing is printed, and of a disk with no fault before as many
+-- calls were made, up to the first that failed, as the load writes sectors up to that one. So a program that has loaded a system, and ran it until the disk
+-- failed, made too many of them.
 pub record IsUnloaded (session : Session) (s : ImageSystem) (rows : Rows) (old new : Host) : Type 0 where
   pub place : HasPlace session s rows old new
   pub printed : new.sink.text ≡ old.sink.text
   pub sector : ℕ
   pub inside : sector < sectors_needed session s rows
   pub is_one : is_written session.start (booted s rows) sector ≡ true
-  pub calls : new.disk.calls ≡ load_calls session s rows (suc sector) old.disk.calls
+  pub calls : new.disk.calls ≡ (load_calls session s rows (suc sector) (counts old.disk)).calls
   pub told : (before : List (List ℕ)) → old.disk.sectors ≡ Some before → TornLoad session s rows sector before old new
   pub disk : Rose old.disk.faults new.disk.faults
 

@@ -1,6 +1,7 @@
 -- The outside of a command: named files, the text that is printed, and the disk, each as it is told, with its count of faults.
 use Rattle.std.specs.Prelude.{◌≡◌, ℕ, List, Option, take}
 use Rattle.std.specs.Io.KnownBytes.{append_known}
+use Rattle.cvm_outside.specs.Numbering.{Tally}
 use Rattle.cvm_outside.specs.declared.shelf.Shelf as shelf_of
 use Rattle.cvm_outside.specs.declared.sink.Sink as sink_of
 use Rattle.cvm_outside.specs.declared.sectors.Sectors as sectors_of
@@ -18,12 +19,17 @@ pub record Output : Type 0 where
   pub text : Option (List ℕ)
   pub faults : ℕ
 
--- a disk: the words of its sectors where they are told, how many sectors there are, the count of faults, and that of the calls which read or write one
+-- a disk: the words of its sectors where they are told, how many sectors there are, the count of faults, and that of the calls which read or write one,
+-- up to the first that failed
 pub record Drive : Type 0 where
   pub sectors : Option (List (List ℕ))
   pub size : ℕ
   pub faults : ℕ
   pub calls : ℕ
+
+-- both its counts
+abbrev pub counts : Drive → Tally
+counts d = record { faults = d.faults; calls = d.calls }
 
 pub record Host : Type 0 where
   pub shelf : Files

@@ -20,7 +20,7 @@ use Rattle.cvm_shell.specs.declared.status.Status.{Status}
 use Rattle.cvm_shell.specs.declared.status.Status.TheVariants.{Disk, Memory}
 use Rattle.cvm_shell.specs.declared.boot.Session.{Session}
 use Rattle.cvm_shell.specs.Command.{Save, IsResume, save_session}
-use Rattle.cvm_shell.specs.Outside.{Host, LeavesHost, Says}
+use Rattle.cvm_shell.specs.Outside.{Host, LeavesHost, Says, counts}
 use Rattle.cvm_shell.specs.Refusal.{small_disk, refusal_text}
 use Rattle.cvm_shell.specs.Plan.{wanted_by}
 use Rattle.cvm_shell.specs.Boot.{around, booted, first_state, sectors_needed, ended_as, SessionGoesOn, SessionRan, HasPlace, AreFilesOf}
@@ -32,7 +32,7 @@ abbrev pub JoinsBoots : Session → ImageSystem → Rows → (words : List ℕ) 
 JoinsBoots session s rows words left now old new e = (before : List (List ℕ)) (few spent : ℕ) (shown : List ℕ) → IsDisk old.disk.size before → spent ≤ session.steps →
     (w : SavedAt (around rows old) (booted s rows) (first_state session s rows before) few spent words left shown) →
     GoesOnAs (around rows old) (booted s rows) before now session.turns session.steps
-    (CallsFrom (run (around rows old) (first_state session s rows before) w.at) old.disk.calls new.disk.calls) shown old.sink.text new.sink.text e
+    (CallsFrom (run (around rows old) (first_state session s rows before) w.at) (counts old.disk) (counts new.disk)) shown old.sink.text new.sink.text e
 
 -- A RUN THAT WENT ON, over a disk with these sectors: it joins the boots that were saved so; each boot over a disk of so many sectors comes to the end of
 -- every turn; and it is the machine's run from the state that the words name, for as many turns and steps as are left

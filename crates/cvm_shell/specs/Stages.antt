@@ -60,7 +60,7 @@ use Rattle.cvm_shell.specs.Plan.{Plan, puts, boots, saves, most_bytes, wanted_by
 use Rattle.cvm_shell.specs.Check.{Check}
 use Rattle.boot_turns.specs.declared.answers.View.{View}
 use Rattle.cvm_shell.specs.Views.{IfPlan}
-use Rattle.cvm_shell.specs.Outside.{Drive, Files, Host, LeavesHost}
+use Rattle.cvm_shell.specs.Outside.{Drive, Files, Host, LeavesHost, counts}
 use Rattle.cvm_shell.specs.Boot.{booted, around, first_state, is_written, sectors_needed, ended_as, CallsOf, SessionGoesOn, SessionEnds}
 use Rattle.cvm_shell.specs.Outcome.{PlanEnds, CommandEnds}
 use Rattle.cvm_shell.specs.Saves.{SaveSessionEnds}
@@ -173,7 +173,7 @@ AnswersFrom session s rows answer old new = (before after : List (List ℕ)) →
 -- where the disk failed in the load
 abbrev pub StoppedFrom : Session → ImageSystem → Rows → (old new : Host) → Type 0
 StoppedFrom session s rows old new = LoadStopped (first_state session s rows) (is_written session.start (booted s rows)) (sectors_needed session s rows)
-    old.disk.sectors new.disk.sectors old.disk.calls new.disk.calls
+    old.disk.sectors new.disk.sectors (counts old.disk) (counts new.disk)
 
 -- WHAT A CALL ANSWERS that loads a system and runs it, of what is seen around it
 pub record CallAnswers (r : Ready) (session : Session) (answer : Result RunEnd LoadFault) (old new : Host) : Type 0 where
@@ -225,8 +225,8 @@ ResumeEndsAs c see status old new = (words : List (List ℕ)) → IsCommand word
 
 -- WHAT A CALL ANSWERS that runs a system which is to be saved, of what is seen around it
 pub record SaveCallAnswers (r : Ready) (c : Save) (answer : Result SavedEnd LoadFault) (old new : Host) : Type 0 where
-  pub ends : SaveRunEnds r.boot r.schedule old.disk.size c.boot.turns c.boot.steps old.disk.sectors new.disk.sectors old.disk.calls new.disk.calls old.sink.text new.sink.text
-      (old.shelf.file c.file) (new.shelf.file c.file) answer
+  pub ends : SaveRunEnds r.boot r.schedule old.disk.size c.boot.turns c.boot.steps old.disk.sectors new.disk.sectors (counts old.disk) (counts new.disk)
+      old.sink.text new.sink.text (old.shelf.file c.file) (new.shelf.file c.file) answer
   pub goes_on : WholeGoesOn r.boot r.schedule old.disk.size old.disk.sectors
   pub some : 1 ≤ c.boot.turns
   pub few : c.boot.steps < 2 ^ 64
@@ -240,7 +240,7 @@ pub record SaveCallAnswers (r : Ready) (c : Save) (answer : Result SavedEnd Load
   pub loaded : IfOk answer (λ _. HasDiskRoom r.boot view.Boot (pages_needed r.boot) old.disk.size)
   pub size : new.disk.size ≡ old.disk.size
   pub rose : IsSavedDiskFault answer → Rose old.disk.faults new.disk.faults
-  pub stopped : answer ≡ Err load.Disk → WholeStopped r.boot r.schedule old.disk.sectors new.disk.sectors old.disk.calls new.disk.calls
+  pub stopped : answer ≡ Err load.Disk → WholeStopped r.boot r.schedule old.disk.sectors new.disk.sectors (counts old.disk) (counts new.disk)
 
 -- the same with other files
 abbrev pub with_files : Files → Host → Host

@@ -3,6 +3,7 @@ use Rattle.std.proofs.Common.{◌≡◌, ℕ, ◌-◌, ◌≤◌, ◌<◌, ◌^�
 use Rattle.std.specs.Prelude.{slice_index, IsSome, Result}
 use Rattle.std.specs.List.{flat_map}
 use Rattle.cvm_words.specs.Bytes.{word}
+use Rattle.cvm_outside.specs.Numbering.{Tally}
 use Rattle.schedule_file.specs.Rows.{Rows}
 use Rattle.mips_table.specs.Device.{Outside}
 use Rattle.mips_table.specs.Machine.{State, run}
@@ -59,13 +60,13 @@ pub is_no_end : (a b : RunEnd) → (◌≡◌ {A = Result RunEnd ResumeFault} (O
 is_no_end a b none e = none (ap (λ (end : RunEnd). Ok end) e)
 
 -- THE JOINT THEOREM, of a run that was taken up of these words
-abbrev JoinsAt : {L : Type 0} → Booted → Rows → (count : ℕ) → Kept L → (words : List ℕ) → (turns steps : ℕ) → (told retold : Option (List (List ℕ))) → (made remade : ℕ) → (had has : Option (List ℕ)) → RunEnd → Type 0
+abbrev JoinsAt : {L : Type 0} → Booted → Rows → (count : ℕ) → Kept L → (words : List ℕ) → (turns steps : ℕ) → (told retold : Option (List (List ℕ))) → (made remade : Tally) → (had has : Option (List ℕ)) → RunEnd → Type 0
 JoinsAt b rows count r words turns steps told retold made remade had has e =
     (old left now : List (List ℕ)) (few spent : ℕ) (shown : List ℕ) → AreBoots b rows count → IsResumed r → IsDisk count old → spent ≤ steps → told ≡ Some left → retold ≡ Some now →
     (w : SavedAt (outside_of rows count) (system_of b rows) (loaded (system_of b rows) old) few spent words left shown) →
     GoesOnAs (outside_of rows count) (system_of b rows) old now turns steps (CallsFrom (run (outside_of rows count) (loaded (system_of b rows) old) w.at) made remade) shown had has (ending_of_end e)
 
-joins_at : {L : Type 0} (layer : L) (b : Booted) (rows : Rows) (count : ℕ) (words : List ℕ) (r : Kept L) (turns steps : ℕ) (told retold : Option (List (List ℕ))) (made remade : ℕ) (had has : Option (List ℕ)) (e : RunEnd) →
+joins_at : {L : Type 0} (layer : L) (b : Booted) (rows : Rows) (count : ℕ) (words : List ℕ) (r : Kept L) (turns steps : ℕ) (told retold : Option (List (List ℕ))) (made remade : Tally) (had has : Option (List ℕ)) (e : RunEnd) →
     IsTakenUp layer b rows count words r → JoinsBoot count r turns steps told retold made remade had has e → JoinsAt b rows count r words turns steps told retold made remade had has e
 joins_at layer b rows count words r turns steps told retold made remade had has e up joins =
     subst (λ (l : List ℕ). JoinsAt b rows count r l turns steps told retold made remade had has e) up.words_are
@@ -80,7 +81,7 @@ read_back b rows turns steps count bytes old left few spent words shown up bits 
     subst (λ (l : List ℕ). answer (wanted_of b rows turns) l ≡ Ok words) (sym spelled)
     (up old left few spent turns words shown room disk at some enough bits (omega (arith, within, limit))).1
 
-pub joins_so : {L : Type 0} (layer : L) (b : Booted) (rows : Rows) (turns steps count : ℕ) (bytes : List ℕ) (told retold : Option (List (List ℕ))) (made remade : ℕ) (had has : Option (List ℕ)) (r : Kept L) (e : RunEnd) →
+pub joins_so : {L : Type 0} (layer : L) (b : Booted) (rows : Rows) (turns steps count : ℕ) (bytes : List ℕ) (told retold : Option (List (List ℕ))) (made remade : Tally) (had has : Option (List ℕ)) (r : Kept L) (e : RunEnd) →
     CanBoot b rows count → AreTakenUp b rows count → turns < 2 ^ 32 → steps < 2 ^ 64 → ResumesFile layer b rows turns count bytes (Ok r) → JoinsBoot count r turns steps told retold made remade had has e →
     JoinsSaved b rows turns steps count bytes told retold made remade had has (Ok e)
 joins_so layer b rows turns steps count bytes told retold made remade had has r e boots ups bits limit (words, is, spelled, can, enough, up) joins = λ old left now few spent saved shown disk room tells retells at spells some more within.
@@ -95,7 +96,7 @@ no_memory layer b rows turns count bytes words (Save e) (inl memory) room is = a
 no_memory layer b rows turns count bytes words (Save e) (inr fails) room is = absurd (no_answer (answer (wanted_of b rows turns) bytes) words e is fails)
 no_memory layer b rows turns count bytes words (SmallDisk need have) (other, back, wants, has, less) room is = absurd (omega (arith, wants, has, less, room))
 
-pub refused_joins : {L : Type 0} (layer : L) (b : Booted) (rows : Rows) (turns steps count : ℕ) (bytes : List ℕ) (told retold : Option (List (List ℕ))) (made remade : ℕ) (had has : Option (List ℕ)) (fault : ResumeFault) →
+pub refused_joins : {L : Type 0} (layer : L) (b : Booted) (rows : Rows) (turns steps count : ℕ) (bytes : List ℕ) (told retold : Option (List (List ℕ))) (made remade : Tally) (had has : Option (List ℕ)) (fault : ResumeFault) →
     AreTakenUp b rows count → turns < 2 ^ 32 → steps < 2 ^ 64 → ResumesFile layer b rows turns count bytes (Err fault) → JoinsSaved b rows turns steps count bytes told retold made remade had has (Err fault)
 refused_joins layer b rows turns steps count bytes told retold made remade had has fault ups bits limit refused = λ old left now few spent saved shown disk room tells retells at spells some more within.
     no_memory layer b rows turns count bytes saved fault refused room (read_back b rows turns steps count bytes old left few spent saved shown ups bits limit disk room at spells some more within)

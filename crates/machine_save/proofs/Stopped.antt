@@ -3,6 +3,7 @@ use Rattle.std.proofs.Common.{◌≡◌, ◌≢◌, ℕ, ◌*◌, ◌+◌, ◌�
 use Rattle.std.specs.Prelude.{slice_index, Result}
 use Rattle.std.specs.List.{flat_map}
 use Rattle.cvm_words.specs.Bytes.{word}
+use Rattle.cvm_outside.specs.Numbering.{Tally}
 use Rattle.schedule_file.specs.Rows.{Rows}
 use Rattle.mips_table.specs.Device.{Outside}
 use Rattle.mips_table.specs.Machine.{State}
@@ -32,7 +33,7 @@ use Rattle.machine_save.specs.SavedBoots.{AreDisk, AreTakenUp}
 use Rattle.machine_save.specs.declared.saving.SavedEnd.{SavedEnd}
 use Rattle.machine_save.specs.declared.saving.SavedEnd.TheVariants.{Saved, ShelfFault, RowFault, Ended}
 
-answered : (x : Outside) (y : System) (s : State) (held most : ℕ) (old now : List (List ℕ)) (turns steps : ℕ) (calls : State → Type 0) (before mid after file refile : Option (List ℕ)) (e : SavedEnd) → ShowsSaved mid after e →
+answered : (x : Outside) (y : System) (s : State) (held most : ℕ) (old now : List (List ℕ)) (turns steps : ℕ) (calls : ℕ → State → Type 0) (before mid after file refile : Option (List ℕ)) (e : SavedEnd) → ShowsSaved mid after e →
     IsSaved x y s held most old now turns steps before after file refile e → SavedAnswerEnds x y s held most old now turns steps calls before after file refile (Ok e)
 answered x y s held most old now turns steps calls before mid after file refile Saved shows h = h
 answered x y s held most old now turns steps calls before mid after file refile ShelfFault shows h = h
@@ -40,7 +41,7 @@ answered x y s held most old now turns steps calls before mid after file refile 
 answered x y s held most old now turns steps calls before mid after file refile (Ended end) shows h = absurd shows
 
 -- where it stopped, its words fit into the room
-put_so : {L : Type 0} (b : Booted) (rows : Rows) (count : ℕ) (old now : List (List ℕ)) (turns steps room : ℕ) (calls : State → Type 0) (before mid after file refile : Option (List ℕ)) (r : Kept L) (e : SavedEnd) → AreTakenUp b rows count →
+put_so : {L : Type 0} (b : Booted) (rows : Rows) (count : ℕ) (old now : List (List ℕ)) (turns steps room : ℕ) (calls : ℕ → State → Type 0) (before mid after file refile : Option (List ℕ)) (r : Kept L) (e : SavedEnd) → AreTakenUp b rows count →
     pages_needed b ≤ count → IsDisk count old → 1 ≤ turns → turns < 2 ^ 32 → steps < 2 ^ 64 → room ≡ most_words (memory_frames (map_of (boot_of b))) →
     StopsOrEnds (outside_of rows count) (system_of b rows) (loaded (system_of b rows) old) (user_sectors (system_of b rows)) old now turns steps calls (behind before) mid (saved_run r) Stopped →
     ShowsSaved mid after e → (length (saved_run r) ≤ room → r.turns < 2 ^ 32 → HoldsSaved file refile (flat_map word (saved_run r)) e) →
@@ -64,7 +65,7 @@ put_so b rows count old now turns steps room calls before mid after file refile 
       put = holds (omega (arith, few, same)) (omega (arith, told, bits));
     })
 
-pub saves_so : {L : Type 0} (b : Booted) (rows : Rows) (count turns steps room : ℕ) (told left : Option (List (List ℕ))) (made remade : ℕ) (before mid after file refile : Option (List ℕ)) (r : Kept L) (end : SaveEnd) (e : SavedEnd) → AreTakenUp b rows count →
+pub saves_so : {L : Type 0} (b : Booted) (rows : Rows) (count turns steps room : ℕ) (told left : Option (List (List ℕ))) (made remade : Tally) (before mid after file refile : Option (List ℕ)) (r : Kept L) (end : SaveEnd) (e : SavedEnd) → AreTakenUp b rows count →
     pages_needed b ≤ count → AreDisk count told → 1 ≤ turns → turns < 2 ^ 32 → steps < 2 ^ 64 → room ≡ most_words (memory_frames (map_of (boot_of b))) →
     end ≡ Stopped → WholeSaveEnds b rows count turns steps told left made remade before mid (Ok (r, end)) →
     ShowsSaved mid after e → (length (saved_run r) ≤ room → r.turns < 2 ^ 32 → HoldsSaved file refile (flat_map word (saved_run r)) e) →
@@ -74,7 +75,7 @@ saves_so b rows count turns steps room told left made remade before mid after fi
     (subst (λ (q : SaveEnd). WholeSaveEnds b rows count turns steps told left made remade before mid (Ok (r, q))) is_stop ends old now is re) shows holds
 
 -- one that has ended ends as the boot does
-pub ends_so : {L : Type 0} (b : Booted) (rows : Rows) (count turns steps : ℕ) (told left : Option (List (List ℕ))) (made remade : ℕ) (before after file refile : Option (List ℕ)) (r : Kept L) (end : SaveEnd) (e : RunEnd) → end ≡ BootEnded e →
+pub ends_so : {L : Type 0} (b : Booted) (rows : Rows) (count turns steps : ℕ) (told left : Option (List (List ℕ))) (made remade : Tally) (before after file refile : Option (List ℕ)) (r : Kept L) (end : SaveEnd) (e : RunEnd) → end ≡ BootEnded e →
     WholeSaveEnds b rows count turns steps told left made remade before after (Ok (r, end)) → SaveRunEnds b rows count turns steps told left made remade before after file refile (Ok (Ended e))
 ends_so b rows count turns steps told left made remade before after file refile r end e is_end ends = λ old now is re.
     subst (λ (q : SaveEnd). WholeSaveEnds b rows count turns steps told left made remade before after (Ok (r, q))) is_end ends old now is re
@@ -116,7 +117,7 @@ one_fault : {A : Type 0} (f g : LoadFault) → ◌≡◌ {A = Result A LoadFault
 one_fault f g e = cc
 
 -- WHAT THE LOAD SAYS is the same of each answer that a call makes of its own
-module _ {D O : Type 0} (size : D → ℕ) (sectors : D → Option (List (List ℕ))) (broke called : D → ℕ) (b : Booted) (view : View) (need : ℕ) (Before : (told retold : Option (List (List ℕ))) → (made remade : ℕ) → Type 0) (disk : D) (out : O) (redisk : D) (reout : O) where
+module _ {D O : Type 0} (size : D → ℕ) (sectors : D → Option (List (List ℕ))) (broke called : D → ℕ) (b : Booted) (view : View) (need : ℕ) (Before : (told retold : Option (List (List ℕ))) → (made remade : Tally) → Type 0) (disk : D) (out : O) (redisk : D) (reout : O) where
   pub refused_loads : {A B : Type 0} (f : LoadFault) → LoadsRun size sectors broke called {A = A} b view need Before disk out redisk reout (Err f) → LoadsRun size sectors broke called {A = B} b view need Before disk out redisk reout (Err f)
   refused_loads {A} {B} f w = record {
     refused = w.refused;

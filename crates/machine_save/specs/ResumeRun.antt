@@ -2,6 +2,7 @@
 use Rattle.std.specs.Prelude.{◌≡◌, ℕ, ◌-◌, ◌<◌, ◌≤◌, ◌⊎◌, false, Option, Some, List, Result, Ok, Err, MatchResult, IfOk}
 use Rattle.std.specs.List.{flat_map}
 use Rattle.cvm_words.specs.Bytes.{word}
+use Rattle.cvm_outside.specs.Numbering.{Tally}
 use Rattle.mips_table.specs.Device.{Outside}
 use Rattle.mips_table.specs.Machine.{State, run}
 use Rattle.schedule_file.specs.Rows.{Rows}
@@ -34,7 +35,7 @@ ResumeAnswers boot rows turns count bytes (Err (SmallDisk need have)) =
 
 -- THE JOINT THEOREM: over a file and sectors that a saved run of a boot left, where no fewer turns and steps are given and the disk has the sectors that are
 -- needed, the call ends as that boot does, whose first part printed `shown`; or there was no memory
-abbrev pub JoinsSaved : Booted → Rows → (turns steps count : ℕ) → (bytes : List ℕ) → (told retold : Option (List (List ℕ))) → (made remade : ℕ) →
+abbrev pub JoinsSaved : Booted → Rows → (turns steps count : ℕ) → (bytes : List ℕ) → (told retold : Option (List (List ℕ))) → (made remade : Tally) →
     (had has : Option (List ℕ)) → Result RunEnd ResumeFault → Type 0
 JoinsSaved boot rows turns steps count bytes told retold made remade had has result =
     (old left now : List (List ℕ)) (few spent : ℕ) (words shown : List ℕ) → IsDisk count old → pages_needed boot ≤ count →
@@ -67,9 +68,9 @@ GoesOnFromFile boot rows turns steps count bytes told retold result = (words : L
     answer (wanted_of boot rows turns) bytes ≡ Ok words → told ≡ Some left →
     IfOk result (GoesOnFrom (outside_of rows count) rows.inputs words left turns steps retold)
 
--- The call, by the disk and the sink before, and then by those after. The first four words tell the disk's size, its sectors, its count of
--- calls and the sink's text.
-module _ {D O : Type 0} (size : D → ℕ) (sectors : D → Option (List (List ℕ))) (called : D → ℕ) (text : O → Option (List ℕ)) where
+-- The call, by the disk and the sink before, and then by those after. The first four words tell the disk's size, its sectors, its counts
+-- and the sink's text.
+module _ {D O : Type 0} (size : D → ℕ) (sectors : D → Option (List (List ℕ))) (called : D → Tally) (text : O → Option (List ℕ)) where
   abbrev pub ResumedJoins : Booted → Rows → (turns steps : ℕ) → (bytes : List ℕ) → D → O → D → O → Result RunEnd ResumeFault → Type 0
   ResumedJoins boot rows turns steps bytes disk out redisk reout result =
       JoinsSaved boot rows turns steps (size disk) bytes (sectors disk) (sectors redisk) (called disk) (called redisk) (text out) (text reout) result

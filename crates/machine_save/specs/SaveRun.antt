@@ -3,6 +3,7 @@ use Rattle.std.specs.Prelude.{◌≡◌, ℕ, ◌<◌, ◌≤◌, ◌^◌, ◌�
 use Rattle.std.specs.List.{flat_map}
 use Rattle.std.specs.Io.KnownBytes.{append_known}
 use Rattle.cvm_words.specs.Bytes.{word}
+use Rattle.cvm_outside.specs.Numbering.{Tally}
 use Rattle.cvm_outside.specs.Told.{AppendsPart, retold}
 use Rattle.mips_table.specs.Device.{Outside}
 use Rattle.mips_table.specs.Machine.{State}
@@ -62,7 +63,7 @@ pub record IsSaved (x : Outside) (y : System) (s : State) (held most : ℕ) (old
   pub put : HoldsSaved file refile (flat_map word words) e
 
 -- HOW THE CALL ENDS: it stopped, and the state was put, or was to be; or it ends as the boot does, and then the machine has halted, or no report was begun
-abbrev pub SavedAnswerEnds : Outside → System → State → (held most : ℕ) → (old now : List (List ℕ)) → (turns steps : ℕ) → (calls : State → Type 0) →
+abbrev pub SavedAnswerEnds : Outside → System → State → (held most : ℕ) → (old now : List (List ℕ)) → (turns steps : ℕ) → (calls : ℕ → State → Type 0) →
     (before after file refile : Option (List ℕ)) → Result SavedEnd LoadFault → Type 0
 SavedAnswerEnds x y s held most old now turns steps calls before after file refile (Ok (Ended e)) =
     AnswerEnds x y s held old now Boot turns steps calls before after (Ok e)
@@ -73,7 +74,7 @@ SavedAnswerEnds x y s held most old now turns steps calls before after file refi
     AnswerEnds x y s held old now Boot turns steps calls before after (Err fault)
 
 -- for what is booted, a schedule's rows and a disk of so many sectors, where it tells them before and after
-abbrev pub SaveRunEnds : Booted → Rows → ℕ → (turns steps : ℕ) → (told left : Option (List (List ℕ))) → (made remade : ℕ) →
+abbrev pub SaveRunEnds : Booted → Rows → ℕ → (turns steps : ℕ) → (told left : Option (List (List ℕ))) → (made remade : Tally) →
     (before after file refile : Option (List ℕ)) → Result SavedEnd LoadFault → Type 0
 SaveRunEnds b rows count turns steps told left made remade before after file refile result = (old now : List (List ℕ)) → told ≡ Some old → left ≡ Some now →
     SavedAnswerEnds (outside_of rows count) (system_of b rows) (loaded (system_of b rows) old) (user_sectors (system_of b rows))
@@ -104,8 +105,8 @@ IfUnput (Ok e) P = ⊤
 IfUnput (Err fault) P = P
 
 -- The call, by the name of the file, the shelf, the disk and the sink before, and then by those after. The first five words tell the shelf's files, the
--- disk's size, its sectors, its count of calls and the sink's text.
-module _ {S D O : Type 0} (file : S → List ℕ → Option (List ℕ)) (size : D → ℕ) (sectors : D → Option (List (List ℕ))) (called : D → ℕ)
+-- disk's size, its sectors, its counts and the sink's text.
+module _ {S D O : Type 0} (file : S → List ℕ → Option (List ℕ)) (size : D → ℕ) (sectors : D → Option (List (List ℕ))) (called : D → Tally)
     (text : O → Option (List ℕ)) where
   abbrev pub SavesRun : Booted → Rows → (turns steps : ℕ) → (name : List ℕ) → S → D → O → S → D → O → Result SavedEnd LoadFault → Type 0
   SavesRun boot rows turns steps name shelf disk out reshelf redisk reout result =

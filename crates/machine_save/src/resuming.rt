@@ -1,6 +1,7 @@
 // A run that is taken up from a file.
 
 ghost use Rattle.std.specs.Prelude.{◌≡◌, ◌*◌, ◌≤◌, length, IfErr, IfOk, IsSome, Ok};
+ghost use Rattle.cvm_outside.specs.Numbering.{tally};
 ghost use Rattle.layer_map.specs.Map.{MapInRange, memory_frames};
 ghost use Rattle.cvm_model.specs.Cvm.{map_of};
 ghost use Rattle.layer_contract.specs.Boots.{BootFollows, boot_of};
@@ -121,9 +122,9 @@ pub fn resume_run<L: Layer + Drop, D: Sectors, O: Sink>(
 ) -> Result<RunEnd, ResumeFault>
     requires follows { BootFollows (L.image layer) (L.sizes layer) (L.map layer) boot }
     ensures answers { ResumeAnswers boot schedule turns (D.size disk.old) bytes.now result }
-    ensures joins { ResumedJoins D.size D.sectors D.calls O.text boot schedule turns steps bytes.now disk.old out.old disk.new out.new result }
+    ensures joins { ResumedJoins D.size D.sectors (tally D.faults D.calls) O.text boot schedule turns steps bytes.now disk.old out.old disk.new out.new result }
     ensures goes_on { BootsGoOn boot schedule (D.size disk.old) }
-    ensures any { ResumedGoesOn D.size D.sectors D.calls O.text boot schedule turns steps bytes.now disk.old disk.new result }
+    ensures any { ResumedGoesOn D.size D.sectors (tally D.faults D.calls) O.text boot schedule turns steps bytes.now disk.old disk.new result }
     ensures told { IsSome (D.sectors disk.old) → IsSome (D.sectors disk.new) }
     ensures still { IfErr result (λ _. (disk.new ≡ disk.old) × (out.new ≡ out.old)) }
     ensures size { D.size disk.new ≡ D.size disk.old }

@@ -2,6 +2,7 @@
 
 ghost use Rattle.std.specs.Prelude.{◌≡◌, ◌≢◌, ℕ, ◌≤◌, List};
 ghost use Rattle.cvm_outside.specs.Causes.{Rose};
+ghost use Rattle.cvm_outside.specs.Numbering.{tally};
 ghost use Rattle.layer_map.specs.Map.{memory_frames};
 ghost use Rattle.cvm_model.specs.Cvm.{map_of};
 ghost use Rattle.layer_contract.specs.Boots.{BootFollows, boot_of};
@@ -56,7 +57,7 @@ pub fn save_run<L: Layer + Drop, S: Shelf, D: Sectors, O: Sink>(
     requires follows { BootFollows (L.image layer) (L.sizes layer) (L.map layer) boot }
     requires some { 1 ≤ turns }
     requires room { room.words ≡ most_words (memory_frames (map_of (boot_of boot))) }
-    ensures ends { SavesRun S.file D.size D.sectors D.calls O.text boot schedule turns steps name.now
+    ensures ends { SavesRun S.file D.size D.sectors (tally D.faults D.calls) O.text boot schedule turns steps name.now
         shelf.old disk.old out.old shelf.new disk.new out.new result }
     ensures goes_on { WholeGoesOn boot schedule (D.size disk.old) (D.sectors disk.old) }
     ensures others { (n : List ℕ) → n ≢ name.now → S.file shelf.new n ≡ S.file shelf.old n }

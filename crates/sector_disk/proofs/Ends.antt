@@ -5,7 +5,7 @@ use Rattle.std.proofs.lemmas.List.{length-replicate, length-set}
 use Rattle.cvm_outside.specs.Told.{Tells, sector_of, with_sector}
 use Rattle.mips_table.specs.Device.{Pending, Idle, Reading, Writing, is_busy, counted}
 use Rattle.mips_table.specs.Fits.{NamesSector}
-use Rattle.cvm_outside.specs.Numbering.{counted as one_more}
+use Rattle.cvm_outside.specs.Numbering.{until_fault, Tally}
 use Rattle.sector_disk.specs.Ports.{Ports, device_of, EndsStep, CallsKeepUp, unfinished}
 
 -- where no sector moves, any sectors will do
@@ -18,11 +18,11 @@ nothing_moves size old new buffer after (Some ss) retold sized counts same =
     record { sectors = ss; many = sized; given = refl; device = rw e refl; left = rw e same }
 
 -- no command is done, and the disk isn't called
-pub none_is_done : (old new : Ports) (calls : ℕ) → unfinished new.pending ≡ unfinished old.pending → new.commands ≡ old.commands → CallsKeepUp old new calls calls
+pub none_is_done : (old new : Ports) (calls : Tally) → unfinished new.pending ≡ unfinished old.pending → new.commands ≡ old.commands → CallsKeepUp old new calls calls
 none_is_done old new calls e same = record { made = 0; done = omega arith; calls = refl }
 
 -- the command that was under way is done, with one call
-pub one_is_done : (old new : Ports) (before after : ℕ) → unfinished old.pending ≡ 1 → unfinished new.pending ≡ 0 → new.commands ≡ old.commands → after ≡ one_more before → CallsKeepUp old new before after
+pub one_is_done : (old new : Ports) (before after : Tally) → unfinished old.pending ≡ 1 → unfinished new.pending ≡ 0 → new.commands ≡ old.commands → after.calls ≡ until_fault before.faults before.calls → CallsKeepUp old new before after
 one_is_done old new before after e f same called = record { made = 1; done = omega arith; calls = called }
 
 -- no command is under way

@@ -2,7 +2,7 @@
 use Rattle.std.specs.Prelude.{◌≡◌, ◌+◌, ℕ, zero, suc, List, length, Option, IfSome, Result, OnOk, OnErr}
 use Rattle.std.specs.Option.{option_map}
 use Rattle.cvm_outside.specs.Causes.{Counts}
-use Rattle.cvm_outside.specs.Numbering.{counted as one_more}
+use Rattle.cvm_outside.specs.Numbering.{until_fault, Tally}
 use Rattle.cvm_outside.specs.Told.{with_sector}
 use Rattle.mips_table.specs.Device.{Device, Pending, Idle, Reading, Writing, counted}
 use Rattle.mips_table.specs.Fits.{NamesSector}
@@ -47,24 +47,35 @@ abbrev pub unfinished : Pending → ℕ
 unfinished Idle = 0
 unfinished other = 1
 
--- a count of calls after so many more
-abbrev pub called : ℕ → ℕ → ℕ
-called zero calls = calls
-called (suc n) calls = one_more (called n calls)
+-- a disk's count of calls after so many more, of which at most the last failed: one that had failed before counts none
+abbrev pub called : ℕ → Tally → ℕ
+called zero before = before.calls
+called (suc n) before = until_fault before.faults (called n before)
 
--- THE DISK IS CALLED ONCE FOR EACH COMMAND, when it is done: from these ports to those it was called as often as commands were done, whatever their answers
--- were. A command that was begun before and isn't under way any more is one of them, and one that is under way at the end is none.
-pub record CallsKeepUp (old new : Ports) (before after : ℕ) : Type 0 where
+-- THE DISK IS CALLED ONCE FOR EACH COMMAND, when it is done: from these ports to those it was called as often as commands were done, of which at most the
+-- last failed. A command that was begun before and isn't under way any more is one of them, and one that is under way at the end is none.
+pub record CallsKeepUp (old new : Ports) (before after : Tally) : Type 0 where
   pub made : ℕ
   pub done : made + (old.commands + unfinished new.pending) ≡ new.commands + unfinished old.pending
-  pub calls : after ≡ called made before
+  pub calls : after.calls ≡ called made before
 
--- what is known of a disk: how many sectors it has, those that are told, its count of faults, and that of the calls which read or write one
+-- and so many times more
+pub record CallsWith (more : ℕ) (old new : Ports) (before after : Tally) : Type 0 where
+  pub made : ℕ
+  pub done : made + (old.commands + unfinished new.pending) ≡ new.commands + unfinished old.pending
+  pub calls : after.calls ≡ called (more + made) before
+
+-- what is known of a disk: how many sectors it has, those that are told, its count of faults, and that of the calls which read or write one, up to
+-- the first that failed
 pub record Known : Type 0 where
   pub size : ℕ
   pub told : Option (List (List ℕ))
   pub faults : ℕ
   pub calls : ℕ
+
+-- both counts
+abbrev pub tally_of : Known → Tally
+tally_of known = record { faults = known.faults; calls = known.calls }
 
 -- the end of a step, by its answer: the ports, the buffer and the disk before and after it
 pub record StepEnd {E : Type 0} (result : Result (Unit {0}) E) (old new : Ports) (buffer after : List ℕ) (disk left : Known) : Type 0 where
@@ -74,4 +85,4 @@ pub record StepEnd {E : Type 0} (result : Result (Unit {0}) E) (old new : Ports)
   pub under_way : NamesSector left.size new.pending
   pub size : left.size ≡ disk.size
   pub count : Counts disk.faults left.faults result
-  pub calls : CallsKeepUp old new disk.calls left.calls
+  pub calls : CallsKeepUp old new (tally_of disk) (tally_of left)

@@ -1,7 +1,7 @@
 // The command under way, and its transfer.
 ghost use Rattle.std.specs.Prelude.{◌≡◌, ◌+◌, ◌*◌, ◌<◌, ◌≤◌, length, slice_set, ℕ, List, OnOk, OnErr};
 ghost use Rattle.cvm_outside.specs.Causes.{Counts};
-ghost use Rattle.cvm_outside.specs.Numbering.{counted as one_more};
+ghost use Rattle.cvm_outside.specs.Numbering.{until_fault};
 ghost use Rattle.cvm_outside.specs.Told.{Tells, sector_of, with_sector};
 ghost use Rattle.frame_store.specs.Words.{frame_of, with_frame};
 ghost use Rattle.mips_table.specs.Device.{is_busy as is_under_way};
@@ -13,8 +13,11 @@ use frame_store::{Frames, a_frame_is_its_part};
 /// The command under way: how many steps end before its transfer, and the sector that it names.
 #[derive(Clone, Copy)]
 pub(crate) enum Transfer {
+    /// No command is under way.
     Idle,
+    /// A sector is being read, for so many steps yet.
     Reading { left: u64, sector: u32 },
+    /// A sector is being written, for so many steps yet.
     Writing { left: u64, sector: u32 },
 }
 
@@ -42,7 +45,7 @@ pub(crate) fn read_sector<D: Sectors>(
     ensures length { length frames.new ≡ length frames.old }
     ensures words { OnOk result (Tells (sector_of (D.sectors disk.old) sector) (frame_of frames.new buffer)) }
     ensures count { Counts (D.faults disk.old) (D.faults disk.new) result }
-    ensures called { D.calls disk.new ≡ one_more (D.calls disk.old) }
+    ensures called { D.calls disk.new ≡ until_fault (D.faults disk.old) (D.calls disk.old) }
 {
     a_frame_is_its_part();
     disk.read(sector, frames.lend_mut(buffer))
@@ -61,7 +64,7 @@ pub(crate) fn write_sector<D: Sectors>(
     ensures words { OnOk result (D.sectors disk.new ≡ with_sector (D.sectors disk.old) sector (frame_of frames.now buffer)) }
     ensures torn { OnErr result ((words : List ℕ) × (D.sectors disk.new ≡ with_sector (D.sectors disk.old) sector words)) }
     ensures count { Counts (D.faults disk.old) (D.faults disk.new) result }
-    ensures called { D.calls disk.new ≡ one_more (D.calls disk.old) }
+    ensures called { D.calls disk.new ≡ until_fault (D.faults disk.old) (D.calls disk.old) }
 {
     disk.write(sector, frames.lend(buffer))
 }

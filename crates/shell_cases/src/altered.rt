@@ -36,7 +36,7 @@ impl Sectors for Altered {
 
     ghost faults = { λ s. s.inner.calls.faults };
 
-    ghost calls = { λ s. s.inner.calls.next };
+    ghost calls = { λ s. s.inner.calls.sound };
 
     ghost sized = { λ s. told_size s.alteration s.inner.sectors };
 

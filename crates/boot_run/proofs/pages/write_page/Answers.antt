@@ -24,9 +24,9 @@ returns-clause-ok g c = page_left (disk_pages c.args.per (map (λ words. words.i
 
 pub returns-then-first-words-clause-calls : goal.returns-then-first-words-clause-calls
 returns-then-first-words-clause-calls g c =
-    call_made (disk_pages c.args.per (map (λ words. words.items) c.args.users.now) c.args.behind.now).live c.args.q (g.D.Sectors.calls c.args.disk.now) (g.D.Sectors.calls c.write.new.self)
+    call_made (disk_pages c.args.per (map (λ words. words.items) c.args.users.now) c.args.behind.now).live c.args.q (g.D.Sectors.faults c.args.disk.now) (g.D.Sectors.calls c.args.disk.now) (g.D.Sectors.calls c.write.new.self)
     (c.page_source-first.ensures.live ∙ lt-ltb c.page_source-first.result.1 (length c.page_source-first.result.0.now) c.if-first-words.true) c.write.ensures.called
 
 pub returns-clause-calls : goal.returns-clause-calls
-returns-clause-calls g c = no_call (disk_pages c.args.per (map (λ words. words.items) c.args.users.now) c.args.behind.now).live c.args.q (g.D.Sectors.calls c.args.disk.now)
+returns-clause-calls g c = no_call (disk_pages c.args.per (map (λ words. words.items) c.args.users.now) c.args.behind.now).live c.args.q (g.D.Sectors.faults c.args.disk.now) (g.D.Sectors.calls c.args.disk.now)
     (c.page_source-first.ensures.live ∙ le-ltb c.page_source-first.result.1 (length c.page_source-first.result.0.now) c.if-first-words.false)

@@ -1,5 +1,6 @@
 use Rattle.std.proofs.Common.{◌≡◌, map}
 use Rattle.std.specs.Option.{option_map}
+use Rattle.cvm_outside.specs.Numbering.{tally}
 use Rattle.boot_run.specs.Loading.{calls_made, disk_pages, written}
 use Rattle.boot_run.proofs.pages.write_pages.Given as goal
 
@@ -8,5 +9,5 @@ invariant-loop-q g l = record {
   sectors : g.D.Sectors.sectors l.disk ≡ option_map (written (disk_pages l.per (map (λ words. words.items) l.users) l.behind) l.q) (g.D.Sectors.sectors l.fn.disk);
   size : g.D.Sectors.size l.disk ≡ g.D.Sectors.size l.fn.disk;
   faults : g.D.Sectors.faults l.disk ≡ g.D.Sectors.faults l.fn.disk;
-  calls : g.D.Sectors.calls l.disk ≡ calls_made (disk_pages l.per (map (λ words. words.items) l.users) l.behind).live l.q (g.D.Sectors.calls l.fn.disk);
+  calls : g.D.Sectors.calls l.disk ≡ calls_made (disk_pages l.per (map (λ words. words.items) l.users) l.behind).live l.q (tally g.D.Sectors.faults g.D.Sectors.calls l.fn.disk);
 }

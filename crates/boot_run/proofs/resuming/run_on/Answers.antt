@@ -1,4 +1,5 @@
 use Rattle.std.proofs.Common.{arith}
+use Rattle.cvm_outside.specs.Numbering.{tally}
 use Rattle.boot_run.proofs.AnyFile.{anyhow, still_told}
 use Rattle.boot_run.proofs.Rejoining.{joins}
 use Rattle.boot_run.proofs.resuming.run_on.Goals as goal
@@ -8,7 +9,7 @@ returns-clause-joins g c =
     let done = c.requires.done in
     let left = c.turns_left-left.ensures in
     joins c.machines_run.ensures c.a_new_machine_is_steady.ensures c.saved_runs_are_taken_up.ensures c.saved_runs_join.ensures (g.D.Sectors.size c.args.disk.now) c.args.run.now c.turns_left-left.result c.args.turns c.args.steps
-    c.steps_left-budget.result (g.D.Sectors.sectors c.args.disk.now) (g.D.Sectors.sectors c.run_to_end.new.disk) (g.D.Sectors.calls c.args.disk.now) (g.D.Sectors.calls c.run_to_end.new.disk) (g.O.Sink.text c.args.out.now) (g.O.Sink.text c.run_to_end.new.out) c.run_to_end.result
+    c.steps_left-budget.result (g.D.Sectors.sectors c.args.disk.now) (g.D.Sectors.sectors c.run_to_end.new.disk) (tally g.D.Sectors.faults g.D.Sectors.calls c.args.disk.now) (tally g.D.Sectors.faults g.D.Sectors.calls c.run_to_end.new.disk) (g.O.Sink.text c.args.out.now) (g.O.Sink.text c.run_to_end.new.out) c.run_to_end.result
     (omega (arith, done, left)) c.steps_left-budget.ensures.value c.run_to_end.ensures.ends
 
 pub returns-clause-any : goal.returns-clause-any

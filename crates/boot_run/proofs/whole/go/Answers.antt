@@ -1,7 +1,8 @@
 use Rattle.std.proofs.Common.{◌≡◌, ◌-◌, ◌≤◌, inr, refl, sym, ◌∙◌, arith}
-use Rattle.std.specs.Prelude.{IsSome}
+use Rattle.std.specs.Prelude.{is_some, IsSome}
 use Rattle.std.proofs.lemmas.Result.{err_from_is_err_and}
-use Rattle.boot_turns.proofs.CallCounts.{calls_stay}
+use Rattle.cvm_outside.specs.Numbering.{tally}
+use Rattle.boot_turns.proofs.CallCounts.{steps_stay}
 use Rattle.boot_run.specs.TurnCalls.{Around, around}
 use Rattle.boot_run.proofs.AnyCalls.{any_first, any_next, any_failed, any_over, any_went}
 use Rattle.boot_run.proofs.Looping.{calls_on, keeps_first, keeps_next, go_failed, went_over, went, not_over, not_failed, was_over}
@@ -16,7 +17,7 @@ loop-left-init g c = record {
   disk = refl;
   sink = refl;
   few = omega arith;
-  calls = λ e. calls_stay c.args.run.now.machine.hardware.ports (g.D.Sectors.calls c.args.disk.now);
+  calls = steps_stay (is_some c.args.run.now.tracer) c.args.run.now.machine (tally g.D.Sectors.faults g.D.Sectors.calls c.args.disk.now);
   going = keeps_first (g.D.Sectors.size c.args.disk.now) c.args.run.now (around c.args.run.now (g.D.Sectors.sectors c.args.disk.now) c.args.budget.now (g.O.Sink.text c.args.out.now)) _ (omega arith);
   anyhow = any_first (g.D.Sectors.size c.args.disk.now) c.args.run.now (around c.args.run.now (g.D.Sectors.sectors c.args.disk.now) c.args.budget.now (g.O.Sink.text c.args.out.now)) _ (omega arith);
 }
@@ -66,7 +67,8 @@ loop-left-preserved g c =
       disk = c.in_ok-made.ensures.rest.disk_same (λ v. absurd (cc)) ∙ c.loop-left.invariant.disk;
       sink = c.in_ok-made.ensures.rest.sink_same (λ v. absurd (cc)) ∙ c.loop-left.invariant.sink;
       few = omega (arith, few);
-      calls = calls_on c.args.run.now c.loop-left.run c.turns.new.self _ _ _ c.views.ensures c.views-in-loop-left.ensures was.view_is c.loop-left.invariant.calls c.in_ok-made.ensures.calls;
+      calls = calls_on c.args.run.now c.loop-left.run c.turns.new.self (tally g.D.Sectors.faults g.D.Sectors.calls c.args.disk.now) (tally g.D.Sectors.faults g.D.Sectors.calls c.loop-left.disk) (tally g.D.Sectors.faults g.D.Sectors.calls c.turns.new.disk)
+          c.views.ensures c.views-in-loop-left.ensures was.view_is c.loop-left.invariant.disk c.loop-left.invariant.calls c.in_ok-made.ensures.calls;
       going = keeps_next (g.D.Sectors.size c.args.disk.now) (g.D.Sectors.size c.loop-left.disk) c.args.run.now c.loop-left.run _ _ _ (c.args.turns - c.loop-left.left) _ c.loop-left.left c.in_ok-made.made c.in_ok-made.field-0-1
           c.loop-left.invariant.kept c.loop-left.invariant.size on (c.in_ok-made.ensures.ends c.loop-left.invariant.fault on) (omega (arith, few, most)) c.loop-left.invariant.going;
       anyhow = any_next (g.D.Sectors.size c.args.disk.now) (g.D.Sectors.size c.loop-left.disk) c.args.run.now c.loop-left.run c.loop-left.invariant.kept c.loop-left.invariant.size _ _ _ (c.args.turns - c.loop-left.left) c.loop-left.left on
@@ -108,8 +110,10 @@ returns-clause-any g c =
 -- each exit's calls
 pub returns-in_err-made-clause-calls : goal.returns-in_err-made-clause-calls
 returns-in_err-made-clause-calls g c =
-    calls_on c.args.run.now c.loop-left.run c.turns.new.self _ _ _ c.views.ensures c.views-in-loop-left.ensures c.loop-left.invariant.kept.view_is c.loop-left.invariant.calls c.in_err-made.ensures.calls
+    calls_on c.args.run.now c.loop-left.run c.turns.new.self (tally g.D.Sectors.faults g.D.Sectors.calls c.args.disk.now) (tally g.D.Sectors.faults g.D.Sectors.calls c.loop-left.disk) (tally g.D.Sectors.faults g.D.Sectors.calls c.turns.new.disk)
+    c.views.ensures c.views-in-loop-left.ensures c.loop-left.invariant.kept.view_is c.loop-left.invariant.disk c.loop-left.invariant.calls c.in_err-made.ensures.calls
 
 pub returns-then-made-eq0-clause-calls : goal.returns-then-made-eq0-clause-calls
 returns-then-made-eq0-clause-calls g c =
-    calls_on c.args.run.now c.loop-left.run c.turns.new.self _ _ _ c.views.ensures c.views-in-loop-left.ensures c.loop-left.invariant.kept.view_is c.loop-left.invariant.calls c.in_ok-made.ensures.calls
+    calls_on c.args.run.now c.loop-left.run c.turns.new.self (tally g.D.Sectors.faults g.D.Sectors.calls c.args.disk.now) (tally g.D.Sectors.faults g.D.Sectors.calls c.loop-left.disk) (tally g.D.Sectors.faults g.D.Sectors.calls c.turns.new.disk)
+    c.views.ensures c.views-in-loop-left.ensures c.loop-left.invariant.kept.view_is c.loop-left.invariant.disk c.loop-left.invariant.calls c.in_ok-made.ensures.calls

@@ -1,15 +1,16 @@
 use Rattle.std.proofs.Common.{◌≡◌, ◌-◌, ◌≤◌, List, ℕ, Some, Ok, Err, refl, sym, ap, ◌∙◌, subst, arith}
 use Rattle.std.proofs.lemmas.Result.{err_from_is_err_and}
 use Rattle.cvm_outside.specs.Causes.{Rose}
+use Rattle.cvm_outside.specs.Numbering.{tally}
 use Rattle.mips_machine.specs.Steps.{outside_of}
 use Rattle.boot_turns.specs.Rom.{rom_loaded, rom_sectors, rom_steps}
-use Rattle.boot_run.specs.Loading.{system_of, rom_pages, calls_made}
+use Rattle.boot_run.specs.Loading.{system_of, rom_pages, tally_made}
 use Rattle.boot_run.specs.LoadEnds.{rom_needed}
 use Rattle.boot_run.specs.Whole.{AnswerEnds, CallsFrom, LoadStopped, rom_start_of}
 use Rattle.boot_run.specs.Pieces.{Bootable}
 use Rattle.boot_run.proofs.RomLoads.{rom_needed_is}
 use Rattle.boot_run.proofs.Looping.{machines}
-use Rattle.boot_run.proofs.Booting.{load_stopped, refused, refused_told, ran_so, whole_told, end_disk, end_sink, disk_end, sink_end, within_more}
+use Rattle.boot_run.proofs.Booting.{load_stopped, refused, refused_told, tally_is, ran_so, whole_told, end_disk, end_sink, disk_end, sink_end, within_more}
 use Rattle.boot_run.proofs.whole.run_rom.Goals as goal
 
 pub returns-in_err-run-clause-ends : goal.returns-in_err-run-clause-ends
@@ -17,12 +18,12 @@ returns-in_err-run-clause-ends g c =
     let w = err_from_is_err_and c.from_residual.result c.from_residual.ensures.1 in
     let so = refused (outside_of c.args.schedule (g.D.Sectors.size c.args.disk.now)) (system_of c.args.boot c.args.schedule) (rom_loaded (system_of c.args.boot c.args.schedule) c.args.rom.now.items) (rom_sectors (system_of c.args.boot c.args.schedule))
     c.args.view c.args.turns c.args.steps (g.D.Sectors.sectors c.args.disk.now) (g.D.Sectors.sectors c.load_rom.new.disk)
-    (λ old. CallsFrom (rom_loaded (system_of c.args.boot c.args.schedule) c.args.rom.now.items old) (calls_made (rom_pages (system_of c.args.boot c.args.schedule)).live (rom_sectors (system_of c.args.boot c.args.schedule)) (g.D.Sectors.calls c.args.disk.now)) (g.D.Sectors.calls c.load_rom.new.disk)) (g.O.Sink.text c.args.out.now) (g.O.Sink.text c.args.out.now) refl
+    (λ old. CallsFrom (rom_loaded (system_of c.args.boot c.args.schedule) c.args.rom.now.items old) (tally_made (rom_pages (system_of c.args.boot c.args.schedule)).live (rom_sectors (system_of c.args.boot c.args.schedule)) (tally g.D.Sectors.faults g.D.Sectors.calls c.args.disk.now)) (tally g.D.Sectors.faults g.D.Sectors.calls c.load_rom.new.disk)) (g.O.Sink.text c.args.out.now) (g.O.Sink.text c.args.out.now) refl
     c.in_err-run.field-0.0 (λ ne. ap g.D.Sectors.sectors (c.in_err-run.ensures.still (λ q. ne (let h = q in cc)))) in
     rw (w.1, w.2)
     (subst (λ (ws : List ℕ). (old now : List (List ℕ)) → g.D.Sectors.sectors c.args.disk.now ≡ Some old → g.D.Sectors.sectors c.load_rom.new.disk ≡ Some now →
     AnswerEnds (outside_of c.args.schedule (g.D.Sectors.size c.args.disk.now)) (system_of c.args.boot c.args.schedule) (rom_loaded (system_of c.args.boot c.args.schedule) ws old) (rom_sectors (system_of c.args.boot c.args.schedule)) old now c.args.view c.args.turns c.args.steps
-    (CallsFrom (rom_loaded (system_of c.args.boot c.args.schedule) ws old) (calls_made (rom_pages (system_of c.args.boot c.args.schedule)).live (rom_sectors (system_of c.args.boot c.args.schedule)) (g.D.Sectors.calls c.args.disk.now)) (g.D.Sectors.calls c.load_rom.new.disk)) (g.O.Sink.text c.args.out.now) (g.O.Sink.text c.args.out.now) (Err c.in_err-run.field-0.0)) c.requires.rom so)
+    (CallsFrom (rom_loaded (system_of c.args.boot c.args.schedule) ws old) (tally_made (rom_pages (system_of c.args.boot c.args.schedule)).live (rom_sectors (system_of c.args.boot c.args.schedule)) (tally g.D.Sectors.faults g.D.Sectors.calls c.args.disk.now)) (tally g.D.Sectors.faults g.D.Sectors.calls c.load_rom.new.disk)) (g.O.Sink.text c.args.out.now) (g.O.Sink.text c.args.out.now) (Err c.in_err-run.field-0.0)) c.requires.rom so)
 
 pub returns-in_err-run-clause-goes_on : goal.returns-in_err-run-clause-goes_on
 returns-in_err-run-clause-goes_on g c = λ old is room.
@@ -37,30 +38,31 @@ returns-in_err-run-clause-loads g c =
     rw (w.1, w.2) (record {
       refused = c.in_err-run.ensures.fault;
       stopped = λ e. subst (λ (ws : List ℕ). LoadStopped (rom_loaded (system_of c.args.boot c.args.schedule) ws) (rom_pages (system_of c.args.boot c.args.schedule)).live (rom_sectors (system_of c.args.boot c.args.schedule)) (g.D.Sectors.sectors c.args.disk.now) (g.D.Sectors.sectors c.load_rom.new.disk)
-          (g.D.Sectors.calls c.args.disk.now) (g.D.Sectors.calls c.load_rom.new.disk)) c.requires.rom
+          (tally g.D.Sectors.faults g.D.Sectors.calls c.args.disk.now) (tally g.D.Sectors.faults g.D.Sectors.calls c.load_rom.new.disk)) c.requires.rom
           (load_stopped (rom_loaded (system_of c.args.boot c.args.schedule) c.args.rom.now.items) (rom_needed c.args.boot) (rom_sectors (system_of c.args.boot c.args.schedule)) (rom_pages (system_of c.args.boot c.args.schedule)).live (g.D.Sectors.sectors c.args.disk.now) (g.D.Sectors.sectors c.load_rom.new.disk)
-          (g.D.Sectors.calls c.args.disk.now) (g.D.Sectors.calls c.load_rom.new.disk) (sym (rom_needed_is c.args.boot c.args.schedule)) (c.in_err-run.ensures.torn (let h = e in cc)));
+          (tally g.D.Sectors.faults g.D.Sectors.calls c.args.disk.now) (tally g.D.Sectors.faults g.D.Sectors.calls c.load_rom.new.disk) (sym (rom_needed_is c.args.boot c.args.schedule)) (c.in_err-run.ensures.torn (let h = e in cc)));
       loaded = tt;
       unprinted = refl;
       still = λ ne. c.in_err-run.ensures.still (λ q. ne (let h = q in cc));
       same_size = c.in_err-run.ensures.size;
       told = refused_told (rom_needed c.args.boot) (λ ss. (rom_loaded (system_of c.args.boot c.args.schedule) c.args.rom.now.items ss).device.sectors) (rom_pages (system_of c.args.boot c.args.schedule)).live (g.D.Sectors.sectors c.args.disk.now) (g.D.Sectors.sectors c.load_rom.new.disk)
-          (g.D.Sectors.calls c.args.disk.now) (g.D.Sectors.calls c.load_rom.new.disk) c.in_err-run.field-0.0 (λ ne. ap g.D.Sectors.sectors (c.in_err-run.ensures.still (λ q. ne (let h = q in cc)))) (λ e. c.in_err-run.ensures.torn (let h = e in cc));
+          (tally g.D.Sectors.faults g.D.Sectors.calls c.args.disk.now) (tally g.D.Sectors.faults g.D.Sectors.calls c.load_rom.new.disk) c.in_err-run.field-0.0 (λ ne. ap g.D.Sectors.sectors (c.in_err-run.ensures.still (λ q. ne (let h = q in cc)))) (λ e. c.in_err-run.ensures.torn (let h = e in cc));
     })
 
 pub returns-clause-ends : goal.returns-clause-ends
 returns-clause-ends g c =
     let so = ran_so c.args.layer c.args.boot c.args.schedule (rom_needed c.args.boot) (g.D.Sectors.size c.args.disk.now) (g.D.Sectors.size c.load_rom.new.disk) c.args.view c.args.turns c.args.steps
     (g.D.Sectors.sectors c.args.disk.now) (g.D.Sectors.sectors c.load_rom.new.disk) (g.D.Sectors.sectors c.run_to_end.new.disk)
-    (calls_made (rom_pages (system_of c.args.boot c.args.schedule)).live (rom_sectors (system_of c.args.boot c.args.schedule)) (g.D.Sectors.calls c.args.disk.now)) (g.D.Sectors.calls c.load_rom.new.disk) (g.D.Sectors.calls c.run_to_end.new.disk) (g.O.Sink.text c.args.out.now) (g.O.Sink.text c.run_to_end.new.out)
+    (tally_made (rom_pages (system_of c.args.boot c.args.schedule)).live (rom_sectors (system_of c.args.boot c.args.schedule)) (tally g.D.Sectors.faults g.D.Sectors.calls c.args.disk.now)) (tally g.D.Sectors.faults g.D.Sectors.calls c.load_rom.new.disk) (tally g.D.Sectors.faults g.D.Sectors.calls c.run_to_end.new.disk) (g.O.Sink.text c.args.out.now) (g.O.Sink.text c.run_to_end.new.out)
     c.in_ok-run.run' c.run_to_end.result c.in_ok-run.ensures.fresh c.in_ok-run.ensures.size c.requires.some (rom_loaded (system_of c.args.boot c.args.schedule) c.args.rom.now.items) (rom_sectors (system_of c.args.boot c.args.schedule))
     (λ old is. let p = c.rom_premises_hold.ensures old is c.in_ok-run.ensures.fresh.has_room.room in
     (p.late, subst (λ (ws : List ℕ). Bootable c.args.boot c.args.schedule (g.D.Sectors.size c.args.disk.now) (system_of c.args.boot c.args.schedule) (rom_loaded (system_of c.args.boot c.args.schedule) ws old) p.late (rom_sectors (system_of c.args.boot c.args.schedule)) old) (sym c.requires.rom) p.bootable))
     c.in_ok-run.ensures.ready
-    (c.in_ok-run.ensures.calls ∙ ap (λ n. calls_made (rom_pages (system_of c.args.boot c.args.schedule)).live n (g.D.Sectors.calls c.args.disk.now)) (sym (rom_needed_is c.args.boot c.args.schedule))) c.run_to_end.ensures.ends in
+    (tally_is (rom_pages (system_of c.args.boot c.args.schedule)).live (rom_sectors (system_of c.args.boot c.args.schedule)) (rom_needed c.args.boot) (tally g.D.Sectors.faults g.D.Sectors.calls c.args.disk.now) (g.D.Sectors.faults c.load_rom.new.disk) (g.D.Sectors.calls c.load_rom.new.disk)
+    (sym (rom_needed_is c.args.boot c.args.schedule)) (c.in_ok-run.ensures.same (λ q. absurd (cc))) c.in_ok-run.ensures.calls) c.run_to_end.ensures.ends in
     subst (λ (ws : List ℕ). (old now : List (List ℕ)) → g.D.Sectors.sectors c.args.disk.now ≡ Some old → g.D.Sectors.sectors c.run_to_end.new.disk ≡ Some now →
     AnswerEnds (outside_of c.args.schedule (g.D.Sectors.size c.args.disk.now)) (system_of c.args.boot c.args.schedule) (rom_loaded (system_of c.args.boot c.args.schedule) ws old) (rom_sectors (system_of c.args.boot c.args.schedule)) old now c.args.view c.args.turns c.args.steps
-    (CallsFrom (rom_loaded (system_of c.args.boot c.args.schedule) ws old) (calls_made (rom_pages (system_of c.args.boot c.args.schedule)).live (rom_sectors (system_of c.args.boot c.args.schedule)) (g.D.Sectors.calls c.args.disk.now)) (g.D.Sectors.calls c.run_to_end.new.disk)) (g.O.Sink.text c.args.out.now) (g.O.Sink.text c.run_to_end.new.out) (Ok c.run_to_end.result)) c.requires.rom so
+    (CallsFrom (rom_loaded (system_of c.args.boot c.args.schedule) ws old) (tally_made (rom_pages (system_of c.args.boot c.args.schedule)).live (rom_sectors (system_of c.args.boot c.args.schedule)) (tally g.D.Sectors.faults g.D.Sectors.calls c.args.disk.now)) (tally g.D.Sectors.faults g.D.Sectors.calls c.run_to_end.new.disk)) (g.O.Sink.text c.args.out.now) (g.O.Sink.text c.run_to_end.new.out) (Ok c.run_to_end.result)) c.requires.rom so
 
 pub returns-clause-goes_on : goal.returns-clause-goes_on
 returns-clause-goes_on g c = λ old is room.
@@ -79,12 +81,13 @@ returns-clause-loads g c = record {
   same_size = c.run_to_end.ensures.size ∙ c.in_ok-run.ensures.size;
   told = whole_told c.args.layer c.args.boot c.args.schedule (rom_needed c.args.boot) (g.D.Sectors.size c.args.disk.now) (g.D.Sectors.size c.load_rom.new.disk) c.args.view c.args.turns c.args.steps
       (g.D.Sectors.sectors c.args.disk.now) (g.D.Sectors.sectors c.load_rom.new.disk) (g.D.Sectors.sectors c.run_to_end.new.disk)
-      (calls_made (rom_pages (system_of c.args.boot c.args.schedule)).live (rom_sectors (system_of c.args.boot c.args.schedule)) (g.D.Sectors.calls c.args.disk.now)) (g.D.Sectors.calls c.load_rom.new.disk) (g.D.Sectors.calls c.run_to_end.new.disk) (g.O.Sink.text c.args.out.now) (g.O.Sink.text c.run_to_end.new.out)
+      (tally_made (rom_pages (system_of c.args.boot c.args.schedule)).live (rom_sectors (system_of c.args.boot c.args.schedule)) (tally g.D.Sectors.faults g.D.Sectors.calls c.args.disk.now)) (tally g.D.Sectors.faults g.D.Sectors.calls c.load_rom.new.disk) (tally g.D.Sectors.faults g.D.Sectors.calls c.run_to_end.new.disk) (g.O.Sink.text c.args.out.now) (g.O.Sink.text c.run_to_end.new.out)
       c.in_ok-run.run' c.run_to_end.result c.in_ok-run.ensures.fresh c.in_ok-run.ensures.size c.requires.some (rom_loaded (system_of c.args.boot c.args.schedule) c.args.rom.now.items) (rom_sectors (system_of c.args.boot c.args.schedule))
       (λ old is. let p = c.rom_premises_hold.ensures old is c.in_ok-run.ensures.fresh.has_room.room in
       (p.late, subst (λ (ws : List ℕ). Bootable c.args.boot c.args.schedule (g.D.Sectors.size c.args.disk.now) (system_of c.args.boot c.args.schedule) (rom_loaded (system_of c.args.boot c.args.schedule) ws old) p.late (rom_sectors (system_of c.args.boot c.args.schedule)) old) (sym c.requires.rom) p.bootable))
       c.in_ok-run.ensures.ready
-      (c.in_ok-run.ensures.calls ∙ ap (λ n. calls_made (rom_pages (system_of c.args.boot c.args.schedule)).live n (g.D.Sectors.calls c.args.disk.now)) (sym (rom_needed_is c.args.boot c.args.schedule))) c.run_to_end.ensures.ends;
+      (tally_is (rom_pages (system_of c.args.boot c.args.schedule)).live (rom_sectors (system_of c.args.boot c.args.schedule)) (rom_needed c.args.boot) (tally g.D.Sectors.faults g.D.Sectors.calls c.args.disk.now) (g.D.Sectors.faults c.load_rom.new.disk) (g.D.Sectors.calls c.load_rom.new.disk)
+      (sym (rom_needed_is c.args.boot c.args.schedule)) (c.in_ok-run.ensures.same (λ q. absurd (cc))) c.in_ok-run.ensures.calls) c.run_to_end.ensures.ends;
 }
 
 pub returns-clause-blame : goal.returns-clause-blame

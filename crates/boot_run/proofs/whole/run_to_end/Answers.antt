@@ -1,4 +1,5 @@
 use Rattle.std.proofs.Common.{Err, arith, sym, ap, ◌∙◌, subst}
+use Rattle.cvm_outside.specs.Numbering.{tally}
 use Rattle.boot_run.specs.TurnCalls.{around}
 use Rattle.boot_run.specs.declared.whole.RunEnd.{RunEnd}
 use Rattle.boot_run.specs.Pieces.{RunsToEnd}
@@ -10,15 +11,15 @@ use Rattle.boot_run.proofs.whole.run_to_end.Goals as goal
 pub returns-in-Ok-clause-ends : goal.returns-in-Ok-clause-ends
 returns-in-Ok-clause-ends g c =
     to_close c.machines_run.ensures c.traces_grow.ensures c.journal_rows_follow.ensures c.turns_are_counted.ensures (g.D.Sectors.size c.args.disk.now) c.args.run.now c.args.turns c.args.steps (g.D.Sectors.sectors c.args.disk.now) (g.O.Sink.text c.args.out.now)
-    (g.D.Sectors.size c.go.new.disk) c.go.new.run c.close.new.run (g.D.Sectors.sectors c.go.new.disk) (g.D.Sectors.sectors c.close.new.disk) c.go.new.budget (g.O.Sink.text c.go.new.out) (g.O.Sink.text c.close.new.out) (g.D.Sectors.calls c.args.disk.now) (g.D.Sectors.calls c.close.new.disk) c.close.result
-    c.in-Ok.ensures.kept c.in-Ok.ensures.size c.in-Ok.ensures.ends (c.close.ensures.ends c.go.new.budget)
+    (g.D.Sectors.size c.go.new.disk) c.go.new.run c.close.new.run (g.D.Sectors.sectors c.go.new.disk) (g.D.Sectors.sectors c.close.new.disk) c.go.new.budget (g.O.Sink.text c.go.new.out) (g.O.Sink.text c.close.new.out) (tally g.D.Sectors.faults g.D.Sectors.calls c.args.disk.now) (tally g.D.Sectors.faults g.D.Sectors.calls c.go.new.disk) (tally g.D.Sectors.faults g.D.Sectors.calls c.close.new.disk) c.close.result
+    c.in-Ok.ensures.kept c.in-Ok.ensures.size c.in-Ok.ensures.calls (c.in-Ok.ensures.blame.disk_same (λ h. absurd (cc))) c.close.ensures.asks c.in-Ok.ensures.ends (c.close.ensures.ends c.go.new.budget)
 
 pub returns-in-Err-clause-ends : goal.returns-in-Err-clause-ends
 returns-in-Err-clause-ends g c =
     subst (λ (e : RunEnd). RunsToEnd (g.D.Sectors.size c.args.disk.now) c.args.run.now c.args.turns c.args.steps (around c.args.run.now (g.D.Sectors.sectors c.args.disk.now) c.args.steps (g.O.Sink.text c.args.out.now)) (g.D.Sectors.sectors c.go.new.disk)
-    (g.D.Sectors.calls c.args.disk.now) (g.D.Sectors.calls c.go.new.disk) (g.O.Sink.text c.go.new.out) e) (sym c.end_at.ensures)
+    (tally g.D.Sectors.faults g.D.Sectors.calls c.args.disk.now) (tally g.D.Sectors.faults g.D.Sectors.calls c.go.new.disk) (g.O.Sink.text c.go.new.out) e) (sym c.end_at.ensures)
     (to_fault c.machines_run.ensures c.traces_grow.ensures c.journal_rows_follow.ensures c.turns_are_counted.ensures (g.D.Sectors.size c.args.disk.now) c.args.run.now c.args.turns c.args.steps (g.D.Sectors.sectors c.args.disk.now) (g.O.Sink.text c.args.out.now)
-    c.go.new.run (g.D.Sectors.sectors c.go.new.disk) c.go.new.budget (g.O.Sink.text c.go.new.out) c.in-Err.fault (g.D.Sectors.calls c.args.disk.now) (g.D.Sectors.calls c.go.new.disk) c.in-Err.ensures.calls c.in-Err.ensures.ends)
+    c.go.new.run (g.D.Sectors.sectors c.go.new.disk) c.go.new.budget (g.O.Sink.text c.go.new.out) c.in-Err.fault (tally g.D.Sectors.faults g.D.Sectors.calls c.args.disk.now) (tally g.D.Sectors.faults g.D.Sectors.calls c.go.new.disk) c.in-Err.ensures.calls c.in-Err.ensures.ends)
 
 -- of any run
 pub returns-in-Ok-clause-any : goal.returns-in-Ok-clause-any

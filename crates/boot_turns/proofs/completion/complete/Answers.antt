@@ -19,9 +19,10 @@ use Rattle.mips_table.specs.Turns.{rests}
 use Rattle.boot_turns.specs.Completes.{seen, Skips, StepFails, Open, Progress, turn_began, KeptUser, StepBegan}
 use Rattle.boot_turns.specs.Tracing.{Tracing, CanTrace, tracer_at, tracing}
 use Rattle.layer_map.specs.Map.{Map}
-use Rattle.sector_disk.specs.Ports.{CallsKeepUp}
+use Rattle.cvm_outside.specs.Numbering.{tally}
+use Rattle.boot_turns.specs.Steps.{StepCalls}
 use Rattle.mips_table.specs.Fits.{NamesSector}
-use Rattle.boot_turns.proofs.CallCounts.{calls_stay, calls_join}
+use Rattle.boot_turns.proofs.CallCounts.{steps_join, steps_ports, steps_stay}
 use Rattle.boot_turns.proofs.Quietly.{progress_passed}
 use Rattle.boot_turns.proofs.Opening.{one_step, step_stops, skips_more, skips_passed, Opened, seen_rests, seen_note}
 use Rattle.boot_turns.proofs.Tracking.{Tracks, tracks_none, tracks_limit, tracks_whole, tracks_more, tracks_stop}
@@ -82,12 +83,11 @@ tracked g c =
     c.step_traced.new.machine (g.D.Sectors.sectors c.step_traced.new.disk) c.in_ok-stepped.stepped c.in_ok-stepped.ensures.traced (c.in_ok-stepped.ensures.ran (is_done c.in_ok-stepped.stepped Disk))
 
 -- the disk was called once for each command through the step
-calls_kept : (g : Over) (c : In_ok-stepped g) → c.args.tracer.now ≡ None →
-    CallsKeepUp c.args.machine.now.hardware.ports c.step_traced.new.machine.hardware.ports (g.D.Sectors.calls c.args.disk.now) (g.D.Sectors.calls c.step_traced.new.disk)
-calls_kept g c e =
-    calls_join c.args.machine.now.hardware.ports c.loop-begun.machine.hardware.ports c.step_traced.new.machine.hardware.ports
-    (g.D.Sectors.calls c.args.disk.now) (g.D.Sectors.calls c.loop-begun.disk) (g.D.Sectors.calls c.step_traced.new.disk)
-    (c.loop-begun.invariant.calls e) (c.in_ok-stepped.ensures.calls (c.loop-begun.invariant.untraced e).0)
+calls_kept : (g : Over) (c : In_ok-stepped g) → StepCalls (is_some c.args.tracer.now) c.args.machine.now c.step_traced.new.machine (tally g.D.Sectors.faults g.D.Sectors.calls c.args.disk.now) (tally g.D.Sectors.faults g.D.Sectors.calls c.step_traced.new.disk)
+calls_kept g c =
+    steps_join (is_some c.args.tracer.now) (is_some c.loop-begun.tracer) c.args.machine.now c.loop-begun.machine c.step_traced.new.machine
+    (tally g.D.Sectors.faults g.D.Sectors.calls c.args.disk.now) (tally g.D.Sectors.faults g.D.Sectors.calls c.loop-begun.disk) (tally g.D.Sectors.faults g.D.Sectors.calls c.step_traced.new.disk)
+    (same_some c.loop-begun.tracer c.args.tracer.now c.loop-begun.invariant.user) c.loop-begun.invariant.faults c.loop-begun.invariant.calls c.in_ok-stepped.ensures.calls
 
 -- the step is the next of a run, and what is noted then says how far the turn is
 opened : (g : Over) (c : After-note g) (s : State) (t u : ℕ) → t ≤ u →
@@ -117,7 +117,7 @@ loop-begun-init g c = record {
   can = c.requires.can;
   user = refl;
   untraced = λ e. (e, refl);
-  calls = λ e. calls_stay c.args.machine.now.hardware.ports (g.D.Sectors.calls c.args.disk.now);
+  calls = steps_stay (is_some c.args.tracer.now) c.args.machine.now (tally g.D.Sectors.faults g.D.Sectors.calls c.args.disk.now);
   sink_faults = refl;
   tracks = tracks_none (outside_of c.args.machine.now.rows (g.D.Sectors.size c.args.disk.now)) c.args.map.now (seen (g.D.Sectors.sectors c.args.disk.now) c.args.machine.now)
       (tracing c.args.tracer.now (g.O.Sink.text c.args.out.now) c.args.budget.now);
@@ -245,10 +245,10 @@ pub returns-in-Some-clause-calls : goal.returns-in-Some-clause-calls
 returns-in-Some-clause-calls g c = calls_kept g (goal.at.returns-in-Some-clause-calls g c).In_ok-stepped
 
 pub returns-in_err-stepped-clause-calls : goal.returns-in_err-stepped-clause-calls
-returns-in_err-stepped-clause-calls g c = λ e.
-    calls_join c.args.machine.now.hardware.ports c.loop-begun.machine.hardware.ports c.step_traced.new.machine.hardware.ports
-    (g.D.Sectors.calls c.args.disk.now) (g.D.Sectors.calls c.loop-begun.disk) (g.D.Sectors.calls c.step_traced.new.disk)
-    (c.loop-begun.invariant.calls e) (c.in_err-stepped.ensures.calls (c.loop-begun.invariant.untraced e).0)
+returns-in_err-stepped-clause-calls g c =
+    steps_join (is_some c.args.tracer.now) (is_some c.loop-begun.tracer) c.args.machine.now c.loop-begun.machine c.step_traced.new.machine
+    (tally g.D.Sectors.faults g.D.Sectors.calls c.args.disk.now) (tally g.D.Sectors.faults g.D.Sectors.calls c.loop-begun.disk) (tally g.D.Sectors.faults g.D.Sectors.calls c.step_traced.new.disk)
+    (same_some c.loop-begun.tracer c.args.tracer.now c.loop-begun.invariant.user) c.loop-begun.invariant.faults c.loop-begun.invariant.calls c.in_err-stepped.ensures.calls
 
 pub loop-begun-preserved : goal.loop-begun-preserved
 loop-begun-preserved g c = record {
@@ -357,8 +357,8 @@ loop-begun-preserved-then-skipped-limit g c =
           c.step_traced.new.tracer c.pass-skipped.ensures.memory (ap (λ (h : Held). h.time) rest) c.in_ok-stepped.ensures.trace.can;
       user = c.in_ok-stepped.ensures.trace.user ∙ c.loop-begun.invariant.user;
       untraced = λ e. let i = c.loop-begun.invariant.untraced e in let n = c.in_ok-stepped.ensures.trace.untraced i.0 in (n.0, n.1 ∙ i.1);
-      calls = λ e. subst (λ (h : Held). CallsKeepUp c.args.machine.now.hardware.ports h.hardware.ports (g.D.Sectors.calls c.args.disk.now) (g.D.Sectors.calls c.step_traced.new.disk)) (sym rest)
-          (calls_kept g (goal.at.loop-begun-preserved-then-skipped-limit g c).In_ok-stepped e);
+      calls = steps_ports (is_some c.args.tracer.now) c.args.machine.now c.step_traced.new.machine c.pass-skipped.new.machine (tally g.D.Sectors.faults g.D.Sectors.calls c.args.disk.now) (tally g.D.Sectors.faults g.D.Sectors.calls c.step_traced.new.disk) (ap (λ (h : Held). h.hardware.ports) rest)
+          (calls_kept g (goal.at.loop-begun-preserved-then-skipped-limit g c).In_ok-stepped);
       sink_faults = c.in_ok-stepped.ensures.blame.sink_same (is_done c.in_ok-stepped.stepped Sink) ∙ c.loop-begun.invariant.sink_faults;
       tracks = tracks_passed (outside_of c.args.machine.now.rows (g.D.Sectors.size c.args.disk.now)) c.args.map.now (seen (g.D.Sectors.sectors c.args.disk.now) c.args.machine.now)
           (tracing c.args.tracer.now (g.O.Sink.text c.args.out.now) c.args.budget.now) (g.D.Sectors.sectors c.step_traced.new.disk) c.step_traced.new.machine c.pass-skipped.new.machine c.step_traced.new.tracer c.args.tracer.now (g.O.Sink.text c.step_traced.new.out)
@@ -405,8 +405,8 @@ loop-begun-preserved-then-not-at_rest g c =
           c.step_traced.new.tracer c.pass.ensures.memory (ap (λ (h : Held). h.time) rest) c.in_ok-stepped.ensures.trace.can;
       user = c.in_ok-stepped.ensures.trace.user ∙ c.loop-begun.invariant.user;
       untraced = λ e. let i = c.loop-begun.invariant.untraced e in let n = c.in_ok-stepped.ensures.trace.untraced i.0 in (n.0, n.1 ∙ i.1);
-      calls = λ e. subst (λ (h : Held). CallsKeepUp c.args.machine.now.hardware.ports h.hardware.ports (g.D.Sectors.calls c.args.disk.now) (g.D.Sectors.calls c.step_traced.new.disk)) (sym rest)
-          (calls_kept g (goal.at.loop-begun-preserved-then-not-at_rest g c).In_ok-stepped e);
+      calls = steps_ports (is_some c.args.tracer.now) c.args.machine.now c.step_traced.new.machine c.pass.new.machine (tally g.D.Sectors.faults g.D.Sectors.calls c.args.disk.now) (tally g.D.Sectors.faults g.D.Sectors.calls c.step_traced.new.disk) (ap (λ (h : Held). h.hardware.ports) rest)
+          (calls_kept g (goal.at.loop-begun-preserved-then-not-at_rest g c).In_ok-stepped);
       sink_faults = c.in_ok-stepped.ensures.blame.sink_same (is_done c.in_ok-stepped.stepped Sink) ∙ c.loop-begun.invariant.sink_faults;
       tracks = tracks_passed (outside_of c.args.machine.now.rows (g.D.Sectors.size c.args.disk.now)) c.args.map.now (seen (g.D.Sectors.sectors c.args.disk.now) c.args.machine.now)
           (tracing c.args.tracer.now (g.O.Sink.text c.args.out.now) c.args.budget.now) (g.D.Sectors.sectors c.step_traced.new.disk) c.step_traced.new.machine c.pass.new.machine c.step_traced.new.tracer c.args.tracer.now (g.O.Sink.text c.step_traced.new.out)

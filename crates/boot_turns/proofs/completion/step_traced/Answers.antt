@@ -1,10 +1,12 @@
 use Rattle.std.proofs.Common.{◌≡◌, ℕ, inl, inr, List, Option, Some, None, ap, ap₂, sym, ◌∙◌, subst, Bool, true, false, Err}
 use Rattle.std.specs.Prelude.{IfSome, is_some}
+use Rattle.cvm_outside.specs.Numbering.{tally}
 use Rattle.mips_machine.specs.Machine.{Held}
 use Rattle.boot_report.specs.Texts.{SameButViewed}
 use Rattle.boot_turns.specs.declared.completion.Stepped.{Stepped}
 use Rattle.boot_turns.specs.declared.completion.Stepped.TheVariants.{Kept}
 use Rattle.boot_turns.specs.Completes.{seen, KeptUser, StepTorn, StepFails, PortsStepped, StepBegan, turn_began}
+use Rattle.boot_turns.proofs.CallCounts.{step_alone, step_rows}
 use Rattle.boot_turns.proofs.Counted.{step_counted}
 use Rattle.std.proofs.lemmas.Result.{err_from_is_err_and}
 use Rattle.mips_machine.specs.Steps.{outside_of}
@@ -44,7 +46,7 @@ returns-in_err-stepped-clause-traced g c =
 -- the transfer of the step failed, or the step is done
 torn_as : (count : ℕ) (old new : Held) (told retold : Option (List (List ℕ))) (traced : Bool) → StepTorn count old told retold → PortsStepped count old new → StepFails count old new told retold traced
 torn_as count old new told retold false torn ports = (torn, ports)
-torn_as count old new told retold true torn ports = inl torn
+torn_as count old new told retold true torn ports = inl (torn, ports)
 
 pub returns-in_err-stepped-clause-torn : goal.returns-in_err-stepped-clause-torn
 returns-in_err-stepped-clause-torn g c = λ e.
@@ -85,3 +87,28 @@ returns-then-counts-clause-traced g c =
     step_counted c.traces_grow.ensures c.journal_rows_follow.ensures c.the_words_tell.ensures x c.args.map.now c.args.machine.now (g.D.Sectors.sectors c.args.disk.now) c.args.tracer.now c.counts.new.tracer (g.O.Sink.text c.args.out.now)
     c.requires.on c.step_once.new.machine (g.D.Sectors.sectors c.step_once.new.disk) c.in_ok-stepped.ensures.ran c.current_user-current.result (if_traced c.args.tracer.now _ c.current_user-current.ensures) began kept.0 (c.counts.ensures.free c.if-counts.true)
     (c.counts.ensures.counted c.if-counts.true) Kept
+
+-- a user is traced
+is_traced : (o : Option Tracer) (k : Tracer) → o ≡ Some k → is_some o ≡ false → ⊥
+is_traced o k is e = let f : true ≡ false = ap (λ (o : Option Tracer). is_some o) (sym is) ∙ e in cc
+
+pub returns-in_err-stepped-clause-calls : goal.returns-in_err-stepped-clause-calls
+returns-in_err-stepped-clause-calls g c = step_alone (is_some c.args.tracer.now) c.args.machine.now c.step_once.new.machine (tally g.D.Sectors.faults g.D.Sectors.calls c.args.disk.now) (tally g.D.Sectors.faults g.D.Sectors.calls c.step_once.new.disk) c.in_err-stepped.ensures.calls
+
+pub returns-then-counts-clause-calls : goal.returns-then-counts-clause-calls
+returns-then-counts-clause-calls g c = step_alone (is_some c.args.tracer.now) c.args.machine.now c.step_once.new.machine (tally g.D.Sectors.faults g.D.Sectors.calls c.args.disk.now) (tally g.D.Sectors.faults g.D.Sectors.calls c.step_once.new.disk) c.in_ok-stepped.ensures.calls
+
+pub returns-clause-calls : goal.returns-clause-calls
+returns-clause-calls g c = step_alone (is_some c.args.tracer.now) c.args.machine.now c.step_once.new.machine (tally g.D.Sectors.faults g.D.Sectors.calls c.args.disk.now) (tally g.D.Sectors.faults g.D.Sectors.calls c.step_once.new.disk) c.in_ok-stepped.ensures.calls
+
+pub returns-in_err-follow-clause-calls : goal.returns-in_err-follow-clause-calls
+returns-in_err-follow-clause-calls g c =
+    step_rows (is_some c.args.tracer.now) c.args.machine.now c.step_once.new.machine c.follow.new.machine (tally g.D.Sectors.faults g.D.Sectors.calls c.args.disk.now) (tally g.D.Sectors.faults g.D.Sectors.calls c.step_once.new.disk) (tally g.D.Sectors.faults g.D.Sectors.calls c.follow.new.disk)
+    (is_traced c.args.tracer.now c.in-Some.kept (here g (goal.at.returns-in_err-follow-clause-calls g c).In-Some)) (ap (λ (h : Held). h.hardware.ports) c.in_err-follow.ensures.read.view.same)
+    c.in_ok-stepped.ensures.count.same c.in_ok-stepped.ensures.calls c.in_err-follow.ensures.asks
+
+pub returns-in-Some-clause-calls : goal.returns-in-Some-clause-calls
+returns-in-Some-clause-calls g c =
+    step_rows (is_some c.args.tracer.now) c.args.machine.now c.step_once.new.machine c.follow.new.machine (tally g.D.Sectors.faults g.D.Sectors.calls c.args.disk.now) (tally g.D.Sectors.faults g.D.Sectors.calls c.step_once.new.disk) (tally g.D.Sectors.faults g.D.Sectors.calls c.follow.new.disk)
+    (is_traced c.args.tracer.now c.in-Some.kept (here g (goal.at.returns-in-Some-clause-calls g c).In-Some)) (ap (λ (h : Held). h.hardware.ports) c.in_ok-follow.ensures.read.view.same)
+    c.in_ok-stepped.ensures.count.same c.in_ok-stepped.ensures.calls c.in_ok-follow.ensures.asks

@@ -6,7 +6,7 @@ use Rattle.saved_file.specs.declared.fault.SaveFault.{SaveFault}
 use Rattle.machine_save.specs.ResumeRun.{ResumeAnswers, JoinsSaved, GoesOnFromFile}
 use Rattle.machine_save.specs.declared.resuming.ResumeFault.{ResumeFault}
 use Rattle.machine_save.specs.declared.resuming.ResumeFault.TheVariants as fault
-use Rattle.cvm_shell.specs.Outside.{within}
+use Rattle.cvm_shell.specs.Outside.{counts, within}
 use Rattle.cvm_shell.specs.Refusal.{bad_save, small_disk, refusal_text}
 use Rattle.cvm_shell.specs.Views.{save_view}
 use Rattle.cvm_shell.proofs.ResumeEndings.{file_refused, small_refused, resumed_made, small_named, text_same}
@@ -19,7 +19,7 @@ returns-in-Ok-clause-ends g c = λ before after files.
     let r = c.args.resumable in
     let v = save_view c.args.resume.now in
     let P : List ℕ → Type 0 = λ bs. ResumeAnswers r.ready.boot r.ready.schedule v.boot.turns old.disk.size bs (Ok c.in-Ok.end) in
-    let Q : List ℕ → Type 0 = λ bs. JoinsSaved r.ready.boot r.ready.schedule v.boot.turns v.boot.steps old.disk.size bs old.disk.sectors new.disk.sectors old.disk.calls new.disk.calls old.sink.text new.sink.text (Ok c.in-Ok.end) in
+    let Q : List ℕ → Type 0 = λ bs. JoinsSaved r.ready.boot r.ready.schedule v.boot.turns v.boot.steps old.disk.size bs old.disk.sectors new.disk.sectors (counts old.disk) (counts new.disk) old.sink.text new.sink.text (Ok c.in-Ok.end) in
     let R : List ℕ → Type 0 = λ bs. GoesOnFromFile r.ready.boot r.ready.schedule v.boot.turns v.boot.steps old.disk.size bs old.disk.sectors new.disk.sectors (Ok c.in-Ok.end) in
     inr (resumed_made r v old new c.in-Ok.end _ (subst P c.deref.ensures.value c.in-Ok.ensures.answers) (subst Q c.deref.ensures.value c.in-Ok.ensures.joins)
     c.in-Ok.ensures.goes_on (subst R c.deref.ensures.value c.in-Ok.ensures.any)

@@ -1,6 +1,7 @@
 use Rattle.std.proofs.Common.{refl, ap, ◌∙◌, subst}
 use Rattle.std.proofs.lemmas.Result.{err_from_is_err_and}
 use Rattle.cvm_outside.specs.Causes.{Rose}
+use Rattle.cvm_outside.specs.Numbering.{tally}
 use Rattle.boot_run.specs.Saving.{GoesOnAnyhow, JoinsBoot}
 use Rattle.boot_run.specs.declared.whole.RunEnd.TheVariants.{DiskFault, SinkFault}
 use Rattle.machine_save.proofs.Resumed.{answers_so, any_so, done_few, is_end, is_no_end, joins_so, refused_joins, refused_so, told_so}
@@ -16,7 +17,7 @@ returns-in_err-run-clause-joins g c =
     let w = err_from_is_err_and c.from_residual.result c.from_residual.ensures.1 in
     rw (w.1, w.2)
     (refused_joins c.args.layer c.args.boot c.args.schedule c.args.turns c.args.steps (g.D.Sectors.size c.args.disk.now) c.args.bytes.now (g.D.Sectors.sectors c.args.disk.now) (g.D.Sectors.sectors c.resume.new.disk)
-    (g.D.Sectors.calls c.args.disk.now) (g.D.Sectors.calls c.resume.new.disk) (g.O.Sink.text c.args.out.now) (g.O.Sink.text c.args.out.now) c.in_err-run.field-0.0 c.boots_hold.ensures.taken_up c.ranges.turns.fits c.ranges.steps.fits c.in_err-run.ensures.is)
+    (tally g.D.Sectors.faults g.D.Sectors.calls c.args.disk.now) (tally g.D.Sectors.faults g.D.Sectors.calls c.resume.new.disk) (g.O.Sink.text c.args.out.now) (g.O.Sink.text c.args.out.now) c.in_err-run.field-0.0 c.boots_hold.ensures.taken_up c.ranges.turns.fits c.ranges.steps.fits c.in_err-run.ensures.is)
 
 pub returns-in_err-run-clause-blame : goal.returns-in_err-run-clause-blame
 returns-in_err-run-clause-blame g c =
@@ -38,8 +39,8 @@ returns-clause-answers g c = answers_so c.args.layer c.args.boot c.args.schedule
 pub returns-clause-joins : goal.returns-clause-joins
 returns-clause-joins g c =
     joins_so c.args.layer c.args.boot c.args.schedule c.args.turns c.args.steps (g.D.Sectors.size c.args.disk.now) c.args.bytes.now (g.D.Sectors.sectors c.args.disk.now) (g.D.Sectors.sectors c.run_on.new.disk)
-    (g.D.Sectors.calls c.args.disk.now) (g.D.Sectors.calls c.run_on.new.disk) (g.O.Sink.text c.args.out.now) (g.O.Sink.text c.run_on.new.out) c.in_ok-run.run' c.run_on.result c.boots_hold.ensures.boots c.boots_hold.ensures.taken_up c.ranges.turns.fits c.ranges.steps.fits c.in_ok-run.ensures.is
-    (subst (λ d. JoinsBoot (g.D.Sectors.size d) c.in_ok-run.run' c.args.turns c.args.steps (g.D.Sectors.sectors d) (g.D.Sectors.sectors c.run_on.new.disk) (g.D.Sectors.calls d) (g.D.Sectors.calls c.run_on.new.disk) (g.O.Sink.text c.args.out.now) (g.O.Sink.text c.run_on.new.out) c.run_on.result)
+    (tally g.D.Sectors.faults g.D.Sectors.calls c.args.disk.now) (tally g.D.Sectors.faults g.D.Sectors.calls c.run_on.new.disk) (g.O.Sink.text c.args.out.now) (g.O.Sink.text c.run_on.new.out) c.in_ok-run.run' c.run_on.result c.boots_hold.ensures.boots c.boots_hold.ensures.taken_up c.ranges.turns.fits c.ranges.steps.fits c.in_ok-run.ensures.is
+    (subst (λ d. JoinsBoot (g.D.Sectors.size d) c.in_ok-run.run' c.args.turns c.args.steps (g.D.Sectors.sectors d) (g.D.Sectors.sectors c.run_on.new.disk) (tally g.D.Sectors.faults g.D.Sectors.calls d) (tally g.D.Sectors.faults g.D.Sectors.calls c.run_on.new.disk) (g.O.Sink.text c.args.out.now) (g.O.Sink.text c.run_on.new.out) c.run_on.result)
     c.resume.ensures.same c.run_on.ensures.joins)
 
 pub returns-clause-any : goal.returns-clause-any

@@ -1,6 +1,7 @@
 use Rattle.std.proofs.Common.{sym, ◌∙◌, subst}
 use Rattle.std.proofs.lemmas.Result.{err_from_is_err_and}
 use Rattle.cvm_outside.specs.Causes.{Rose}
+use Rattle.cvm_outside.specs.Numbering.{tally}
 use Rattle.boot_turns.specs.declared.answers.View.TheVariants.{Boot}
 use Rattle.boot_run.specs.LoadEnds.{pages_needed}
 use Rattle.boot_run.specs.Whole.{WholeStopped}
@@ -32,7 +33,7 @@ returns-in_err-run-clause-blame g c =
 pub returns-in-Stopped-clause-ends : goal.returns-in-Stopped-clause-ends
 returns-in-Stopped-clause-ends g c =
     saves_so c.args.boot c.args.schedule (g.D.Sectors.size c.args.disk.now) c.args.turns c.args.steps c.args.room.words (g.D.Sectors.sectors c.args.disk.now) (g.D.Sectors.sectors c.run_to_save.new.disk)
-    (g.D.Sectors.calls c.args.disk.now) (g.D.Sectors.calls c.run_to_save.new.disk) (g.O.Sink.text c.args.out.now) (g.O.Sink.text c.run_to_save.new.out) (g.O.Sink.text c.put_state.new.out) (g.S.Shelf.file c.args.shelf.now c.args.name.now) (g.S.Shelf.file c.put_state.new.shelf c.args.name.now)
+    (tally g.D.Sectors.faults g.D.Sectors.calls c.args.disk.now) (tally g.D.Sectors.faults g.D.Sectors.calls c.run_to_save.new.disk) (g.O.Sink.text c.args.out.now) (g.O.Sink.text c.run_to_save.new.out) (g.O.Sink.text c.put_state.new.out) (g.S.Shelf.file c.args.shelf.now c.args.name.now) (g.S.Shelf.file c.put_state.new.shelf c.args.name.now)
     c.in_ok-run.run' c.in_ok-run.end c.put_state.result c.boots_hold.ensures.taken_up c.in_ok-run.ensures.loads.loaded.room c.boots_hold.ensures.disk c.requires.some c.ranges.turns.fits c.ranges.steps.fits c.requires.room
     c.in-Stopped.is c.in_ok-run.ensures.ends c.put_state.ensures.shows c.put_state.ensures.holds
 
@@ -63,7 +64,7 @@ returns-in-Stopped-clause-shelf_same g c = λ none. c.put_state.ensures.shelf_sa
 pub returns-in-Ended-clause-ends : goal.returns-in-Ended-clause-ends
 returns-in-Ended-clause-ends g c =
     ends_so c.args.boot c.args.schedule (g.D.Sectors.size c.args.disk.now) c.args.turns c.args.steps (g.D.Sectors.sectors c.args.disk.now) (g.D.Sectors.sectors c.run_to_save.new.disk)
-    (g.D.Sectors.calls c.args.disk.now) (g.D.Sectors.calls c.run_to_save.new.disk) (g.O.Sink.text c.args.out.now) (g.O.Sink.text c.run_to_save.new.out) (g.S.Shelf.file c.args.shelf.now c.args.name.now) (g.S.Shelf.file c.args.shelf.now c.args.name.now)
+    (tally g.D.Sectors.faults g.D.Sectors.calls c.args.disk.now) (tally g.D.Sectors.faults g.D.Sectors.calls c.run_to_save.new.disk) (g.O.Sink.text c.args.out.now) (g.O.Sink.text c.run_to_save.new.out) (g.S.Shelf.file c.args.shelf.now c.args.name.now) (g.S.Shelf.file c.args.shelf.now c.args.name.now)
     c.in_ok-run.run' c.in_ok-run.end c.in-Ended.end c.in-Ended.is c.in_ok-run.ensures.ends
 
 pub returns-in-Ended-clause-loads : goal.returns-in-Ended-clause-loads

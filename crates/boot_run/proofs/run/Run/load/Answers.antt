@@ -1,6 +1,7 @@
 use Rattle.std.proofs.Common.{[], refl, arith, ◌≡◌, ◌≤◌, ◌*◌, ◌∙◌, sym, ap, ℕ, List, Vec, Global, length, subst}
 use Rattle.std.specs.Prelude.{IsTrue}
 use Rattle.std.specs.Option.{option_map}
+use Rattle.cvm_outside.specs.Numbering.{tally}
 use Rattle.layer_map.specs.Map.{Map, MapInRange, memory_words}
 use Rattle.boot_run.specs.Loading.{pages_of_users, written, system_of}
 use Rattle.mips_machine.specs.Machine.{Held}
@@ -28,7 +29,7 @@ returns-in-Ok-clause-memory g c = loaded_whole c.args.boot c.args.schedule c.in_
 pub returns-in-Ok-clause-calls : goal.returns-in-Ok-clause-calls
 returns-in-Ok-clause-calls g c =
     let users : c.len-users.result ≡ length c.args.boot.users.items = c.len-users.ensures ∙ sym c.as_slice.ensures.len ∙ ap (λ (us : List (Vec ℕ Global)). length us) c.as_slice.ensures.value in
-    user_calls c.args.boot c.args.schedule c.as_slice.result.now c.len-users.result (g.D.Sectors.sectors c.args.disk.now) (g.D.Sectors.sectors c.write_pages.new.disk) (g.D.Sectors.calls c.args.disk.now) (g.D.Sectors.calls c.write_pages.new.disk)
+    user_calls c.args.boot c.args.schedule c.as_slice.result.now c.len-users.result (g.D.Sectors.sectors c.args.disk.now) (g.D.Sectors.sectors c.write_pages.new.disk) (tally g.D.Sectors.faults g.D.Sectors.calls c.args.disk.now) (tally g.D.Sectors.faults g.D.Sectors.calls c.write_pages.new.disk)
     c.as_slice.ensures.value users c.in-Ok.ensures.calls
 
 pub returns-in-Ok-clause-ready : goal.returns-in-Ok-clause-ready
@@ -43,8 +44,8 @@ returns-in-Err-clause-torn g c = λ h.
     let users : c.len-users.result ≡ length c.args.boot.users.items = c.len-users.ensures ∙ sym c.as_slice.ensures.len ∙ ap (λ (us : List (Vec ℕ Global)). length us) c.as_slice.ensures.value in
     let few : length c.args.boot.users.items * c.args.boot.params.pages ≤ g.D.Sectors.size c.args.disk.now =
     subst (λ n. n * c.args.boot.params.pages ≤ g.D.Sectors.size c.args.disk.now) users (subst (λ n. c.len-users.result * c.args.boot.params.pages ≤ n) c.count-have.ensures c.if-have-need.false) in
-    torn_loaded c.args.boot c.args.schedule (g.D.Sectors.sectors c.args.disk.now) (g.D.Sectors.sectors c.write_pages.new.disk) (g.D.Sectors.calls c.args.disk.now) (g.D.Sectors.calls c.write_pages.new.disk) (g.D.Sectors.size c.args.disk.now) some
-    (user_torn c.args.boot c.args.schedule c.as_slice.result.now c.len-users.result (g.D.Sectors.sectors c.args.disk.now) (g.D.Sectors.sectors c.write_pages.new.disk) (g.D.Sectors.calls c.args.disk.now) (g.D.Sectors.calls c.write_pages.new.disk)
+    torn_loaded c.args.boot c.args.schedule (g.D.Sectors.sectors c.args.disk.now) (g.D.Sectors.sectors c.write_pages.new.disk) (tally g.D.Sectors.faults g.D.Sectors.calls c.args.disk.now) (tally g.D.Sectors.faults g.D.Sectors.calls c.write_pages.new.disk) (g.D.Sectors.size c.args.disk.now) some
+    (user_torn c.args.boot c.args.schedule c.as_slice.result.now c.len-users.result (g.D.Sectors.sectors c.args.disk.now) (g.D.Sectors.sectors c.write_pages.new.disk) (tally g.D.Sectors.faults g.D.Sectors.calls c.args.disk.now) (tally g.D.Sectors.faults g.D.Sectors.calls c.write_pages.new.disk)
     c.as_slice.ensures.value users c.in-Err.ensures.torn)
     (g.met.D.Sectors.sized c.args.disk.now) few
 

@@ -1,6 +1,7 @@
 use Rattle.std.proofs.Common.{refl, arith, ◌≡◌, ◌≤◌, ◌+◌, ◌*◌, ◌/◌, ◌∙◌, sym, ap, ℕ, List, Vec, Global, length, subst}
 use Rattle.std.specs.Prelude.{IsTrue}
 use Rattle.std.specs.Option.{option_map}
+use Rattle.cvm_outside.specs.Numbering.{tally}
 use Rattle.layer_map.specs.Map.{Map, MapInRange, memory_words}
 use Rattle.mips_machine.specs.Machine.{Held}
 use Rattle.boot_turns.specs.Rom.{rom_loaded}
@@ -20,14 +21,14 @@ returns-in-Ok-clause-stands g c =
     subst (λ n. n ≤ g.D.Sectors.size c.args.disk.now) need (subst (λ n. c.len-users.result * c.args.boot.params.pages + c.sectors_of-behind.result ≤ n) c.count-have.ensures c.if-have-need.false) in
     stands_from_rom c.args.boot c.args.schedule c.args.rom.now.items c.requires.few (omega arith) c.in_ok-machine.machine (g.D.Sectors.sectors c.args.disk.now) (g.D.Sectors.sectors c.write_pages.new.disk) (g.D.Sectors.size c.args.disk.now) some
     (made_so c.args.boot c.args.schedule c.in_ok-places.places.map c.args.rom.now.items c.as_slice-rom.result.now c.in_ok-machine.machine c.in_ok-places.ensures.map c.as_slice-rom.ensures.value c.in_ok-machine.ensures)
-    (written_so c.args.boot c.args.schedule c.as_slice.result.now c.as_slice-words.result.now _ (g.D.Sectors.sectors c.args.disk.now) (g.D.Sectors.sectors c.write_pages.new.disk) (g.D.Sectors.calls c.args.disk.now) (g.D.Sectors.calls c.write_pages.new.disk) c.as_slice.ensures.value c.as_slice-words.ensures.value need c.in-Ok.ensures.ok)
+    (written_so c.args.boot c.args.schedule c.as_slice.result.now c.as_slice-words.result.now _ (g.D.Sectors.sectors c.args.disk.now) (g.D.Sectors.sectors c.write_pages.new.disk) (tally g.D.Sectors.faults g.D.Sectors.calls c.args.disk.now) (tally g.D.Sectors.faults g.D.Sectors.calls c.write_pages.new.disk) c.as_slice.ensures.value c.as_slice-words.ensures.value need c.in-Ok.ensures.ok)
     (g.met.D.Sectors.sized c.args.disk.now) few
 
 pub returns-in-Ok-clause-calls : goal.returns-in-Ok-clause-calls
 returns-in-Ok-clause-calls g c =
     let users : c.len-users.result ≡ length c.args.boot.users.items = c.len-users.ensures ∙ sym c.as_slice.ensures.len ∙ ap (λ (us : List (Vec ℕ Global)). length us) c.as_slice.ensures.value in
     let behind : c.sectors_of-behind.result ≡ (length c.args.boot.words.items + 1023) / 1024 = c.sectors_of-behind.ensures ∙ ap (λ (ws : List ℕ). (length ws + 1023) / 1024) c.as_slice-words.ensures.value in
-    calls_so c.args.boot c.args.schedule c.as_slice.result.now c.as_slice-words.result.now _ (g.D.Sectors.sectors c.args.disk.now) (g.D.Sectors.sectors c.write_pages.new.disk) (g.D.Sectors.calls c.args.disk.now) (g.D.Sectors.calls c.write_pages.new.disk)
+    calls_so c.args.boot c.args.schedule c.as_slice.result.now c.as_slice-words.result.now _ (g.D.Sectors.sectors c.args.disk.now) (g.D.Sectors.sectors c.write_pages.new.disk) (tally g.D.Sectors.faults g.D.Sectors.calls c.args.disk.now) (tally g.D.Sectors.faults g.D.Sectors.calls c.write_pages.new.disk)
     c.as_slice.ensures.value c.as_slice-words.ensures.value (need_is c.args.boot c.len-users.result c.sectors_of-behind.result users behind) c.in-Ok.ensures.calls
 
 pub returns-in-Ok-clause-ready : goal.returns-in-Ok-clause-ready
@@ -44,8 +45,8 @@ returns-in-Err-clause-torn g c = λ h.
     let need = need_is c.args.boot c.len-users.result c.sectors_of-behind.result users behind in
     let few : rom_needed c.args.boot ≤ g.D.Sectors.size c.args.disk.now =
     subst (λ n. n ≤ g.D.Sectors.size c.args.disk.now) need (subst (λ n. c.len-users.result * c.args.boot.params.pages + c.sectors_of-behind.result ≤ n) c.count-have.ensures c.if-have-need.false) in
-    rom_torn c.args.boot c.args.schedule c.args.rom.now.items (g.D.Sectors.sectors c.args.disk.now) (g.D.Sectors.sectors c.write_pages.new.disk) (g.D.Sectors.calls c.args.disk.now) (g.D.Sectors.calls c.write_pages.new.disk) (g.D.Sectors.size c.args.disk.now) some
-    (torn_so c.args.boot c.args.schedule c.as_slice.result.now c.as_slice-words.result.now _ (g.D.Sectors.sectors c.args.disk.now) (g.D.Sectors.sectors c.write_pages.new.disk) (g.D.Sectors.calls c.args.disk.now) (g.D.Sectors.calls c.write_pages.new.disk) c.as_slice.ensures.value c.as_slice-words.ensures.value need c.in-Err.ensures.torn)
+    rom_torn c.args.boot c.args.schedule c.args.rom.now.items (g.D.Sectors.sectors c.args.disk.now) (g.D.Sectors.sectors c.write_pages.new.disk) (tally g.D.Sectors.faults g.D.Sectors.calls c.args.disk.now) (tally g.D.Sectors.faults g.D.Sectors.calls c.write_pages.new.disk) (g.D.Sectors.size c.args.disk.now) some
+    (torn_so c.args.boot c.args.schedule c.as_slice.result.now c.as_slice-words.result.now _ (g.D.Sectors.sectors c.args.disk.now) (g.D.Sectors.sectors c.write_pages.new.disk) (tally g.D.Sectors.faults g.D.Sectors.calls c.args.disk.now) (tally g.D.Sectors.faults g.D.Sectors.calls c.write_pages.new.disk) c.as_slice.ensures.value c.as_slice-words.ensures.value need c.in-Err.ensures.torn)
     (g.met.D.Sectors.sized c.args.disk.now) few
 
 pub invariant_of-result : goal.invariant_of-result

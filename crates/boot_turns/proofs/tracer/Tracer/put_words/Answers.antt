@@ -1,11 +1,13 @@
 use Rattle.std.proofs.Common.{◌≡◌, ◌+◌, ◌*◌, ◌/◌, ◌<◌, ◌≤◌, refl, ap, ◌∙◌, arith}
 use Rattle.std.specs.Io.KnownBytes.{append_known}
 use Rattle.std.proofs.lemmas.Result.{err_from_is_err_and}
+use Rattle.cvm_outside.specs.Numbering.{tally}
 use Rattle.mips_machine.specs.Machine.{state_of}
 use Rattle.cvm_model.specs.Paged.{paged_of}
-use Rattle.boot_report.proofs.Leaves.{broken, printed, views_twice}
+use Rattle.boot_report.proofs.Leaves.{asks_as, asks_none, asks_twice, broken, printed, views_twice}
 use Rattle.boot_turns.specs.Copies.{copy_rows}
 use Rattle.boot_turns.proofs.Copying.{one_put, part_put, stop_put, none_put, put_tracer, fits_then, row_read}
+use Rattle.boot_turns.proofs.CallCounts.{sink_alone}
 use Rattle.boot_turns.proofs.tracer.Tracer.put_words.Goals as goal
 
 pub loop-i-init : goal.loop-i-init
@@ -16,6 +18,7 @@ loop-i-init g c = record {
   view = record { same = refl; sectors = refl; size = refl };
   memory = refl;
   disk_faults = refl;
+  asks = asks_none _ _ (λ h. h);
   faults = refl;
   text = λ ss e f. none_put c.args.map.now (paged_of c.args.map.now (state_of c.args.machine.now ss)) c.args.self.now.user c.args.self.now.steps c.args.address (g.O.Sink.text c.args.out.now);
 }
@@ -47,6 +50,7 @@ loop-i-preserved g c = record {
   view = views_twice g.D.Sectors.sectors g.D.Sectors.size c.args.machine.now c.loop-i.machine c.read_user_word.new.machine c.args.disk.now c.loop-i.disk c.read_user_word.new.disk c.loop-i.invariant.view c.in_ok-word.ensures.view;
   memory = ap (λ h. h.hardware.memory) c.in_ok-word.ensures.view.same ∙ c.loop-i.invariant.memory;
   disk_faults = c.in_ok-word.ensures.count.same ∙ c.loop-i.invariant.disk_faults;
+  asks = asks_as _ ⊥ _ _ (λ h. absurd h) (asks_twice ⊥ _ (tally g.D.Sectors.faults g.D.Sectors.calls c.args.disk.now) (tally g.D.Sectors.faults g.D.Sectors.calls c.loop-i.disk) (tally g.D.Sectors.faults g.D.Sectors.calls c.read_user_word.new.disk) c.loop-i.invariant.disk_faults c.loop-i.invariant.asks c.in_ok-word.ensures.asks);
   faults = c.in_ok-put.ensures.put.count.same ∙ c.loop-i.invariant.faults;
   text = λ ss e f.
       let told = c.in_ok-word.ensures.shown ss (c.loop-i.invariant.view.sectors ∙ e) (fits_then c.args.map.now c.args.machine.now c.loop-i.machine ss c.loop-i.invariant.view.same f) in
@@ -62,3 +66,11 @@ returns-clause-put g c = λ ss e f.
     let all : c.loop-i.i ≡ c.args.count = omega arith in
     printed _ _ _ _ (c.loop-i.invariant.text ss e f
     ∙ ap (λ n. append_known (g.O.Sink.text c.args.out.now) (copy_rows c.args.map.now (paged_of c.args.map.now (state_of c.args.machine.now ss)) c.args.self.now.user c.args.self.now.steps c.args.address n)) all)
+
+pub returns-in_err-word-clause-asks : goal.returns-in_err-word-clause-asks
+returns-in_err-word-clause-asks g c = asks_as _ _ _ _ (λ h. refl) (asks_twice ⊥ _ (tally g.D.Sectors.faults g.D.Sectors.calls c.args.disk.now) (tally g.D.Sectors.faults g.D.Sectors.calls c.loop-i.disk) (tally g.D.Sectors.faults g.D.Sectors.calls c.read_user_word.new.disk) c.loop-i.invariant.disk_faults c.loop-i.invariant.asks c.in_err-word.ensures.asks)
+
+pub returns-in_err-put-clause-asks : goal.returns-in_err-put-clause-asks
+returns-in_err-put-clause-asks g c =
+    let h = err_from_is_err_and c.from_residual-in_err-put.result c.from_residual-in_err-put.ensures.1 in
+    asks_as ⊥ _ _ _ (λ e. sink_alone _ h.0 h.1 h.2 e) (asks_as _ ⊥ _ _ (λ e. absurd e) (asks_twice ⊥ _ (tally g.D.Sectors.faults g.D.Sectors.calls c.args.disk.now) (tally g.D.Sectors.faults g.D.Sectors.calls c.loop-i.disk) (tally g.D.Sectors.faults g.D.Sectors.calls c.read_user_word.new.disk) c.loop-i.invariant.disk_faults c.loop-i.invariant.asks c.in_ok-word.ensures.asks))
