@@ -26,15 +26,14 @@ pub struct Desk {
 }
 
 impl Model for Desk {
-    ghost use Rattle.std.specs.Prelude.{◌≡◌, length};
-    ghost use Rattle.mips_table.specs.Fits.{NamesSector};
     ghost use Rattle.mips_machine.specs.Machine.{Held};
+    ghost use Rattle.machine_cases.specs.Desk.{Fits};
 
     ghost Value = { Held };
 
     ghost view = { λ d. d.machine };
 
-    ghost invariant = { λ d. (length d.machine.hardware.memory ≡ 32768) × (length d.disk.sectors ≡ 8) × NamesSector 8 d.machine.hardware.ports.pending };
+    ghost invariant = { λ d. Fits 32768 8 d.machine d.disk.sectors };
 }
 
 // Appends a name and a word.
@@ -90,6 +89,7 @@ impl Desk {
         }
     }
 
+    // A step, unless a billion are made.
     fn step(&mut self) -> Result<Event, DiskFault> {
         if self.machine.steps() < 1_000_000_000 {
             self.machine.step(&mut self.disk)

@@ -30,15 +30,14 @@ pub struct Desk {
 }
 
 impl Model for Desk {
-    ghost use Rattle.std.specs.Prelude.{◌≡◌, ◌≤◌, length};
-    ghost use Rattle.mips_table.specs.Fits.{NamesSector};
     ghost use Rattle.mips_machine.specs.Machine.{Held};
+    ghost use Rattle.machine_cases.specs.Desk.{Fits, PagesFit};
 
     ghost Value = { Held };
 
     ghost view = { λ d. d.machine };
 
-    ghost invariant = { λ d. (length d.machine.hardware.memory ≡ 65536) × (length d.disk.sectors ≡ 64) × NamesSector 64 d.machine.hardware.ports.pending × (d.pages ≤ 64) × (d.frames ≤ 40) × (d.tables ≤ 65536) × (d.counts ≤ 65536) × (d.zeros ≤ 65536) };
+    ghost invariant = { λ d. Fits 65536 64 d.machine d.disk.sectors × PagesFit d.pages d.frames d.tables d.counts d.zeros };
 }
 
 // Appends a name and a number.
@@ -79,6 +78,7 @@ impl Desk {
         Some(desk)
     }
 
+    // The machine before the block's words are in its memory, with so many pages and frames.
     fn over(
         alloc: Global,
         map: &Map,
@@ -108,6 +108,7 @@ impl Desk {
         }
     }
 
+    // A word by its number, and 0 where there is no memory.
     fn word(&self, at: u32) -> u32 {
         if at < WORDS {
             self.machine.word(4 * at)
@@ -116,6 +117,7 @@ impl Desk {
         }
     }
 
+    // Sets a word by its number, if it is in memory.
     fn set(&mut self, at: u32, word: u32) {
         if at < WORDS {
             self.machine.set_word(4 * at, word);
@@ -178,6 +180,7 @@ impl Desk {
         self.set(1024u32.wrapping_mul(frame).wrapping_add(i), word);
     }
 
+    // A step, unless a billion are made.
     fn step(&mut self) -> Result<Event, DiskFault> {
         if self.machine.steps() < 1_000_000_000 {
             self.machine.step(&mut self.disk)
@@ -272,6 +275,7 @@ impl Desk {
         self.tell_pages(told)
     }
 
+    // The number of what each page shows.
     fn tell_pages(&mut self, told: &mut String) -> Result<(), AllocError> {
         told.push_str("\n shown")?;
         for page in 0..self.pages {

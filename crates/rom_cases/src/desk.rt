@@ -35,15 +35,15 @@ pub struct Desk {
 }
 
 impl Model for Desk {
-    ghost use Rattle.std.specs.Prelude.{◌≡◌, ◌≤◌, length};
-    ghost use Rattle.mips_table.specs.Fits.{NamesSector};
+    ghost use Rattle.std.specs.Prelude.{◌≤◌};
     ghost use Rattle.mips_machine.specs.Machine.{Held};
+    ghost use Rattle.rom_cases.specs.Desk.{Fits};
 
     ghost Value = { Held };
 
     ghost view = { λ d. d.machine };
 
-    ghost invariant = { λ d. (length d.machine.hardware.memory ≡ 65536) × (length d.disk.sectors ≡ 64) × NamesSector 64 d.machine.hardware.ports.pending × (d.linked ≤ 40) };
+    ghost invariant = { λ d. Fits 65536 64 d.machine d.disk.sectors × (d.linked ≤ 40) };
 }
 
 // The word with this number of a sector, as it is before the boot and is to stay.
@@ -110,12 +110,14 @@ impl Desk {
         }
     }
 
+    // Sets a word by its number, if it is in memory.
     fn set(&mut self, at: u32, word: u32) {
         if at < WORDS {
             self.machine.set_word(4 * at, word);
         }
     }
 
+    // A word by its number, and 0 where there is no memory.
     fn word(&self, at: u32) -> u32 {
         if at < WORDS {
             self.machine.word(4 * at)
@@ -124,6 +126,7 @@ impl Desk {
         }
     }
 
+    // A step, unless `MOST_STEPS` are made.
     fn step(&mut self) -> Result<Event, DiskFault> {
         if self.machine.steps() < MOST_STEPS {
             self.machine.step(&mut self.disk)

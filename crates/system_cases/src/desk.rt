@@ -17,15 +17,14 @@ pub struct Desk {
 }
 
 impl Model for Desk {
-    ghost use Rattle.std.specs.Prelude.{◌≡◌, ◌≤◌, length};
-    ghost use Rattle.mips_table.specs.Fits.{NamesSector};
     ghost use Rattle.mips_machine.specs.Machine.{Held};
+    ghost use Rattle.system_cases.specs.Desk.{Fits};
 
     ghost Value = { Held };
 
     ghost view = { λ d. d.machine };
 
-    ghost invariant = { λ d. (length d.machine.hardware.memory ≡ d.words) × (length d.disk.sectors ≡ d.sectors) × NamesSector d.sectors d.machine.hardware.ports.pending };
+    ghost invariant = { λ d. Fits d.words d.sectors d.machine d.disk.sectors };
 }
 
 impl Desk {
