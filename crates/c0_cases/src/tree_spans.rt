@@ -48,6 +48,7 @@ fn add_decls(spans: &mut Vec<Span>, decls: &[Decl]) -> Result<(), AllocError> {
     Ok(())
 }
 
+// Arguments, in order.
 fn add_args(spans: &mut Vec<Span>, args: &[Expr]) -> Result<(), AllocError> {
     for arg in args {
         add_expr(spans, arg)?;
@@ -55,6 +56,7 @@ fn add_args(spans: &mut Vec<Span>, args: &[Expr]) -> Result<(), AllocError> {
     Ok(())
 }
 
+// A statement, with those in it.
 #[cycle(statements)]
 fn add_stmt(spans: &mut Vec<Span>, stmt: &Stmt) -> Result<(), AllocError> {
     match stmt {
@@ -107,6 +109,7 @@ fn add_stmt(spans: &mut Vec<Span>, stmt: &Stmt) -> Result<(), AllocError> {
     Ok(())
 }
 
+// Statements, in order.
 #[cycle(statements)]
 fn add_stmts(spans: &mut Vec<Span>, stmts: &[Stmt]) -> Result<(), AllocError> {
     for stmt in stmts {

@@ -37,6 +37,7 @@ fn put_name(out: &mut String, name: &Name) -> Result<(), AllocError> {
     Ok(())
 }
 
+// An operator's sign, between blanks.
 fn sign_of(op: BinaryOp) -> &'static str {
     match op {
         BinaryOp::Add => " + ",

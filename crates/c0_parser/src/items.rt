@@ -19,8 +19,11 @@ use std::alloc::Global;
 /// A struct, a global or a function.
 #[derive(Drop)]
 pub enum Item {
+    /// A struct with its fields.
     AStruct(StructDef),
+    /// A global's type and name.
     AGlobal(Decl),
+    /// A function with its body.
     AFunction(Function),
 }
 

@@ -40,6 +40,7 @@ pub enum Right {
 pub struct Test {
     /// The first byte of the word.
     pub start: u32,
+    /// The test.
     pub expr: Expr,
 }
 

@@ -27,24 +27,28 @@ pub struct Cut<'a> {
     pub rest: &'a [u8],
 }
 
+// Whether it is a letter of ASCII or `_`.
 fn is_letter(byte: u8) -> bool
     ensures { result ≡ is_letter_of byte }
 {
     byte.is_ascii_alphabetic() || byte == b'_'
 }
 
+// Whether it is a digit.
 fn is_digit(byte: u8) -> bool
     ensures { result ≡ is_digit_of byte }
 {
     byte.is_ascii_digit()
 }
 
+// Whether a name or a number may have it.
 fn is_word_byte(byte: u8) -> bool
     ensures { result ≡ is_word_byte_of byte }
 {
     is_letter(byte) || is_digit(byte)
 }
 
+// Whether it is a space, a tab, a CR or an LF.
 fn is_blank(byte: u8) -> bool
     ensures { result ≡ is_blank_of byte }
 {
@@ -251,6 +255,7 @@ fn next_text(text: &[u8], after_asm: bool) -> &[u8]
     }
 }
 
+// Whether it is the word `asm`.
 fn is_asm(lexeme: &Lexeme<'_>) -> bool
     ensures { result ≡ is_asm_of (lexeme_view lexeme.now) }
 {

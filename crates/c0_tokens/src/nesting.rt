@@ -20,6 +20,7 @@ pub struct Depth {
     pub run: u32,
 }
 
+// Whether it opens a bracket.
 fn opens(lexeme: &Lexeme<'_>) -> bool
     ensures { result ≡ opens_of (lexeme_view lexeme.now) }
 {
@@ -29,6 +30,7 @@ fn opens(lexeme: &Lexeme<'_>) -> bool
     )
 }
 
+// Whether it closes a bracket.
 fn closes(lexeme: &Lexeme<'_>) -> bool
     ensures { result ≡ closes_of (lexeme_view lexeme.now) }
 {
@@ -38,6 +40,7 @@ fn closes(lexeme: &Lexeme<'_>) -> bool
     )
 }
 
+// Whether no token of the run so far counts behind it.
 fn ends_run(lexeme: &Lexeme<'_>) -> bool
     ensures { result ≡ ends_run_of (lexeme_view lexeme.now) }
 {
@@ -58,6 +61,7 @@ impl Depth {
         }
     }
 
+    // Whether a token here is too deep, or comes too late in its run.
     fn is_too_nested(&self, lexeme: &Lexeme<'_>) -> bool
         ensures { result ≡ is_too_nested_of (depth_view self.now) (lexeme_view lexeme.now) }
     {

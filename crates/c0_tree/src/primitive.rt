@@ -16,7 +16,9 @@ pub enum Program {
 /// The types that primitives take and answer.
 #[derive(Clone, Copy, PartialEq, Eq, Debug)]
 pub enum Scalar {
+    /// A word, with a sign.
     Int,
+    /// `true` or `false`.
     Bool,
 }
 

@@ -81,12 +81,14 @@ impl Desk {
         Ok(desk)
     }
 
+    // Sets the word at an address, if it is in memory.
     fn set(&mut self, address: u32, word: u32) {
         if address / 4 < WORDS {
             self.machine.set_word(address / 4 * 4, word);
         }
     }
 
+    // The word at an address, and 0 where there is no memory.
     fn word(&self, address: u32) -> u32 {
         if address / 4 < WORDS {
             self.machine.word(address / 4 * 4)
@@ -128,6 +130,7 @@ impl Desk {
         self.set(ARGUMENTS + 8, user);
     }
 
+    // A step, unless a billion are made.
     fn step(&mut self) -> Result<Event, DiskFault> {
         if self.machine.steps() < 1_000_000_000 {
             self.machine.step(&mut self.disk)

@@ -8,8 +8,11 @@ use mips_table::{Inst, mnemonic_of};
 /// A field of the word that names a register.
 #[derive(Clone, Copy)]
 pub enum Field {
+    /// Bits 25 to 21.
     Rs,
+    /// Bits 20 to 16.
     Rt,
+    /// Bits 15 to 11.
     Rd,
 }
 

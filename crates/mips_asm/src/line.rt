@@ -21,17 +21,28 @@ use crate::operand::{Reading, len_before, read_operand};
 use cvm_text::{cut, trim, trim_start};
 use mips_table::encode;
 
+/// What a line gives. `read_line` knows no places of labels; `resolve` puts them in.
 #[derive(Clone, Copy)]
 pub enum Line<'a> {
+    /// A byte that no text may have: no word.
     BadByte,
+    /// No mnemonic and no directive: no word.
     Unknown,
+    /// Operands that the mnemonic or directive doesn't have: no word.
     BadOperand,
+    /// A value out of its range, and how many words the line counts for the addresses.
     OutOfRange(i64, u32),
+    /// A branch or jump to a label that is never set: one word.
     UnknownLabel,
+    /// Blanks, labels and a comment alone: no word.
     Nothing,
+    /// An instruction's word, or a `.word`'s.
     Word(u32),
+    /// So many words of 0, at most 65,536.
     Zeros(u32),
+    /// A branch's word with the offset 0, and the label that it goes to.
     Branch(u32, &'a [u8]),
+    /// A jump's word with the index 0, and the label that it goes to.
     Jump(u32, &'a [u8]),
 }
 
@@ -217,6 +228,7 @@ fn named<'a>(mnemonic: &[u8], rest: &'a [u8]) -> Line<'a>
     }
 }
 
+// What a statement gives, with no label and no blank before it.
 #[tactic(auto, unfolding(crate::specs::Line::statement))]
 fn statement(text: &[u8]) -> Line<'_>
     ensures { view result ≡ statement_of text.now }
@@ -305,6 +317,9 @@ pub fn good_len(line: &[u8]) -> usize
     line.len()
 }
 
+/// What a line gives, without its LF: `BadByte` where a byte of it, of its comment too, is neither printable ASCII nor a
+/// tab or CR; else the words of its statement, or the fault that the statement has. Its labels are passed over: they are
+/// read by `next_label`.
 #[tactic(auto, unfolding(crate::specs::Line::meaning))]
 pub fn read_line(line: &[u8]) -> Line<'_>
     ensures { view result ≡ meaning_of line.now }

@@ -14,8 +14,11 @@ use std::alloc::{AllocError, Global};
 /// An operand as a text has it.
 #[derive(Clone, Copy)]
 pub enum Written {
+    /// The number of a register, 0 to 31.
     Register(u32),
+    /// The number of a special register, 0 to 8.
     Special(u32),
+    /// A number without a sign.
     Number(u32),
     /// The bits of a number with a sign.
     Signed(u32),
