@@ -6,7 +6,7 @@ use Rattle.mips_table.specs.Device.{Outside}
 use Rattle.mips_table.specs.Machine.{State, in_system, run}
 use Rattle.mips_table.specs.Turns.{is_on}
 use Rattle.c0_meaning.specs.State.{State as C0}
-use Rattle.cvm_model.specs.Kernel.{Core, Changes, Meaning, MeaningLaws, NotYet}
+use Rattle.cvm_model.specs.Kernel.{Core, Changes, KernelMeaning, MeaningLaws, NotYet}
 use Rattle.cvm_model.specs.Primitives.{Call, VmGet, VmSet, VmSize, VmResize, VmWord, VmPut, VmCopy, ConPut, ConGet, ConLeft, primitive_number}
 use Rattle.cvm_model.specs.Stands.{Site}
 use Rattle.layer_contract.specs.declared.entry.Entry.TheVariants.{Dispatch, Primitive}
@@ -122,7 +122,7 @@ module _ (x : Outside) (y : Site) (longest : ℕ) (s : State) (m : ℕ) (ch : Ch
       omega (arith, one, all)
 
 -- a dispatch, from the step at which it is called
-module _ (x : Outside) (y : Site) (longest : ℕ) (Typed : C0 → Type 0) (e : Meaning) (follow : CallsFollow y Typed e) (laws : MeaningLaws e) (s : State) (c : Core) (cause edata user : ℤ)
+module _ (x : Outside) (y : Site) (longest : ℕ) (Typed : C0 → Type 0) (e : KernelMeaning) (follow : CallsFollow y Typed e) (laws : MeaningLaws e) (s : State) (c : Core) (cause edata user : ℤ)
     (called : KernelCalled x longest y Typed c cause edata user s) where
   abbrev pub calls : ℕ → List Changes
   calls n = (e.dispatch n c cause edata user).calls

@@ -8,7 +8,7 @@ use Rattle.cvm_model.specs.declared.row.Next.TheVariants.{User, Fault}
 use Rattle.cvm_model.specs.declared.kernel_fault.KernelFault.{KernelFault}
 use Rattle.mips_table.specs.Flat.{VStep, Next as Goes, Trap, vstep}
 use Rattle.cvm_model.specs.Primitives.{user_of}
-use Rattle.cvm_model.specs.Kernel.{Core, Outcome, End, Answers, Faults, NotYet}
+use Rattle.cvm_model.specs.Kernel.{Core, DispatchOutcome, End, Answers, Faults, NotYet}
 use Rattle.cvm_model.specs.Cvm.{System, Running, Cvm, IsCvm, Begin, Steps, Traps, Interrupts, begin, user_step, begun, next_of, core_of, after_dispatch, dispatch_of, turn, turn_by, cvm}
 use Rattle.mips_table.specs.Machine.{State}
 use Rattle.boot_turns.specs.Machines.{RowAdded, RowsGrow, TurnRows, UserStays}
@@ -24,7 +24,7 @@ same_cvm a b h = cc
 fault_user : (f : KernelFault) (u : ℕ) → Fault f ≡ User u → ⊥
 fault_user f u e = cc
 
-dispatch_rows : (y : System) (c after : Cvm) (k cause edata user pending : ℕ) (o : Outcome) (e : End) → after_dispatch y c k cause edata user pending o e ≡ Some after → RowAdded k cause edata user c after
+dispatch_rows : (y : System) (c after : Cvm) (k cause edata user pending : ℕ) (o : DispatchOutcome) (e : End) → after_dispatch y c k cause edata user pending o e ≡ Some after → RowAdded k cause edata user c after
 dispatch_rows y c after k cause edata user pending o (Answers a) h =
     let d = same_cvm _ after h in
     record { next = next_of (length y.boot.users) a; current = λ u e. ap (λ (w : Cvm). w.core.current) (sym d) ∙ ap (λ n. (core_of n o.after).current) e; rows = ap (λ (w : Cvm). w.rows) (sym d); status = ap (λ (w : Cvm). w.status) (sym d) }

@@ -4,7 +4,7 @@ use Rattle.std.specs.Prelude.{◌==◌, nat_lt, bit_or, pos, ℤ, slice_get}
 use Rattle.std.proofs.lemmas.Bool.{cond-true, cond-false}
 use Rattle.std.proofs.lemmas.List.{length-take, take-take, take_all, append_assoc}
 use Rattle.mips_table.specs.Arith.{signed}
-use Rattle.cvm_model.specs.Kernel.{Core, Changes, JournalEntry, Trapped, MeaningLaws, Meaning, Outcome, End, Answers, Faults, NotYet}
+use Rattle.cvm_model.specs.Kernel.{Core, Changes, JournalEntry, Trapped, MeaningLaws, KernelMeaning, DispatchOutcome, End, Answers, Faults, NotYet}
 use Rattle.cvm_model.specs.Cvm.{System, Status, Running, Halted, Faulted, Cvm, Begin, Steps, Traps, Interrupts, begin, dispatch_of, after_dispatch, dispatches, begun, turn_by, turn, cvm}
 use Rattle.cvm_model.specs.Journal.{changes_of, begin_calls, turn_calls, begin_entries, running_entries, turn_entries, journal}
 use Rattle.boot_turns.proofs.Units.{cvm_more}
@@ -16,7 +16,7 @@ same_some : {A : Type 0} (a b : A) → Some a ≡ Some b → a ≡ b
 same_some a b h = cc
 
 -- the calls of a dispatch with more units
-module _ (e : Meaning) (laws : MeaningLaws e) (c : Core) (cause edata user : ℤ) where
+module _ (e : KernelMeaning) (laws : MeaningLaws e) (c : Core) (cause edata user : ℤ) where
   abbrev calls : ℕ → List Changes
   calls n = (e.dispatch n c cause edata user).calls
 
@@ -34,7 +34,7 @@ module _ (e : Meaning) (laws : MeaningLaws e) (c : Core) (cause edata user : ℤ
   calls_most n k over =
       let a = calls_grow k n in
       let d : k + n ≡ n + k = omega arith in
-      let b : calls (k + n) ≡ calls n = ap calls d ∙ ap (λ (o : Outcome). o.calls) (laws.same n k c cause edata user over) in
+      let b : calls (k + n) ≡ calls n = ap calls d ∙ ap (λ (o : DispatchOutcome). o.calls) (laws.same n k c cause edata user over) in
       let l : length (calls (k + n)) ≡ length (calls n) = ap (λ (l : List Changes). length l) b in
       omega (arith, a, l)
 
@@ -72,8 +72,8 @@ module _ (y : System) (laws : MeaningLaws y.boot.meaning) where
 
   begin_same : (n d u k : ℕ) (c p : Cvm) (before : Core) (b : Begin) → begun y n k c b ≡ Some p → begin_entries y (n + d) (λ calls. calls) u before b ≡ begin_entries y n (λ calls. calls) u before b
   begin_same n d u k c p before (Steps after) h = refl
-  begin_same n d u k c p before (Traps cause edata at) h = ap (λ (o : Outcome). cond (before.current == u) (Trapped cause edata ∷ []) [] ++ changes_of u o.calls) (dispatch_same n d k c p cause edata at 0 h)
-  begin_same n d u k c p before (Interrupts cause edata at pending) h = ap (λ (o : Outcome). changes_of u o.calls) (dispatch_same n d k c p cause edata at pending h)
+  begin_same n d u k c p before (Traps cause edata at) h = ap (λ (o : DispatchOutcome). cond (before.current == u) (Trapped cause edata ∷ []) [] ++ changes_of u o.calls) (dispatch_same n d k c p cause edata at 0 h)
+  begin_same n d u k c p before (Interrupts cause edata at pending) h = ap (λ (o : DispatchOutcome). changes_of u o.calls) (dispatch_same n d k c p cause edata at pending h)
 
   running_same : (n d u k lines : ℕ) (c p : Cvm) (status : Status) → turn_by y n k lines c status ≡ Some p → running_entries y (n + d) (λ calls. calls) u k lines c status ≡ running_entries y n (λ calls. calls) u k lines c status
   running_same n d u k lines c p Running h = begin_same n d u k c p c.core (begin k c.core (bit_or c.pending lines)) h

@@ -18,7 +18,7 @@ use Rattle.layer_map.specs.declared.params.Params.{Params}
 use Rattle.c0_tree.specs.Tree.{CUnit}
 use Rattle.c0_meaning.specs.Execution as c0_run
 use Rattle.cvm_model.specs.KernelMeaning.{Machines, outcome_of, kernel_meaning}
-use Rattle.cvm_model.specs.Kernel.{Core, Changes, Outcome, MeaningLaws}
+use Rattle.cvm_model.specs.Kernel.{Core, Changes, DispatchOutcome, MeaningLaws}
 use Rattle.cvm_model.specs.Primitives.{user_of, with_user}
 use Rattle.cvm_model.specs.Stands.{IsUser}
 use Rattle.cvm_model.specs.Cvm.{System, Cvm, Status, Running, Halted, Faulted, Interrupts, begun, user_step, cvm, IsCvm, turn, turn_by, dispatch_of, dispatches, after_dispatch, dispatched, next_of, first_core, first_cvm, status_of, core_of}
@@ -118,7 +118,7 @@ module _ (y : System) (n : ℕ) (Fit : Core → Type 0) (I : Property) where
         → Comes (past ++ made_by y n k cause edata at (dispatch_of y n cause edata at) ∷ []) (dispatches y n k c cause edata at pending)
     dispatch_comes past k cause edata c at pending fit rows few h =
         let next : Next = next_of (length y.boot.users) h.answer in
-        let o : Outcome = dispatch_of y n cause edata at in
+        let o : DispatchOutcome = dispatch_of y n cause edata at in
         let d : Dispatch = made_by y n k cause edata at o in
         let fits : Fit o.after = known.dispatch n cause edata at fit in
         let count : length o.after.users ≡ length y.boot.users = known.count o.after fits in

@@ -6,7 +6,7 @@ use Rattle.std.specs.Prelude.{◌≢◌, ℤ, pos, negsuc, option_and_then, bit_
 use Rattle.mips_table.specs.Arith.{signed}
 use Rattle.mips_table.specs.Machine.{number_of}
 use Rattle.mips_table.specs.Flat.{Flat, VStep, Next as Goes, Trap, vstep}
-use Rattle.cvm_model.specs.Kernel.{Core, JournalEntry, Stepped, Trapped, End, Answers, Faults, NotYet, Outcome}
+use Rattle.cvm_model.specs.Kernel.{Core, JournalEntry, Stepped, Trapped, End, Answers, Faults, NotYet, DispatchOutcome}
 use Rattle.cvm_model.specs.declared.kernel_fault.KernelFault.TheVariants.{BadUser}
 use Rattle.cvm_model.specs.Primitives.{no_flat, user_of, with_user}
 use Rattle.cvm_model.specs.Cvm.{System, Cvm, Status, Running, Halted, Faulted, Interrupts, user_step, begin, next_of, status_of, core_of, dispatched, after_dispatch, dispatch_of, begun, turn_by, turn, first_flat, first_core, first_cvm, cvm}
@@ -57,7 +57,7 @@ record Turned (y : System) (k u : ℕ) (c d : Cvm) (entries : List JournalEntry)
   replayed : replay (user_of c.core.users u) entries ≡ Some (user_of d.core.users u)
 
 -- the end of a dispatch, after entries that lead to the state at its call
-dispatch_turned : (y : System) (k u : ℕ) (c d : Cvm) (cause edata user pending : ℕ) (at : Core) (o : Outcome) (e : End) (first : List JournalEntry) →
+dispatch_turned : (y : System) (k u : ℕ) (c d : Cvm) (cause edata user pending : ℕ) (at : Core) (o : DispatchOutcome) (e : End) (first : List JournalEntry) →
     CallsReplay o at → length at.users ≡ length y.boot.users → IsOf (length y.boot.users) u → replay (user_of c.core.users u) first ≡ Some (user_of at.users u) →
     after_dispatch y c k cause edata user pending o e ≡ Some d → Turned y k u c d (first ++ changes_of u o.calls)
 dispatch_turned y k u c d cause edata user pending at o e first r count is before h = ends e h

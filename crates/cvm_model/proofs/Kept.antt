@@ -6,7 +6,7 @@ use Rattle.mips_table.specs.Arith.{signed}
 use Rattle.c0_tree.specs.Tree.{CUnit}
 use Rattle.c0_meaning.specs.Execution as c0_run
 use Rattle.c0_meaning.specs.Reasoning.{Comes}
-use Rattle.cvm_model.specs.Kernel.{Core, Changes, Meaning, Outcome as Came}
+use Rattle.cvm_model.specs.Kernel.{Core, Changes, KernelMeaning, DispatchOutcome as Came}
 use Rattle.cvm_model.specs.KernelMeaning.{Machines, answer_end, core_at, setting_of, machines_of, outcome_of, kernel_meaning}
 use Rattle.cvm_model.specs.Cvm.{System, dispatch_of, next_of}
 use Rattle.cvm_model.specs.declared.row.Next.{Next}
@@ -33,4 +33,4 @@ module _ (y : System) (u : CUnit) (is : y.boot.meaning ≡ kernel_meaning u y.bo
   -- FROM CODE TO A DISPATCH: where the code of `dispatch` is done within n units, and the property holds then, the dispatch keeps it
   pub keeps_by : Comes (c0_run.dispatch (setting_of u y.boot.params) n (pos cause) (signed edata) (pos at.current) at.c0 (machines_of y.boot.params at)) (KeptAt y I k cause edata past at)
       → Keeps y n I k cause edata past at
-  keeps_by h = by_outcome _ h (ap (λ (m : Meaning). m.dispatch n at (pos cause) (signed edata) (pos at.current)) is)
+  keeps_by h = by_outcome _ h (ap (λ (m : KernelMeaning). m.dispatch n at (pos cause) (signed edata) (pos at.current)) is)

@@ -24,7 +24,7 @@ use Rattle.c0_meaning.specs.PrimitiveCalls.{PrimitiveCall, world_after}
 use Rattle.c0_meaning.specs.Execution.{run_within}
 use Rattle.c0_meaning.specs.Execution as c0_run
 use Rattle.c0_meaning.specs.RunLaws.{PrimitivesAlone, stands_at}
-use Rattle.cvm_model.specs.Kernel.{Core, Changes, Meaning}
+use Rattle.cvm_model.specs.Kernel.{Core, Changes, KernelMeaning}
 use Rattle.cvm_model.specs.Primitives.{Call, VmGet, VmSet, VmSize, VmResize, VmWord, VmPut, VmCopy, ConPut, ConGet, ConLeft, is_good, is_within, granted, refused, unchanged, prim, no_flat, user_of, with_user, pages_of, with_register, resized, with_word, with_words}
 use Rattle.cvm_model.specs.KernelMeaning.{Machines, ints_of, called_by, kernel_primitive, setting_of, machines_of, outcome_of, kernel_meaning, UnitsAreKernels}
 use Rattle.cvm_model.specs.KernelMeaning as kernel
@@ -203,7 +203,7 @@ module _ (alone : PrimitivesAlone Machines Changes) (y : System) (u : CUnit) (is
 
     dispatch_stays : (n cause edata : ℕ) (c : Core) → at_core c → at_core (dispatch_of y n cause edata c).after
     dispatch_stays n cause edata c h =
-        subst (λ (m : Meaning). at_core (m.dispatch n c (pos cause) (signed edata) (pos c.current)).after) (sym is)
+        subst (λ (m : KernelMeaning). at_core (m.dispatch n c (pos cause) (signed edata) (pos c.current)).after) (sym is)
         (ended c (run_within (setting_of u y.boot.params) n (work_of u (pos cause) (signed edata) (pos c.current)) (start_of y.boot.params c))
         (dispatch_keeps P keeps alone u y.boot.params n c (pos cause) (signed edata) (pos c.current) h)
         (dispatch_keeps (λ m. m.most ≡ y.boot.params.pages) (λ k args m e. most_stays m k args ∙ e) alone u y.boot.params n c (pos cause) (signed edata) (pos c.current) refl))

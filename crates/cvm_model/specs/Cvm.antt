@@ -6,7 +6,7 @@ use Rattle.mips_table.specs.Flat.{Flat, VStep, Next as Goes, Trap, vstep}
 use Rattle.mips_table.specs.Machine.{zero_cpu}
 use Rattle.layer_map.specs.declared.params.Params.{Params}
 use Rattle.layer_map.specs.Map.{Map, next_page, layer_words}
-use Rattle.cvm_model.specs.Kernel.{Core, End, Answers, Faults, NotYet, Outcome, Meaning, MeaningLaws}
+use Rattle.cvm_model.specs.Kernel.{Core, End, Answers, Faults, NotYet, DispatchOutcome, KernelMeaning, MeaningLaws}
 use Rattle.cvm_model.specs.declared.kernel_fault.KernelFault.{KernelFault}
 use Rattle.cvm_model.specs.declared.kernel_fault.KernelFault.TheVariants.{BadUser}
 use Rattle.cvm_model.specs.Primitives.{user_of, with_user}
@@ -17,7 +17,7 @@ use Rattle.cvm_model.specs.declared.row.Row.{Row}
 -- what is booted: the parameters, the kernel, the linked words, and the words of each user
 pub record Boot : Type 0 where
   pub params : Params
-  pub meaning : Meaning
+  pub meaning : KernelMeaning
   pub words : List ℕ
   pub users : List (List ℕ)
 
@@ -109,11 +109,11 @@ abbrev pub run_steps : Map → ℕ → ℕ → ℕ → ℕ
 run_steps m longest units pages = 600 * units + page_steps m longest * pages
 
 -- of a turn that dispatches
-abbrev pub dispatch_steps : System → Outcome → ℕ
+abbrev pub dispatch_steps : System → DispatchOutcome → ℕ
 dispatch_steps y o = turn_steps (map_of y.boot) y.longest + (enter_steps + leave_steps + run_steps (map_of y.boot) y.longest o.units o.pages)
 
 -- the state after a dispatch, and its row
-abbrev pub dispatched : System → Cvm → (k cause edata user pending : ℕ) → Outcome → Next → Cvm
+abbrev pub dispatched : System → Cvm → (k cause edata user pending : ℕ) → DispatchOutcome → Next → Cvm
 dispatched y c k cause edata user pending o next = record {
   core = core_of next o.after;
   pending = pending;
@@ -123,13 +123,13 @@ dispatched y c k cause edata user pending o next = record {
 }
 
 -- by how it ended; a dispatch that isn't over has no state after it
-abbrev pub after_dispatch : System → Cvm → (k cause edata user pending : ℕ) → Outcome → End → Option Cvm
+abbrev pub after_dispatch : System → Cvm → (k cause edata user pending : ℕ) → DispatchOutcome → End → Option Cvm
 after_dispatch y c k cause edata user pending o (Answers a) = Some (dispatched y c k cause edata user pending o (next_of (length y.boot.users) a))
 after_dispatch y c k cause edata user pending o (Faults f) = Some (dispatched y c k cause edata user pending o (Fault f))
 after_dispatch y c k cause edata user pending o NotYet = None
 
 -- the dispatch of a turn, with edata read as an int
-abbrev pub dispatch_of : System → ℕ → (cause edata : ℕ) → Core → Outcome
+abbrev pub dispatch_of : System → ℕ → (cause edata : ℕ) → Core → DispatchOutcome
 dispatch_of y n cause edata c = y.boot.meaning.dispatch n c (pos cause) (signed edata) (pos c.current)
 
 -- a turn that dispatches

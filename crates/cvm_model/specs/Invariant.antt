@@ -9,7 +9,7 @@ use Rattle.c0_tree.specs.Tree.{CUnit}
 use Rattle.c0_meaning.specs.State.{State as C0}
 use Rattle.c0_meaning.specs.Value.{int}
 use Rattle.c0_meaning.specs.World.{Configuration}
-use Rattle.cvm_model.specs.Kernel.{Core, Changes, Answers, Faults, NotYet, End, Outcome}
+use Rattle.cvm_model.specs.Kernel.{Core, Changes, Answers, Faults, NotYet, End, DispatchOutcome}
 use Rattle.cvm_model.specs.KernelMeaning.{Machines, kernel_meaning, core_at, UnitsAreKernels}
 use Rattle.cvm_model.specs.Primitives.{pages_of, user_of, with_user}
 use Rattle.cvm_model.specs.Stands.{IsUser, input_room}
@@ -57,7 +57,7 @@ next_by users (Faults f) = Fault f
 next_by users NotYet = Halt
 
 -- THE DISPATCHES of the first k turns of a run, with n units each
-abbrev pub made_by : System → ℕ → (k cause edata : ℕ) → Core → Outcome → Dispatch
+abbrev pub made_by : System → ℕ → (k cause edata : ℕ) → Core → DispatchOutcome → Dispatch
 made_by y n k cause edata at o = record { turn = k; cause = cause; edata = edata; before = at; after = o.after; next = next_by (length y.boot.users) o.end }
 
 abbrev pub of_begin : System → ℕ → ℕ → Begin → List Dispatch

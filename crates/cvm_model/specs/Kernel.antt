@@ -87,7 +87,7 @@ pub data End : Type 0 where
   NotYet : End
 
 -- the end; the state then; the calls of primitives that ended, in order; the units that it used, and the pages
-pub record Outcome : Type 0 where
+pub record DispatchOutcome : Type 0 where
   pub end : End
   pub after : Core
   pub calls : List Changes
@@ -96,14 +96,14 @@ pub record Outcome : Type 0 where
 
 -- What a kernel means: how many words its globals have, with their names in source order, its data at the start, and what `dispatch`
 -- comes to within a number of units.
-pub record Meaning : Type 0 where
+pub record KernelMeaning : Type 0 where
   pub global_words : ℕ
   pub names : List (List ℕ)
   pub first : C0
-  pub dispatch : ℕ → Core → (cause edata user : ℤ) → Outcome
+  pub dispatch : ℕ → Core → (cause edata user : ℤ) → DispatchOutcome
 
 -- with more units a dispatch comes to the same end, or is at least as far; and a bad next user is no end of it
-pub record MeaningLaws (e : Meaning) : Type 0 where
+pub record MeaningLaws (e : KernelMeaning) : Type 0 where
   pub same : (n k : ℕ) (c : Core) (cause edata user : ℤ) → (e.dispatch n c cause edata user).end ≢ NotYet → e.dispatch (n + k) c cause edata user ≡ e.dispatch n c cause edata user
   pub more : (n k : ℕ) (c : Core) (cause edata user : ℤ) →
       take (length (e.dispatch n c cause edata user).calls) (e.dispatch (n + k) c cause edata user).calls ≡ (e.dispatch n c cause edata user).calls

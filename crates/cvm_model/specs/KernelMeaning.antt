@@ -13,7 +13,7 @@ use Rattle.c0_meaning.specs.World.{Called, Setting, Cost, total, Configuration, 
 use Rattle.c0_meaning.specs.Execution as c0_run
 use Rattle.mips_table.specs.Flat.{Flat}
 use Rattle.layer_map.specs.declared.params.Params.{Params}
-use Rattle.cvm_model.specs.Kernel.{Core, Changes, End, Answers, Faults, NotYet, Outcome, Meaning, MeaningLaws}
+use Rattle.cvm_model.specs.Kernel.{Core, Changes, End, Answers, Faults, NotYet, DispatchOutcome, KernelMeaning, MeaningLaws}
 use Rattle.cvm_model.specs.declared.kernel_fault.KernelFault.{KernelFault}
 use Rattle.cvm_model.specs.declared.kernel_fault.KernelFault.TheVariants.{NullUse, Bounds, DivZero, StackOut}
 use Rattle.cvm_model.specs.Journal.{KernelReplays}
@@ -72,11 +72,11 @@ failure_end stuck = NotYet
 abbrev pub core_at : Core → Configuration Machines Changes → Core
 core_at c d = record c { c0 = record d.state { frames = [] }; users = d.world.users; console = d.world.console }
 
-abbrev pub outcome_at : Core → End → Cost → Configuration Machines Changes → Outcome
+abbrev pub outcome_at : Core → End → Cost → Configuration Machines Changes → DispatchOutcome
 outcome_at c end cost d = record { end = end; after = core_at c d; calls = journal d; units = total cost; pages = cost.pages }
 
 -- the outcome of a dispatch
-abbrev pub outcome_of : Core → c0_run.Outcome Machines Changes → Outcome
+abbrev pub outcome_of : Core → c0_run.Outcome Machines Changes → DispatchOutcome
 outcome_of c (c0_run.Done cost d) = outcome_at c (answer_end d.answer) cost d
 outcome_of c (c0_run.Failed cost f d) = outcome_at c (failure_end f) cost d
 outcome_of c (c0_run.NotYet cost d) = outcome_at c NotYet cost d
@@ -89,7 +89,7 @@ abbrev pub machines_of : Params → Core → Machines
 machines_of p c = record { most = p.pages; users = c.users; console = c.console }
 
 -- THE MEANING of a unit as a kernel, with these parameters
-abbrev pub kernel_meaning : CUnit → Params → Meaning
+abbrev pub kernel_meaning : CUnit → Params → KernelMeaning
 kernel_meaning u p = record {
   global_words = all_words (shapes u) (map typed_of u.globals);
   names = map (λ d. d.name.text) u.globals;

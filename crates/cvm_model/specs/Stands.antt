@@ -68,7 +68,7 @@ abbrev pub runs_user : State → Bool
 runs_user s = is_on s && in_user s
 
 -- the processor runs the current user
-pub record Runs (m : Map) (s : State) (c : Core) : Type 0 where
+pub record RunsUser (m : Map) (s : State) (c : Core) : Type 0 where
   pub user : IsUser c c.current
   pub cpu : s.cpu ≡ (user_of c.users c.current).cpu
   pub pto : slice_index s.special PTO ≡ 4 * table_of m c.current
@@ -79,7 +79,7 @@ pub record Runs (m : Map) (s : State) (c : Core) : Type 0 where
 pub record UsersStand (m : Map) (s : State) (status : Status) (c : Core) : Type 0 where
   pub sizes : (u : ℕ) → IsUser c u → slice_index s.memory (block_at u + 32) ≡ pages_of (user_of c.users u)
   pub blocks : (u : ℕ) → IsUser c u → (runs_user s && u == c.current) ≡ false → block_cpu s.memory u ≡ (user_of c.users u).cpu
-  pub runs : runs_user s ≡ true → Runs m s c
+  pub runs : runs_user s ≡ true → RunsUser m s c
   pub current : status ≡ Running → slice_index s.memory current_at ≡ c.current
 
 -- a machine of at most so many pages

@@ -11,13 +11,13 @@ use Rattle.c0_meaning.specs.State.{State as C0}
 use Rattle.c0_meaning.specs.World.{Cost, Configuration}
 use Rattle.c0_meaning.specs.Execution as c0_run
 use Rattle.layer_map.specs.Map.{Map, ParamsInRange}
-use Rattle.cvm_model.specs.Kernel.{Changes, Core, NotYet, Meaning}
+use Rattle.cvm_model.specs.Kernel.{Changes, Core, NotYet, KernelMeaning}
 use Rattle.cvm_model.specs.KernelMeaning.{Machines, ints_of, call_with, kernel_primitive, setting_of, machines_of, kernel_meaning}
 use Rattle.cvm_model.specs.Primitives.{Call, primitive_number, arguments_of}
 use Rattle.cvm_model.specs.Stands.{UserFits, input_room, CoreFits}
 
 -- data is typed at the start, and stays so in a dispatch with ints, in a CVM state of this map
-pub record StaysTyped (m : Map) (e : Meaning) (Typed : C0 → Type 0) : Type 0 where
+pub record StaysTyped (m : Map) (e : KernelMeaning) (Typed : C0 → Type 0) : Type 0 where
   pub starts : Typed e.first
   pub stays : (n : ℕ) (c : Core) (cause edata user : ℤ) → CoreFits m c → FitsSigned w32 cause → FitsSigned w32 edata → FitsSigned w32 user →
       Typed c.c0 → Typed (e.dispatch n c cause edata user).after.c0

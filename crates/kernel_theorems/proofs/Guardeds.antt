@@ -25,7 +25,7 @@ use Rattle.c0_meaning.specs.Running.{Work, begin, act_on, leave, into, outward, 
 use Rattle.c0_meaning.specs.Execution.{dispatch}
 use Rattle.c0_meaning.specs.Reasoning.{Comes, Ends}
 use Rattle.c0_meaning.proofs.Rules as rules
-use Rattle.cvm_model.specs.Kernel.{Core, Changes, Meaning as Kernel}
+use Rattle.cvm_model.specs.Kernel.{Core, Changes, KernelMeaning as Kernel}
 use Rattle.cvm_model.specs.KernelMeaning.{Machines, setting_of, machines_of}
 use Rattle.cvm_model.specs.Primitives.{user_of}
 use Rattle.cvm_model.specs.Cvm.{System, first_core}

@@ -24,7 +24,7 @@ use Rattle.c0_meaning.specs.Running.{Work, begin, finish, leave, outward, push}
 use Rattle.c0_meaning.specs.Execution.{dispatch}
 use Rattle.c0_meaning.specs.Reasoning.{Comes, Ends}
 use Rattle.c0_meaning.proofs.Rules as rules
-use Rattle.cvm_model.specs.Kernel.{Core, Changes, Meaning}
+use Rattle.cvm_model.specs.Kernel.{Core, Changes, KernelMeaning}
 use Rattle.cvm_model.specs.KernelMeaning.{Machines, kernel_primitive, setting_of, machines_of}
 use Rattle.cvm_model.specs.Stands.{IsUser}
 use Rattle.cvm_model.specs.Cvm.{System, first_core}
@@ -234,7 +234,7 @@ module _ (y : System) (r : RunsLogging y) where
 
   invariant : IsInvariant y 400 (Shaped y) IsLogging
   invariant = record {
-    start = λ fit. keeps 0 0 0 [] (first_core y) first (ap (λ (m : Meaning). m.first) r.meaning_is) started;
+    start = λ fit. keeps 0 0 0 [] (first_core y) first (ap (λ (m : KernelMeaning). m.first) r.meaning_is) started;
     line = λ k mask past at some eight fit user h. keeps (suc k) 1 mask past at h.values h.data_is (lined k mask past at fit user h);
     trap = λ k cause edata past before at came fit user h. keeps (suc k) (number_of cause) edata past at h.values h.data_is (trapped k cause edata past at came.is fit user h);
   }

@@ -18,7 +18,7 @@ use Rattle.c0_meaning.specs.World.{beginning}
 use Rattle.c0_meaning.specs.Running.{begin}
 use Rattle.c0_meaning.specs.Execution.{dispatch}
 use Rattle.c0_meaning.specs.Reasoning.{Comes, Ends}
-use Rattle.cvm_model.specs.Kernel.{Core, Meaning}
+use Rattle.cvm_model.specs.Kernel.{Core, KernelMeaning}
 use Rattle.cvm_model.specs.KernelMeaning.{setting_of, machines_of}
 use Rattle.cvm_model.specs.Primitives.{user_of, with_register, no_flat}
 use Rattle.cvm_model.specs.Stands.{IsUser}
@@ -305,7 +305,7 @@ module _ (sets : SetsAreFound) (y : System) (r : RunsMailbox y) where
 
   invariant : IsInvariant y 400 (Shaped y) Carries
   invariant = record {
-    start = λ fit. keeps 0 0 0 [] (first_core y) (data_of None (pos 0)) (ap (λ (m : Meaning). m.first) r.meaning_is) started;
+    start = λ fit. keeps 0 0 0 [] (first_core y) (data_of None (pos 0)) (ap (λ (m : KernelMeaning). m.first) r.meaning_is) started;
     line = λ k mask past at some eight fit user h. keeps (suc k) 1 mask past at _ h.data_is (lined k mask past at h.delivers.way h.old h.delivers.in_order h.delivers.answered h.fits);
     trap = λ k cause edata past before at came fit user h.
         keeps (suc k) (number_of cause) edata past at _ h.data_is (trapped k cause edata past at came.is fit user h.delivers.way h.old h.delivers.in_order h.delivers.answered h.fits);

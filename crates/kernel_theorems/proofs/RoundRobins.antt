@@ -14,7 +14,7 @@ use Rattle.c0_meaning.specs.State.{State}
 use Rattle.c0_meaning.specs.Value.{int}
 use Rattle.c0_meaning.specs.World.{units}
 use Rattle.c0_meaning.specs.Execution.{Outcome, Done, dispatch}
-use Rattle.cvm_model.specs.Kernel.{Core, Changes, Meaning}
+use Rattle.cvm_model.specs.Kernel.{Core, Changes, KernelMeaning}
 use Rattle.cvm_model.specs.KernelMeaning.{Machines, setting_of, machines_of}
 use Rattle.cvm_model.specs.Cvm.{System, Cvm, first_core}
 use Rattle.cvm_model.specs.declared.row.Next.TheVariants.{User}
@@ -99,7 +99,7 @@ module _ (y : System) (u : ℕ) (r : RunsRoundRobin y (suc u)) where
 
   invariant : IsInvariant y 100 (HasUsers y) (Turns (suc u))
   invariant = record {
-    start = λ fit. keeps 0 0 0 [] (first_core y) 24 0 (data_of (pos 0) (pos 0)) (pos 0) (ap (λ (m : Meaning). m.first) r.meaning_is)
+    start = λ fit. keeps 0 0 0 [] (first_core y) 24 0 (data_of (pos 0) (pos 0)) (pos 0) (ap (λ (m : KernelMeaning). m.first) r.meaning_is)
         (starts u y.boot.params r.room (signed 0) _) (sym (mod-eq_of_lt (omega arith))) tt;
     line = λ k mask past at some eight fit user h.
         let a : ℕ = at.current % suc u in

@@ -11,7 +11,7 @@ use Rattle.cvm_model.specs.Kernel.{Core}
 use Rattle.cvm_model.specs.Primitives.{no_flat, user_of, pages_of}
 use Rattle.cvm_model.specs.Cvm.{Running}
 use Rattle.cvm_model.specs.Paged.{paged_of}
-use Rattle.cvm_model.specs.Stands.{Site, UserFits, Stands, Runs}
+use Rattle.cvm_model.specs.Stands.{Site, UserFits, Stands, RunsUser}
 use Rattle.layer_contract.specs.Layer.{page_at}
 use Rattle.layer_contract.proofs.Apart.{apart_of}
 use Rattle.layer_contract.proofs.Pages.{names_own}
@@ -55,7 +55,7 @@ pub data Place (m : Map) (s : State) (c : Core) (store : Bool) (address : ℕ) :
 pub record Known (x : Outside) (y : Site) (s : State) (c : Core) : Type 0 where
   pub range : MapInRange y.map
   pub mode : slice_index s.special MODE ≡ 1
-  pub runs : Runs y.map s c
+  pub runs : RunsUser y.map s c
   pub stands : Stands x y s Running c
 
 -- the numbers of the map that matter here

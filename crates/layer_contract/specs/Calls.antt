@@ -6,7 +6,7 @@ use Rattle.mips_table.specs.Machine.{State, run}
 use Rattle.mips_table.specs.Turns.{is_on}
 use Rattle.layer_contract.specs.declared.entry.Entry.TheVariants.{Primitive}
 use Rattle.c0_meaning.specs.State.{State as C0}
-use Rattle.cvm_model.specs.Kernel.{Core, Changes, Meaning}
+use Rattle.cvm_model.specs.Kernel.{Core, Changes, KernelMeaning}
 use Rattle.cvm_model.specs.Primitives.{Call, told}
 use Rattle.cvm_model.specs.Stands.{Site}
 use Rattle.layer_contract.specs.declared.registers.TheConstants.{RETURN}
@@ -67,7 +67,7 @@ pub record KernelCalled (x : Outside) (longest : ℕ) (y : Site) (Typed : C0 →
 
 -- The calls that a dispatch has ended are those that the machine ends, in order; and the machine enters no more of them in so many steps
 -- than the dispatch ends within some number of units.
-pub record CallsFollow (y : Site) (Typed : C0 → Type 0) (e : Meaning) : Type 0 where
+pub record CallsFollow (y : Site) (Typed : C0 → Type 0) (e : KernelMeaning) : Type 0 where
   pub each : (x : Outside) (longest n m : ℕ) (s : State) (c : Core) (cause edata user : ℤ) (changes : Changes) → KernelCalled x longest y Typed c cause edata user s →
       slice_get (e.dispatch n c cause edata user).calls m ≡ Some changes → EndsCall x y longest s m changes
   pub no_more : (x : Outside) (longest t : ℕ) (s : State) (c : Core) (cause edata user : ℤ) → KernelCalled x longest y Typed c cause edata user s →

@@ -12,7 +12,7 @@ use Rattle.layer_contract.specs.declared.entry.Entry.{Entry}
 use Rattle.layer_contract.specs.declared.entry.Entry.TheVariants.{Primitive, Fault as Exit, Leave}
 use Rattle.layer_map.specs.Map.{Map, MapInRange, layer_words, memory_words}
 use Rattle.c0_meaning.specs.State.{State as C0}
-use Rattle.cvm_model.specs.Kernel.{Core, power_of, End, Answers, Faults, NotYet, Outcome, Meaning, MeaningLaws}
+use Rattle.cvm_model.specs.Kernel.{Core, power_of, End, Answers, Faults, NotYet, DispatchOutcome, KernelMeaning, MeaningLaws}
 use Rattle.cvm_model.specs.Primitives.{pages_of}
 use Rattle.cvm_model.specs.Cvm.{Boot, System, Running, Begin, Steps, Traps, Interrupts, map_of, first_flat, first_core, run_steps}
 use Rattle.cvm_model.specs.Paged.{pages_by}
@@ -69,14 +69,14 @@ IsKernelDoor other = IsEntry other
 
 -- from `dispatch` on, the machine comes to Leave with the answer, or to the fault's exit, as the kernel means it, in the steps of its units
 -- and pages; or it is still on its way
-abbrev pub EndsAs : Outside → ℕ → Site → ℕ → State → Outcome → End → Type 0
+abbrev pub EndsAs : Outside → ℕ → Site → ℕ → State → DispatchOutcome → End → Type 0
 EndsAs x longest y n s o (Answers a) = Comes x y IsKernelDoor (run_steps y.map longest o.units o.pages) s
     (λ t. IsAt x y Leave o.after t × (signed (slice_index t.cpu.regs ANSWER) ≡ a))
 EndsAs x longest y n s o (Faults f) = Comes x y IsKernelDoor (run_steps y.map longest o.units o.pages) s (IsAt x y (Exit (power_of f)) o.after)
 EndsAs x longest y n s o NotYet = (j : ℕ) → units_per_step * j ≤ n → Way x y IsKernelDoor j s × Inside (run x s j)
 
 -- the kernel's code runs as the kernel means, over typed data
-abbrev pub KernelRuns : Site → (C0 → Type 0) → Meaning → Type 0
+abbrev pub KernelRuns : Site → (C0 → Type 0) → KernelMeaning → Type 0
 KernelRuns y Typed e = (x : Outside) (longest n : ℕ) (s : State) (c : Core) (cause edata user : ℤ) → KernelCalled x longest y Typed c cause edata user s →
     EndsAs x longest y n s (e.dispatch n c cause edata user) (e.dispatch n c cause edata user).end
 

@@ -27,7 +27,7 @@ use Rattle.cvm_model.specs.Kernel.{Core}
 use Rattle.cvm_model.specs.Primitives.{user_of, with_user, pages_of}
 use Rattle.cvm_model.specs.Cvm.{Running}
 use Rattle.cvm_model.specs.Paged.{pages_by}
-use Rattle.cvm_model.specs.Stands.{Site, IsUser, UserFits, Runs, Stands, is_own, runs_user}
+use Rattle.cvm_model.specs.Stands.{Site, IsUser, UserFits, RunsUser, Stands, is_own, runs_user}
 use Rattle.layer_contract.specs.Layer.{Back, Enters, with_epc}
 use Rattle.layer_contract.specs.Users.{Premises, IsTakenAt, UsersAreInterrupted}
 use Rattle.trap_entry.specs.Laws.{IsHandled, IsUnsaved, UserEntered, EntersKernel}
@@ -131,7 +131,7 @@ module _ (m : Map) (sizes code : List ℕ) (made : IsMade m sizes code) where
   abbrev kept_flat : Core → ℕ → Flat
   kept_flat c epc = record (user_of c.users c.current) { cpu = record (user_of c.users c.current).cpu { pc = epc } }
 
-  module _ (x : Outside) (s t t2 : State) (c : Core) (cause edata epc : ℕ) (st : Stands x y s Running c) (runs : Runs m s c) (user : runs_user s ≡ true) (b : Began x s t cause edata epc)
+  module _ (x : Outside) (s t t2 : State) (c : Core) (cause edata epc : ℕ) (st : Stands x y s Running c) (runs : RunsUser m s c) (user : runs_user s ≡ true) (b : Began x s t cause edata epc)
       (e : UserEntered c.current (contents t) (behind t) (contents t2) (behind t2)) (long : memory_words m ≤ length s.memory) where
     -- the words in which the two states agree
     same_word : (k : ℕ) → IsBeside c.current k → IsUnsaved k → k < length s.memory → words_of t2 k ≡ slice_index s.memory k
@@ -227,7 +227,7 @@ module _ (m : Map) (sizes code : List ℕ) (made : IsMade m sizes code) where
       let b : Below = z.below in
       let st : Stands x y s Running c = back.stands in
       let p : Premises x y s c = premises x s c back in
-      let runs : Runs m s c = st.users.runs back.user in
+      let runs : RunsUser m s c = st.users.runs back.user in
       let on : s.off ≡ None = is_on_none s (user_on s back.user) in
       let g : Began x s (step x s) (number_of cause) edata epc = began takes interrupts x y s before c cause edata epc on p comes in
       let h : IsTakenAt x s before cause = interrupts x y s c before cause edata epc p comes in

@@ -32,7 +32,7 @@ use Rattle.cvm_model.specs.Kernel.{Core}
 use Rattle.cvm_model.specs.Primitives.{user_of, pages_of}
 use Rattle.cvm_model.specs.Cvm.{Running, page_steps}
 use Rattle.cvm_model.specs.Paged.{paged_of, pages_by}
-use Rattle.cvm_model.specs.Stands.{Site, UserFits, Runs, Stands, block_cpu, runs_user}
+use Rattle.cvm_model.specs.Stands.{Site, UserFits, RunsUser, Stands, block_cpu, runs_user}
 use Rattle.layer_contract.specs.Layer.{Back, Brought, BusyWithin, Comes, IsEntry, Way, page_at, is_store, Settles, FaultsSettle}
 use Rattle.layer_contract.specs.Users.{UsersAreInterrupted, step_pages, AsksPage, FaultsAsk}
 use Rattle.trap_entry.specs.Code.{handler_code}
@@ -93,7 +93,7 @@ module _ (m : Map) (sizes code : List ℕ) (made : IsMade m sizes code) where
     st : Stands x y s Running c
     st = back.stands
 
-    runs : Runs m s c
+    runs : RunsUser m s c
     runs = st.users.runs back.user
 
     o : Order m
@@ -133,7 +133,7 @@ module _ (m : Map) (sizes code : List ℕ) (made : IsMade m sizes code) where
         in_mode : slice_index s.special MODE ≡ 1
         in_mode = eqb-true (slice_index s.special MODE) 1 (user_mode s back.user)
 
-    runs_again : Runs m t c
+    runs_again : RunsUser m t c
     runs_again =
         let f : UserFits m.params.pages (user_of c.users c.current) = user_fits m c c.current st.whole runs.user in
         record {
@@ -216,7 +216,7 @@ module _ (m : Map) (sizes code : List ℕ) (made : IsMade m sizes code) where
     state : Stands x y s Running c
     state = back.stands
 
-    runs_it : Runs m s c
+    runs_it : RunsUser m s c
     runs_it = state.users.runs back.user
 
     order : Order m

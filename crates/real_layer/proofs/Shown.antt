@@ -21,7 +21,7 @@ use Rattle.cvm_model.specs.Kernel.{flat, flats, Core}
 use Rattle.cvm_model.specs.Primitives.{no_flat, user_of, pages_of, register_of}
 use Rattle.cvm_model.specs.Cvm.{Status, Running}
 use Rattle.cvm_model.specs.Paged.{pages_by}
-use Rattle.cvm_model.specs.Stands.{Site, IsUser, address_of, DataStands, CoreFits, UserFits, Runs, Stands, block_cpu, is_own, runs_user}
+use Rattle.cvm_model.specs.Stands.{Site, IsUser, address_of, DataStands, CoreFits, UserFits, RunsUser, Stands, block_cpu, is_own, runs_user}
 use Rattle.cvm_primitives.specs.Blocks.{BlocksHold, word_of}
 
 -- a value has as many words as it says
@@ -202,7 +202,7 @@ pub record ShownPages (y : Site) (c : Core) (words : ℕ → ℕ) (d : Behind) :
 
 -- a state that follows one that stands, with the same data of the kernel, stands where it shows its users, pages and console
 pub stood_with : AlikesStand → (x : Outside) (y : Site) (s t : State) (status after : Status) (c c' : Core) → MapInRange y.map → Stands x y s status c → Follows x y s t → CoreFits y.map c' → c'.c0 ≡ c.c0
-    → ShownPages y c' (words_of t) (behind t) → InBlocks t c' → (after ≡ Running → slice_index t.memory current_at ≡ c'.current) → (runs_user t ≡ true → Runs y.map t c') → Stands x y t after c'
+    → ShownPages y c' (words_of t) (behind t) → InBlocks t c' → (after ≡ Running → slice_index t.memory current_at ≡ c'.current) → (runs_user t ≡ true → RunsUser y.map t c') → Stands x y t after c'
 stood_with alikes x y s t status after c c' range st f whole same sh blocks current runs =
     let m : Map = y.map in
     let o : Order m = order_of m range in
@@ -243,7 +243,7 @@ stood_with alikes x y s t status after c c' range st f whole same sh blocks curr
 
 -- the same where no user runs
 pub stood : AlikesStand → (x : Outside) (y : Site) (s t : State) (status after : Status) (c c' : Core) → MapInRange y.map → Stands x y s status c → Follows x y s t → CoreFits y.map c' → c'.c0 ≡ c.c0
-    → Shown y c' (words_of t) (behind t) → (after ≡ Running → slice_index t.memory current_at ≡ c'.current) → (runs_user t ≡ true → Runs y.map t c') → Stands x y t after c'
+    → Shown y c' (words_of t) (behind t) → (after ≡ Running → slice_index t.memory current_at ≡ c'.current) → (runs_user t ≡ true → RunsUser y.map t c') → Stands x y t after c'
 stood alikes x y s t status after c c' range st f whole same sh current runs =
     let m : Map = y.map in
     let o : Order m = order_of m range in

@@ -17,7 +17,7 @@ use Rattle.c0_meaning.specs.World.{beginning}
 use Rattle.c0_meaning.specs.Running.{begin}
 use Rattle.c0_meaning.specs.Execution.{dispatch}
 use Rattle.c0_meaning.specs.Reasoning.{Comes, Ends}
-use Rattle.cvm_model.specs.Kernel.{Core, Meaning}
+use Rattle.cvm_model.specs.Kernel.{Core, KernelMeaning}
 use Rattle.cvm_model.specs.KernelMeaning.{setting_of, machines_of}
 use Rattle.cvm_model.specs.Primitives.{user_of, with_user, with_register, no_flat}
 use Rattle.cvm_model.specs.Stands.{IsUser}
@@ -285,7 +285,7 @@ module _ (sets : SetsAreFound) (y : System) (r : Runs y) where
 
   invariant : IsInvariant y 400 (Shaped y) Between
   invariant = record {
-    start = λ fit. keeps 0 0 0 [] (first_core y) first (ap (λ (m : Meaning). m.first) r.meaning_is) started;
+    start = λ fit. keeps 0 0 0 [] (first_core y) first (ap (λ (m : KernelMeaning). m.first) r.meaning_is) started;
     line = λ k mask past at some eight fit user h. keeps (suc k) 1 mask past at h.values h.data_is (lined k mask past at h);
     trap = λ k cause edata past before at came fit user h. keeps (suc k) (number_of cause) edata past at h.values h.data_is (trapped k cause edata past at came.is user fit h);
   }
