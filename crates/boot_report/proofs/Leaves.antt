@@ -9,7 +9,7 @@ use Rattle.sector_disk.specs.Ports.{called}
 use Rattle.mips_machine.specs.Machine.{Held}
 use Rattle.boot_report.specs.declared.fault.ReportFault.{ReportFault}
 use Rattle.boot_report.specs.declared.fault.ReportFault.TheVariants.{Disk, Sink}
-use Rattle.boot_report.specs.Leaves.{Asks, OnlyViews, PrintsAll, Puts}
+use Rattle.boot_report.specs.Leaves.{Asks, AsksFor, OnlyViews, PrintsAll, Puts}
 use Rattle.boot_report.proofs.Texts.{on_ok, on_err}
 use Rattle.boot_report.proofs.MemoryLemmas.{same_twice}
 
@@ -72,6 +72,13 @@ asks_twice O P x y z same first then = record {
 -- what was asked of it, where another answer says whose fault that was
 pub asks_as : (O P : Type 0) (x y : Tally) → (P → O) → Asks O x y → Asks P x y
 asks_as O P x y of a = record { made = a.made; calls = a.calls; some = λ h. a.some (of h) }
+
+-- and where it was called just so often
+pub asks_for : (n : ℕ) (P : Type 0) (x y : Tally) → AsksFor n P x y → Asks P x y
+asks_for n P x y a = record { made = n; calls = a.calls; some = λ h. let e = a.some h in omega (arith, e) }
+
+pub asks_one : (n : ℕ) (P : Type 0) (x y : Tally) → n ≡ 1 → y.calls ≡ until_fault x.faults x.calls → AsksFor n P x y
+asks_one n P x y one made = record { calls = made ∙ ap (λ k. called k x) (sym one); some = λ h. one }
 
 -- a fault of the sink is none of the disk
 pub not_disk : {T : Type 0} (r : Result T ReportFault) (f : ReportFault) → r ≡ Err f → f ≡ Sink → r ≡ Err Disk → ⊥

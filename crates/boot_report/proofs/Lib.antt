@@ -7,3 +7,4 @@ pub mod GlobalNumbers
 pub mod GlobalsGiven
 pub mod Leaves
 pub mod SetRow
+pub mod Residents

@@ -1,5 +1,5 @@
 -- The rows of the globals, by the words that stand for them.
-use Rattle.std.specs.Prelude.{◌≡◌, ◌≢◌, ℕ, ◌+◌, ◌<◌, ◌==◌, if◌then◌else◌, Option, Some, List, [], ◌∷◌, ◌++◌, codes, slice_index, length}
+use Rattle.std.specs.Prelude.{◌≡◌, ◌≢◌, ℕ, ◌+◌, ◌<◌, ◌≤◌, ◌==◌, if◌then◌else◌, Option, Some, List, [], ◌∷◌, ◌++◌, codes, slice_index, length}
 use Rattle.std.specs.Fmt.{signed_decimal}
 use Rattle.mips_table.specs.Arith.{signed}
 use Rattle.c0_tree.specs.declared.tree.Decl.{Decl}
@@ -37,6 +37,13 @@ GlobalsTell = (structs : List Shape) (layout : Layout) (t : Ty) (v : Value) (nam
 -- the globals begin inside the memory, each so many words behind the first
 abbrev pub AreInside : Map → (places : List ℕ) → Type 0
 AreInside m places = (i : ℕ) → i < length places → globals_at m + slice_index places i < memory_words m
+
+-- so many of them stand in so many words of memory
+pub record GlobalsStand (m : Map) (words : ℕ) (places : List ℕ) (globals : ℕ) : Type 0 where
+  pub many : length places ≡ globals
+  pub memory : memory_words m ≤ words
+  pub small : memory_words m ≤ 30000000
+  pub inside : AreInside m places
 
 -- the rows of the globals, each of which begins so many words behind the first
 abbrev pub globals_rows : List Decl → List ℕ → ℕ → List ℕ → List ℕ

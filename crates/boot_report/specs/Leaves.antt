@@ -33,6 +33,11 @@ pub record Asks (OfDisk : Type 0) (before after : Tally) : Type 0 where
   pub calls : after.calls ≡ called made before
   pub some : OfDisk → 1 ≤ made
 
+-- it was called just so often, once where it is blamed
+pub record AsksFor (n : ℕ) (OfDisk : Type 0) (before after : Tally) : Type 0 where
+  pub calls : after.calls ≡ called n before
+  pub some : OfDisk → n ≡ 1
+
 -- and each error is a fault of the disk or of the sink, of which each has a count
 pub record Reads {T D O : Type 0} (old new : Held) (told : D → Option (List (List ℕ))) (large broke : D → ℕ) (disk redisk : D) (cut : O → ℕ) (out reout : O)
     (result : Result T ReportFault) : Type 0 where

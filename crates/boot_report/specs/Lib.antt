@@ -6,3 +6,4 @@ pub mod Given
 pub mod Blames
 pub mod Leaves
 pub mod Stand
+pub mod Resident

@@ -1,6 +1,6 @@
 -- The parts of a report, as they are printed one after another.
 use Rattle.std.specs.Prelude.{◌≡◌, ℕ, zero, suc, ◌+◌, ◌-◌, ◌*◌, ◌/◌, ◌%◌, ◌<◌, ◌==◌, min, Bool, if◌then◌else◌, Option, Some, None}
-use Rattle.std.specs.Prelude.{List, [], ◌++◌, codes, decimal, slice_index, length}
+use Rattle.std.specs.Prelude.{List, [], ◌∷◌, ◌++◌, codes, decimal, slice_index, length}
 use Rattle.cvm_text.specs.Hex.{hex8}
 use Rattle.mips_table.specs.Processor.{Cpu}
 use Rattle.mips_table.specs.Machine.{State}
@@ -9,12 +9,21 @@ use Rattle.cvm_model.specs.Paged.{paged_of}
 use Rattle.cvm_model.specs.Stands.{block_cpu}
 use Rattle.mips_machine.specs.Machine.{Held}
 use Rattle.page_model.specs.Paging.{Paged, shown_word}
-use Rattle.cvm_model.specs.Text.{hex_row, nonzero_row}
+use Rattle.cvm_model.specs.declared.kernel_fault.KernelFault.{KernelFault}
+use Rattle.cvm_model.specs.Text.{fault_name, hex_row, nonzero_row}
 
 -- the texts of the numbers below n, in order
 unfoldable pub texts : (ℕ → List ℕ) → ℕ → List ℕ
 texts f zero = []
 texts f (suc n) = texts f n ++ f n
+
+-- the end of a run that halted, or goes on
+abbrev pub end_row : Bool → List ℕ
+end_row halted = if halted then codes "halted\n" else codes "stopped\n"
+
+-- the row of a kernel's fault
+abbrev pub fault_row : KernelFault → List ℕ
+fault_row f = codes "fault " ++ fault_name f ++ 10 ∷ []
 
 -- the row of register r, and of the word of memory with number k, unless it is 0
 abbrev pub register_row : ℕ → ℕ → List ℕ

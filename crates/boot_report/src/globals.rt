@@ -1,8 +1,8 @@
 // The rows of the globals.
-ghost use Rattle.std.specs.Prelude.{◌≡◌, ◌≤◌, length};
+ghost use Rattle.std.specs.Prelude.{◌≡◌, length};
 ghost use Rattle.c0_meaning.specs.Form.{form_view};
-ghost use Rattle.layer_map.specs.Map.{globals_at, memory_words};
-ghost use Rattle.boot_report.specs.Globals.{value_end as end_of_value, named_row, global_word_row, globals_rows, AreInside};
+ghost use Rattle.layer_map.specs.Map.{globals_at};
+ghost use Rattle.boot_report.specs.Globals.{value_end as end_of_value, named_row, global_word_row, globals_rows, GlobalsStand};
 ghost use Rattle.boot_report.specs.Leaves.{Puts};
 
 use arrayvec::ArrayString;
@@ -74,10 +74,7 @@ pub fn put_globals<O: Sink>(
     decls: &[Decl],
     out: &mut O,
 ) -> Result<(), SinkFault>
-    requires many { length offsets.now ≡ length decls.now }
-    requires memory { memory_words map.now ≤ length machine.now.hardware.memory }
-    requires small { memory_words map.now ≤ 30000000 }
-    requires inside { AreInside map.now offsets.now }
+    requires { GlobalsStand map.now (length machine.now.hardware.memory) offsets.now (length decls.now) }
     ensures { Puts O.text O.faults out.old out.new (globals_rows decls.now machine.now.hardware.memory (globals_at map.now) offsets.now) result }
 {
     let first = map.globals() / 4;

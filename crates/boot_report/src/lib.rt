@@ -1,5 +1,5 @@
-//! The texts of a run: its report, printed from the machine, with rows of globals, of the console's log and of users; and the rows of
-//! dispatches and of journals.
+//! The texts of a run: its end and its report, printed from the machine, with rows of globals, of the console's log and of users; and the rows
+//! of dispatches, of journals and of a kernel's fault.
 #![tactic(auto)]
 
 mod fault;
@@ -16,5 +16,6 @@ pub use globals::{put_global, put_globals};
 pub use laws::{
     a_global_tells, the_globals_tell, the_rows_tell, the_user_rows_tell, the_words_tell,
 };
-pub use memory::read_user_word;
+pub use memory::{is_word_resident, read_user_word};
+pub use rows::put_end;
 pub use users::{put_log, put_user_rows, put_users};

@@ -1,13 +1,15 @@
 // The rows of a user's memory.
 ghost use Rattle.std.specs.Prelude.{◌≡◌, ◌+◌, ◌*◌, ◌/◌, ◌%◌, ◌<◌, ◌≤◌, ◌^◌};
-ghost use Rattle.std.specs.Prelude.{ℕ, length, slice_index, true, is_err, IfSome, IfOk, Err};
+ghost use Rattle.std.specs.Prelude.{ℕ, [], length, slice_index, true, is_err, if◌then◌else◌, IfSome, IfOk, Err};
 ghost use Rattle.cvm_outside.specs.Causes.{Counts};
 ghost use Rattle.cvm_outside.specs.Numbering.{tally};
 ghost use Rattle.layer_map.specs.Map.{memory_frames};
+ghost use Rattle.mips_machine.specs.Machine.{state_of};
 ghost use Rattle.boot_report.specs.Told.{user_word, WherePaged};
 ghost use Rattle.boot_report.specs.Texts.{texts, memory_row, page_word, pages_rows, ShowsPage};
-ghost use Rattle.boot_report.specs.Leaves.{Asks, OnlyViews, PrintsAll, Puts, Reads};
-ghost use Rattle.boot_report.specs.Stand.{PagesStand};
+ghost use Rattle.boot_report.specs.Leaves.{Asks, AsksFor, OnlyViews, PrintsAll, Puts, Reads};
+ghost use Rattle.boot_report.specs.Resident.{is_resident, page_reads, word_reads};
+ghost use Rattle.boot_report.specs.Stand.{PagesStand, WordStands};
 
 use crate::fault::ReportFault;
 use crate::rows::put_word;
@@ -73,6 +75,16 @@ fn put_page<O: Sink>(
     Ok(())
 }
 
+// Whether a page, by its number of all pages, is in a frame of the memory.
+fn is_resident(machine: &Machine, map: &Map, q: u32) -> bool
+    requires page { q < map.now.users * map.now.params.pages }
+    requires pages { PagesStand map.now (length machine.now.hardware.memory) (map.now.users * map.now.params.pages) }
+    ensures { result ≡ is_resident map.now (state_of machine.now []) q }
+{
+    let entry = machine.word(map.page_tables() + 4 * q);
+    entry / 2048 % 2 == 1 && entry / 4096 < map.memory_frames()
+}
+
 // Brings a page, by its number of all pages, where it can be read: gives its frame, or else has viewed its sector.
 //
 // # Errors
@@ -90,15 +102,23 @@ fn find_page<D: Sectors>(
     ensures shown { WherePaged (D.sectors disk.old) machine.old map.now (λ a. IfOk result (λ o. ShowsPage machine.new o a q)) }
     ensures view { OnlyViews machine.old machine.new D.sectors D.size disk.old disk.new }
     ensures count { Counts (D.faults disk.old) (D.faults disk.new) result }
-    ensures asks { Asks (is_err result ≡ true) (tally D.faults D.calls disk.old) (tally D.faults D.calls disk.new) }
+    ensures asks { AsksFor (page_reads map.now (state_of machine.old []) q) (is_err result ≡ true)
+        (tally D.faults D.calls disk.old) (tally D.faults D.calls disk.new) }
 {
-    let entry = machine.word(map.page_tables() + 4 * q);
-    let frame = entry / 4096;
-    if entry / 2048 % 2 == 1 && frame < map.memory_frames() {
-        return Ok(Some(frame));
+    if is_resident(machine, map, q) {
+        return Ok(Some(machine.word(map.page_tables() + 4 * q) / 4096));
     }
     machine.view_sector(disk, q)?;
     Ok(None)
+}
+
+/// Whether the page of a user's word with this number, from 0, is in a frame: where it isn't, its sector is read for it.
+pub fn is_word_resident(machine: &Machine, map: &Map, user: u32, k: u32) -> bool
+    requires word { WordStands map.now user k }
+    requires pages { PagesStand map.now (length machine.now.hardware.memory) (map.now.users * map.now.params.pages) }
+    ensures { word_reads map.now (state_of machine.now []) user k ≡ (if result then 0 else 1) }
+{
+    is_resident(machine, map, (user - 1) * map.params().pages + k / 1024)
 }
 
 /// The word of a user with this number, from 0, whose page may have to be read from its sector.
@@ -113,14 +133,13 @@ pub fn read_user_word<D: Sectors>(
     k: u32,
     disk: &mut D,
 ) -> Result<u32, DiskFault>
-    requires some { 1 ≤ user }
-    requires user { user ≤ map.now.users }
-    requires word { k < 1024 * map.now.params.pages }
+    requires word { WordStands map.now user k }
     requires pages { PagesStand map.now (length machine.old.hardware.memory) (D.size disk.old) }
     ensures shown { WherePaged (D.sectors disk.old) machine.old map.now (λ a. IfOk result (λ w. w ≡ user_word map.now a user k)) }
     ensures view { OnlyViews machine.old machine.new D.sectors D.size disk.old disk.new }
     ensures count { Counts (D.faults disk.old) (D.faults disk.new) result }
-    ensures asks { Asks (is_err result ≡ true) (tally D.faults D.calls disk.old) (tally D.faults D.calls disk.new) }
+    ensures asks { AsksFor (word_reads map.now (state_of machine.old []) user k) (is_err result ≡ true)
+        (tally D.faults D.calls disk.old) (tally D.faults D.calls disk.new) }
 {
     let page = (user - 1) * map.params().pages + k / 1024;
     let frame = find_page(machine, map, page, disk)?;

@@ -2,9 +2,10 @@
 
 ghost use Rattle.std.specs.Prelude.{◌≡◌};
 ghost use Rattle.cvm_model.specs.Text.{next_text, row_text};
+ghost use Rattle.boot_report.specs.Texts.{fault_row};
 
 use arrayvec::ArrayString;
-use cvm_model::{Next, Row};
+use cvm_model::{KernelFault, Next, Row};
 use cvm_text::{decimal_u64, hex8};
 
 // Who is next, as the end of a row says it.
@@ -45,6 +46,17 @@ pub fn row_text(row: &Row) -> ArrayString<160>
     text.push_str(decimal_u64(row.user as u64).as_str());
     text.push(' ');
     text.push_str(next_text(row.next).as_str());
+    text.push('\n');
+    text
+}
+
+/// The row of a kernel's fault, the last of a trace.
+pub fn fault_row(fault: KernelFault) -> ArrayString<64>
+    ensures { result.bytes ≡ fault_row fault }
+{
+    let mut text = ArrayString::new();
+    text.push_str("fault ");
+    text.push_str(fault.name());
     text.push('\n');
     text
 }

@@ -2,7 +2,7 @@
 ghost use Rattle.std.specs.Prelude.{◌≡◌, ◌++◌, ◌*◌, ◌<◌, ◌^◌, ◌==◌, if◌then◌else◌, [], codes, decimal};
 ghost use Rattle.cvm_text.specs.Hex.{hex8 as hex8_of};
 ghost use Rattle.cvm_model.specs.Text.{hex_row, nonzero_row};
-ghost use Rattle.boot_report.specs.Texts.{register_row, memory_row, user_head};
+ghost use Rattle.boot_report.specs.Texts.{end_row, register_row, memory_row, user_head};
 ghost use Rattle.boot_report.specs.Leaves.{Puts};
 
 use arrayvec::ArrayString;
@@ -143,4 +143,18 @@ pub(crate) fn put_user<O: Sink>(
     ensures { Puts O.text O.faults out.old out.new (user_head user pages pc) result }
 {
     out.put(user_row(user, pages, pc).as_str().as_bytes())
+}
+
+/// Prints whether a run halted or goes on.
+///
+/// # Errors
+///
+/// A fault of the sink.
+pub fn put_end<O: Sink>(halted: bool, out: &mut O) -> Result<(), SinkFault>
+    ensures { Puts O.text O.faults out.old out.new (end_row halted) result }
+{
+    if halted {
+        return out.put(b"halted\n");
+    }
+    out.put(b"stopped\n")
 }

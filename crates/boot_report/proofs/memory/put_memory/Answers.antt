@@ -7,7 +7,7 @@ use Rattle.mips_machine.specs.Machine.{state_of}
 use Rattle.cvm_model.specs.Paged.{paged_of}
 use Rattle.boot_report.specs.Texts.{page_rows, pages_rows}
 use Rattle.boot_report.proofs.Texts.{put_none, put_more, put_part, stop_part}
-use Rattle.boot_report.proofs.Leaves.{asks_as, asks_none, asks_twice, not_disk, broken, printed, views_twice}
+use Rattle.boot_report.proofs.Leaves.{asks_as, asks_for, asks_none, asks_twice, not_disk, broken, printed, views_twice}
 use Rattle.boot_report.proofs.MemoryLemmas.{page_is, fits_before}
 use Rattle.boot_report.proofs.memory.put_memory.Goals as goal
 
@@ -35,7 +35,7 @@ pub loop-p-preserved : goal.loop-p-preserved
 loop-p-preserved g c = record {
   view = views_twice g.D.Sectors.sectors g.D.Sectors.size c.args.machine.now c.loop-p.machine c.find_page.new.machine c.args.disk.now c.loop-p.disk c.find_page.new.disk c.loop-p.invariant.view c.in_ok-frame.ensures.view;
   disk_faults = c.in_ok-frame.ensures.count.same ∙ c.loop-p.invariant.disk_faults;
-  asks = asks_as _ ⊥ _ _ (λ h. absurd h) (asks_twice ⊥ _ (tally g.D.Sectors.faults g.D.Sectors.calls c.args.disk.now) (tally g.D.Sectors.faults g.D.Sectors.calls c.loop-p.disk) (tally g.D.Sectors.faults g.D.Sectors.calls c.find_page.new.disk) c.loop-p.invariant.disk_faults c.loop-p.invariant.asks c.in_ok-frame.ensures.asks);
+  asks = asks_as _ ⊥ _ _ (λ h. absurd h) (asks_twice ⊥ _ (tally g.D.Sectors.faults g.D.Sectors.calls c.args.disk.now) (tally g.D.Sectors.faults g.D.Sectors.calls c.loop-p.disk) (tally g.D.Sectors.faults g.D.Sectors.calls c.find_page.new.disk) c.loop-p.invariant.disk_faults c.loop-p.invariant.asks (asks_for _ _ _ _ c.in_ok-frame.ensures.asks));
   faults = c.in_ok-put_page.ensures.count.same ∙ c.loop-p.invariant.faults;
   text = λ ss e f.
       let told = c.in_ok-frame.ensures.shown ss (c.loop-p.invariant.view.sectors ∙ e) (fits_before c.args.map.now c.args.machine.now c.loop-p.machine ss c.loop-p.invariant.view.same f) in
@@ -50,9 +50,9 @@ returns-clause-put g c = λ ss e f.
     printed _ _ _ _ (c.loop-p.invariant.text ss e f ∙ ap (λ n. append_known (g.O.Sink.text c.args.out.now) (pages_rows (paged_of c.args.map.now (state_of c.args.machine.now ss)) c.args.first n)) all)
 
 pub returns-in_err-frame-clause-asks : goal.returns-in_err-frame-clause-asks
-returns-in_err-frame-clause-asks g c = asks_as _ _ _ _ (λ h. refl) (asks_twice ⊥ _ (tally g.D.Sectors.faults g.D.Sectors.calls c.args.disk.now) (tally g.D.Sectors.faults g.D.Sectors.calls c.loop-p.disk) (tally g.D.Sectors.faults g.D.Sectors.calls c.find_page.new.disk) c.loop-p.invariant.disk_faults c.loop-p.invariant.asks c.in_err-frame.ensures.asks)
+returns-in_err-frame-clause-asks g c = asks_as _ _ _ _ (λ h. refl) (asks_twice ⊥ _ (tally g.D.Sectors.faults g.D.Sectors.calls c.args.disk.now) (tally g.D.Sectors.faults g.D.Sectors.calls c.loop-p.disk) (tally g.D.Sectors.faults g.D.Sectors.calls c.find_page.new.disk) c.loop-p.invariant.disk_faults c.loop-p.invariant.asks (asks_for _ _ _ _ c.in_err-frame.ensures.asks))
 
 pub returns-in_err-put_page-clause-asks : goal.returns-in_err-put_page-clause-asks
 returns-in_err-put_page-clause-asks g c =
     let h = err_from_is_err_and c.from_residual-in_err-put_page.result c.from_residual-in_err-put_page.ensures.1 in
-    asks_as ⊥ _ _ _ (λ e. not_disk _ h.0 h.1 h.2 e) (asks_as _ ⊥ _ _ (λ e. absurd e) (asks_twice ⊥ _ (tally g.D.Sectors.faults g.D.Sectors.calls c.args.disk.now) (tally g.D.Sectors.faults g.D.Sectors.calls c.loop-p.disk) (tally g.D.Sectors.faults g.D.Sectors.calls c.find_page.new.disk) c.loop-p.invariant.disk_faults c.loop-p.invariant.asks c.in_ok-frame.ensures.asks))
+    asks_as ⊥ _ _ _ (λ e. not_disk _ h.0 h.1 h.2 e) (asks_as _ ⊥ _ _ (λ e. absurd e) (asks_twice ⊥ _ (tally g.D.Sectors.faults g.D.Sectors.calls c.args.disk.now) (tally g.D.Sectors.faults g.D.Sectors.calls c.loop-p.disk) (tally g.D.Sectors.faults g.D.Sectors.calls c.find_page.new.disk) c.loop-p.invariant.disk_faults c.loop-p.invariant.asks (asks_for _ _ _ _ c.in_ok-frame.ensures.asks)))
