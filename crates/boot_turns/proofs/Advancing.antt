@@ -9,9 +9,10 @@ use Rattle.c0_meaning.specs.State.{State as C0}
 use Rattle.cvm_model.specs.Kernel.{Core, power_of}
 use Rattle.cvm_model.specs.Cvm.{System, Status, Running, Halted, Faulted, Cvm, Begin, Steps, Traps, Interrupts, begin}
 use Rattle.layer_contract.specs.Layer.{Rests}
-use Rattle.boot_turns.specs.TurnEnds.{Stood, Ahead}
+use Rattle.boot_turns.specs.TurnEnds.{Stood}
+use Rattle.boot_turns.specs.Ahead.{Ahead}
 use Rattle.boot_turns.specs.Completes.{note, Progress, Completed, WentOff, ShownAs, Skips, CompleteOk, CompleteErr, CompleteEnds}
-use Rattle.boot_turns.specs.Machines.{RowsGrow, RunMachines, MachinesRun}
+use Rattle.boot_turns.specs.RunMachines.{RowsGrow, RunMachines, MachinesRun}
 use Rattle.boot_turns.specs.Advances.{Advanced, StillGoes, Stops, Skipped, AdvanceEnds, AdvancesTyped}
 use Rattle.boot_turns.specs.declared.completion.Begun.{Begun}
 use Rattle.boot_turns.specs.declared.answers.RunFault.{RunFault}

@@ -9,7 +9,8 @@ use Rattle.mips_table.specs.Device.{Outside}
 use Rattle.mips_table.specs.Machine.{State, MODE, Coming, Interrupt, Done, interrupted, come_to, latched, ended, step, run}
 use Rattle.mips_table.specs.Turns.{is_on, in_user, handled, begins, rests, turn_of, complete}
 use Rattle.mips_machine.specs.Steps.{outside_of}
-use Rattle.boot_turns.specs.AnyTurns.{NoSooner, ComesTo, Came, BrokeOff, LoopsMakeTurns}
+use Rattle.boot_turns.specs.AnyTurns.{Came, BrokeOff, LoopsMakeTurns}
+use Rattle.boot_turns.specs.Sooner.{NoSooner, ComesTo}
 use Rattle.boot_turns.specs.Completes.{seen, Open, Progress, Completed, WentOff, Skips, CompleteOk, CompleteErr, CompleteEnds}
 use Rattle.boot_turns.specs.declared.completion.Begun.{Begun}
 use Rattle.boot_turns.specs.declared.answers.RunFault.{RunFault}

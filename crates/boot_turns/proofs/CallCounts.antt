@@ -1,13 +1,14 @@
 -- The calls of a disk along a run: what keeps up with two runs, one after the other, keeps up with both, where the first met no fault.
-use Rattle.std.proofs.Common.{◌≡◌, ℕ, ◌+◌, Bool, false, Result, Err, sym, ap, ap₂, ◌∙◌, subst, refl, arith}
+use Rattle.std.proofs.Common.{◌≡◌, ℕ, ◌+◌, Option, Some, Result, Err, sym, ap, ◌∙◌, subst, refl, arith}
 use Rattle.cvm_outside.specs.Numbering.{Tally}
 use Rattle.mips_machine.specs.Machine.{Held}
 use Rattle.sector_disk.specs.Ports.{Ports, called, CallsKeepUp, CallsWith}
-use Rattle.boot_report.specs.Leaves.{Asks}
 use Rattle.boot_report.proofs.Leaves.{called_behind}
 use Rattle.boot_turns.specs.declared.answers.RunFault.{RunFault}
 use Rattle.boot_turns.specs.declared.answers.RunFault.TheVariants.{Disk, Sink}
-use Rattle.boot_turns.specs.Steps.{StepCalls}
+use Rattle.boot_turns.specs.declared.tracer.Tracer.{Tracer}
+use Rattle.boot_turns.specs.Steps.{RowsAsk, StepCalls}
+use Rattle.boot_turns.specs.Tracing.{reads_of}
 
 -- where nothing is done no call is made
 pub calls_stay : (a : Ports) (n : Tally) → CallsWith 0 a a n n
@@ -34,33 +35,33 @@ calls_asked a b x y z n made same first asked = record {
   calls = asked ∙ called_behind made (n + first.made) x y same first.calls ∙ ap (λ k. called k x) (let q : ℕ = first.made in let e : made + (n + q) ≡ made + n + q = omega arith in e);
 }
 
-pub steps_stay : (t : Bool) (a : Held) (n : Tally) → StepCalls t a a n n
-steps_stay t a n = record { more = 0; none = λ e. refl; calls = calls_stay a.hardware.ports n }
+pub steps_stay : (a : Held) (k : Option Tracer) (n : Tally) → StepCalls a a k k n n
+steps_stay a k n = record { more = 0; read = omega arith; calls = calls_stay a.hardware.ports n }
 
-pub steps_join : (t u : Bool) (a b c : Held) (x y z : Tally) → u ≡ t → y.faults ≡ x.faults → StepCalls t a b x y → StepCalls u b c y z → StepCalls t a c x z
-steps_join t u a b c x y z is same first then = record {
+pub steps_join : (a b c : Held) (j k l : Option Tracer) (x y z : Tally) → y.faults ≡ x.faults → StepCalls a b j k x y → StepCalls b c k l y z → StepCalls a c j l x z
+steps_join a b c j k l x y z same first then = record {
   more = then.more + first.more;
-  none = λ e. ap₂ (λ p q. p + q) (then.none (is ∙ e)) (first.none e);
+  read = let f = first.read in let t = then.read in omega (arith, f, t);
   calls = calls_join a.hardware.ports b.hardware.ports c.hardware.ports x y z first.more then.more same first.calls then.calls;
 }
 
 -- a machine's step of which no rows are read
-pub step_alone : (t : Bool) (a b : Held) (x y : Tally) → CallsKeepUp a.hardware.ports b.hardware.ports x y → StepCalls t a b x y
-step_alone t a b x y k = record { more = 0; none = λ e. refl; calls = calls_keep a.hardware.ports b.hardware.ports x y k }
+pub step_alone : (a b : Held) (j k : Option Tracer) (x y : Tally) → reads_of k ≡ reads_of j → CallsKeepUp a.hardware.ports b.hardware.ports x y → StepCalls a b j k x y
+step_alone a b j k x y none calls = record { more = 0; read = omega (arith, none); calls = calls_keep a.hardware.ports b.hardware.ports x y calls }
 
 -- and one whose rows are read, of a machine that is the same but for what was viewed
-pub step_rows : {P : Type 0} (t : Bool) (a b c : Held) (x y z : Tally) → (t ≡ false → ⊥) → c.hardware.ports ≡ b.hardware.ports → y.faults ≡ x.faults →
-    CallsKeepUp a.hardware.ports b.hardware.ports x y → Asks P y z → StepCalls t a c x z
-step_rows t a b c x y z traced same_ports same k asks = record {
-  more = asks.made + 0;
-  none = λ e. absurd (traced e);
-  calls = subst (λ (p : Ports). CallsWith (asks.made + 0) a.hardware.ports p x z) (sym same_ports)
-      (calls_asked a.hardware.ports b.hardware.ports x y z 0 asks.made same (calls_keep a.hardware.ports b.hardware.ports x y k) asks.calls);
+pub step_rows : (a b c : Held) (o : Option Tracer) (k l : Tracer) (x y z : Tally) → o ≡ Some k → c.hardware.ports ≡ b.hardware.ports → y.faults ≡ x.faults →
+    CallsKeepUp a.hardware.ports b.hardware.ports x y → RowsAsk k l y z → StepCalls a c o (Some l) x z
+step_rows a b c o k l x y z traced same_ports same calls asks = record {
+  more = asks.more + 0;
+  read = let r = asks.read in let t : reads_of o ≡ k.reads = ap reads_of traced in omega (arith, r, t);
+  calls = subst (λ (p : Ports). CallsWith (asks.more + 0) a.hardware.ports p x z) (sym same_ports)
+      (calls_asked a.hardware.ports b.hardware.ports x y z 0 asks.more same (calls_keep a.hardware.ports b.hardware.ports x y calls) asks.calls);
 }
 
 -- the calls of steps to a machine with the same ports
-pub steps_ports : (t : Bool) (a b c : Held) (x y : Tally) → c.hardware.ports ≡ b.hardware.ports → StepCalls t a b x y → StepCalls t a c x y
-steps_ports t a b c x y same k = record { more = k.more; none = k.none; calls = subst (λ (p : Ports). CallsWith k.more a.hardware.ports p x y) (sym same) k.calls }
+pub steps_ports : (a b c : Held) (j k : Option Tracer) (x y : Tally) → c.hardware.ports ≡ b.hardware.ports → StepCalls a b j k x y → StepCalls a c j k x y
+steps_ports a b c j k x y same calls = record { more = calls.more; read = calls.read; calls = subst (λ (p : Ports). CallsWith calls.more a.hardware.ports p x y) (sym same) calls.calls }
 
 -- a fault of the sink is none of the disk
 pub sink_alone : {T : Type 0} (r : Result T RunFault) (f : RunFault) → r ≡ Err f → f ≡ Sink → r ≡ Err Disk → ⊥

@@ -14,7 +14,7 @@ use Rattle.layer_contract.specs.declared.registers.TheConstants.{RETURN}
 use Rattle.layer_contract.specs.Layer.{Inside, entry_address}
 use Rattle.layer_contract.specs.Calls.{under_way, ends_here, ended_before, is_busy, entered_before, EndsCall, KernelCalled, CallsFollow}
 use Rattle.boot_turns.specs.declared.tracer.Entered.{Entered}
-use Rattle.boot_turns.specs.Entries.{entry_note, noted_at, notes_on, noted_call}
+use Rattle.boot_turns.specs.Returns.{entry_note, noted_at, notes_on, noted_call}
 use Rattle.boot_turns.proofs.Stepping.{is_on_of}
 use Rattle.boot_turns.proofs.Stretches.{later}
 use Rattle.boot_turns.proofs.Entering.{all_true, is_at}

@@ -16,10 +16,13 @@ use Rattle.mips_machine.specs.Machine.{Held, state_of}
 use Rattle.cvm_model.specs.Paged.{paged_of}
 use Rattle.boot_report.specs.Texts.{EntriesFit, SameButViewed}
 use Rattle.boot_report.specs.Told.{user_word, WordsAreTold}
+use Rattle.boot_report.specs.Resident.{word_reads}
 use Rattle.boot_turns.specs.declared.tracer.Tracer.{Tracer}
 use Rattle.boot_turns.specs.JournalText.{steps_after}
-use Rattle.boot_turns.specs.Copies.{user_words, copy_rows, steps_left}
+use Rattle.boot_turns.specs.Copies.{user_words, copy_rows, copied_kept, steps_left}
+use Rattle.boot_turns.specs.Returns.{words_read}
 use Rattle.boot_turns.proofs.JournalRows.{more}
+use Rattle.boot_turns.proofs.Reading.{next_read}
 
 -- one word more is put
 puts_one : (address : ℕ) (ws : List ℕ) (w : ℕ) → puts address (ws ++ w ∷ []) ≡ puts address ws ++ Put (address + 4 * length ws) w ∷ []
@@ -27,6 +30,16 @@ puts_one address [] w = let e : address ≡ address + 0 = omega arith in ap (λ 
 puts_one address (v ∷ ws) w =
     let e : address + 4 + 4 * length ws ≡ address + 4 * suc (length ws) = omega arith in
     ap (λ r. Put address v ∷ r) (puts_one (address + 4) ws w ∙ ap (λ a. puts (address + 4) ws ++ Put a w ∷ []) e)
+
+-- the puts of the first words are the first of all puts
+pub puts_first : (i address : ℕ) (ws : List ℕ) → puts address (take i ws) ≡ take i (puts address ws)
+puts_first zero address ws = refl
+puts_first (suc i) address [] = refl
+puts_first (suc i) address (w ∷ ws) = ap (λ r. Put address w ∷ r) (puts_first i (address + 4) ws)
+
+pub puts_length : (address : ℕ) (ws : List ℕ) → length (puts address ws) ≡ length ws
+puts_length address [] = refl
+puts_length address (w ∷ ws) = ap suc (puts_length (address + 4) ws)
 
 length_one : (ws : List ℕ) (w : ℕ) → length (ws ++ w ∷ []) ≡ suc (length ws)
 length_one [] w = refl
@@ -119,9 +132,15 @@ module _ (m : Map) (a : Paged) (u steps address : ℕ) where
 pub left_none : (steps i : ℕ) → steps_left steps (i + 1) ≡ 0
 left_none steps i = cond-false (i + 1 == 0) steps 0 (ne_eqb (i + 1) 0 (λ e. absurd (omega (arith, e))))
 
--- the tracer after one put more
-pub put_tracer : (old now new : Tracer) (i : ℕ) → now ≡ record old { steps = steps_left old.steps i } → new ≡ record now { steps = 0 } → new ≡ record old { steps = steps_left old.steps (i + 1) }
-put_tracer old now new i before is = is ∙ ap (λ (t : Tracer). record t { steps = 0 }) before ∙ ap (λ (n : ℕ). record old { steps = n }) (sym (left_none old.steps i))
+-- the tracer after one put more, for which the word was read
+pub put_tracer : (m : Map) (s : State) (address : ℕ) (old now mid new : Tracer) (i : ℕ) → now ≡ copied_kept m s old address i → mid ≡ record now { reads = now.reads + word_reads m s old.user (address / 4 + i) } → new ≡ record mid { steps = 0 } →
+    new ≡ copied_kept m s old address (i + 1)
+put_tracer m s address old now mid new i before counts is =
+    is ∙ ap (λ (t : Tracer). record t { steps = 0 }) counts ∙ ap (λ (t : Tracer). record t { steps = 0; reads = t.reads + word_reads m s old.user (address / 4 + i) }) before
+    ∙ ap₂ (λ (n r : ℕ). record old { steps = n; reads = r }) (sym (left_none old.steps i)) (sum ∙ ap (λ r. old.reads + r) (sym (next_read m s old.user (address / 4) i)))
+  where
+    sum : old.reads + words_read m s old.user (address / 4) i + word_reads m s old.user (address / 4 + i) ≡ old.reads + (words_read m s old.user (address / 4) i + word_reads m s old.user (address / 4 + i))
+    sum = omega arith
 
 -- what is viewed is not part of the state
 pub state_same : (old new : Held) (ss : List (List ℕ)) → SameButViewed old new → state_of new ss ≡ state_of old ss

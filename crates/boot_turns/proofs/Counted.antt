@@ -21,9 +21,10 @@ use Rattle.boot_turns.specs.declared.completion.Stepped.{Stepped}
 use Rattle.boot_turns.specs.declared.tracer.Entered.{Entered}
 use Rattle.boot_turns.specs.declared.tracer.Tracer.{Tracer}
 use Rattle.boot_turns.specs.Completes.{seen, note}
-use Rattle.boot_turns.specs.Entries.{entry_note, noted_at, notes_on, turn_begins, TracesGrow}
+use Rattle.boot_turns.specs.Entries.{turn_begins, TracesGrow}
+use Rattle.boot_turns.specs.Returns.{entry_note, noted_at, notes_on}
 use Rattle.boot_turns.specs.JournalText.{steps_after, RowsFollow}
-use Rattle.boot_turns.specs.Tracing.{CanTrace, counted, followed, kept_after}
+use Rattle.boot_turns.specs.Tracing.{CanTrace, counted, followed, kept_after, reads_of}
 use Rattle.boot_turns.specs.TraceSteps.{StepTraces}
 use Rattle.boot_turns.proofs.Entering.{is_at}
 use Rattle.boot_turns.proofs.Tracking.{step_goes, step_untraced}
@@ -35,6 +36,7 @@ counted_can m words time count current (Some k) h = record {
   some = h.some;
   user = h.user;
   few = by (current == k.user);
+  read = let r = h.read in omega (arith, r);
   pages = h.pages;
   memory = h.memory;
   small = h.small;
@@ -49,6 +51,11 @@ counted_can m words time count current (Some k) h = record {
 pub counted_user : (current : ℕ) (o : Option Tracer) → option_map (λ k. k.user) (option_map (counted current) o) ≡ option_map (λ k. k.user) o
 counted_user current None = refl
 counted_user current (Some k) = refl
+
+-- and no word is read
+pub counted_reads : (current : ℕ) (o : Option Tracer) → reads_of (option_map (counted current) o) ≡ reads_of o
+counted_reads current None = refl
+counted_reads current (Some k) = refl
 
 -- in user mode no primitive is entered
 no_entry : (n : ℕ) (s : State) → slice_index s.special MODE ≡ 1 → noted_at n s ≡ None
@@ -74,15 +81,18 @@ one_more : (n : ℕ) (b : Bool) → steps_after n (if b then Untrapped ∷ [] el
 one_more n true = refl
 one_more n false = refl
 
-abbrev tracer_of : ℕ → ℕ → Option Entered → Tracer
-tracer_of u n c = record { user = u; steps = n; call = c }
+abbrev tracer_of : ℕ → ℕ → Option Entered → ℕ → Tracer
+tracer_of u n c r = record { user = u; steps = n; call = c; reads = r }
 
 module _ (s : State) (k : Tracer) (current : ℕ) (words : List ℕ) (user : slice_index s.special MODE ≡ 1) (free : k.call ≡ None) where
   pub counted_rows : journal_rows_after false k.steps (followed s k current true words) ≡ []
   counted_rows = ap (journal_rows_after false k.steps) (begins_as s k.user current user) ∙ no_rows k.steps (current == k.user)
 
-  pub counted_kept : counted current k ≡ kept_after s k current true words
-  counted_kept = ap₂ (λ (n : ℕ) (c : Option Entered). tracer_of k.user n c) (sym counted_steps) called
+  pub counted_kept : (m : Map) → counted current k ≡ kept_after m s k current true words
+  counted_kept m =
+      let none : k.reads ≡ k.reads + 0 = omega arith in
+      ap₂ (λ (n : ℕ) (c : Option Entered). tracer_of k.user n c k.reads) (sym counted_steps) called
+      ∙ ap (tracer_of k.user (steps_after k.steps (followed s k current true words)) (notes_on s k.call)) none
     where
       counted_steps : steps_after k.steps (followed s k current true words) ≡ (if current == k.user then k.steps + 1 else k.steps)
       counted_steps = ap (steps_after k.steps) (begins_as s k.user current user) ∙ one_more k.steps (current == k.user)
@@ -100,4 +110,4 @@ step_counted grow f tell x m held told (Some k) after text on mid midtold ran cu
     subst (λ (t : Option Tracer). StepTraces x m held mid told midtold (Some k) t text text (Ok stepped)) (sym counts)
     (step_goes grow f tell x m held told k text on mid mid midtold midtold refl ran current is true began stepped (Some k) (counted current k) text refl
     (λ ss words e t. sym (ap (append_known text) (counted_rows (state_of mid ss) k current words user free) ∙ append_known-nil text))
-    (λ ss words e t. counted_kept (state_of mid ss) k current words user free))
+    (λ ss words e t. counted_kept (state_of mid ss) k current words user free m))

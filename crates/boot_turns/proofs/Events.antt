@@ -14,7 +14,8 @@ use Rattle.mips_machine.specs.declared.event.Event.TheVariants.{Ran, Taken, Off,
 use Rattle.mips_machine.specs.Hardware.{told_as, event_by}
 use Rattle.mips_machine.specs.Machine.{Held, state_of}
 use Rattle.mips_machine.specs.Steps.{outside_of, event_if, event_of, before_count, after_step, Steps, Fails}
-use Rattle.boot_turns.specs.Completes.{seen, was_off, was_taken, begun_at, TornBy, Torn, StepTorn, SeenTorn, PortsStepped, SeenPorts}
+use Rattle.boot_turns.specs.Completes.{seen, was_off, was_taken, begun_at, StepTorn, SeenTorn, PortsStepped, SeenPorts}
+use Rattle.boot_turns.specs.Torn.{TornBy, Torn}
 use Rattle.boot_turns.proofs.Stepping.{on_time, instruction, Plain, instruction_plain}
 
 -- by the event as a whole

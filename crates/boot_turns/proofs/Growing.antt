@@ -11,7 +11,7 @@ use Rattle.cvm_model.specs.Primitives.{user_of}
 use Rattle.cvm_model.specs.Kernel.{Core, DispatchOutcome, End, Answers, Faults, NotYet}
 use Rattle.cvm_model.specs.Cvm.{System, Running, Cvm, IsCvm, Begin, Steps, Traps, Interrupts, begin, user_step, begun, next_of, core_of, after_dispatch, dispatch_of, turn, turn_by, cvm}
 use Rattle.mips_table.specs.Machine.{State}
-use Rattle.boot_turns.specs.Machines.{RowAdded, RowsGrow, TurnRows, UserStays}
+use Rattle.boot_turns.specs.RunMachines.{RowAdded, RowsGrow, TurnRows, UserStays}
 use Rattle.boot_turns.proofs.Units.{one_cvm}
 use Rattle.boot_turns.proofs.Turning.{Given}
 

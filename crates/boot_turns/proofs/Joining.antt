@@ -10,13 +10,14 @@ use Rattle.cvm_model.specs.Kernel.{power_of}
 use Rattle.cvm_model.specs.Cvm.{System, Status, Running, Halted, Faulted, Cvm, begin}
 use Rattle.layer_contract.specs.Layer.{Rests}
 use Rattle.boot_turns.specs.declared.completion.Begun.{Begun}
-use Rattle.boot_turns.specs.TurnEnds.{Stood, Ahead}
+use Rattle.boot_turns.specs.TurnEnds.{Stood}
+use Rattle.boot_turns.specs.Ahead.{Ahead}
 use Rattle.boot_turns.specs.Completes.{note, ShownAs, Progress, Completed}
 use Rattle.boot_turns.proofs.Stepping.{both_right, user_rests, off_rests}
 use Rattle.boot_turns.proofs.Counting.{turn_more, turn_grows, completes_at}
 use Rattle.boot_turns.proofs.Turning.{on_back, Given, Turns, Waits, begin_turn, turn_ahead}
 use Rattle.boot_turns.proofs.Whole.{forward}
-use Rattle.boot_turns.specs.Machines.{TurnFound, TurnGoesOn, TurnShows}
+use Rattle.boot_turns.specs.RunMachines.{TurnFound, TurnGoesOn, TurnShows}
 
 true_false : (b : Bool) → b ≡ true → b ≡ false → ⊥
 true_false b e f = cc

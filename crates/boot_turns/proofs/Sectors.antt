@@ -5,7 +5,7 @@ use Rattle.mips_table.specs.Machine.{State}
 use Rattle.mips_table.specs.Fits.{NamesSector}
 use Rattle.mips_machine.specs.Steps.{before_count}
 use Rattle.layer_contract.specs.Layer.{due}
-use Rattle.boot_turns.specs.Completes.{TornBy, Torn}
+use Rattle.boot_turns.specs.Torn.{TornBy, Torn}
 
 -- what the transfer of a command leaves past the sectors that it may name
 torn_by : (n : ℕ) (p : Pending) (old now : List (List ℕ)) → NamesSector n p → TornBy p old now → (q : ℕ) → n ≤ q → sector_of now q ≡ sector_of old q

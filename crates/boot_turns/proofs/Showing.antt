@@ -24,7 +24,8 @@ use Rattle.boot_turns.specs.Completes.{note, ShownAs}
 use Rattle.boot_turns.specs.Trace.{ended_at_begin, ended_since, Shown}
 use Rattle.boot_turns.specs.TurnEnds.{Stood}
 use Rattle.boot_turns.specs.declared.tracer.Entered.{Entered}
-use Rattle.boot_turns.specs.Entries.{IsPlaced, noted_call, turn_begins, call_ends, returned, return_entries, WordsAt, HasRows, ShowsMore, TraceGrows}
+use Rattle.boot_turns.specs.Entries.{IsPlaced, turn_begins, call_ends, return_entries, WordsAt, HasRows, ShowsMore, TraceGrows}
+use Rattle.boot_turns.specs.Returns.{noted_call, returned}
 use Rattle.boot_turns.proofs.Stepping.{both_right, inside_begins, inside_rests, user_rests}
 use Rattle.boot_turns.proofs.Entering.{entered_none, entered_user, entered_off, not_system}
 use Rattle.boot_turns.proofs.Counting.{turn_same, turn_more, still, completes}

@@ -1,11 +1,11 @@
 -- What the loop has printed of a trace: what one step adds to it, where the step or its rows fail, and how far it is at each step of the loop.
-use Rattle.std.proofs.Common.{◌≡◌, ℕ, suc, ◌+◌, ◌≤◌, inl, inr, Bool, true, Option, Some, None, Result, Ok, Err, List, [], ◌++◌, length, take, slice_index, refl, sym, ap, ◌∙◌, subst, subst₂, arith, append_assoc}
+use Rattle.std.proofs.Common.{◌≡◌, ℕ, suc, ◌+◌, ◌/◌, ◌<◌, ◌≤◌, inl, inr, Bool, true, Option, Some, None, Result, Ok, Err, List, [], ◌++◌, length, take, slice_index, refl, sym, ap, ap₂, ◌∙◌, subst, subst₂, length-append, arith}
 use Rattle.std.specs.Prelude.{IfSome, MatchResult, false}
 use Rattle.std.specs.Option.{option_map}
 use Rattle.std.specs.Io.KnownBytes.{append_known}
 use Rattle.std.proofs.Math.Seq.{take-append-add, take-append_seam}
 use Rattle.cvm_outside.specs.Told.{AppendsPart}
-use Rattle.cvm_outside.proofs.Parts.{puts-both, part-front}
+use Rattle.cvm_outside.proofs.Parts.{puts-both}
 use Rattle.mips_table.specs.Device.{Outside}
 use Rattle.mips_table.specs.Machine.{State, run, step}
 use Rattle.mips_table.specs.Turns.{begins, rests}
@@ -15,8 +15,9 @@ use Rattle.layer_map.specs.Map.{Map, MapInRange, current_at}
 use Rattle.c0_tree.specs.Tree.{CUnit}
 use Rattle.c0_meaning.specs.TypedState.{IsTypedState}
 use Rattle.cvm_model.specs.Kernel.{JournalEntry}
-use Rattle.cvm_model.specs.Cvm.{System, Running}
-use Rattle.cvm_model.specs.Text.{steps_row, journal_rows, open_journal_rows, journal_rows_after}
+use Rattle.cvm_model.specs.Cvm.{System, Running, map_of}
+use Rattle.cvm_model.specs.Text.{open_journal_rows, journal_rows_after}
+use Rattle.layer_contract.specs.declared.registers.TheConstants.{ANSWER}
 use Rattle.layer_contract.specs.Follows.{site_of}
 use Rattle.boot_report.specs.Told.{WordsAreTold, WordsTell}
 use Rattle.boot_turns.specs.declared.completion.Begun.{Begun}
@@ -28,91 +29,110 @@ use Rattle.boot_turns.specs.declared.answers.RunFault.TheVariants.{StepLimit, Di
 use Rattle.boot_turns.specs.Completes.{seen, SeenTorn, StepTorn}
 use Rattle.boot_turns.specs.Premises.{StartsFrom}
 use Rattle.boot_turns.specs.TurnEnds.{Prefix}
-use Rattle.boot_turns.specs.Entries.{noted_call, notes_on, returned, step_entries, WordsAt, ShowsMore, HasRows, CopyEnds, CopyReturns, TracesGrow}
+use Rattle.boot_turns.specs.Entries.{call_ends, IsPlaced, step_entries, WordsAt, ShowsMore, HasRows, TracesGrow}
+use Rattle.boot_turns.specs.Returns.{noted_call, notes_on, returned, copy_reads, reads_before, IsCopyTo}
+use Rattle.boot_turns.specs.Copies.{FollowFails}
 use Rattle.boot_turns.specs.JournalText.{steps_after, pending_steps, RowsFollow}
-use Rattle.boot_turns.specs.Tracing.{followed, ReturnTold, tracer_at, Traced, RowsTorn, RowsCut, TracedOn, TraceStops, Tracing, TraceRuns}
+use Rattle.boot_turns.specs.Tracing.{followed, followed_reads, kept_after, reads_of, ReturnTold, tracer_at, Traced, RowsTorn, RowsCut, TracedOn, TraceStops, Tracing, TraceRuns}
 use Rattle.boot_turns.specs.TraceSteps.{StepStops, StepTraces}
 use Rattle.boot_turns.proofs.Events.{told_as_some, step_torn}
 use Rattle.boot_turns.proofs.Opening.{seen_more}
+use Rattle.boot_turns.proofs.Reading.{reads_seen}
+use Rattle.boot_turns.proofs.Followed.{call_returned, copied_length, first_rows}
 
 -- THE ROWS: those of the entries d follow those of j
 module _ (f : RowsFollow) (base text : Option (List ℕ)) (j d : List JournalEntry) (is : text ≡ append_known base (open_journal_rows j)) where
   rows_done : (retext : Option (List ℕ)) → retext ≡ append_known text (journal_rows_after false (pending_steps j) d) → retext ≡ append_known base (open_journal_rows (j ++ d))
   rows_done retext h = puts-both base text retext (open_journal_rows j) (journal_rows_after false (pending_steps j) d) is h ∙ ap (λ r. append_known base r) (sym (f.more j d))
 
-  whole_is : journal_rows (j ++ d) ≡ open_journal_rows j ++ (journal_rows_after false (pending_steps j) d ++ steps_row (pending_steps (j ++ d)))
-  whole_is =
-      f.end (j ++ d) ∙ ap (λ r. r ++ steps_row (pending_steps (j ++ d))) (f.more j d)
-      ∙ append_assoc (open_journal_rows j) (journal_rows_after false (pending_steps j) d) (steps_row (pending_steps (j ++ d)))
+  -- or the first of them alone
+  rows_first : (retext : Option (List ℕ)) (i : ℕ) → retext ≡ append_known text (journal_rows_after false (pending_steps j) (take i d)) → retext ≡ append_known base (open_journal_rows (take (length j + i) (j ++ d)))
+  rows_first retext i h =
+      puts-both base text retext (open_journal_rows j) (journal_rows_after false (pending_steps j) (take i d)) is h
+      ∙ ap (append_known base) (sym (f.more j (take i d)) ∙ ap (λ (l : List JournalEntry). open_journal_rows l) (sym (take-append-add j d i)))
 
-  -- where a part of them was put, a part of the whole stands
-  rows_torn : (retext : Option (List ℕ)) → AppendsPart text retext (journal_rows_after false (pending_steps j) d) →
-      (rows : List ℕ) × Prefix (open_journal_rows j) (journal_rows (j ++ d)) rows × (retext ≡ append_known base rows)
-  rows_torn retext part =
-      let rest : List ℕ = journal_rows_after false (pending_steps j) d ++ steps_row (pending_steps (j ++ d)) in
-      let p = part-front text retext (journal_rows_after false (pending_steps j) d) (steps_row (pending_steps (j ++ d))) part in (
-        open_journal_rows j ++ take p.0 rest,
-        record {
-          count = length (open_journal_rows j) + p.0;
-          is = sym (ap (take (length (open_journal_rows j) + p.0)) whole_is ∙ take-append-add (open_journal_rows j) rest p.0);
-          holds = take-append_seam (open_journal_rows j) (take p.0 rest);
-        },
-        puts-both base text retext (open_journal_rows j) (take p.0 rest) is p.1,
-      )
-
+  -- or a part of them was put
   rows_cut : (retext : Option (List ℕ)) → AppendsPart text retext (journal_rows_after false (pending_steps j) d) →
-      (rows : List ℕ) × Prefix [] (open_journal_rows (j ++ d)) rows × (retext ≡ append_known base rows)
+      (rows : List ℕ) × Prefix (open_journal_rows j) (open_journal_rows (j ++ d)) rows × (retext ≡ append_known base rows)
   rows_cut retext part =
       let rest : List ℕ = journal_rows_after false (pending_steps j) d in (
         open_journal_rows j ++ take part.0 rest,
         record {
           count = length (open_journal_rows j) + part.0;
           is = sym (ap (take (length (open_journal_rows j) + part.0)) (f.more j d) ∙ take-append-add (open_journal_rows j) rest part.0);
-          holds = refl;
+          holds = take-append_seam (open_journal_rows j) (take part.0 rest);
         },
         puts-both base text retext (open_journal_rows j) (take part.0 rest) is part.1,
       )
 
-abbrev tracer_of : ℕ → ℕ → Option Entered → Tracer
-tracer_of u n c = record { user = u; steps = n; call = c }
+abbrev tracer_of : ℕ → ℕ → Option Entered → ℕ → Tracer
+tracer_of u n c r = record { user = u; steps = n; call = c; reads = r }
 
 -- ONE STEP of the run, of which j was shown before it
 module _ (f : RowsFollow) (x : Outside) (y : System) (s : State) (u t : ℕ) (base text : Option (List ℕ)) (kept : Option Tracer) (w : Traced x y s u t base kept text) (more : ShowsMore x y s u t w.journal) where
   abbrev entries : List JournalEntry
   entries = step_entries x s u t more.words
 
-  step_torn_rows : (now : Option State) → SeenTorn x (run x s t) now → RowsTorn x y s u t base now text
-  step_torn_rows now torn = inl (record { before = w.journal; shown_before = w.shown; torn = torn; printed = w.printed })
+  step_torn_rows : (now : Option State) → SeenTorn x (run x s t) now → RowsTorn x y s u t (reads_of kept) base now text
+  step_torn_rows now torn = inl (record { before = w.journal; shown_before = w.shown; torn = torn; read = ap reads_of w.keeps; printed = w.printed })
 
-  rows_torn_rows : (now : Option State) → now ≡ Some (run x s (suc t)) → CopyReturns x s u t → (retext : Option (List ℕ)) → AppendsPart text retext (journal_rows_after false (pending_steps w.journal) entries) → RowsTorn x y s u t base now retext
-  rows_torn_rows now done copy retext part =
-      let r = rows_torn f base text w.journal entries w.printed retext part in
-      inr (record { copy = copy; done = done; before = w.journal; after = w.journal ++ entries; shown_before = w.shown; shown_after = more.shown; rows = r.0; part = r.1; printed = r.2 })
+  rows_torn_rows : (now : Option State) → now ≡ Some (run x s (suc t)) → begins x (run x s t) ≡ false → (call : Entered) → returned (run x s (suc t)) (noted_call x s t) ≡ Some call →
+      IsCopyTo u call (slice_index (run x s (suc t)).cpu.regs ANSWER) → (i n : ℕ) → i < length entries →
+      copy_reads (map_of y.boot) (run x s (suc t)) u call i < copy_reads (map_of y.boot) (run x s (suc t)) u call (suc i) →
+      n ≡ reads_before x (map_of y.boot) s u t + copy_reads (map_of y.boot) (run x s (suc t)) u call (suc i) →
+      (retext : Option (List ℕ)) → retext ≡ append_known text (journal_rows_after false (pending_steps w.journal) (take i entries)) → RowsTorn x y s u t n base now retext
+  rows_torn_rows now done none call returns copy i n less away read retext h =
+      let long = length-append w.journal entries in
+      inr (record {
+        copy = record { goes_on = none; ends = record { call = call; returns = returns; copy = copy } };
+        done = done;
+        before = w.journal;
+        after = w.journal ++ entries;
+        shown_before = w.shown;
+        shown_after = more.shown;
+        words = i;
+        less = omega (arith, long, less);
+        away = away;
+        read = read;
+        printed = rows_first f base text w.journal entries w.printed retext i h;
+      })
 
-  step_cut_rows : rests (run x s (suc t)) ≡ false → (retext : Option (List ℕ)) → AppendsPart text retext (journal_rows_after false (pending_steps w.journal) entries) → RowsCut x y s u (suc t) base retext
+  step_cut_rows : rests (run x s (suc t)) ≡ false → (retext : Option (List ℕ)) → AppendsPart text retext (journal_rows_after false (pending_steps w.journal) entries) → RowsCut x y s u t base retext
   step_cut_rows busy retext part =
       let r = rows_cut f base text w.journal entries w.printed retext part in
-      record { busy = busy; after = w.journal ++ entries; shown_after = more.shown; rows = r.0; part = r.1; printed = r.2 }
+      record { busy = busy; before = w.journal; after = w.journal ++ entries; shown_before = w.shown; shown_after = more.shown; rows = r.0; part = r.1; printed = r.2 }
 
   step_done_rows : (retext : Option (List ℕ)) (after : Tracer) → retext ≡ append_known text (journal_rows_after false (pending_steps w.journal) entries) →
-      after ≡ tracer_of u (steps_after (pending_steps w.journal) entries) (notes_on (run x s (suc t)) (noted_call x s t)) → Traced x y s u (suc t) base (Some after) retext
+      after ≡ tracer_of u (steps_after (pending_steps w.journal) entries) (notes_on (run x s (suc t)) (noted_call x s t)) (reads_before x (map_of y.boot) s u (suc t)) → Traced x y s u (suc t) base (Some after) retext
   step_done_rows retext after h is =
       let c : Option Entered = notes_on (run x s (suc t)) (noted_call x s t) in
-      let counted : ◌≡◌ {A = Option Tracer} (Some (tracer_of u (steps_after (pending_steps w.journal) entries) c)) (Some (tracer_of u (pending_steps (w.journal ++ entries)) c)) =
-      ap (λ (n : ℕ). Some (tracer_of u n c)) (sym (f.count w.journal entries)) in
+      let r : ℕ = reads_before x (map_of y.boot) s u (suc t) in
+      let counted : ◌≡◌ {A = Option Tracer} (Some (tracer_of u (steps_after (pending_steps w.journal) entries) c r)) (Some (tracer_of u (pending_steps (w.journal ++ entries)) c r)) =
+      ap (λ (n : ℕ). Some (tracer_of u n c r)) (sym (f.count w.journal entries)) in
       record { journal = w.journal ++ entries; shown = more.shown; keeps = ap (λ (k : Tracer). Some k) is ∙ counted; printed = rows_done f base text w.journal entries w.printed retext h }
 
 -- what is followed are the entries of the step
-followed_is : (x : Outside) (y : System) (s : State) (u t : ℕ) (j : List JournalEntry) (k : Tracer) → k ≡ tracer_at x s u t j → (now : State) → now ≡ run x s (suc t) →
+followed_is : (x : Outside) (y : System) (s : State) (u t : ℕ) (j : List JournalEntry) (k : Tracer) → k ≡ tracer_at x y s u t j → (now : State) → now ≡ run x s (suc t) →
     (current : ℕ) → current ≡ slice_index (run x s t).memory current_at → (began : Bool) → began ≡ begins x (run x s t) → (words : List ℕ) → followed now k current began words ≡ step_entries x s u t words
 followed_is x y s u t j k hk now hn current hc began hb words =
-    let k' : Tracer = tracer_at x s u t j in
+    let k' : Tracer = tracer_at x y s u t j in
     let z : State = run x s (suc t) in
     let e : ℕ = slice_index (run x s t).memory current_at in
     ap (λ (k : Tracer). followed now k current began words) hk
     ∙ ap (λ (n : State). followed n k' current began words) hn
     ∙ ap (λ (c : ℕ). followed z k' c began words) hc
     ∙ ap (λ (b : Bool). followed z k' e b words) hb
+
+-- and its words that are read from the disk are those of what is followed
+reads_is : (x : Outside) (y : System) (s : State) (u t : ℕ) (j : List JournalEntry) (m : Map) → m ≡ map_of y.boot → (k : Tracer) → k ≡ tracer_at x y s u t j → (now : State) → now ≡ run x s (suc t) →
+    (began : Bool) → began ≡ begins x (run x s t) → k.reads + followed_reads m now k began ≡ reads_before x (map_of y.boot) s u (suc t)
+reads_is x y s u t j m hm k hk now hn began hb =
+    let k' : Tracer = tracer_at x y s u t j in
+    let z : State = run x s (suc t) in
+    ap (λ (k : Tracer). k.reads + followed_reads m now k began) hk
+    ∙ ap (λ (n : State). k'.reads + followed_reads m n k' began) hn
+    ∙ ap (λ (m : Map). k'.reads + followed_reads m z k' began) hm
+    ∙ ap (λ (b : Bool). k'.reads + followed_reads (map_of y.boot) z k' b) hb
 
 -- where a primitive returns, the words that are shown are told
 words_told : (x : Outside) (y : System) → WordsTell → MapInRange (site_of y.boot).map → (u : ℕ) → 1 ≤ u → u ≤ length y.boot.users → (held : Held) (ss : List (List ℕ)) (words : List ℕ) (o : Option Entered) →
@@ -142,17 +162,17 @@ pub record Booted (x : Outside) (m : Map) (now : Option State) (kept : Option Tr
 
 -- the clause on a step is of each such run
 pub each_step : (x : Outside) (m : Map) (held new : Held) (told retold : Option (List (List ℕ))) (before after : Option Tracer) (text retext : Option (List ℕ)) (result : Result Stepped RunFault) →
-    ((b : Booted x m (seen told held) before text) → MatchResult result (λ _. Traced x b.y b.s b.u (suc b.t) b.base after retext) (StepStops x b.y b.s b.u b.t b.base (seen retold new) retext)) →
+    ((b : Booted x m (seen told held) before text) → MatchResult result (λ _. Traced x b.y b.s b.u (suc b.t) b.base after retext) (StepStops x b.y b.s b.u b.t b.base (seen retold new) after retext)) →
     StepTraces x m held new told retold before after text retext result
 each_step x m held new told retold before after text retext result f = λ unit y s late limit u t base from map_is low high at traced.
     f (record { unit = unit; y = y; s = s; late = late; held = limit; u = u; t = t; base = base; from = from; map_is = map_is; low = low; high = high; at = at; traced = traced })
 
--- what a machine shows of a copy that returns doesn't look at its sectors
-copy_seen : (held : Held) (ss : List (List ℕ)) (u : ℕ) (noted : Option Entered) → CopyEnds u (state_of held []) noted → CopyEnds u (state_of held ss) noted
-copy_seen held ss u None c = record { call = c.call; returns = c.returns; copy = c.copy }
-copy_seen held ss u (Some e) c = record { call = c.call; returns = c.returns; copy = c.copy }
+-- which primitive returns is told by the memory alone, whatever the sectors hold
+returned_seen : (held : Held) (ss : List (List ℕ)) (noted : Option Entered) → returned (state_of held ss) noted ≡ returned (state_of held []) noted
+returned_seen held ss None = refl
+returned_seen held ss (Some e) = refl
 
--- nor does whether a step has rows
+-- and so is whether a step has rows
 rows_seen : (held : Held) (ss : List (List ℕ)) (noted : Option Entered) (began : Bool) → HasRows (state_of held []) noted began → HasRows (state_of held ss) noted began
 rows_seen held ss noted true h = h
 rows_seen held ss None false h = h
@@ -172,13 +192,13 @@ module _ (grow : (c : CUnit) → TracesGrow (IsTypedState c)) (f : RowsFollow) (
       let is_on : (run x b.s b.t).off ≡ None = ap (λ (s : State). s.off) (sym w.2) ∙ on in
       (grow b.unit x b.y b.s b.late b.held b.u b.from b.low b.high).more b.t b.traced.journal is_on b.traced.shown
 
-  keeps_at : (b : Here) → k ≡ tracer_at x b.s b.u b.t b.traced.journal
-  keeps_at b = same_some k (tracer_at x b.s b.u b.t b.traced.journal) b.traced.keeps
+  keeps_at : (b : Here) → k ≡ tracer_at x b.y b.s b.u b.t b.traced.journal
+  keeps_at b = same_some k (tracer_at x b.y b.s b.u b.t b.traced.journal) b.traced.keeps
 
   -- the disk failed in the step
-  step_fails : (new : Held) (retold : Option (List (List ℕ))) (before after : Option Tracer) (result : Result Stepped RunFault) (e : RunFault) → before ≡ Some k → result ≡ Err e → e ≡ Disk →
-      ((b : Here) → SeenTorn x (run x b.s b.t) (seen retold new)) → StepTraces x m held new told retold before after text text result
-  step_fails new retold before after result e hb hr he torn = rw (hb, hr, he) (each_step x m held new told retold (Some k) after text text (Err Disk) (λ (b : Here).
+  step_fails : (new : Held) (retold : Option (List (List ℕ))) (result : Result Stepped RunFault) (e : RunFault) → result ≡ Err e → e ≡ Disk →
+      ((b : Here) → SeenTorn x (run x b.s b.t) (seen retold new)) → StepTraces x m held new told retold (Some k) (Some k) text text result
+  step_fails new retold result e hr he torn = rw (hr, he) (each_step x m held new told retold (Some k) (Some k) text text (Err Disk) (λ (b : Here).
       step_torn_rows f x b.y b.s b.u b.t b.base text (Some k) b.traced (more_at b) (seen retold new) (torn b)))
 
   -- the step was done
@@ -187,12 +207,18 @@ module _ (grow : (c : CUnit) → TracesGrow (IsTypedState c)) (f : RowsFollow) (
     told_at : (b : Here) → (ss : List (List ℕ)) × (midtold ≡ Some ss) × (state_of mid ss ≡ run x b.s (suc b.t))
     told_at b = told_as_some midtold mid (run x b.s (suc b.t)) (seen_more x (seen told held) (seen midtold mid) (run x b.s b.t) ran b.at)
 
+    begun_at : (b : Here) → began ≡ begins x (run x b.s b.t)
+    begun_at b = subst (λ o. IfSome o (λ s. began ≡ begins x s)) b.at began_is
+
+    call_at : (b : Here) → k.call ≡ noted_call x b.s b.t
+    call_at b = ap (λ (k : Tracer). k.call) (keeps_at b)
+
     returns_at : (b : Here) → ReturnTold m (state_of mid (told_at b).0) k.user (more_at b).words (returned (state_of mid (told_at b).0) k.call)
     returns_at b =
         let ss : List (List ℕ) = (told_at b).0 in
         let words : List ℕ = (more_at b).words in
         let s : State = state_of mid ss in
-        let kt : Tracer = tracer_at x b.s b.u b.t b.traced.journal in
+        let kt : Tracer = tracer_at x b.y b.s b.u b.t b.traced.journal in
         let there : WordsAt x b.y b.u s words (returned s kt.call) = subst (λ (s : State). WordsAt x b.y b.u s words (returned s kt.call)) (sym (told_at b).2) (more_at b).there in
         let of_map : ReturnTold (site_of b.y.boot).map s kt.user words (returned s kt.call) = words_told x b.y tell b.from.boots.fits.range b.u b.low b.high mid ss words (returned s kt.call) there in
         let of_user : ReturnTold (site_of b.y.boot).map s k.user words (returned s k.call) = subst (λ (k : Tracer). ReturnTold (site_of b.y.boot).map s k.user words (returned s k.call)) (sym (keeps_at b)) of_map in
@@ -202,8 +228,7 @@ module _ (grow : (c : CUnit) → TracesGrow (IsTypedState c)) (f : RowsFollow) (
     entries_at b =
         let w = told_as_some told held (run x b.s b.t) b.at in
         let here : current ≡ slice_index (run x b.s b.t).memory current_at = current_is ∙ ap (λ (s : State). slice_index s.memory current_at) w.2 in
-        let begun : IfSome (Some (run x b.s b.t)) (λ s. began ≡ begins x s) = subst (λ o. IfSome o (λ s. began ≡ begins x s)) b.at began_is in
-        followed_is x b.y b.s b.u b.t b.traced.journal k (keeps_at b) (state_of mid (told_at b).0) (told_at b).2 current here began begun (more_at b).words
+        followed_is x b.y b.s b.u b.t b.traced.journal k (keeps_at b) (state_of mid (told_at b).0) (told_at b).2 current here began (begun_at b) (more_at b).words
 
     rows_at : (b : Here) → journal_rows_after false k.steps (followed (state_of mid (told_at b).0) k current began (more_at b).words)
         ≡ journal_rows_after false (pending_steps b.traced.journal) (step_entries x b.s b.u b.t (more_at b).words)
@@ -211,77 +236,120 @@ module _ (grow : (c : CUnit) → TracesGrow (IsTypedState c)) (f : RowsFollow) (
         ap (λ (n : ℕ). journal_rows_after false n (followed (state_of mid (told_at b).0) k current began (more_at b).words)) (ap (λ (k : Tracer). k.steps) (keeps_at b))
         ∙ ap (journal_rows_after false (pending_steps b.traced.journal)) (entries_at b)
 
+    -- how many words are read for the rows so far
+    reads_at : (b : Here) → k.reads + followed_reads m (state_of mid (told_at b).0) k began ≡ reads_before x (map_of b.y.boot) b.s b.u (suc b.t)
+    reads_at b = reads_is x b.y b.s b.u b.t b.traced.journal m b.map_is k (keeps_at b) (state_of mid (told_at b).0) (told_at b).2 began (begun_at b)
+
     -- what is kept after the step
     kept_at : (b : Here) →
-        tracer_of k.user (steps_after k.steps (followed (state_of mid (told_at b).0) k current began (more_at b).words)) (notes_on (state_of mid (told_at b).0) k.call)
-        ≡ tracer_of b.u (steps_after (pending_steps b.traced.journal) (step_entries x b.s b.u b.t (more_at b).words)) (notes_on (run x b.s (suc b.t)) (noted_call x b.s b.t))
+        kept_after m (state_of mid (told_at b).0) k current began (more_at b).words
+        ≡ tracer_of b.u (steps_after (pending_steps b.traced.journal) (step_entries x b.s b.u b.t (more_at b).words)) (notes_on (run x b.s (suc b.t)) (noted_call x b.s b.t)) (reads_before x (map_of b.y.boot) b.s b.u (suc b.t))
     kept_at b =
         let s : State = state_of mid (told_at b).0 in
-        let kt : Tracer = tracer_at x b.s b.u b.t b.traced.journal in
+        let kt : Tracer = tracer_at x b.y b.s b.u b.t b.traced.journal in
         let entries : List JournalEntry = followed s k current began (more_at b).words in
-        ap (λ (k : Tracer). tracer_of k.user (steps_after k.steps entries) (notes_on s k.call)) (keeps_at b)
-        ∙ ap (λ (d : List JournalEntry). tracer_of kt.user (steps_after kt.steps d) (notes_on s kt.call)) (entries_at b)
-        ∙ ap (λ (s : State). tracer_of kt.user (steps_after kt.steps (step_entries x b.s b.u b.t (more_at b).words)) (notes_on s kt.call)) (told_at b).2
+        let read : ℕ = reads_before x (map_of b.y.boot) b.s b.u (suc b.t) in
+        ap (tracer_of k.user (steps_after k.steps entries) (notes_on s k.call)) (reads_at b)
+        ∙ ap (λ (k : Tracer). tracer_of k.user (steps_after k.steps entries) (notes_on s k.call) read) (keeps_at b)
+        ∙ ap (λ (d : List JournalEntry). tracer_of kt.user (steps_after kt.steps d) (notes_on s kt.call) read) (entries_at b)
+        ∙ ap (λ (s : State). tracer_of kt.user (steps_after kt.steps (step_entries x b.s b.u b.t (more_at b).words)) (notes_on s kt.call) read) (told_at b).2
 
     pub step_goes : (stepped : Stepped) (before : Option Tracer) (after : Tracer) (retext : Option (List ℕ)) → before ≡ Some k →
         ((ss : List (List ℕ)) (words : List ℕ) → midtold ≡ Some ss → ReturnTold m (state_of mid ss) k.user words (returned (state_of mid ss) k.call) →
         retext ≡ append_known text (journal_rows_after false k.steps (followed (state_of mid ss) k current began words))) →
         ((ss : List (List ℕ)) (words : List ℕ) → midtold ≡ Some ss → ReturnTold m (state_of mid ss) k.user words (returned (state_of mid ss) k.call) →
-        after ≡ tracer_of k.user (steps_after k.steps (followed (state_of mid ss) k current began words)) (notes_on (state_of mid ss) k.call)) →
+        after ≡ kept_after m (state_of mid ss) k current began words) →
         StepTraces x m held new told retold before (Some after) text retext (Ok stepped)
     step_goes stepped before after retext hb says keeps = rw hb (each_step x m held new told retold (Some k) (Some after) text retext (Ok stepped) (λ (b : Here).
         let put = says (told_at b).0 (more_at b).words (told_at b).1 (returns_at b) in
         let is = keeps (told_at b).0 (more_at b).words (told_at b).1 (returns_at b) in
         step_done_rows f x b.y b.s b.u b.t b.base text (Some k) b.traced (more_at b) retext after (put ∙ ap (append_known text) (rows_at b)) (is ∙ kept_at b)))
 
-    -- the words of a primitive that returned in the step were read for the rows
-    copied_at : (b : Here) → (began ≡ false) × CopyEnds k.user (state_of mid []) k.call → CopyReturns x b.s b.u b.t
-    copied_at b (none, c) =
-        let w = told_as_some told held (run x b.s b.t) b.at in
-        let begun : IfSome (Some (run x b.s b.t)) (λ s. began ≡ begins x s) = subst (λ o. IfSome o (λ s. began ≡ begins x s)) b.at began_is in
-        let of_state : CopyEnds k.user (run x b.s (suc b.t)) k.call = subst (λ z. CopyEnds k.user z k.call) (told_at b).2 (copy_seen mid (told_at b).0 k.user k.call c) in
-        record { goes_on = sym begun ∙ none; ends = subst (λ (k : Tracer). CopyEnds k.user (run x b.s (suc b.t)) k.call) (keeps_at b) of_state }
+    -- a word of those that a primitive copied couldn't be read for its row
+    module _ (after : Tracer) (retext : Option (List ℕ)) (c : FollowFails midtold mid m k after began text retext) (b : Here) where
+      abbrev there : State
+      there = state_of mid (told_at b).0
+
+      abbrev answer : ℕ
+      answer = slice_index mid.hardware.cpu.regs ANSWER
+
+      abbrev words : List ℕ
+      words = (more_at b).words
+
+      returns_there : returned there k.call ≡ Some c.ends.call
+      returns_there = returned_seen mid (told_at b).0 k.call ∙ c.ends.returns
+
+      -- its words lie in the user's memory, which the pages tell
+      told_there : WordsAreTold m there k.user words × IsPlaced k.user c.ends.call answer words
+      told_there = subst (ReturnTold m there k.user words) returns_there (returns_at b)
+
+      -- the step's entries are the primitive's
+      call_there : call_ends k.user c.ends.call answer words ≡ step_entries x b.s b.u b.t words
+      call_there =
+          sym (call_returned there k current began words m (returned there k.call) c.ends.call answer c.goes_on refl returns_there refl (returns_at b))
+          ∙ entries_at b
+
+      -- and so are the words that are read
+      words_there : (n : ℕ) → copy_reads m (state_of mid []) k.user c.ends.call n ≡ copy_reads (map_of b.y.boot) (run x b.s (suc b.t)) b.u c.ends.call n
+      words_there n =
+          sym (reads_seen m mid (told_at b).0 k.user (slice_index c.ends.call.arguments 3 / 4) n)
+          ∙ ap₂ (λ (s : State) (t : Tracer). copy_reads m s t.user c.ends.call n) (told_at b).2 (keeps_at b)
+          ∙ ap (λ (m : Map). copy_reads m (run x b.s (suc b.t)) b.u c.ends.call n) b.map_is
+
+      torn_there : seen retold new ≡ Some (run x b.s (suc b.t)) → RowsTorn x b.y b.s b.u b.t after.reads b.base (seen retold new) retext
+      torn_there done =
+          let i : ℕ = c.fails.words in
+          let less = c.fails.less in
+          let one = c.ends.copy.done in
+          let user = c.ends.copy.user in
+          let sixth = c.ends.copy.copies in
+          let long : length (step_entries x b.s b.u b.t words) ≡ slice_index c.ends.call.arguments 4 =
+          ap (λ (j : List JournalEntry). length j) (sym call_there) ∙ copied_length m there k.user k.steps answer c.ends.call words one user sixth told_there.0 told_there.1 in
+          let rows = first_rows m there k.user k.steps answer c.ends.call words one user sixth told_there.0 told_there.1 i (omega (arith, less)) in
+          rows_torn_rows f x b.y b.s b.u b.t b.base text (Some k) b.traced (more_at b) (seen retold new) done (sym (begun_at b) ∙ c.goes_on) c.ends.call
+          (sym (ap₂ returned (told_at b).2 (call_at b)) ∙ returns_there)
+          (subst₂ (λ (u : ℕ) (s : State). IsCopyTo u c.ends.call (slice_index s.cpu.regs ANSWER)) (ap (λ (t : Tracer). t.user) (keeps_at b)) (told_at b).2 c.ends.copy)
+          i after.reads (omega (arith, long, less)) (subst₂ (λ p q. p < q) (words_there i) (words_there (suc i)) c.fails.away)
+          (c.fails.read ∙ ap₂ (λ p q. p + q) (ap (λ (t : Tracer). t.reads) (keeps_at b)) (words_there (suc i))) retext
+          (c.fails.printed (told_at b).0 (told_at b).1 told_there.0.entries ∙ ap (append_known text) (rows ∙ ap₂ (λ (n : ℕ) (d : List JournalEntry). journal_rows_after false n (take i d)) (ap (λ (t : Tracer). t.steps) (keeps_at b)) call_there))
 
     -- a step that has rows completes no turn
     busy_at : (b : Here) → HasRows (state_of mid []) k.call began → rests (run x b.s (suc b.t)) ≡ false
     busy_at b h =
         let w = told_as_some told held (run x b.s b.t) b.at in
         let is_on : (run x b.s b.t).off ≡ None = ap (λ (s : State). s.off) (sym w.2) ∙ on in
-        let begun : IfSome (Some (run x b.s b.t)) (λ s. began ≡ begins x s) = subst (λ o. IfSome o (λ s. began ≡ begins x s)) b.at began_is in
-        let call : k.call ≡ noted_call x b.s b.t = ap (λ (k : Tracer). k.call) (keeps_at b) in
         let seen_there : HasRows (run x b.s (suc b.t)) k.call began = subst (λ z. HasRows z k.call began) (told_at b).2 (rows_seen mid (told_at b).0 k.call began h) in
-        (grow b.unit x b.y b.s b.late b.held b.u b.from b.low b.high).busy b.t is_on (subst₂ (HasRows (run x b.s (suc b.t))) call begun seen_there)
+        (grow b.unit x b.y b.s b.late b.held b.u b.from b.low b.high).busy b.t is_on (subst₂ (HasRows (run x b.s (suc b.t))) (call_at b) (begun_at b) seen_there)
 
-    pub step_stops : (before after : Option Tracer) (retext : Option (List ℕ)) (result : Result Stepped RunFault) (e fault : RunFault) → before ≡ Some k → result ≡ Err e → e ≡ fault → (fault ≡ StepLimit → ⊥) →
-        (fault ≡ Disk → (began ≡ false) × CopyEnds k.user (state_of mid []) k.call) →
-        (fault ≡ Sink → HasRows (state_of mid []) k.call began) →
+    pub step_stops : (before : Option Tracer) (after : Tracer) (retext : Option (List ℕ)) (result : Result Stepped RunFault) (e fault : RunFault) → before ≡ Some k → result ≡ Err e → e ≡ fault → (fault ≡ StepLimit → ⊥) →
+        (fault ≡ Disk → FollowFails midtold mid m k after began text retext) → (fault ≡ Sink → HasRows (state_of mid []) k.call began) →
         ((ss : List (List ℕ)) (words : List ℕ) → midtold ≡ Some ss → ReturnTold m (state_of mid ss) k.user words (returned (state_of mid ss) k.call) →
         AppendsPart text retext (journal_rows_after false k.steps (followed (state_of mid ss) k current began words))) →
-        StepTraces x m held new told retold before after text retext result
-    step_stops before after retext result e fault hb hr he limit reads puts says = rw (hb, hr, he) (each_step x m held new told retold (Some k) after text retext (Err fault) (λ (b : Here). by_fault b fault limit reads puts))
+        StepTraces x m held new told retold before (Some after) text retext result
+    step_stops before after retext result e fault hb hr he limit fails puts says =
+        rw (hb, hr, he) (each_step x m held new told retold (Some k) (Some after) text retext (Err fault) (λ (b : Here). by_fault b fault limit fails puts))
       where
         part : (b : Here) → AppendsPart text retext (journal_rows_after false (pending_steps b.traced.journal) (step_entries x b.s b.u b.t (more_at b).words))
         part b = subst (AppendsPart text retext) (rows_at b) (says (told_at b).0 (more_at b).words (told_at b).1 (returns_at b))
 
-        by_fault : (b : Here) (fault : RunFault) → (fault ≡ StepLimit → ⊥) → (fault ≡ Disk → (began ≡ false) × CopyEnds k.user (state_of mid []) k.call) → (fault ≡ Sink → HasRows (state_of mid []) k.call began) → StepStops x b.y b.s b.u b.t b.base (seen retold new) retext fault
-        by_fault b StepLimit limit reads puts = limit refl
-        by_fault b Disk limit reads puts =
-            let done : seen retold new ≡ Some (run x b.s (suc b.t)) = same ∙ seen_more x (seen told held) (seen midtold mid) (run x b.s b.t) ran b.at in
-            rows_torn_rows f x b.y b.s b.u b.t b.base text (Some k) b.traced (more_at b) (seen retold new) done (copied_at b (reads refl)) retext (part b)
-        by_fault b Sink limit reads puts = step_cut_rows f x b.y b.s b.u b.t b.base text (Some k) b.traced (more_at b) (busy_at b (puts refl)) retext (part b)
+        by_fault : (b : Here) (fault : RunFault) → (fault ≡ StepLimit → ⊥) → (fault ≡ Disk → FollowFails midtold mid m k after began text retext) → (fault ≡ Sink → HasRows (state_of mid []) k.call began) →
+            StepStops x b.y b.s b.u b.t b.base (seen retold new) (Some after) retext fault
+        by_fault b StepLimit limit fails puts = limit refl
+        by_fault b Disk limit fails puts = torn_there after retext (fails refl) b (same ∙ seen_more x (seen told held) (seen midtold mid) (run x b.s b.t) ran b.at)
+        by_fault b Sink limit fails puts = step_cut_rows f x b.y b.s b.u b.t b.base text (Some k) b.traced (more_at b) (busy_at b (puts refl)) retext (part b)
 
 -- where none is printed there is nothing to be said
 pub step_untraced : (x : Outside) (m : Map) (held new : Held) (told retold : Option (List (List ℕ))) (after : Option Tracer) (text retext : Option (List ℕ)) (result : Result Stepped RunFault) → StepTraces x m held new told retold None after text retext result
 step_untraced x m held new told retold after text retext result = each_step x m held new told retold None after text retext result (λ (b : Booted x m (seen told held) None text).
-    absurd (let e : ◌≡◌ {A = Option Tracer} None (Some (tracer_at x b.s b.u b.t b.traced.journal)) = b.traced.keeps in cc))
+    absurd (let e : ◌≡◌ {A = Option Tracer} None (Some (tracer_at x b.y b.s b.u b.t b.traced.journal)) = b.traced.keeps in cc))
 
 -- the disk failed in the step
-pub step_breaks : (grow : (c : CUnit) → TracesGrow (IsTypedState c)) (f : RowsFollow) (tell : WordsTell) (count : ℕ) (m : Map) (held new : Held) (told retold : Option (List (List ℕ))) (before after : Option Tracer) (text : Option (List ℕ)) (result : Result Stepped RunFault) (e : RunFault) →
-    held.hardware.off ≡ None → result ≡ Err e → e ≡ Disk → StepTorn count held told retold → StepTraces (outside_of held.rows count) m held new told retold before after text text result
-step_breaks grow f tell count m held new told retold None after text result e on hr he torn = step_untraced (outside_of held.rows count) m held new told retold after text text result
-step_breaks grow f tell count m held new told retold (Some k) after text result e on hr he torn =
+pub step_breaks : (grow : (c : CUnit) → TracesGrow (IsTypedState c)) (f : RowsFollow) (tell : WordsTell) (count : ℕ) (m : Map) (held new : Held) (told retold : Option (List (List ℕ))) (kept : Option Tracer) (text : Option (List ℕ)) (result : Result Stepped RunFault) (e : RunFault) →
+    held.hardware.off ≡ None → result ≡ Err e → e ≡ Disk → StepTorn count held told retold → StepTraces (outside_of held.rows count) m held new told retold kept kept text text result
+step_breaks grow f tell count m held new told retold None text result e on hr he torn = step_untraced (outside_of held.rows count) m held new told retold None text text result
+step_breaks grow f tell count m held new told retold (Some k) text result e on hr he torn =
     let x = outside_of held.rows count in
-    step_fails grow f tell x m held told k text on new retold (Some k) after result e refl hr he (λ b. step_torn count x held new told retold (run x b.s b.t) refl b.at torn)
+    step_fails grow f tell x m held told k text on new retold result e hr he (λ b. step_torn count x held new told retold (run x b.s b.t) refl b.at torn)
 
 -- THE LOOP: how far a run is whose trace goes on
 pub record Tracked (x : Outside) (y : System) (s : State) (u t : ℕ) (base : Option (List ℕ)) (now : Option State) (before after : ℕ) (kept : Option Tracer) (text : Option (List ℕ)) : Type 0 where
@@ -349,9 +417,9 @@ module _ (count : ℕ) (m : Map) (held mid : Held) (told midtold : Option (List 
         let ran_x : fault ≡ Sink → seen retold new ≡ option_map (step x) (seen midtold mid) = subst (λ (z : Outside). fault ≡ Sink → seen retold new ≡ option_map (step z) (seen midtold mid)) same ran in
         by_fault b fault (of_x b.unit b.y b.s b.late b.held b.u w.at b.base b.from b.map_is b.low b.high here w.traced) (λ e. seen_more x (seen midtold mid) (seen retold new) (run x b.s w.at) (ran_x e) here))
       where
-        by_fault : (b : Booted (outside_of held.rows count) m (seen told held) before.tracer before.text) (fault : RunFault) → StepStops (outside_of held.rows count) b.y b.s b.u (so_far b).at b.base (seen retold new) after.text fault →
+        by_fault : (b : Booted (outside_of held.rows count) m (seen told held) before.tracer before.text) (fault : RunFault) → StepStops (outside_of held.rows count) b.y b.s b.u (so_far b).at b.base (seen retold new) after.tracer after.text fault →
             (fault ≡ Sink → seen retold new ≡ Some (run (outside_of held.rows count) b.s (suc (so_far b).at))) →
             TraceStops (outside_of held.rows count) b.y b.s b.u b.t b.base (seen retold new) before.budget after.budget after.tracer after.text fault
         by_fault b StepLimit h there = absurd h
         by_fault b Disk h there = let w = so_far b in let from = w.from in let spent = w.spent in (w.at, omega (arith, from), omega (arith, spent, less), h)
-        by_fault b Sink h there = let w = so_far b in let from = w.from in let spent = w.spent in (suc w.at, omega (arith, from), omega (arith, spent, less), there refl, h)
+        by_fault b Sink h there = let w = so_far b in let from = w.from in let spent = w.spent in (w.at, omega (arith, from), omega (arith, spent, less), there refl, h)

@@ -31,7 +31,8 @@ use Rattle.layer_contract.specs.declared.entry.Entry.TheVariants.{Primitive}
 use Rattle.boot_turns.specs.Premises.{StartsFrom}
 use Rattle.boot_turns.specs.Completes.{note, ShownAs}
 use Rattle.layer_contract.specs.Users.{UserStepsLinked}
-use Rattle.boot_turns.specs.TurnEnds.{Stood, Ahead}
+use Rattle.boot_turns.specs.TurnEnds.{Stood}
+use Rattle.boot_turns.specs.Ahead.{Ahead}
 use Rattle.boot_turns.proofs.Entering.{entered_none, begins_enters}
 use Rattle.boot_turns.proofs.Stepping.{Plain, instruction_plain, comes_plainly, was_on, both_left, both_right, on_of, inside_rests, user_rests, user_begins, reset_begins, reset_mask, none_pending, external_mask, taken_special}
 use Rattle.boot_turns.proofs.Counting.{turn_more, still, completes_at}

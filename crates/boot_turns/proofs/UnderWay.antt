@@ -9,7 +9,7 @@ use Rattle.layer_contract.specs.declared.entry.Entry.TheVariants.{Primitive}
 use Rattle.layer_contract.specs.Layer.{entry_address}
 use Rattle.layer_contract.specs.Calls.{entered, goes_on, under_way, ends_here, ended_before}
 use Rattle.boot_turns.specs.declared.tracer.Entered.{Entered}
-use Rattle.boot_turns.specs.Entries.{entry_note, noted_at, notes_on, noted_call}
+use Rattle.boot_turns.specs.Returns.{entry_note, noted_at, notes_on, noted_call}
 use Rattle.boot_turns.proofs.Entering.{is_at, third_false}
 use Rattle.boot_turns.proofs.Stretches.{later}
 

@@ -10,9 +10,11 @@ use Rattle.cvm_model.specs.Kernel.{power_of}
 use Rattle.cvm_model.specs.Cvm.{System, Status, Running, Halted, Faulted, Cvm, turn_by, turn, cvm, IsCvm, first_cvm}
 use Rattle.layer_contract.specs.Layer.{Inside, Rests}
 use Rattle.layer_contract.specs.Starts.{Beyond}
-use Rattle.boot_turns.specs.Completes.{Torn}
-use Rattle.boot_turns.specs.TurnEnds.{Stood, Ahead}
-use Rattle.boot_turns.specs.Machines.{GoesOnWithin, IsDefined, TwoFaults}
+use Rattle.boot_turns.specs.Torn.{Torn}
+use Rattle.boot_turns.specs.TurnEnds.{Stood}
+use Rattle.boot_turns.specs.Ahead.{Ahead}
+use Rattle.boot_turns.specs.RunMachines.{IsDefined, TwoFaults}
+use Rattle.boot_turns.specs.GoesOn.{GoesOnWithin}
 use Rattle.boot_turns.proofs.Stepping.{off_stays, off_rests, off_begins, off_handled, inside_handled}
 use Rattle.boot_turns.proofs.Counting.{turn_same, completes, faults_grow, faults_stay}
 use Rattle.boot_turns.proofs.Sectors.{torn_past}

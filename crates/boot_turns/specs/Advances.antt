@@ -9,7 +9,8 @@ use Rattle.c0_tree.specs.Tree.{CUnit}
 use Rattle.c0_meaning.specs.TypedState.{IsTypedState}
 use Rattle.c0_meaning.specs.State.{State as C0}
 use Rattle.cvm_model.specs.Cvm.{System, Running, Cvm}
-use Rattle.boot_turns.specs.TurnEnds.{Stood, Ahead}
+use Rattle.boot_turns.specs.TurnEnds.{Stood}
+use Rattle.boot_turns.specs.Ahead.{Ahead}
 use Rattle.boot_turns.specs.Completes.{seen, note, DiskLeaves, Skips, Completes}
 use Rattle.boot_turns.specs.Premises.{StartsFrom}
 use Rattle.boot_turns.specs.declared.completion.Begun.{Begun}
@@ -28,7 +29,7 @@ pub record StillGoes (x : Outside) (y : System) (s : State) (k t u : ℕ) : Type
   pub between : (j : ℕ) → t ≤ j → j ≤ u → complete x s j ≡ k
   pub on : (j : ℕ) → j ≤ u → (run x s j).off ≡ None
 
--- the disk failed in step number `at`, or where a page was read for its rows
+-- the disk failed in step number `at`, or where a user is traced behind it
 pub record DiskStops (x : Outside) (y : System) (s : State) (traced : Bool) (k t : ℕ) (now : Option State) (budget left : ℕ) : Type 0 where
   pub at : ℕ
   pub from : t ≤ at
@@ -88,5 +89,6 @@ Advances count traced old new told retold budget left most result =
 
 -- so it is of every loop that steps a machine to the end of turns
 abbrev pub LoopsAdvance : Type 0
-LoopsAdvance = (count : ℕ) (traced : Bool) (old new : Held) (told retold : Option (List (List ℕ))) (budget left most : ℕ) (result : Result (ℕ × Begun) RunFault) →
+LoopsAdvance = (count : ℕ) (traced : Bool) (old new : Held) (told retold : Option (List (List ℕ))) (budget left most : ℕ)
+    (result : Result (ℕ × Begun) RunFault) →
     Completes count traced old new told retold budget left most result → Advances count traced old new told retold budget left most result

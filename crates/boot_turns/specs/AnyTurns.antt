@@ -1,31 +1,21 @@
 -- What turns do to the machine of any run, whatever state it begins from: no start, no layer and no abstract run is asked for.
-use Rattle.std.specs.Prelude.{◌≡◌, ℕ, suc, ◌+◌, ◌<◌, Bool, Option, Some, None, List, Result, MatchResult}
+use Rattle.std.specs.Prelude.{◌≡◌, ℕ, suc, ◌+◌, Bool, Option, Some, None, List, Result, MatchResult}
 use Rattle.mips_table.specs.Device.{Outside}
 use Rattle.mips_table.specs.Machine.{State, run}
-use Rattle.mips_table.specs.Turns.{turn_of, complete}
 use Rattle.mips_machine.specs.Machine.{Held}
 use Rattle.mips_machine.specs.Steps.{outside_of}
 use Rattle.boot_turns.specs.Completes.{seen, DiskLeaves, Completes}
 use Rattle.boot_turns.specs.declared.completion.Begun.{Begun}
 use Rattle.boot_turns.specs.declared.answers.RunFault.{RunFault}
 use Rattle.boot_turns.specs.declared.answers.RunFault.TheVariants.{StepLimit, Disk, Sink}
-
--- before step t fewer than k turns are complete, and the machine is on
-pub record NoSooner (x : Outside) (s : State) (k t : ℕ) : Type 0 where
-  pub before : (j : ℕ) → j < t → complete x s j < k
-  pub on : (j : ℕ) → j < t → (run x s j).off ≡ None
-
--- at step t for the first time k turns are complete or the machine is off; where it is on no more have begun
-pub record ComesTo (x : Outside) (s : State) (k t : ℕ) : Type 0 where
-  pub sooner : NoSooner x s k t
-  pub here : (run x s t).off ≡ None → (turn_of x s t ≡ k) × (complete x s t ≡ k)
+use Rattle.boot_turns.specs.Sooner.{NoSooner, ComesTo}
 
 -- from step t on the machine came to the end of turns, k in all, each step taken from the budget
 abbrev pub Came : Outside → State → (k t : ℕ) → Option State → (budget left : ℕ) → Type 0
 Came x s k t now budget left = (at : ℕ) × ComesTo x s k at × (now ≡ Some (run x s at)) × (left + at ≡ budget + t)
 
--- or it was broken off before k turns were complete: the budget was spent; or the disk failed in step number `at`, or where a page was read for its
--- rows; or the sink failed after `at` steps
+-- or it was broken off before k turns were complete: the budget was spent; or the disk failed in step number `at`, or where a user is traced behind
+-- it; or the sink failed after `at` steps
 abbrev pub BrokeOff : Outside → State → (traced : Bool) → (k t : ℕ) → Option State → (budget left : ℕ) → RunFault → Type 0
 BrokeOff x s traced k t now budget left StepLimit = (left ≡ 0) × NoSooner x s k (suc (t + budget)) × (now ≡ Some (run x s (t + budget)))
 BrokeOff x s traced k t now budget left Disk = (at : ℕ) × NoSooner x s k (suc at) × DiskLeaves x s at traced now × (left + suc at ≡ budget + t)
@@ -42,5 +32,6 @@ AnyTurns count traced old new told retold budget left most result =
 
 -- so it is of every loop that steps a machine to the end of turns
 abbrev pub LoopsMakeTurns : Type 0
-LoopsMakeTurns = (count : ℕ) (traced : Bool) (old new : Held) (told retold : Option (List (List ℕ))) (budget left most : ℕ) (result : Result (ℕ × Begun) RunFault) →
+LoopsMakeTurns = (count : ℕ) (traced : Bool) (old new : Held) (told retold : Option (List (List ℕ))) (budget left most : ℕ)
+    (result : Result (ℕ × Begun) RunFault) →
     Completes count traced old new told retold budget left most result → AnyTurns count traced old new told retold budget left most result

@@ -1,23 +1,25 @@
 -- What a loop that steps a machine to the end of a turn has done.
-use Rattle.std.specs.Prelude.{◌≡◌, ◌≢◌, ◌⊎◌, ℕ, suc, ◌+◌, ◌-◌, ◌/◌, ◌<◌, ◌≤◌, ◌==◌, ◌&&◌, ◌||◌, zero, not, nat_lt, is_some, IfSome, Option, Some, None}
-use Rattle.std.specs.Prelude.{Bool, true, false, List, [], slice_index, slice_set, Result, MatchResult}
+use Rattle.std.specs.Prelude.{◌≡◌, ◌≢◌, ◌⊎◌, ℕ, suc, ◌+◌, ◌-◌, ◌/◌, ◌<◌, ◌≤◌, ◌==◌, ◌&&◌, ◌||◌, not, nat_lt, is_some, IfSome, Option, Some, None}
+use Rattle.std.specs.Prelude.{Bool, true, false, List, [], slice_index, Result, MatchResult}
 use Rattle.std.specs.Option.{option_map}
-use Rattle.mips_table.specs.Device.{Outside, Pending, Reading, Writing}
+use Rattle.mips_table.specs.Device.{Outside}
 use Rattle.mips_table.specs.declared.cause.Cause.TheVariants.{Reset, FetchFault, DataFault}
 use Rattle.mips_table.specs.Machine.{State, MODE, ECA, EDATA, number_of, step, run}
 use Rattle.mips_table.specs.Turns.{begins, rests}
 use Rattle.sector_disk.specs.Ports.{ports_of}
 use Rattle.mips_machine.specs.Machine.{Held, state_of}
-use Rattle.mips_machine.specs.Steps.{outside_of, before_count, after_step}
+use Rattle.mips_machine.specs.Steps.{outside_of, after_step}
 use Rattle.mips_machine.specs.Quiet.{Stretch}
 use Rattle.mips_machine.specs.declared.event.Event.{Event}
 use Rattle.mips_machine.specs.declared.event.Event.TheVariants.{Taken, Off}
+use Rattle.layer_map.specs.Map.{current_at}
 use Rattle.cvm_model.specs.Cvm.{Begin, Steps, Traps, Interrupts}
 use Rattle.boot_turns.specs.declared.completion.Begun.{Begun}
 use Rattle.boot_turns.specs.declared.completion.Stepped.{Stepped}
 use Rattle.boot_turns.specs.declared.completion.Stepped.TheVariants.{Kept, Began, On}
 use Rattle.boot_turns.specs.declared.answers.RunFault.{RunFault}
 use Rattle.boot_turns.specs.declared.answers.RunFault.TheVariants.{StepLimit, Disk, Sink}
+use Rattle.boot_turns.specs.Torn.{Torn}
 
 -- the state of a machine with the sectors of its disk, where they are told
 abbrev pub seen : Option (List (List ℕ)) → Held → Option State
@@ -27,18 +29,7 @@ seen told held = option_map (state_of held) told
 abbrev pub StepRan : (count : ℕ) → (old new : Held) → (told retold : Option (List (List ℕ))) → Type 0
 StepRan count old new told retold = seen retold new ≡ option_map (step (outside_of old.rows count)) (seen told old)
 
--- what sectors are where the transfer that is due fails: where one was to be written that sector may hold anything, and all else is as before; with
--- no transfer due none fails
-abbrev pub TornBy : Pending → (old now : List (List ℕ)) → Type 0
-TornBy (Reading zero sector) old now = now ≡ old
-TornBy (Writing zero sector) old now = (words : List ℕ) × (now ≡ slice_set old sector words)
-TornBy other old now = ⊥
-
--- where that fails of the command that is under way just before the step of a state ends
-abbrev pub Torn : Outside → State → List (List ℕ) → Type 0
-Torn x s now = TornBy (before_count x s).pending s.device.sectors now
-
--- over a disk of so many sectors, where they are told
+-- the transfer that was due in a step failed, over a disk of so many sectors, where they are told
 abbrev pub StepTorn : (count : ℕ) → Held → (told retold : Option (List (List ℕ))) → Type 0
 StepTorn count old told retold = (ss : List (List ℕ)) → told ≡ Some ss → (now : List (List ℕ)) × (retold ≡ Some now)
     × Torn (outside_of old.rows count) (state_of old ss) now
@@ -56,7 +47,7 @@ abbrev pub SeenPorts : State → Option State → Type 0
 SeenPorts s new = option_map (λ (z : State). ports_of z.device) new ≡ Some (ports_of s.device)
 
 -- what a fault of the disk in step number t leaves: its transfer failed, and its ports are as after the step; or, where a user is traced, the step is
--- done, and a page was read for its rows
+-- done
 abbrev pub DiskLeaves : Outside → State → (t : ℕ) → (traced : Bool) → Option State → Type 0
 DiskLeaves x s t false new = SeenTorn x (run x s t) new × SeenPorts (run x s (suc t)) new
 DiskLeaves x s t true new = (SeenTorn x (run x s t) new × SeenPorts (run x s (suc t)) new) ⊎ (new ≡ Some (run x s (suc t)))
@@ -107,7 +98,7 @@ note s = record {
   dispatched = not (slice_index s.special MODE == 1);
   cause = slice_index s.special ECA;
   edata = slice_index s.special EDATA;
-  user = slice_index s.memory 1024;
+  user = slice_index s.memory current_at;
 }
 
 -- the same of a machine, whatever its disk's sectors are

@@ -1,18 +1,16 @@
 -- The entries that a step of the machine adds to what is shown of a user, by what the machine shows.
-use Rattle.std.specs.Prelude.{◌≡◌, ◌≢◌, ℕ, zero, suc, ◌+◌, ◌/◌, ◌≤◌, ◌&&◌, ◌==◌, nat_lt, if◌then◌else◌, List, [], ◌∷◌, ◌++◌, length, take, drop}
+use Rattle.std.specs.Prelude.{◌≡◌, ◌≢◌, ℕ, suc, ◌+◌, ◌/◌, ◌≤◌, ◌&&◌, ◌==◌, nat_lt, if◌then◌else◌, List, [], ◌∷◌, ◌++◌, length, take, drop}
 use Rattle.std.specs.Prelude.{slice_index, Bool, true, false, Option, Some, None, IsSome}
 use Rattle.mips_table.specs.Device.{Outside}
-use Rattle.mips_table.specs.Machine.{State, in_system, run}
-use Rattle.mips_table.specs.Turns.{is_on, begins, rests}
+use Rattle.mips_table.specs.Machine.{State, run}
+use Rattle.mips_table.specs.Turns.{begins, rests}
 use Rattle.layer_map.specs.Map.{current_at}
 use Rattle.c0_meaning.specs.State.{State as C0}
 use Rattle.cvm_model.specs.Kernel.{Core, JournalEntry, Stepped, Trapped, Set, Size, Put}
 use Rattle.cvm_model.specs.Primitives.{user_of, puts}
 use Rattle.cvm_model.specs.Cvm.{System, Running}
 use Rattle.cvm_model.specs.Stands.{Stands}
-use Rattle.layer_contract.specs.declared.entry.Entry.TheVariants.{Primitive}
-use Rattle.layer_contract.specs.declared.registers.TheConstants.{ARGUMENT, ANSWER, RETURN}
-use Rattle.layer_contract.specs.Layer.{entry_address}
+use Rattle.layer_contract.specs.declared.registers.TheConstants.{ANSWER}
 use Rattle.layer_contract.specs.Follows.{site_of}
 use Rattle.boot_turns.specs.declared.completion.Begun.{Begun}
 use Rattle.boot_turns.specs.declared.primitives.TheConstants.{VM_SET, VM_RESIZE, VM_PUT, VM_COPY}
@@ -20,32 +18,7 @@ use Rattle.boot_turns.specs.declared.tracer.Entered.{Entered}
 use Rattle.boot_turns.specs.Completes.{note}
 use Rattle.boot_turns.specs.Premises.{StartsFrom}
 use Rattle.boot_turns.specs.Trace.{Shown}
-
--- argument i, from 0
-abbrev pub argument : State → ℕ → ℕ
-argument s i = slice_index s.cpu.regs (ARGUMENT + i)
-
--- what is noted at the entry of primitive k
-abbrev pub entry_note : ℕ → State → Entered
-entry_note k s = record {
-  primitive = k;
-  back = slice_index s.cpu.regs RETURN;
-  arguments = argument s 0 ∷ argument s 1 ∷ argument s 2 ∷ argument s 3 ∷ argument s 4 ∷ [];
-}
-
--- the note where the machine is at the entry of one of the first k primitives
-abbrev pub noted_at : ℕ → State → Option Entered
-noted_at zero s = None
-noted_at (suc k) s = if is_on s && in_system s.special && s.cpu.pc == entry_address (Primitive k) then Some (entry_note k s) else noted_at k s
-
--- the note of the primitive that is under way, until it returns
-abbrev pub notes_on : State → Option Entered → Option Entered
-notes_on s None = noted_at 10 s
-notes_on s (Some e) = if s.cpu.pc == e.back then None else Some e
-
-abbrev pub noted_call : Outside → State → ℕ → Option Entered
-noted_call x s zero = None
-noted_call x s (suc t) = notes_on (run x s (suc t)) (noted_call x s t)
+use Rattle.boot_turns.specs.Returns.{noted_call, returned}
 
 -- the entries of user u where a turn begins with this current user, by what is shown after its first step: a trap, or an untrapped step
 abbrev pub turn_begins : (u current : ℕ) → Begun → List JournalEntry
@@ -65,11 +38,6 @@ call_ends u e answer words =
 -- it is not the primitive that copies words
 abbrev pub IsNoCopy : Entered → Type 0
 IsNoCopy e = e.primitive ≢ VM_COPY
-
--- the primitive that returns here
-abbrev pub returned : State → Option Entered → Option Entered
-returned s None = None
-returned s (Some e) = if s.cpu.pc == e.back then Some e else None
 
 abbrev pub return_entries : ℕ → State → List ℕ → Option Entered → List JournalEntry
 return_entries u s words None = []
@@ -91,24 +59,6 @@ abbrev pub WordsAt : Outside → System → (u : ℕ) → State → List ℕ →
 WordsAt x y u s words None = Unit {0}
 WordsAt x y u s words (Some e) = (core : Core) × Stands x (site_of y.boot) s Running core × (words ≡ (user_of core.users u).words)
     × IsPlaced u e (slice_index s.cpu.regs ANSWER) words
-
--- a primitive has copied words to user u, one at least, with this answer
-pub record IsCopyTo (u : ℕ) (e : Entered) (answer : ℕ) : Type 0 where
-  pub copies : e.primitive ≡ VM_COPY
-  pub user : slice_index e.arguments 2 ≡ u
-  pub done : answer ≡ 1
-  pub some : 1 ≤ slice_index e.arguments 4
-
--- one that was noted returns here and has
-pub record CopyEnds (u : ℕ) (s : State) (noted : Option Entered) : Type 0 where
-  pub call : Entered
-  pub returns : returned s noted ≡ Some call
-  pub copy : IsCopyTo u call (slice_index s.cpu.regs ANSWER)
-
--- so it is after step number t of a run, which begins no turn
-pub record CopyReturns (x : Outside) (s : State) (u t : ℕ) : Type 0 where
-  pub goes_on : begins x (run x s t) ≡ false
-  pub ends : CopyEnds u (run x s (suc t)) (noted_call x s t)
 
 -- a step that led to s has rows: it began a turn with a dispatch, or a primitive returned
 abbrev pub HasRows : State → (noted : Option Entered) → (began : Bool) → Type 0

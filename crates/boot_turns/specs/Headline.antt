@@ -1,18 +1,20 @@
 -- How a run from a start ends, what is printed of it and which sectors stand; and the headline of a boot, which is that of the loaded machine.
-use Rattle.std.specs.Prelude.{◌≡◌, ℕ, suc, ◌+◌, ◌<◌, ◌≤◌, ◌⊎◌, false, if◌then◌else◌, List, [], ◌∷◌, ◌++◌}
+use Rattle.std.specs.Prelude.{◌≡◌, ℕ, suc, ◌+◌, ◌<◌, ◌≤◌, ◌⊎◌, false, if◌then◌else◌, Some, List, [], ◌∷◌, ◌++◌, length, take}
 use Rattle.mips_table.specs.Device.{Outside, sector_of}
 use Rattle.mips_table.specs.Machine.{State, run}
 use Rattle.mips_table.specs.Turns.{complete, lines_of, is_end, IsEnd, end_within}
-use Rattle.cvm_model.specs.Cvm.{System, Status, Faulted, Cvm, IsCvm}
+use Rattle.cvm_model.specs.Cvm.{System, Status, Faulted, Cvm, IsCvm, map_of}
 use Rattle.cvm_model.specs.declared.row.Row.{Row}
-use Rattle.cvm_model.specs.Text.{rows_text}
+use Rattle.cvm_model.specs.Kernel.{JournalEntry}
+use Rattle.cvm_model.specs.Text.{rows_text, start_row, open_journal_rows}
 use Rattle.layer_contract.specs.Follows.{loaded}
 use Rattle.layer_contract.specs.Starts.{user_sectors, Beyond}
-use Rattle.boot_turns.specs.Completes.{Torn}
-use Rattle.boot_turns.specs.Entries.{CopyReturns}
+use Rattle.boot_turns.specs.Torn.{Torn}
+use Rattle.boot_turns.specs.Returns.{CopyReturns, copy_reads, reads_before}
 use Rattle.boot_turns.specs.declared.answers.View.{View}
 use Rattle.boot_turns.specs.declared.answers.View.TheVariants.{Boot, Trace}
-use Rattle.boot_turns.specs.TurnEnds.{Printed, RowsAt, Whole, Prefix}
+use Rattle.boot_turns.specs.Trace.{Shown}
+use Rattle.boot_turns.specs.TurnEnds.{first_of, Printed, RowsAt, Whole, Prefix}
 
 -- how a boot or a trace ends whose image is accepted
 pub data Ending : Type 0 where
@@ -48,38 +50,55 @@ pub record RanFrom (x : Outside) (y : System) (s : State) (held : ℕ) (old now 
   pub status : e ≡ ending x s turns steps past
   pub text_is : TextAt x y s v (end_within x s turns steps) e text
 
--- in step number `at` a page was read for the rows of the words that a primitive copied to user u, and the disk failed: the step is done, and the
--- rows of what is shown after it may have begun
-pub record RowsBroken (x : Outside) (y : System) (s : State) (now : List (List ℕ)) (u at : ℕ) (text : List ℕ) : Type 0 where
+-- how many words were read from the disk for the rows of the steps before number t: of a boot none
+abbrev pub rows_read : Outside → System → State → View → ℕ → ℕ
+rows_read x y s Boot t = 0
+rows_read x y s (Trace u) t = reads_before x (map_of y.boot) s u t
+
+-- the disk failed in step number `at`, in the transfer that was due, with the text there, for which n words had been read
+pub record TransferBroken (x : Outside) (y : System) (s : State) (now : List (List ℕ)) (v : View) (at n : ℕ) (text : List ℕ) : Type 0 where
+  pub torn : Torn x (run x s at) now
+  pub read : n ≡ rows_read x y s v at
+  pub printed : Printed x y s v at text
+
+-- in step number `at` a page was read for the row of a word that a primitive copied to user u, and the disk failed: the step is done, the rows of what
+-- was shown before it and of the words before that one stand, and n words had been read for rows, that one with them
+pub record RowsBroken (x : Outside) (y : System) (s : State) (now : List (List ℕ)) (u at n : ℕ) (text : List ℕ) : Type 0 where
   pub copy : CopyReturns x s u at
   pub sectors : now ≡ (run x s (suc at)).device.sectors
-  pub part : List ℕ
-  pub whole : List ℕ
-  pub is_part : Printed x y s (Trace u) at part
-  pub is_whole : RowsAt x y s (Trace u) (suc at) whole
-  pub printed : Prefix part whole text
+  pub before : List JournalEntry
+  pub after : List JournalEntry
+  pub shown_before : Shown x s y u at before
+  pub shown_after : Shown x s y u (suc at) after
+  pub words : ℕ
+  pub less : length before + words < length after
+  pub away : copy_reads (map_of y.boot) (run x s (suc at)) u copy.ends.call words < copy_reads (map_of y.boot) (run x s (suc at)) u copy.ends.call (suc words)
+  pub read : n ≡ rows_read x y s (Trace u) at + copy_reads (map_of y.boot) (run x s (suc at)) u copy.ends.call (suc words)
+  pub printed : text ≡ start_row u (first_of y u) ++ open_journal_rows (take (length before + words) after)
 
--- the disk failed in step number `at`: in the transfer that was due, with the text there; or, of a trace, where a page was read for its rows
-abbrev pub FailsAt : Outside → System → State → (now : List (List ℕ)) → View → ℕ → List ℕ → Type 0
-FailsAt x y s now Boot at text = Torn x (run x s at) now × Printed x y s Boot at text
-FailsAt x y s now (Trace u) at text = (Torn x (run x s at) now × Printed x y s (Trace u) at text) ⊎ RowsBroken x y s now u at text
+-- the disk failed in step number `at`, once n words were read for rows, the failed one among them where it was one: in the transfer that was due; or, of
+-- a trace, where a page was read for its rows
+abbrev pub FailsAt : Outside → System → State → (now : List (List ℕ)) → View → (at n : ℕ) → List ℕ → Type 0
+FailsAt x y s now Boot at n text = TransferBroken x y s now Boot at n text
+FailsAt x y s now (Trace u) at n text = TransferBroken x y s now (Trace u) at n text ⊎ RowsBroken x y s now u at n text
 
 -- that step is one of a turn, before the headline's; it is the last of so many that were made
-pub record StepBroken (x : Outside) (y : System) (s : State) (now : List (List ℕ)) (v : View) (turns steps made : ℕ) (text : List ℕ) : Type 0 where
+pub record StepBroken (x : Outside) (y : System) (s : State) (now : List (List ℕ)) (v : View) (turns steps made n : ℕ) (text : List ℕ) : Type 0 where
   pub at : ℕ
   pub last : made ≡ suc at
   pub less : at < steps
   pub goes_on : (j : ℕ) → j ≤ at → is_end x s turns j ≡ false
-  pub fails : FailsAt x y s now v at text
+  pub fails : FailsAt x y s now v at n text
 
--- the disk or the sink failed in the report, of which the sectors are those of the machine
-pub record EndBroken (x : Outside) (y : System) (s : State) (now : List (List ℕ)) (v : View) (turns steps : ℕ) (text : List ℕ) : Type 0 where
+-- the disk or the sink failed in the report, once such rows stood; the sectors are those of the machine
+pub record EndBroken (x : Outside) (y : System) (s : State) (now : List (List ℕ)) (v : View) (turns steps : ℕ) (AreRows : List ℕ → Type 0) (text : List ℕ) :
+    Type 0 where
   pub past : Cvm
   pub cvm : IsCvm y (lines_of x s) (complete x s (end_within x s turns steps)) past
   pub done : ending x s turns steps past ≡ Done
   pub sectors : now ≡ (run x s (end_within x s turns steps)).device.sectors
   pub rows : List ℕ
-  pub are_rows : RowsAt x y s v (end_within x s turns steps) rows
+  pub are_rows : AreRows rows
   pub whole : List ℕ
   pub is_whole : Whole x y s v (end_within x s turns steps) whole
   pub printed : Prefix rows whole text
@@ -101,29 +120,48 @@ pub record RowBroken (x : Outside) (y : System) (s : State) (now : List (List �
   pub sectors : now ≡ (run x s end).device.sectors
   pub printed : Prefix (rows_text past.rows) (rows_text after.rows) text
 
--- in the rows of a boot, or in the end row or the report; of a trace any prefix of its text was printed
-abbrev pub SinkBroken : Outside → System → State → (held : ℕ) → (old now : List (List ℕ)) → View → (turns steps : ℕ) → List ℕ → Type 0
-SinkBroken x y s held old now Boot turns steps text = RowBroken x y s now turns steps text ⊎ EndBroken x y s now Boot turns steps text
-SinkBroken x y s held old now (Trace u) turns steps text =
+-- which rows of a trace were put after `at` steps, as `part` stood and `whole` was to stand: its first one, before any step; those of the last of these
+-- steps; or that of a kernel's fault
+abbrev pub ArePut : Outside → System → State → (u at : ℕ) → (part whole : List ℕ) → Type 0
+ArePut x y s u at part whole = ((at ≡ 0) × (part ≡ []) × Printed x y s (Trace u) 0 whole)
+    ⊎ (((t : ℕ) × (at ≡ suc t) × Printed x y s (Trace u) t part × Printed x y s (Trace u) at whole)
+    ⊎ (Printed x y s (Trace u) at part × Whole x y s (Trace u) at whole × ((power : ℕ) × ((run x s at).off ≡ Some (suc power)))))
+
+-- the sink failed in rows of a trace that were put after `at` steps, before which the run hadn't ended; the sectors are those of the machine
+pub record TraceBroken (x : Outside) (y : System) (s : State) (now : List (List ℕ)) (u turns steps : ℕ) (text : List ℕ) : Type 0 where
+  pub at : ℕ
+  pub most : at ≤ steps
+  pub goes_on : (j : ℕ) → j < at → is_end x s turns j ≡ false
+  pub sectors : now ≡ (run x s at).device.sectors
+  pub part : List ℕ
+  pub whole : List ℕ
+  pub are_put : ArePut x y s u at part whole
+  pub printed : Prefix part whole text
+
+-- what was printed of a trace is a prefix of what it prints with no failed call
+abbrev pub IsBegun : Outside → System → State → (held : ℕ) → (old : List (List ℕ)) → (u turns steps : ℕ) → List ℕ → Type 0
+IsBegun x y s held old u turns steps text =
     (e : Ending) × (clean : List (List ℕ)) × (whole : List ℕ) × RanFrom x y s held old clean (Trace u) turns steps e whole × Prefix [] whole text
 
--- the calls of the disk fit a state, by how many more there were than transfers up to it: none of a boot. A trace reads pages for its rows, too.
-abbrev pub CallsFit : View → (calls : ℕ → State → Type 0) → State → Type 0
-CallsFit Boot calls s = calls 0 s
-CallsFit (Trace u) calls s = (n : ℕ) × calls n s
+-- the sink failed in rows of a turn, or in the end row or the report
+abbrev pub SinkBroken : Outside → System → State → (held : ℕ) → (old now : List (List ℕ)) → View → (turns steps : ℕ) → List ℕ → Type 0
+SinkBroken x y s held old now Boot turns steps text =
+    RowBroken x y s now turns steps text ⊎ EndBroken x y s now Boot turns steps (Printed x y s Boot (end_within x s turns steps)) text
+SinkBroken x y s held old now (Trace u) turns steps text = IsBegun x y s held old u turns steps text × (TraceBroken x y s now u turns steps text
+    ⊎ EndBroken x y s now (Trace u) turns steps (Printed x y s (Trace u) (end_within x s turns steps)) text)
 
--- the calls of a disk that failed in the report: one at least beside those of the machine's commands
-abbrev pub ReportCalls : (calls : ℕ → State → Type 0) → State → Type 0
-ReportCalls calls s = (n : ℕ) × calls (suc n) s
+-- the calls of a disk that failed in the report, behind the run's step `at`: one at least beside those of the machine's commands and of the rows
+abbrev pub ReportCalls : Outside → System → State → View → (at : ℕ) → (calls : ℕ → State → Type 0) → Type 0
+ReportCalls x y s v at calls = (n : ℕ) × calls (rows_read x y s v at + suc n) (run x s at)
 
--- HOW A LOADED RUN ENDS. Where the disk failed in a step, its calls up to the first that failed fit the state behind that step: as many transfers were due
--- up to it, so of a boot, over a disk with no fault before, rows which come a turn late don't pass for those of an earlier transfer; and where it failed in
--- the report, they fit the end of the run, with one at least for the report.
+-- HOW A LOADED RUN ENDS. `calls n z` says that a disk's calls, up to the first that failed, fit the state z: one for each transfer up to it, and n for
+-- rows. Where the disk failed in a step they fit the state behind that step, so over a disk with no fault before rows which come a turn late don't pass
+-- for those of an earlier call; and where it failed in the report, they fit the end of the run, with one at least for the report.
 abbrev pub RunEndsFrom : Outside → System → State → (held : ℕ) → (old now : List (List ℕ)) → View → (turns steps : ℕ) → (calls : ℕ → State → Type 0) →
     List ℕ → Ending → Type 0
 RunEndsFrom x y s held old now v turns steps calls text DiskFault = Beyond held old now
-    × (((made : ℕ) × StepBroken x y s now v turns steps made text × CallsFit v calls (run x s made))
-    ⊎ (EndBroken x y s now v turns steps text × ReportCalls calls (run x s (end_within x s turns steps))))
+    × (((made n : ℕ) × StepBroken x y s now v turns steps made n text × calls n (run x s made))
+    ⊎ (EndBroken x y s now v turns steps (RowsAt x y s v (end_within x s turns steps)) text × ReportCalls x y s v (end_within x s turns steps) calls))
 RunEndsFrom x y s held old now v turns steps calls text SinkFault = Beyond held old now × SinkBroken x y s held old now v turns steps text
 RunEndsFrom x y s held old now v turns steps calls text NoMemory = (text ≡ []) × (now ≡ old)
 RunEndsFrom x y s held old now v turns steps calls text e = RanFrom x y s held old now v turns steps e text
@@ -138,9 +176,5 @@ pub record LoadBroken (s : State) (held : ℕ) (old now : List (List ℕ)) (text
   pub rest : (q : ℕ) → at < q → sector_of now q ≡ sector_of old q
 
 -- THE BOOT is the run of the loaded machine, with the users' sectors: one with no failed call
-abbrev pub Ran : Outside → System → (old now : List (List ℕ)) → View → (turns steps : ℕ) → Ending → List ℕ → Type 0
-Ran x y old now v turns steps e text = RanFrom x y (loaded y old) (user_sectors y) old now v turns steps e text
-
--- the machine goes on where the CVM run is defined, within its bound
-abbrev pub GoesOn : Outside → System → List (List ℕ) → Type 0
-GoesOn x y old = (k : ℕ) (c : Cvm) → IsCvm y (lines_of x (loaded y old)) k c → (t : ℕ) × IsEnd x (loaded y old) k t × (t ≤ c.bound)
+abbrev pub BootRan : Outside → System → (old now : List (List ℕ)) → View → (turns steps : ℕ) → Ending → List ℕ → Type 0
+BootRan x y old now v turns steps e text = RanFrom x y (loaded y old) (user_sectors y) old now v turns steps e text

@@ -2,10 +2,10 @@ pub mod Trace
 pub mod TurnEnds
 pub mod Premises
 pub mod Headline
-pub mod Machines
+pub mod RunMachines
 pub mod Rom
 pub mod Samples
-pub mod Rows
+pub mod WorkedRows
 pub mod Completes
 pub mod Advances
 pub mod AnyTurns
@@ -15,3 +15,9 @@ pub mod Copies
 pub mod Tracing
 pub mod TraceSteps
 pub mod Steps
+pub mod Torn
+pub mod Returns
+pub mod Sooner
+pub mod GoesOn
+pub mod RomStarts
+pub mod Ahead

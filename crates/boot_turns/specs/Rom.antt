@@ -1,13 +1,11 @@
 -- The machine with a ROM as a start: its state at step 0, and by when the layer takes over.
-use Rattle.std.specs.Prelude.{ℕ, ◌+◌, ◌*◌, ◌/◌, ◌≤◌, ◌&&◌, ◌-◌, not, nat_lt, if◌then◌else◌, List, length, map, slice_index}
+use Rattle.std.specs.Prelude.{ℕ, ◌+◌, ◌*◌, ◌/◌, ◌&&◌, ◌-◌, not, nat_lt, if◌then◌else◌, List, length, map, slice_index}
 use Rattle.std.specs.List.{range_with_len}
-use Rattle.mips_table.specs.Device.{Outside}
 use Rattle.mips_table.specs.Machine.{State}
 use Rattle.layer_map.specs.Map.{memory_frames}
 use Rattle.cvm_model.specs.Cvm.{System, map_of}
-use Rattle.layer_contract.specs.Layer.{BusyWithin}
-use Rattle.layer_contract.specs.Follows.{loaded_sector, SystemFits}
-use Rattle.layer_contract.specs.Starts.{user_sectors, Beyond, Start}
+use Rattle.layer_contract.specs.Follows.{loaded_sector}
+use Rattle.layer_contract.specs.Starts.{user_sectors}
 use Rattle.boot_rom.specs.Laws.{Load}
 use Rattle.boot_rom.specs.Boots.{rom_start, rom_of}
 
@@ -37,22 +35,6 @@ rom_loaded y rom old = rom_start rom (memory_frames (map_of y.boot)) (map (rom_s
 abbrev pub own_rom : System → List ℕ
 own_rom y = rom_of (load_of y)
 
--- the boot's premises, a disk that has the linked words too, and no command busier than the system's longest
-pub record RomFits (x : Outside) (y : System) (old : List (List ℕ)) : Type 0 where
-  pub system : SystemFits x y old
-  pub busy : BusyWithin x y.longest
-  pub enough : rom_sectors y ≤ x.count
-
 -- how late the layer takes over, at most
 abbrev pub rom_steps : System → ℕ
 rom_steps y = 100 + (load_of y).count * (12000 + y.longest)
-
--- THE ROM: the layer takes over by then, and the sectors past those of the run are the disk's
-pub record RomStartsBy (x : Outside) (y : System) (old : List (List ℕ)) : Type 0 where
-  pub late : ℕ
-  pub within : late ≤ rom_steps y
-  pub start : Start x y (rom_loaded y (own_rom y) old) late (rom_sectors y)
-  pub beyond : Beyond (rom_sectors y) old (rom_loaded y (own_rom y) old).device.sectors
-
-abbrev pub RomStarts : Type 0
-RomStarts = (x : Outside) (y : System) (old : List (List ℕ)) → RomFits x y old → RomStartsBy x y old

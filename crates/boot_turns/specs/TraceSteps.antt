@@ -15,13 +15,14 @@ use Rattle.boot_turns.specs.declared.answers.RunFault.{RunFault}
 use Rattle.boot_turns.specs.declared.answers.RunFault.TheVariants.{StepLimit, Disk, Sink}
 use Rattle.boot_turns.specs.Completes.{seen}
 use Rattle.boot_turns.specs.Premises.{StartsFrom}
-use Rattle.boot_turns.specs.Tracing.{Traced, RowsTorn, RowsCut}
+use Rattle.boot_turns.specs.Tracing.{Traced, RowsTorn, RowsCut, reads_of}
 
 -- the disk failed in step number t or in its rows, or the sink in its rows
-abbrev pub StepStops : Outside → System → State → (u t : ℕ) → (base : Option (List ℕ)) → (now : Option State) → (text : Option (List ℕ)) → RunFault → Type 0
-StepStops x y s u t base now text StepLimit = ⊥
-StepStops x y s u t base now text Disk = RowsTorn x y s u t base now text
-StepStops x y s u t base now text Sink = RowsCut x y s u (suc t) base text
+abbrev pub StepStops : Outside → System → State → (u t : ℕ) → (base : Option (List ℕ)) → (now : Option State) → (kept : Option Tracer) →
+    (text : Option (List ℕ)) → RunFault → Type 0
+StepStops x y s u t base now kept text StepLimit = ⊥
+StepStops x y s u t base now kept text Disk = RowsTorn x y s u t (reads_of kept) base now text
+StepStops x y s u t base now kept text Sink = RowsCut x y s u t base text
 
 -- ONE STEP OF A TRACE: for every run from a start that stands there, of one of its users
 abbrev pub StepTraces : Outside → Map → (held new : Held) → (told retold : Option (List (List ℕ))) → (before after : Option Tracer) →
@@ -29,7 +30,7 @@ abbrev pub StepTraces : Outside → Map → (held new : Held) → (told retold :
 StepTraces x m held new told retold before after text retext result =
     (c : CUnit) (y : System) (s : State) (late limit u t : ℕ) (base : Option (List ℕ)) → StartsFrom (IsTypedState c) x y s late limit →
     m ≡ (site_of y.boot).map → 1 ≤ u → u ≤ length y.boot.users → seen told held ≡ Some (run x s t) → Traced x y s u t base before text →
-    MatchResult result (λ _. Traced x y s u (suc t) base after retext) (StepStops x y s u t base (seen retold new) retext)
+    MatchResult result (λ _. Traced x y s u (suc t) base after retext) (StepStops x y s u t base (seen retold new) after retext)
 
 -- over a disk of so many sectors
 abbrev pub StepTracesOver : (count : ℕ) → Map → (held new : Held) → (told retold : Option (List (List ℕ))) → (before after : Option Tracer) →

@@ -1,12 +1,12 @@
--- Where a run from a start stands between turns, what one turn does, and the text that is printed. `s` is the state of step 0.
-use Rattle.std.specs.Prelude.{◌≡◌, true, false, ℕ, zero, suc, ◌+◌, ◌<◌, ◌≤◌, None, List, [], ◌++◌, length, take}
+-- Where a run from a start stands between turns, and the text that is printed at a step. `s` is the state of step 0.
+use Rattle.std.specs.Prelude.{◌≡◌, ℕ, zero, suc, List, ◌++◌, length, take}
 use Rattle.mips_table.specs.Device.{Outside}
 use Rattle.mips_table.specs.Machine.{State, run}
-use Rattle.mips_table.specs.Turns.{begins, turn_of, complete, gathered, lines_of, faults_before}
+use Rattle.mips_table.specs.Turns.{turn_of, complete, gathered, lines_of}
 use Rattle.mips_table.specs.Flat.{Flat}
 use Rattle.cvm_model.specs.Kernel.{JournalEntry}
 use Rattle.cvm_model.specs.Primitives.{user_of}
-use Rattle.cvm_model.specs.Cvm.{System, Status, Faulted, Cvm, first_core, IsCvm}
+use Rattle.cvm_model.specs.Cvm.{System, Cvm, first_core, IsCvm}
 use Rattle.cvm_model.specs.Text.{rows_text, boot_text, journal_rows, open_journal_rows, start_row, trace_text}
 use Rattle.cvm_model.specs.Stands.{StandsFor}
 use Rattle.layer_contract.specs.Layer.{Rests}
@@ -31,20 +31,6 @@ pub record Stood (x : Outside) (y : System) (s : State) (k t : ℕ) (c : Cvm) : 
   pub all : complete x s t ≡ k
   pub rests : RestsAfter x y s k t c
 
--- turn k, from step t on
-pub record Ahead (x : Outside) (y : System) (s : State) (k t : ℕ) (c : Cvm) : Type 0 where
-  pub start : ℕ
-  pub end : ℕ
-  pub after : Cvm
-  pub from : t ≤ start
-  pub to : start < end
-  pub none : (j : ℕ) → t ≤ j → j < start → begins x (run x s j) ≡ false
-  pub begin : begins x (run x s start) ≡ true
-  pub few : faults_before x s start ≤ faults_before x s t + 2
-  pub between : (j : ℕ) → t ≤ j → j < end → complete x s j ≡ k
-  pub on : (j : ℕ) → j < end → (run x s j).off ≡ None
-  pub stood : Stood x y s (suc k) end after
-
 -- THE TEXT at step t: the rows of the complete turns; or the start row and the rows of what is shown, but for a last row of steps
 abbrev pub Printed : Outside → System → State → View → ℕ → List ℕ → Type 0
 Printed x y s Boot t text = (c : Cvm) × IsCvm y (lines_of x s) (complete x s t) c × (text ≡ rows_text c.rows)
@@ -61,16 +47,6 @@ Whole x y s Boot t text = (c : Cvm) × IsCvm y (lines_of x s) (complete x s t) c
 Whole x y s (Trace u) t text = (c : Cvm) × (j : List JournalEntry) × IsCvm y (lines_of x s) (complete x s t) c
     × Shown x s y u t j
     × (text ≡ trace_text u (first_of y u) j (user_of c.core.users u) c.status)
-
--- the text after a turn: where the kernel faulted it is whole
-abbrev pub TextAfter : Outside → System → State → View → ℕ → Status → List ℕ → Type 0
-TextAfter x y s v t (Faulted f) text = Whole x y s v t text
-TextAfter x y s v t other text = Printed x y s v t text
-
--- before the first call of `turn` nothing was printed
-abbrev pub TextBefore : Outside → System → State → View → ℕ → ℕ → Status → List ℕ → Type 0
-TextBefore x y s v zero t status text = text ≡ []
-TextBefore x y s v (suc k) t status text = TextAfter x y s v t status text
 
 -- a prefix of the whole that holds a part
 pub record Prefix (part whole text : List ℕ) : Type 0 where

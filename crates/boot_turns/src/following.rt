@@ -1,12 +1,14 @@
 // The rows of one step of a trace, and what is kept after it.
-ghost use Rattle.std.specs.Prelude.{◌≡◌, ◌*◌, ◌<◌, ◌-◌, ◌^◌, [], length, true, false, None, Err};
+ghost use Rattle.std.specs.Prelude.{◌≡◌, ◌+◌, ◌*◌, ◌<◌, ◌≤◌, ◌-◌, ◌^◌, [], length, true, false, None, Err};
 ghost use Rattle.cvm_outside.specs.Numbering.{tally};
 ghost use Rattle.mips_machine.specs.Machine.{state_of};
 ghost use Rattle.boot_turns.specs.Completes.{shown};
-ghost use Rattle.boot_turns.specs.Entries.{notes_on, returned, IsCopyTo, CopyEnds, HasRows};
-ghost use Rattle.boot_turns.specs.Steps.{KeepsTracer, RowsRead};
+ghost use Rattle.boot_turns.specs.Entries.{HasRows};
+ghost use Rattle.boot_turns.specs.Returns.{notes_on, returned};
+ghost use Rattle.boot_turns.specs.Copies.{CallFails, FollowFails};
+ghost use Rattle.boot_turns.specs.Steps.{KeepsTracer, RowsAsk, RowsLeave};
 ghost use Rattle.boot_turns.specs.Tracing.{CanTrace, counted, ForEnded, EndedKeeps, ForFollowed, FollowedKeeps};
-ghost use Rattle.boot_report.specs.Leaves.{Asks, PrintsAll};
+ghost use Rattle.boot_report.specs.Leaves.{PrintsAll};
 
 use crate::answers::RunFault;
 use crate::completion::Begun;
@@ -72,10 +74,11 @@ impl Tracer {
         requires can { CanTrace map.now (length machine.old.hardware.memory) machine.old.time (D.size disk.old) self.old }
         ensures put { ForEnded (D.sectors disk.old) machine.old map.now self.old call.now answer (PrintsAll (O.text out.old) (O.text out.new)) result }
         ensures steps { EndedKeeps (D.sectors disk.old) machine.old map.now self.old self.new call.now answer result }
-        ensures reads { result ≡ Err RunFault.Disk → IsCopyTo self.old.user call.now answer }
+        ensures fails { result ≡ Err RunFault.Disk → CallFails (D.sectors disk.old) machine.old map.now self.old self.new call.now answer
+            (O.text out.old) (O.text out.new) }
         ensures keeps { KeepsTracer self.old self.new }
-        ensures read { RowsRead machine.old machine.new D.sectors D.size D.faults disk.old disk.new O.faults out.old out.new result }
-        ensures asks { Asks (result ≡ Err RunFault.Disk) (tally D.faults D.calls disk.old) (tally D.faults D.calls disk.new) }
+        ensures read { RowsLeave machine.old machine.new D.sectors D.size D.faults disk.old disk.new O.faults out.old out.new result }
+        ensures asks { RowsAsk self.old self.new (tally D.faults D.calls disk.old) (tally D.faults D.calls disk.new) }
     {
         let [_, _, user, address, count] = call.arguments;
         let most = 1024 * map.params().pages;
@@ -103,10 +106,11 @@ impl Tracer {
         requires can { CanTrace map.now (length machine.old.hardware.memory) machine.old.time (D.size disk.old) self.old }
         ensures put { ForEnded (D.sectors disk.old) machine.old map.now self.old call.now answer (PrintsAll (O.text out.old) (O.text out.new)) result }
         ensures steps { EndedKeeps (D.sectors disk.old) machine.old map.now self.old self.new call.now answer result }
-        ensures reads { result ≡ Err RunFault.Disk → IsCopyTo self.old.user call.now answer }
+        ensures fails { result ≡ Err RunFault.Disk → CallFails (D.sectors disk.old) machine.old map.now self.old self.new call.now answer
+            (O.text out.old) (O.text out.new) }
         ensures keeps { KeepsTracer self.old self.new }
-        ensures read { RowsRead machine.old machine.new D.sectors D.size D.faults disk.old disk.new O.faults out.old out.new result }
-        ensures asks { Asks (result ≡ Err RunFault.Disk) (tally D.faults D.calls disk.old) (tally D.faults D.calls disk.new) }
+        ensures read { RowsLeave machine.old machine.new D.sectors D.size D.faults disk.old disk.new O.faults out.old out.new result }
+        ensures asks { RowsAsk self.old self.new (tally D.faults D.calls disk.old) (tally D.faults D.calls disk.new) }
     {
         if call.primitive == VM_COPY {
             return self.end_copy(machine, map, call, answer, disk, out);
@@ -148,15 +152,17 @@ impl Tracer {
     ) -> Result<(), RunFault>
         requires can { CanTrace map.now (length machine.old.hardware.memory) machine.old.time (D.size disk.old) self.old }
         requires few { self.old.steps < machine.old.time }
+        requires counted { self.old.reads + 4294967296 ≤ 4294967296 * machine.old.time }
         requires room { 1024 < length machine.old.hardware.memory }
         ensures put { ForFollowed (D.sectors disk.old) machine.old map.now self.old current began (PrintsAll (O.text out.old) (O.text out.new)) result }
         ensures kept { FollowedKeeps (D.sectors disk.old) machine.old map.now self.old self.new current began result }
         ensures puts { result ≡ Err RunFault.Sink → HasRows (state_of machine.old []) self.old.call began }
-        ensures reads { result ≡ Err RunFault.Disk → (began ≡ false) × CopyEnds self.old.user (state_of machine.old []) self.old.call }
+        ensures fails { result ≡ Err RunFault.Disk → FollowFails (D.sectors disk.old) machine.old map.now self.old self.new began
+            (O.text out.old) (O.text out.new) }
         ensures can { CanTrace map.now (length machine.new.hardware.memory) machine.new.time (D.size disk.new) self.new }
         ensures user { self.new.user ≡ self.old.user }
-        ensures read { RowsRead machine.old machine.new D.sectors D.size D.faults disk.old disk.new O.faults out.old out.new result }
-        ensures asks { Asks (result ≡ Err RunFault.Disk) (tally D.faults D.calls disk.old) (tally D.faults D.calls disk.new) }
+        ensures read { RowsLeave machine.old machine.new D.sectors D.size D.faults disk.old disk.new O.faults out.old out.new result }
+        ensures asks { RowsAsk self.old self.new (tally D.faults D.calls disk.old) (tally D.faults D.calls disk.new) }
     {
         if began {
             if current == self.user {

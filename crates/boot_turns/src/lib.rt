@@ -5,8 +5,8 @@
 
 ghost use Rattle.c0_tree.specs.Tree.{CUnit};
 ghost use Rattle.c0_meaning.specs.TypedState.{IsTypedState};
-ghost use Rattle.boot_turns.specs.Machines.{MachinesRun, RunsStayTyped};
-ghost use Rattle.boot_turns.specs.Rom.{RomStarts};
+ghost use Rattle.boot_turns.specs.RunMachines.{MachinesRun, RunsStayTyped};
+ghost use Rattle.boot_turns.specs.RomStarts.{RomStarts};
 ghost use Rattle.boot_turns.specs.Advances.{LoopsAdvance};
 ghost use Rattle.boot_turns.specs.AnyTurns.{LoopsMakeTurns};
 ghost use Rattle.boot_turns.specs.Entries.{TracesGrow};

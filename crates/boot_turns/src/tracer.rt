@@ -3,19 +3,20 @@ ghost use Rattle.std.specs.Prelude.{◌≡◌, ◌*◌, ◌/◌, ◌≤◌, leng
 ghost use Rattle.cvm_outside.specs.Numbering.{tally};
 ghost use Rattle.mips_machine.specs.Machine.{state_of};
 ghost use Rattle.cvm_model.specs.Text.{steps_row as steps_text};
-ghost use Rattle.boot_turns.specs.Entries.{noted_at, turn_begins, call_ends, IsNoCopy};
-ghost use Rattle.boot_turns.specs.Copies.{steps_left, ForCopied};
+ghost use Rattle.boot_turns.specs.Entries.{turn_begins, call_ends, IsNoCopy};
+ghost use Rattle.boot_turns.specs.Returns.{noted_at};
+ghost use Rattle.boot_turns.specs.Copies.{copied_kept, CopyFails, ForCopied};
 ghost use Rattle.boot_turns.specs.JournalText.{steps_after};
-ghost use Rattle.boot_turns.specs.Steps.{KeepsTracer, RowsRead};
+ghost use Rattle.boot_turns.specs.Steps.{KeepsTracer, RowsAsk, RowsLeave};
 ghost use Rattle.boot_turns.specs.Tracing.{CanTrace, begun_rows, ended_rows};
-ghost use Rattle.boot_report.specs.Leaves.{Asks, PrintsAll, Puts};
+ghost use Rattle.boot_report.specs.Leaves.{PrintsAll, Puts};
 
 use crate::answers::RunFault;
 use crate::completion::Begun;
 use crate::primitives::{VM_PUT, VM_RESIZE, VM_SET};
 use crate::registers::{ARGUMENT, EXTERNAL, MODE, RETURN};
 use boot_report::journal_text::{put_row, set_row, size_row, steps_row, trap_row};
-use boot_report::read_user_word;
+use boot_report::{is_word_resident, read_user_word};
 use cvm_outside::{Sectors, Sink, SinkFault};
 use layer_map::{Map, PRIMITIVES};
 use mips_machine::Machine;
@@ -72,6 +73,9 @@ pub struct Tracer {
     pub steps: u64,
     /// What is noted of the primitive that is under way.
     pub call: Option<Entered>,
+    /// How many words were read from the disk for rows, the one whose read failed with them. A step may read 2^20, so 64 bits
+    /// might not hold them.
+    pub reads: u128,
 }
 
 impl Tracer {
@@ -91,6 +95,7 @@ impl Tracer {
         ensures steps { OnOk result (self.new ≡ record self.old { steps = steps_after self.old.steps (turn_begins self.old.user current begun.now) }) }
         ensures puts { OnErr result (begun.now.dispatched ≡ true) }
         ensures user { self.new.user ≡ self.old.user }
+        ensures reads { self.new.reads ≡ self.old.reads }
         ensures few { self.new.steps ≤ self.old.steps + 1 }
     {
         if current != self.user {
@@ -115,6 +120,7 @@ impl Tracer {
         ensures put { Puts O.text O.faults out.old out.new (steps_text self.old.steps ++ row.now) result }
         ensures steps { OnOk result (self.new ≡ record self.old { steps = 0 }) }
         ensures keeps { KeepsTracer self.old self.new }
+        ensures reads { self.new.reads ≡ self.old.reads }
     {
         put_after(self.steps, row, out)?;
         self.steps = 0;
@@ -137,6 +143,7 @@ impl Tracer {
         ensures put { Puts O.text O.faults out.old out.new (ended_rows self.old call.now answer []) result }
         ensures steps { OnOk result (self.new ≡ record self.old { steps = steps_after self.old.steps (call_ends self.old.user call.now answer []) }) }
         ensures keeps { KeepsTracer self.old self.new }
+        ensures reads { self.new.reads ≡ self.old.reads }
     {
         let [user, second, third, _, _] = call.arguments;
         if answer != 1 || user != self.user {
@@ -171,13 +178,19 @@ impl Tracer {
         requires can { CanTrace map.now (length machine.old.hardware.memory) machine.old.time (D.size disk.old) self.old }
         requires inside { address / 4 + count ≤ 1024 * map.now.params.pages }
         ensures put { ForCopied (D.sectors disk.old) machine.old map.now self.old address count (PrintsAll (O.text out.old) (O.text out.new)) result }
-        ensures steps { OnOk result (self.new ≡ record self.old { steps = steps_left self.old.steps count }) }
+        ensures kept { OnOk result (self.new ≡ copied_kept map.now (state_of machine.old []) self.old address count) }
         ensures keeps { KeepsTracer self.old self.new }
-        ensures read { RowsRead machine.old machine.new D.sectors D.size D.faults disk.old disk.new O.faults out.old out.new result }
-        ensures asks { Asks (result ≡ Err RunFault.Disk) (tally D.faults D.calls disk.old) (tally D.faults D.calls disk.new) }
-        ensures some { result ≡ Err RunFault.Disk → 1 ≤ count }
+        ensures read { RowsLeave machine.old machine.new D.sectors D.size D.faults disk.old disk.new O.faults out.old out.new result }
+        ensures asks { RowsAsk self.old self.new (tally D.faults D.calls disk.old) (tally D.faults D.calls disk.new) }
+        ensures fails { result ≡ Err RunFault.Disk → CopyFails (D.sectors disk.old) machine.old map.now self.old self.new address count
+            (O.text out.old) (O.text out.new) }
     {
+        // so the words that are read can be counted in as many bits
+        prove!(self.reads <= 4294967296 * u128::from(machine.steps()));
         for i in 0..count {
+            if !is_word_resident(machine, map, self.user, address / 4 + i) {
+                self.reads += 1;
+            }
             let word = read_user_word(machine, map, self.user, address / 4 + i, disk)?;
             self.put(put_row(address + 4 * i, word).as_str().as_bytes(), out)?;
         }

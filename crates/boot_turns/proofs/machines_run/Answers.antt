@@ -1,7 +1,7 @@
 -- From the laws below.
 use Rattle.c0_tree.specs.Tree.{CUnit}
 use Rattle.c0_meaning.specs.TypedState.{IsTypedState}
-use Rattle.boot_turns.proofs.Machines.{machines_run}
+use Rattle.boot_turns.proofs.MachinesRun.{machines_run}
 use Rattle.boot_turns.proofs.machines_run.Goals as goal
 
 pub returns : goal.returns

@@ -83,11 +83,11 @@ tracked g c =
     c.step_traced.new.machine (g.D.Sectors.sectors c.step_traced.new.disk) c.in_ok-stepped.stepped c.in_ok-stepped.ensures.traced (c.in_ok-stepped.ensures.ran (is_done c.in_ok-stepped.stepped Disk))
 
 -- the disk was called once for each command through the step
-calls_kept : (g : Over) (c : In_ok-stepped g) → StepCalls (is_some c.args.tracer.now) c.args.machine.now c.step_traced.new.machine (tally g.D.Sectors.faults g.D.Sectors.calls c.args.disk.now) (tally g.D.Sectors.faults g.D.Sectors.calls c.step_traced.new.disk)
+calls_kept : (g : Over) (c : In_ok-stepped g) → StepCalls c.args.machine.now c.step_traced.new.machine c.args.tracer.now c.step_traced.new.tracer (tally g.D.Sectors.faults g.D.Sectors.calls c.args.disk.now) (tally g.D.Sectors.faults g.D.Sectors.calls c.step_traced.new.disk)
 calls_kept g c =
-    steps_join (is_some c.args.tracer.now) (is_some c.loop-begun.tracer) c.args.machine.now c.loop-begun.machine c.step_traced.new.machine
+    steps_join c.args.machine.now c.loop-begun.machine c.step_traced.new.machine c.args.tracer.now c.loop-begun.tracer c.step_traced.new.tracer
     (tally g.D.Sectors.faults g.D.Sectors.calls c.args.disk.now) (tally g.D.Sectors.faults g.D.Sectors.calls c.loop-begun.disk) (tally g.D.Sectors.faults g.D.Sectors.calls c.step_traced.new.disk)
-    (same_some c.loop-begun.tracer c.args.tracer.now c.loop-begun.invariant.user) c.loop-begun.invariant.faults c.loop-begun.invariant.calls c.in_ok-stepped.ensures.calls
+    c.loop-begun.invariant.faults c.loop-begun.invariant.calls c.in_ok-stepped.ensures.calls
 
 -- the step is the next of a run, and what is noted then says how far the turn is
 opened : (g : Over) (c : After-note g) (s : State) (t u : ℕ) → t ≤ u →
@@ -117,7 +117,7 @@ loop-begun-init g c = record {
   can = c.requires.can;
   user = refl;
   untraced = λ e. (e, refl);
-  calls = steps_stay (is_some c.args.tracer.now) c.args.machine.now (tally g.D.Sectors.faults g.D.Sectors.calls c.args.disk.now);
+  calls = steps_stay c.args.machine.now c.args.tracer.now (tally g.D.Sectors.faults g.D.Sectors.calls c.args.disk.now);
   sink_faults = refl;
   tracks = tracks_none (outside_of c.args.machine.now.rows (g.D.Sectors.size c.args.disk.now)) c.args.map.now (seen (g.D.Sectors.sectors c.args.disk.now) c.args.machine.now)
       (tracing c.args.tracer.now (g.O.Sink.text c.args.out.now) c.args.budget.now);
@@ -246,9 +246,9 @@ returns-in-Some-clause-calls g c = calls_kept g (goal.at.returns-in-Some-clause-
 
 pub returns-in_err-stepped-clause-calls : goal.returns-in_err-stepped-clause-calls
 returns-in_err-stepped-clause-calls g c =
-    steps_join (is_some c.args.tracer.now) (is_some c.loop-begun.tracer) c.args.machine.now c.loop-begun.machine c.step_traced.new.machine
+    steps_join c.args.machine.now c.loop-begun.machine c.step_traced.new.machine c.args.tracer.now c.loop-begun.tracer c.step_traced.new.tracer
     (tally g.D.Sectors.faults g.D.Sectors.calls c.args.disk.now) (tally g.D.Sectors.faults g.D.Sectors.calls c.loop-begun.disk) (tally g.D.Sectors.faults g.D.Sectors.calls c.step_traced.new.disk)
-    (same_some c.loop-begun.tracer c.args.tracer.now c.loop-begun.invariant.user) c.loop-begun.invariant.faults c.loop-begun.invariant.calls c.in_err-stepped.ensures.calls
+    c.loop-begun.invariant.faults c.loop-begun.invariant.calls c.in_err-stepped.ensures.calls
 
 pub loop-begun-preserved : goal.loop-begun-preserved
 loop-begun-preserved g c = record {
@@ -281,7 +281,7 @@ loop-begun-preserved g c = record {
 
 -- with no user traced nothing is to be said of a trace
 none_traced : (x : Outside) (m : Map) (start now : Option State) (before after : Tracing) → before.tracer ≡ None → Tracks x m start now before after
-none_traced x m start now before after e = λ b. absurd (let h : ◌≡◌ {A = Option Tracer} None (Some (tracer_at x b.s b.u b.t b.traced.journal)) = sym e ∙ b.traced.keeps in cc)
+none_traced x m start now before after e = λ b. absurd (let h : ◌≡◌ {A = Option Tracer} None (Some (tracer_at x b.y b.s b.u b.t b.traced.journal)) = sym e ∙ b.traced.keeps in cc)
 
 -- what is kept of a trace stays through a stretch: none is made where a user is traced
 tracks_passed : (x : Outside) (m : Map) (start : Option State) (before : Tracing) (told : Option (List (List ℕ))) (mid new : Held) (tracer old : Option Tracer) (text : Option (List ℕ)) (budget left n : ℕ) →
@@ -302,6 +302,7 @@ can_pass m words time words2 time2 count n (Some k) e f h = record {
   some = h.some;
   user = h.user;
   few = let a = h.few in omega (arith, a, f);
+  read = let a = h.read in omega (arith, a, f);
   pages = h.pages;
   memory = let a = h.memory in omega (arith, a, e);
   small = h.small;
@@ -357,7 +358,7 @@ loop-begun-preserved-then-skipped-limit g c =
           c.step_traced.new.tracer c.pass-skipped.ensures.memory (ap (λ (h : Held). h.time) rest) c.in_ok-stepped.ensures.trace.can;
       user = c.in_ok-stepped.ensures.trace.user ∙ c.loop-begun.invariant.user;
       untraced = λ e. let i = c.loop-begun.invariant.untraced e in let n = c.in_ok-stepped.ensures.trace.untraced i.0 in (n.0, n.1 ∙ i.1);
-      calls = steps_ports (is_some c.args.tracer.now) c.args.machine.now c.step_traced.new.machine c.pass-skipped.new.machine (tally g.D.Sectors.faults g.D.Sectors.calls c.args.disk.now) (tally g.D.Sectors.faults g.D.Sectors.calls c.step_traced.new.disk) (ap (λ (h : Held). h.hardware.ports) rest)
+      calls = steps_ports c.args.machine.now c.step_traced.new.machine c.pass-skipped.new.machine c.args.tracer.now c.step_traced.new.tracer (tally g.D.Sectors.faults g.D.Sectors.calls c.args.disk.now) (tally g.D.Sectors.faults g.D.Sectors.calls c.step_traced.new.disk) (ap (λ (h : Held). h.hardware.ports) rest)
           (calls_kept g (goal.at.loop-begun-preserved-then-skipped-limit g c).In_ok-stepped);
       sink_faults = c.in_ok-stepped.ensures.blame.sink_same (is_done c.in_ok-stepped.stepped Sink) ∙ c.loop-begun.invariant.sink_faults;
       tracks = tracks_passed (outside_of c.args.machine.now.rows (g.D.Sectors.size c.args.disk.now)) c.args.map.now (seen (g.D.Sectors.sectors c.args.disk.now) c.args.machine.now)
@@ -405,7 +406,7 @@ loop-begun-preserved-then-not-at_rest g c =
           c.step_traced.new.tracer c.pass.ensures.memory (ap (λ (h : Held). h.time) rest) c.in_ok-stepped.ensures.trace.can;
       user = c.in_ok-stepped.ensures.trace.user ∙ c.loop-begun.invariant.user;
       untraced = λ e. let i = c.loop-begun.invariant.untraced e in let n = c.in_ok-stepped.ensures.trace.untraced i.0 in (n.0, n.1 ∙ i.1);
-      calls = steps_ports (is_some c.args.tracer.now) c.args.machine.now c.step_traced.new.machine c.pass.new.machine (tally g.D.Sectors.faults g.D.Sectors.calls c.args.disk.now) (tally g.D.Sectors.faults g.D.Sectors.calls c.step_traced.new.disk) (ap (λ (h : Held). h.hardware.ports) rest)
+      calls = steps_ports c.args.machine.now c.step_traced.new.machine c.pass.new.machine c.args.tracer.now c.step_traced.new.tracer (tally g.D.Sectors.faults g.D.Sectors.calls c.args.disk.now) (tally g.D.Sectors.faults g.D.Sectors.calls c.step_traced.new.disk) (ap (λ (h : Held). h.hardware.ports) rest)
           (calls_kept g (goal.at.loop-begun-preserved-then-not-at_rest g c).In_ok-stepped);
       sink_faults = c.in_ok-stepped.ensures.blame.sink_same (is_done c.in_ok-stepped.stepped Sink) ∙ c.loop-begun.invariant.sink_faults;
       tracks = tracks_passed (outside_of c.args.machine.now.rows (g.D.Sectors.size c.args.disk.now)) c.args.map.now (seen (g.D.Sectors.sectors c.args.disk.now) c.args.machine.now)

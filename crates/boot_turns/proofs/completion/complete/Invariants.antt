@@ -1,5 +1,5 @@
 use Rattle.std.proofs.Common.{◌≡◌, ℕ, ◌+◌, ◌<◌, ◌≤◌, Some, None}
-use Rattle.std.specs.Prelude.{length, IfSome, is_some}
+use Rattle.std.specs.Prelude.{length, IfSome}
 use Rattle.std.specs.Option.{option_map}
 use Rattle.cvm_outside.specs.Numbering.{tally}
 use Rattle.mips_table.specs.Fits.{NamesSector}
@@ -30,7 +30,7 @@ invariant-loop-begun g l = record {
   can : IfSome l.tracer (CanTrace l.map (length l.machine.hardware.memory) l.machine.time (g.D.Sectors.size l.disk));
   user : option_map (λ k. k.user) l.tracer ≡ option_map (λ k. k.user) l.fn.tracer;
   untraced : l.fn.tracer ≡ None → (l.tracer ≡ None) × (l.out ≡ l.fn.out);
-  calls : StepCalls (is_some l.fn.tracer) l.fn.machine l.machine (tally g.D.Sectors.faults g.D.Sectors.calls l.fn.disk) (tally g.D.Sectors.faults g.D.Sectors.calls l.disk);
+  calls : StepCalls l.fn.machine l.machine l.fn.tracer l.tracer (tally g.D.Sectors.faults g.D.Sectors.calls l.fn.disk) (tally g.D.Sectors.faults g.D.Sectors.calls l.disk);
   sink_faults : g.O.Sink.faults l.out ≡ g.O.Sink.faults l.fn.out;
   tracks : Tracks (outside_of l.fn.machine.rows (g.D.Sectors.size l.fn.disk)) l.map (seen (g.D.Sectors.sectors l.fn.disk) l.fn.machine) (seen (g.D.Sectors.sectors l.disk) l.machine)
       (record { tracer = l.fn.tracer; text = g.O.Sink.text l.fn.out; budget = l.fn.budget }) (record { tracer = l.tracer; text = g.O.Sink.text l.out; budget = l.budget });

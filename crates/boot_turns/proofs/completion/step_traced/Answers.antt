@@ -1,4 +1,4 @@
-use Rattle.std.proofs.Common.{◌≡◌, ℕ, inl, inr, List, Option, Some, None, ap, ap₂, sym, ◌∙◌, subst, Bool, true, false, Err}
+use Rattle.std.proofs.Common.{◌≡◌, ℕ, inl, inr, List, Option, Some, None, refl, ap, ap₂, sym, ◌∙◌, subst, Bool, true, false, Err}
 use Rattle.std.specs.Prelude.{IfSome, is_some}
 use Rattle.cvm_outside.specs.Numbering.{tally}
 use Rattle.mips_machine.specs.Machine.{Held}
@@ -6,8 +6,9 @@ use Rattle.boot_report.specs.Texts.{SameButViewed}
 use Rattle.boot_turns.specs.declared.completion.Stepped.{Stepped}
 use Rattle.boot_turns.specs.declared.completion.Stepped.TheVariants.{Kept}
 use Rattle.boot_turns.specs.Completes.{seen, KeptUser, StepTorn, StepFails, PortsStepped, StepBegan, turn_began}
+use Rattle.boot_turns.specs.Tracing.{reads_of}
 use Rattle.boot_turns.proofs.CallCounts.{step_alone, step_rows}
-use Rattle.boot_turns.proofs.Counted.{step_counted}
+use Rattle.boot_turns.proofs.Counted.{step_counted, counted_reads}
 use Rattle.std.proofs.lemmas.Result.{err_from_is_err_and}
 use Rattle.mips_machine.specs.Steps.{outside_of}
 use Rattle.boot_turns.specs.declared.tracer.Tracer.{Tracer}
@@ -40,7 +41,7 @@ pub returns-in_err-stepped-clause-traced : goal.returns-in_err-stepped-clause-tr
 returns-in_err-stepped-clause-traced g c =
     let w = err_from_is_err_and c.from_residual.result c.from_residual.ensures.1 in
     step_breaks c.traces_grow.ensures c.journal_rows_follow.ensures c.the_words_tell.ensures (g.D.Sectors.size c.args.disk.now) c.args.map.now c.args.machine.now c.step_once.new.machine
-    (g.D.Sectors.sectors c.args.disk.now) (g.D.Sectors.sectors c.step_once.new.disk) c.args.tracer.now _ (g.O.Sink.text c.args.out.now)
+    (g.D.Sectors.sectors c.args.disk.now) (g.D.Sectors.sectors c.step_once.new.disk) c.args.tracer.now (g.O.Sink.text c.args.out.now)
     c.from_residual.result w.0 c.requires.on w.1 w.2 c.in_err-stepped.ensures.torn
 
 -- the transfer of the step failed, or the step is done
@@ -66,8 +67,9 @@ returns-in_err-follow-clause-traced g c =
     c.step_once.new.machine c.follow.new.machine (g.D.Sectors.sectors c.step_once.new.disk) (g.D.Sectors.sectors c.follow.new.disk)
     (same_seen c.step_once.new.machine c.follow.new.machine (g.D.Sectors.sectors c.step_once.new.disk) (g.D.Sectors.sectors c.follow.new.disk) c.in_err-follow.ensures.read.view.same c.in_err-follow.ensures.read.view.sectors)
     c.in_ok-stepped.ensures.ran c.current_user-current.result c.current_user-current.ensures c.began-began.result (began g (goal.at.returns-in_err-follow-clause-traced g c).In-Some)
-    c.args.tracer.now _ (g.O.Sink.text c.follow.new.out) c.from_residual-in_err-follow.result w.0 c.in_err-follow.field-0.0 (here g (goal.at.returns-in_err-follow-clause-traced g c).In-Some) w.1 w.2
-    (λ e. c.in_err-follow.ensures.read.no_limit (ap (λ f. Err f) e)) (λ e. c.in_err-follow.ensures.reads (ap (λ f. Err f) e)) (λ e. c.in_err-follow.ensures.puts (ap (λ f. Err f) e)) (λ ss words e told. (c.in_err-follow.ensures.put ss words e told).err)
+    c.args.tracer.now c.follow.new.self (g.O.Sink.text c.follow.new.out) c.from_residual-in_err-follow.result w.0 c.in_err-follow.field-0.0 (here g (goal.at.returns-in_err-follow-clause-traced g c).In-Some) w.1 w.2
+    (λ e. c.in_err-follow.ensures.read.no_limit (ap (λ f. Err f) e)) (λ e. c.in_err-follow.ensures.fails (ap (λ f. Err f) e))
+    (λ e. c.in_err-follow.ensures.puts (ap (λ f. Err f) e)) (λ ss words e told. (c.in_err-follow.ensures.put ss words e told).err)
 
 pub returns-in-Some-clause-traced : goal.returns-in-Some-clause-traced
 returns-in-Some-clause-traced g c =
@@ -88,27 +90,32 @@ returns-then-counts-clause-traced g c =
     c.requires.on c.step_once.new.machine (g.D.Sectors.sectors c.step_once.new.disk) c.in_ok-stepped.ensures.ran c.current_user-current.result (if_traced c.args.tracer.now _ c.current_user-current.ensures) began kept.0 (c.counts.ensures.free c.if-counts.true)
     (c.counts.ensures.counted c.if-counts.true) Kept
 
--- a user is traced
-is_traced : (o : Option Tracer) (k : Tracer) → o ≡ Some k → is_some o ≡ false → ⊥
-is_traced o k is e = let f : true ≡ false = ap (λ (o : Option Tracer). is_some o) (sym is) ∙ e in cc
-
 pub returns-in_err-stepped-clause-calls : goal.returns-in_err-stepped-clause-calls
-returns-in_err-stepped-clause-calls g c = step_alone (is_some c.args.tracer.now) c.args.machine.now c.step_once.new.machine (tally g.D.Sectors.faults g.D.Sectors.calls c.args.disk.now) (tally g.D.Sectors.faults g.D.Sectors.calls c.step_once.new.disk) c.in_err-stepped.ensures.calls
+returns-in_err-stepped-clause-calls g c =
+    step_alone c.args.machine.now c.step_once.new.machine c.args.tracer.now c.args.tracer.now (tally g.D.Sectors.faults g.D.Sectors.calls c.args.disk.now) (tally g.D.Sectors.faults g.D.Sectors.calls c.step_once.new.disk) refl c.in_err-stepped.ensures.calls
 
 pub returns-then-counts-clause-calls : goal.returns-then-counts-clause-calls
-returns-then-counts-clause-calls g c = step_alone (is_some c.args.tracer.now) c.args.machine.now c.step_once.new.machine (tally g.D.Sectors.faults g.D.Sectors.calls c.args.disk.now) (tally g.D.Sectors.faults g.D.Sectors.calls c.step_once.new.disk) c.in_ok-stepped.ensures.calls
+returns-then-counts-clause-calls g c =
+    step_alone c.args.machine.now c.step_once.new.machine c.args.tracer.now c.counts.new.tracer (tally g.D.Sectors.faults g.D.Sectors.calls c.args.disk.now) (tally g.D.Sectors.faults g.D.Sectors.calls c.step_once.new.disk)
+    (ap reads_of (c.counts.ensures.counted c.if-counts.true) ∙ counted_reads c.current_user-current.result c.args.tracer.now) c.in_ok-stepped.ensures.calls
 
 pub returns-clause-calls : goal.returns-clause-calls
-returns-clause-calls g c = step_alone (is_some c.args.tracer.now) c.args.machine.now c.step_once.new.machine (tally g.D.Sectors.faults g.D.Sectors.calls c.args.disk.now) (tally g.D.Sectors.faults g.D.Sectors.calls c.step_once.new.disk) c.in_ok-stepped.ensures.calls
+returns-clause-calls g c =
+    let same : c.match-stepped.tracer ≡ c.args.tracer.now = elim c.match-stepped.branch [
+      | in-Kept+else-counts w ↦ w.tracer-is ∙ w.counts.ensures.same w.if-counts.false
+      | in_default w ↦ w.tracer-is
+    ] in
+    step_alone c.args.machine.now c.step_once.new.machine c.args.tracer.now c.match-stepped.tracer (tally g.D.Sectors.faults g.D.Sectors.calls c.args.disk.now) (tally g.D.Sectors.faults g.D.Sectors.calls c.step_once.new.disk)
+    (ap reads_of same) c.in_ok-stepped.ensures.calls
 
 pub returns-in_err-follow-clause-calls : goal.returns-in_err-follow-clause-calls
 returns-in_err-follow-clause-calls g c =
-    step_rows (is_some c.args.tracer.now) c.args.machine.now c.step_once.new.machine c.follow.new.machine (tally g.D.Sectors.faults g.D.Sectors.calls c.args.disk.now) (tally g.D.Sectors.faults g.D.Sectors.calls c.step_once.new.disk) (tally g.D.Sectors.faults g.D.Sectors.calls c.follow.new.disk)
-    (is_traced c.args.tracer.now c.in-Some.kept (here g (goal.at.returns-in_err-follow-clause-calls g c).In-Some)) (ap (λ (h : Held). h.hardware.ports) c.in_err-follow.ensures.read.view.same)
+    step_rows c.args.machine.now c.step_once.new.machine c.follow.new.machine c.args.tracer.now c.in-Some.kept c.follow.new.self (tally g.D.Sectors.faults g.D.Sectors.calls c.args.disk.now) (tally g.D.Sectors.faults g.D.Sectors.calls c.step_once.new.disk) (tally g.D.Sectors.faults g.D.Sectors.calls c.follow.new.disk)
+    (here g (goal.at.returns-in_err-follow-clause-calls g c).In-Some) (ap (λ (h : Held). h.hardware.ports) c.in_err-follow.ensures.read.view.same)
     c.in_ok-stepped.ensures.count.same c.in_ok-stepped.ensures.calls c.in_err-follow.ensures.asks
 
 pub returns-in-Some-clause-calls : goal.returns-in-Some-clause-calls
 returns-in-Some-clause-calls g c =
-    step_rows (is_some c.args.tracer.now) c.args.machine.now c.step_once.new.machine c.follow.new.machine (tally g.D.Sectors.faults g.D.Sectors.calls c.args.disk.now) (tally g.D.Sectors.faults g.D.Sectors.calls c.step_once.new.disk) (tally g.D.Sectors.faults g.D.Sectors.calls c.follow.new.disk)
-    (is_traced c.args.tracer.now c.in-Some.kept (here g (goal.at.returns-in-Some-clause-calls g c).In-Some)) (ap (λ (h : Held). h.hardware.ports) c.in_ok-follow.ensures.read.view.same)
+    step_rows c.args.machine.now c.step_once.new.machine c.follow.new.machine c.args.tracer.now c.in-Some.kept c.follow.new.self (tally g.D.Sectors.faults g.D.Sectors.calls c.args.disk.now) (tally g.D.Sectors.faults g.D.Sectors.calls c.step_once.new.disk) (tally g.D.Sectors.faults g.D.Sectors.calls c.follow.new.disk)
+    (here g (goal.at.returns-in-Some-clause-calls g c).In-Some) (ap (λ (h : Held). h.hardware.ports) c.in_ok-follow.ensures.read.view.same)
     c.in_ok-stepped.ensures.count.same c.in_ok-stepped.ensures.calls c.in_ok-follow.ensures.asks

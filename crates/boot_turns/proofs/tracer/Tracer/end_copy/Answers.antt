@@ -1,9 +1,10 @@
 -- The rows of words that were copied are those of the primitive's entries.
-use Rattle.std.proofs.Common.{◌≡◌, ℕ, List, subst}
+use Rattle.std.proofs.Common.{◌≡◌, ℕ, List, subst, arith}
 use Rattle.std.specs.Prelude.{OnOk}
 use Rattle.mips_machine.specs.Machine.{state_of}
 use Rattle.boot_report.specs.Leaves.{PrintsAll}
-use Rattle.boot_turns.proofs.Followed.{copied_rows, copied_steps}
+use Rattle.boot_turns.specs.declared.tracer.Tracer.{Tracer}
+use Rattle.boot_turns.proofs.Followed.{copied_rows, copied_then}
 use Rattle.boot_turns.proofs.tracer.Tracer.end_copy.Goals as goal
 
 pub returns-clause-put : goal.returns-clause-put
@@ -14,9 +15,12 @@ returns-clause-put g c = λ ss words e told placed.
 
 pub returns-clause-steps : goal.returns-clause-steps
 returns-clause-steps g c = λ ss words e told placed.
-    subst (λ (n : ℕ). OnOk c.put_words.result (c.put_words.new.self ≡ record c.args.self.now { steps = n }))
-    (copied_steps c.args.map.now (state_of c.args.machine.now ss) c.args.self.now.user c.args.self.now.steps c.args.answer c.args.call.now words c.if-answer-ne1.false c.if-user-self.false c.requires.copy told placed)
-    c.put_words.ensures.steps
+    subst (λ (t : Tracer). OnOk c.put_words.result (c.put_words.new.self ≡ t))
+    (copied_then c.args.map.now c.args.machine.now ss c.args.self.now c.args.answer c.args.call.now words c.if-answer-ne1.false c.if-user-self.false c.requires.copy told placed)
+    c.put_words.ensures.kept
 
-pub returns-clause-reads : goal.returns-clause-reads
-returns-clause-reads g c = λ e. record { copies = c.requires.copy; user = c.if-user-self.false; done = c.if-answer-ne1.false; some = c.put_words.ensures.some e }
+pub returns-clause-fails : goal.returns-clause-fails
+returns-clause-fails g c = λ e.
+    let f = c.put_words.ensures.fails e in
+    let less = f.less in
+    record { copy = record { copies = c.requires.copy; user = c.if-user-self.false; done = c.if-answer-ne1.false; some = omega (arith, less) }; fails = f }

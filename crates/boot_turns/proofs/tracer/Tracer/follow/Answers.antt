@@ -3,18 +3,23 @@ use Rattle.std.proofs.Common.{◌≡◌, ℕ, List, [], Bool, true, false, Optio
 use Rattle.std.specs.Prelude.{IsSome}
 use Rattle.std.specs.Io.KnownBytes.{append_known}
 use Rattle.cvm_outside.proofs.Parts.{append_known-nil}
+use Rattle.cvm_outside.specs.Numbering.{tally}
 use Rattle.mips_table.specs.Machine.{State}
 use Rattle.mips_machine.specs.Machine.{Held, state_of}
+use Rattle.layer_map.specs.Map.{Map}
 use Rattle.boot_report.specs.Texts.{SameButViewed}
 use Rattle.boot_turns.specs.declared.tracer.Entered.{Entered}
 use Rattle.boot_turns.specs.declared.tracer.Tracer.{Tracer}
-use Rattle.boot_turns.specs.Entries.{turn_begins, notes_on, returned, IsCopyTo, CopyEnds, HasRows}
+use Rattle.boot_turns.specs.Entries.{turn_begins, HasRows}
+use Rattle.boot_turns.specs.Returns.{notes_on, returned, IsCopyTo}
+use Rattle.boot_turns.specs.Copies.{CallFails, FollowFails}
 use Rattle.boot_turns.specs.Completes.{shown}
 use Rattle.boot_turns.specs.declared.completion.Begun.{Begun}
 use Rattle.std.proofs.lemmas.Result.{err_from_is_err_and}
 use Rattle.boot_report.proofs.Leaves.{broken, printed}
 use Rattle.boot_turns.specs.Tracing.{followed_rows}
-use Rattle.boot_turns.proofs.Followed.{own_turn, other_turn, none_returned, rows_put, kept_then, call_put, call_begun, call_kept}
+use Rattle.boot_turns.proofs.Reading.{asks_nothing, asks_same}
+use Rattle.boot_turns.proofs.Followed.{own_turn, other_turn, none_returned, begun_reads, free_reads, call_seen, rows_put, kept_then, call_put, call_begun, call_kept}
 use Rattle.boot_turns.proofs.tracer.Tracer.follow.Goals.{then-began+then-current-self+else-prove+in_ok-begin, then-began+else-current-self, else-began+in-Some+in_ok-end, else-began+in_default}
 use Rattle.boot_turns.proofs.tracer.Tracer.follow.Goals as goal
 
@@ -26,9 +31,11 @@ returns-in_err-end-clause-put g c = λ ss words e told.
     (call_begun s c.args.self.now c.args.current c.args.began words c.args.map.now c.returned_call.result c.in-Some.call c.reg.result c.if-began.false c.returned_call.ensures c.in-Some.is c.reg.ensures told
     (g.O.Sink.text c.args.out.now) (g.O.Sink.text c.end.new.out) (λ t p. (c.in_err-end.ensures.put ss words e t p).err))
 
--- where the primitive's rows couldn't be read, it copied words to the user
-copied : (a : Held) (kept : Tracer) (o : Option Entered) (e : Entered) (answer : ℕ) → o ≡ returned (state_of a []) kept.call → o ≡ Some e → answer ≡ slice_index a.hardware.cpu.regs 2 → IsCopyTo kept.user e answer → CopyEnds kept.user (state_of a []) kept.call
-copied a kept o e answer is some reads copy = record { call = e; returns = sym is ∙ some; copy = subst (IsCopyTo kept.user e) reads copy }
+-- where the rows of a primitive that returned couldn't be read, so it is of the step
+call_fails : (told : Option (List (List ℕ))) (a : Held) (m : Map) (kept new : Tracer) (began : Bool) (o : Option Entered) (e : Entered) (answer : ℕ) (text retext : Option (List ℕ)) → began ≡ false → o ≡ returned (state_of a []) kept.call → o ≡ Some e →
+    answer ≡ slice_index a.hardware.cpu.regs 2 → CallFails told a m kept new e answer text retext → FollowFails told a m kept new began text retext
+call_fails told a m kept new began o e answer text retext none is some reads f =
+    record { goes_on = none; ends = record { call = e; returns = sym is ∙ some; copy = subst (IsCopyTo kept.user e) reads f.copy }; fails = f.fails }
 
 -- a turn that begins with rows is a dispatch
 begun_rows : (a : Held) (noted : Option Entered) (b : Begun) (began : Bool) → began ≡ true → b ≡ shown a → b.dispatched ≡ true → HasRows (state_of a []) noted began
@@ -44,8 +51,11 @@ returns-in_err-begin-clause-puts g c = λ e. begun_rows c.args.machine.now c.arg
 pub returns-in_err-end-clause-puts : goal.returns-in_err-end-clause-puts
 returns-in_err-end-clause-puts g c = λ e. returned_rows c.args.machine.now c.args.self.now.call c.returned_call.result c.in-Some.call c.args.began c.if-began.false c.returned_call.ensures c.in-Some.is
 
-pub returns-in_err-end-clause-reads : goal.returns-in_err-end-clause-reads
-returns-in_err-end-clause-reads g c = λ e. (c.if-began.false, copied c.args.machine.now c.args.self.now c.returned_call.result c.in-Some.call c.reg.result c.returned_call.ensures c.in-Some.is c.reg.ensures (c.in_err-end.ensures.reads (let w = err_from_is_err_and c.from_residual-in_err-end.result c.from_residual-in_err-end.ensures.1 in sym (ap (λ f. Err f) w.2) ∙ sym w.1 ∙ e)))
+pub returns-in_err-end-clause-fails : goal.returns-in_err-end-clause-fails
+returns-in_err-end-clause-fails g c = λ e.
+    let w = err_from_is_err_and c.from_residual-in_err-end.result c.from_residual-in_err-end.ensures.1 in
+    call_fails (g.D.Sectors.sectors c.args.disk.now) c.args.machine.now c.args.map.now c.args.self.now c.end.new.self c.args.began c.returned_call.result c.in-Some.call c.reg.result (g.O.Sink.text c.args.out.now) (g.O.Sink.text c.end.new.out)
+    c.if-began.false c.returned_call.ensures c.in-Some.is c.reg.ensures (c.in_err-end.ensures.fails (sym (ap (λ f. Err f) w.2) ∙ sym w.1 ∙ e))
 
 pub returns-clause-put : goal.returns-clause-put
 returns-clause-put g c = λ ss words e told.
@@ -88,21 +98,39 @@ returns-clause-kept g c = λ ss words e told.
       | then-began+then-current-self+else-prove+in_ok-begin w ↦ (
           let is = own_turn s kept c.args.current c.args.began words w.begun_now.result w.if-began.true w.begun_now.ensures in
           let mid = w.self-is ∙ w.in_ok-begin.ensures.steps in
-          kept_then s kept c.args.current c.args.began words (turn_begins kept.user c.args.current w.begun_now.result) is c.if-began.self next mid
+          kept_then s kept c.args.current c.args.began words (turn_begins kept.user c.args.current w.begun_now.result) is c.args.map.now c.if-began.self next (begun_reads s kept c.args.current c.args.began words c.args.map.now w.if-began.true) mid
           (noted_there c.args.machine.now c.if-began.machine ss kept.call c.if-began.self.call w.machine-is (ap (λ (t : Tracer). t.call) mid))
           )
       | then-began+else-current-self w ↦ (
           let is = other_turn s kept c.args.current c.args.began words w.if-began.true w.if-current-self.false in
-          kept_then s kept c.args.current c.args.began words [] is c.if-began.self next w.self-is
+          kept_then s kept c.args.current c.args.began words [] is c.args.map.now c.if-began.self next (begun_reads s kept c.args.current c.args.began words c.args.map.now w.if-began.true) w.self-is
           (noted_there c.args.machine.now c.if-began.machine ss kept.call c.if-began.self.call w.machine-is (ap (λ (t : Tracer). t.call) w.self-is))
           )
       | else-began+in-Some+in_ok-end w ↦
           call_kept s kept c.args.current c.args.began words c.args.map.now w.returned_call.result w.in-Some.call w.reg.result w.if-began.false w.returned_call.ensures w.in-Some.is w.reg.ensures told
-          c.if-began.self next (λ t p. w.self-is ∙ w.in_ok-end.ensures.steps ss words e t p)
+          (state_of c.args.machine.now []) c.if-began.self next (call_seen c.args.map.now c.args.machine.now ss kept.user w.reg.result w.in-Some.call) (λ t p. w.self-is ∙ w.in_ok-end.ensures.steps ss words e t p)
           (λ h. noted_then c.args.machine.now c.if-began.machine ss kept.call c.if-began.self.call (subst (SameButViewed c.args.machine.now) (sym w.machine-is) w.in_ok-end.ensures.read.view.same) h)
       | else-began+in_default w ↦ (
           let is = none_returned s kept c.args.current c.args.began words w.returned_call.result w.if-began.false w.returned_call.ensures w.in_default.is in
-          kept_then s kept c.args.current c.args.began words [] is c.if-began.self next w.self-is
+          kept_then s kept c.args.current c.args.began words [] is c.args.map.now c.if-began.self next (free_reads s kept c.args.current c.args.began words c.args.map.now w.returned_call.result w.if-began.false w.returned_call.ensures w.in_default.is) w.self-is
           (noted_there c.args.machine.now c.if-began.machine ss kept.call c.if-began.self.call w.machine-is (ap (λ (t : Tracer). t.call) w.self-is))
           )
+    ]
+
+pub returns-clause-asks : goal.returns-clause-asks
+returns-clause-asks g c =
+    let old = c.args.self.now in
+    let before = tally g.D.Sectors.faults g.D.Sectors.calls c.args.disk.now in
+    let after = tally g.D.Sectors.faults g.D.Sectors.calls c.if-began.disk in
+    let noted : c.note_call.new.self.reads ≡ c.if-began.self.reads = ap (λ (t : Tracer). t.reads) c.note_call.ensures in
+    elim c.if-began.branch [
+      | then-began+then-current-self+else-prove+in_ok-begin w ↦
+          asks_nothing old c.note_call.new.self before after (noted ∙ ap (λ (t : Tracer). t.reads) w.self-is ∙ w.in_ok-begin.ensures.reads) (ap (tally g.D.Sectors.faults g.D.Sectors.calls) w.disk-is)
+      | then-began+else-current-self w ↦
+          asks_nothing old c.note_call.new.self before after (noted ∙ ap (λ (t : Tracer). t.reads) w.self-is) (ap (tally g.D.Sectors.faults g.D.Sectors.calls) w.disk-is)
+      | else-began+in-Some+in_ok-end w ↦
+          asks_same old w.end.new.self c.note_call.new.self before (tally g.D.Sectors.faults g.D.Sectors.calls w.end.new.disk) after w.in_ok-end.ensures.asks
+          (noted ∙ ap (λ (t : Tracer). t.reads) w.self-is) (ap (tally g.D.Sectors.faults g.D.Sectors.calls) w.disk-is)
+      | else-began+in_default w ↦
+          asks_nothing old c.note_call.new.self before after (noted ∙ ap (λ (t : Tracer). t.reads) w.self-is) (ap (tally g.D.Sectors.faults g.D.Sectors.calls) w.disk-is)
     ]

@@ -1,24 +1,49 @@
-use Rattle.std.proofs.Common.{◌≡◌, ◌+◌, ◌*◌, ◌/◌, ◌<◌, ◌≤◌, refl, ap, ◌∙◌, arith}
+use Rattle.std.proofs.Common.{◌≡◌, ℕ, ◌+◌, ◌*◌, ◌/◌, ◌<◌, ◌≤◌, [], refl, sym, ap, ◌∙◌, arith}
 use Rattle.std.specs.Io.KnownBytes.{append_known}
 use Rattle.std.proofs.lemmas.Result.{err_from_is_err_and}
 use Rattle.cvm_outside.specs.Numbering.{tally}
 use Rattle.mips_machine.specs.Machine.{state_of}
 use Rattle.cvm_model.specs.Paged.{paged_of}
-use Rattle.boot_report.proofs.Leaves.{asks_as, asks_none, asks_twice, broken, printed, views_twice}
-use Rattle.boot_turns.specs.Copies.{copy_rows}
-use Rattle.boot_turns.proofs.Copying.{one_put, part_put, stop_put, none_put, put_tracer, fits_then, row_read}
+use Rattle.boot_report.specs.Resident.{word_reads}
+use Rattle.boot_report.proofs.Leaves.{broken, printed, views_twice}
+use Rattle.boot_turns.specs.declared.tracer.Tracer.{Tracer}
+use Rattle.boot_turns.specs.Copies.{copy_rows, copied_kept, steps_left}
 use Rattle.boot_turns.proofs.CallCounts.{sink_alone}
+use Rattle.boot_turns.proofs.Reading.{few_read, none_read, read_then, fails_there, keeps_word, keeps_all, calls_word, asks_word}
+use Rattle.boot_turns.proofs.Copying.{one_put, part_put, stop_put, none_put, put_tracer, fits_then, row_read}
+use Rattle.boot_turns.proofs.tracer.Tracer.put_words.Given.{Over}
+use Rattle.boot_turns.proofs.tracer.Tracer.put_words.Goals.{After-read_user_word, then-not-is_word_resident, else-not-is_word_resident}
 use Rattle.boot_turns.proofs.tracer.Tracer.put_words.Goals as goal
+
+-- the word is counted where it is read from the disk
+word_counted : (g : Over) (c : After-read_user_word g) →
+    c.if-not-is_word_resident.self ≡ record c.loop-i.self { reads = c.loop-i.self.reads + word_reads c.args.map.now (state_of c.loop-i.machine []) c.loop-i.self.user (c.args.address / 4 + c.loop-i.i) }
+word_counted g c = elim c.if-not-is_word_resident.branch [
+  | then-not-is_word_resident w ↦ w.self-is ∙ ap (λ (n : ℕ). record c.loop-i.self { reads = c.loop-i.self.reads + n }) (sym w.if-not-is_word_resident.ensures)
+  | else-not-is_word_resident w ↦ (
+      let none : c.loop-i.self.reads ≡ c.loop-i.self.reads + 0 = omega arith in
+      w.self-is ∙ ap (λ (n : ℕ). record c.loop-i.self { reads = n }) none ∙ ap (λ (n : ℕ). record c.loop-i.self { reads = c.loop-i.self.reads + n }) (sym w.if-not-is_word_resident.ensures)
+      )
+]
+
+pub overflow_add-self : goal.overflow_add-self
+overflow_add-self g c =
+    let few : c.steps.result < 18446744073709551616 = c.steps.type_inv in
+    let read = few_read c.args.map.now (state_of c.args.machine.now []) c.args.self.now.user (c.args.address / 4) c.loop-i.i in
+    let so_far = c.loop-i.invariant.reads in
+    let test = c.if-prove.false in
+    omega (arith, few, read, so_far, test, c.from.ensures, c.ranges.count.fits, c.loop-i-test.true)
 
 pub loop-i-init : goal.loop-i-init
 loop-i-init g c = record {
   user = refl;
   steps = refl;
-  self = refl;
+  reads = omega arith;
+  self = none_read c.args.map.now (state_of c.args.machine.now []) c.args.self.now c.args.address;
   view = record { same = refl; sectors = refl; size = refl };
   memory = refl;
   disk_faults = refl;
-  asks = asks_none _ _ (λ h. h);
+  calls = refl;
   faults = refl;
   text = λ ss e f. none_put c.args.map.now (paged_of c.args.map.now (state_of c.args.machine.now ss)) c.args.self.now.user c.args.self.now.steps c.args.address (g.O.Sink.text c.args.out.now);
 }
@@ -32,34 +57,43 @@ returns-in_err-word-clause-put g c = λ ss e f.
 
 pub returns-in_err-put-clause-put : goal.returns-in_err-put-clause-put
 returns-in_err-put-clause-put g c = λ ss e f.
+    let counts = word_counted g (goal.at.returns-in_err-put-clause-put g c).After-read_user_word in
+    let user : c.if-not-is_word_resident.self.user ≡ c.args.self.now.user = ap (λ (t : Tracer). t.user) counts ∙ c.loop-i.invariant.user in
+    let steps : c.if-not-is_word_resident.self.steps ≡ steps_left c.args.self.now.steps c.loop-i.i = ap (λ (t : Tracer). t.steps) counts ∙ c.loop-i.invariant.steps in
     let lt : c.loop-i.i < c.args.count = omega arith in
     let told = c.in_ok-word.ensures.shown ss (c.loop-i.invariant.view.sectors ∙ e) (fits_then c.args.map.now c.args.machine.now c.loop-i.machine ss c.loop-i.invariant.view.same f) in
     let h = err_from_is_err_and c.from_residual-in_err-put.result c.from_residual-in_err-put.ensures.1 in
     broken _ _ _ c.from_residual-in_err-put.result h.0 h.1
     (part_put c.args.map.now (paged_of c.args.map.now (state_of c.args.machine.now ss)) c.args.self.now.user c.args.self.now.steps c.args.address (g.O.Sink.text c.args.out.now) (g.O.Sink.text c.loop-i.out) (g.O.Sink.text c.put.new.out)
-    c.loop-i.i c.as_bytes.result.now c.loop-i.self.steps (c.loop-i.invariant.text ss e f)
-    (row_read c.args.map.now c.args.machine.now c.loop-i.machine ss c.args.self.now.user c.loop-i.self.user (c.args.address / 4 + c.loop-i.i) (c.args.address + 4 * c.loop-i.i) c.in_ok-word.word c.as_bytes.result.now c.loop-i.invariant.view.same c.loop-i.invariant.user told
+    c.loop-i.i c.as_bytes.result.now c.if-not-is_word_resident.self.steps (c.loop-i.invariant.text ss e f)
+    (row_read c.args.map.now c.args.machine.now c.loop-i.machine ss c.args.self.now.user c.if-not-is_word_resident.self.user (c.args.address / 4 + c.loop-i.i) (c.args.address + 4 * c.loop-i.i) c.in_ok-word.word c.as_bytes.result.now c.loop-i.invariant.view.same user told
     (c.as_bytes.ensures.value ∙ c.as_str.ensures.value ∙ c.put_row.ensures))
-    c.loop-i.invariant.steps c.args.count lt c.in_err-put.ensures.put.err)
+    steps c.args.count lt c.in_err-put.ensures.put.err)
 
 pub loop-i-preserved : goal.loop-i-preserved
-loop-i-preserved g c = record {
-  user = ap (λ t. t.user) c.in_ok-put.ensures.steps ∙ c.loop-i.invariant.user;
-  steps = ap (λ t. t.steps) (put_tracer c.args.self.now c.loop-i.self c.put.new.self c.loop-i.i c.loop-i.invariant.self c.in_ok-put.ensures.steps);
-  self = put_tracer c.args.self.now c.loop-i.self c.put.new.self c.loop-i.i c.loop-i.invariant.self c.in_ok-put.ensures.steps;
-  view = views_twice g.D.Sectors.sectors g.D.Sectors.size c.args.machine.now c.loop-i.machine c.read_user_word.new.machine c.args.disk.now c.loop-i.disk c.read_user_word.new.disk c.loop-i.invariant.view c.in_ok-word.ensures.view;
-  memory = ap (λ h. h.hardware.memory) c.in_ok-word.ensures.view.same ∙ c.loop-i.invariant.memory;
-  disk_faults = c.in_ok-word.ensures.count.same ∙ c.loop-i.invariant.disk_faults;
-  asks = asks_as _ ⊥ _ _ (λ h. absurd h) (asks_twice ⊥ _ (tally g.D.Sectors.faults g.D.Sectors.calls c.args.disk.now) (tally g.D.Sectors.faults g.D.Sectors.calls c.loop-i.disk) (tally g.D.Sectors.faults g.D.Sectors.calls c.read_user_word.new.disk) c.loop-i.invariant.disk_faults c.loop-i.invariant.asks c.in_ok-word.ensures.asks);
-  faults = c.in_ok-put.ensures.put.count.same ∙ c.loop-i.invariant.faults;
-  text = λ ss e f.
-      let told = c.in_ok-word.ensures.shown ss (c.loop-i.invariant.view.sectors ∙ e) (fits_then c.args.map.now c.args.machine.now c.loop-i.machine ss c.loop-i.invariant.view.same f) in
-      one_put c.args.map.now (paged_of c.args.map.now (state_of c.args.machine.now ss)) c.args.self.now.user c.args.self.now.steps c.args.address (g.O.Sink.text c.args.out.now) (g.O.Sink.text c.loop-i.out) (g.O.Sink.text c.put.new.out)
-      c.loop-i.i c.as_bytes.result.now c.loop-i.self.steps (c.loop-i.invariant.text ss e f)
-      (row_read c.args.map.now c.args.machine.now c.loop-i.machine ss c.args.self.now.user c.loop-i.self.user (c.args.address / 4 + c.loop-i.i) (c.args.address + 4 * c.loop-i.i) c.in_ok-word.word c.as_bytes.result.now c.loop-i.invariant.view.same c.loop-i.invariant.user told
-      (c.as_bytes.ensures.value ∙ c.as_str.ensures.value ∙ c.put_row.ensures))
-      c.loop-i.invariant.steps c.in_ok-put.ensures.put.ok;
-}
+loop-i-preserved g c =
+    let counts = word_counted g (goal.at.loop-i-preserved g c).After-read_user_word in
+    let user : c.if-not-is_word_resident.self.user ≡ c.args.self.now.user = ap (λ (t : Tracer). t.user) counts ∙ c.loop-i.invariant.user in
+    let steps : c.if-not-is_word_resident.self.steps ≡ steps_left c.args.self.now.steps c.loop-i.i = ap (λ (t : Tracer). t.steps) counts ∙ c.loop-i.invariant.steps in
+    let same = read_then c.args.map.now c.args.machine.now c.loop-i.machine c.args.address c.args.self.now c.loop-i.self c.if-not-is_word_resident.self c.loop-i.i c.loop-i.invariant.view.same c.loop-i.invariant.self counts in
+    let next = put_tracer c.args.map.now (state_of c.args.machine.now []) c.args.address c.args.self.now c.loop-i.self c.if-not-is_word_resident.self c.put.new.self c.loop-i.i c.loop-i.invariant.self same c.in_ok-put.ensures.steps in record {
+      user = ap (λ (t : Tracer). t.user) next;
+      steps = ap (λ (t : Tracer). t.steps) next;
+      reads = ap (λ (t : Tracer). t.reads) next;
+      self = next;
+      view = views_twice g.D.Sectors.sectors g.D.Sectors.size c.args.machine.now c.loop-i.machine c.read_user_word.new.machine c.args.disk.now c.loop-i.disk c.read_user_word.new.disk c.loop-i.invariant.view c.in_ok-word.ensures.view;
+      memory = ap (λ h. h.hardware.memory) c.in_ok-word.ensures.view.same ∙ c.loop-i.invariant.memory;
+      disk_faults = c.in_ok-word.ensures.count.same ∙ c.loop-i.invariant.disk_faults;
+      calls = calls_word c.args.map.now c.args.machine.now c.loop-i.machine c.args.address c.args.self.now c.loop-i.self c.if-not-is_word_resident.self c.loop-i.i c.loop-i.invariant.view.same c.loop-i.invariant.self counts _ (tally g.D.Sectors.faults g.D.Sectors.calls c.args.disk.now) (tally g.D.Sectors.faults g.D.Sectors.calls c.loop-i.disk) (tally g.D.Sectors.faults g.D.Sectors.calls c.read_user_word.new.disk) c.loop-i.invariant.disk_faults c.loop-i.invariant.calls c.in_ok-word.ensures.asks;
+      faults = c.in_ok-put.ensures.put.count.same ∙ c.loop-i.invariant.faults;
+      text = λ ss e f.
+          let told = c.in_ok-word.ensures.shown ss (c.loop-i.invariant.view.sectors ∙ e) (fits_then c.args.map.now c.args.machine.now c.loop-i.machine ss c.loop-i.invariant.view.same f) in
+          one_put c.args.map.now (paged_of c.args.map.now (state_of c.args.machine.now ss)) c.args.self.now.user c.args.self.now.steps c.args.address (g.O.Sink.text c.args.out.now) (g.O.Sink.text c.loop-i.out) (g.O.Sink.text c.put.new.out)
+          c.loop-i.i c.as_bytes.result.now c.if-not-is_word_resident.self.steps (c.loop-i.invariant.text ss e f)
+          (row_read c.args.map.now c.args.machine.now c.loop-i.machine ss c.args.self.now.user c.if-not-is_word_resident.self.user (c.args.address / 4 + c.loop-i.i) (c.args.address + 4 * c.loop-i.i) c.in_ok-word.word c.as_bytes.result.now c.loop-i.invariant.view.same user told
+          (c.as_bytes.ensures.value ∙ c.as_str.ensures.value ∙ c.put_row.ensures))
+          steps c.in_ok-put.ensures.put.ok;
+    }
 
 pub returns-clause-put : goal.returns-clause-put
 returns-clause-put g c = λ ss e f.
@@ -67,10 +101,29 @@ returns-clause-put g c = λ ss e f.
     printed _ _ _ _ (c.loop-i.invariant.text ss e f
     ∙ ap (λ n. append_known (g.O.Sink.text c.args.out.now) (copy_rows c.args.map.now (paged_of c.args.map.now (state_of c.args.machine.now ss)) c.args.self.now.user c.args.self.now.steps c.args.address n)) all)
 
+pub returns-clause-kept : goal.returns-clause-kept
+returns-clause-kept g c = let all : c.loop-i.i ≡ c.args.count = omega arith in c.loop-i.invariant.self ∙ ap (copied_kept c.args.map.now (state_of c.args.machine.now []) c.args.self.now c.args.address) all
+
+pub returns-clause-keeps : goal.returns-clause-keeps
+returns-clause-keeps g c =
+    let le : c.loop-i.i ≤ c.args.count = omega arith in
+    keeps_all c.args.map.now (state_of c.args.machine.now []) c.args.self.now c.loop-i.self c.args.address c.loop-i.i (omega (arith, c.ranges.count.fits, le)) c.loop-i.invariant.self
+
+pub returns-in_err-word-clause-fails : goal.returns-in_err-word-clause-fails
+returns-in_err-word-clause-fails g c = λ e. fails_there c.args.map.now c.args.machine.now c.loop-i.machine c.args.address c.args.self.now c.loop-i.self c.if-not-is_word_resident.self c.loop-i.i c.loop-i.invariant.view.same c.loop-i.invariant.self (word_counted g (goal.at.returns-in_err-word-clause-fails g c).After-read_user_word) (g.D.Sectors.sectors c.args.disk.now) c.args.count (g.O.Sink.text c.args.out.now) (g.O.Sink.text c.loop-i.out) c.loop-i-test.true (c.in_err-word.ensures.asks.some refl) c.loop-i.invariant.text
+
+pub returns-in_err-word-clause-keeps : goal.returns-in_err-word-clause-keeps
+returns-in_err-word-clause-keeps g c = keeps_word c.args.map.now c.args.machine.now c.loop-i.machine c.args.address c.args.self.now c.loop-i.self c.if-not-is_word_resident.self c.loop-i.i c.loop-i.invariant.view.same c.loop-i.invariant.self (word_counted g (goal.at.returns-in_err-word-clause-keeps g c).After-read_user_word) c.if-not-is_word_resident.self c.args.count c.loop-i-test.true c.ranges.count.fits refl (omega arith) refl
+
 pub returns-in_err-word-clause-asks : goal.returns-in_err-word-clause-asks
-returns-in_err-word-clause-asks g c = asks_as _ _ _ _ (λ h. refl) (asks_twice ⊥ _ (tally g.D.Sectors.faults g.D.Sectors.calls c.args.disk.now) (tally g.D.Sectors.faults g.D.Sectors.calls c.loop-i.disk) (tally g.D.Sectors.faults g.D.Sectors.calls c.read_user_word.new.disk) c.loop-i.invariant.disk_faults c.loop-i.invariant.asks c.in_err-word.ensures.asks)
+returns-in_err-word-clause-asks g c = asks_word c.args.map.now c.args.machine.now c.loop-i.machine c.args.address c.args.self.now c.loop-i.self c.if-not-is_word_resident.self c.loop-i.i c.loop-i.invariant.view.same c.loop-i.invariant.self (word_counted g (goal.at.returns-in_err-word-clause-asks g c).After-read_user_word) _ (tally g.D.Sectors.faults g.D.Sectors.calls c.args.disk.now) (tally g.D.Sectors.faults g.D.Sectors.calls c.loop-i.disk) (tally g.D.Sectors.faults g.D.Sectors.calls c.read_user_word.new.disk) c.loop-i.invariant.disk_faults c.loop-i.invariant.calls c.in_err-word.ensures.asks c.if-not-is_word_resident.self refl
+
+pub returns-in_err-put-clause-fails : goal.returns-in_err-put-clause-fails
+returns-in_err-put-clause-fails g c = λ e. let h = err_from_is_err_and c.from_residual-in_err-put.result c.from_residual-in_err-put.ensures.1 in absurd (sink_alone _ h.0 h.1 h.2 e)
+
+pub returns-in_err-put-clause-keeps : goal.returns-in_err-put-clause-keeps
+returns-in_err-put-clause-keeps g c =
+    keeps_word c.args.map.now c.args.machine.now c.loop-i.machine c.args.address c.args.self.now c.loop-i.self c.if-not-is_word_resident.self c.loop-i.i c.loop-i.invariant.view.same c.loop-i.invariant.self (word_counted g (goal.at.returns-in_err-put-clause-keeps g c).After-read_user_word) c.put.new.self c.args.count c.loop-i-test.true c.ranges.count.fits c.in_err-put.ensures.keeps.user c.in_err-put.ensures.keeps.few c.in_err-put.ensures.reads
 
 pub returns-in_err-put-clause-asks : goal.returns-in_err-put-clause-asks
-returns-in_err-put-clause-asks g c =
-    let h = err_from_is_err_and c.from_residual-in_err-put.result c.from_residual-in_err-put.ensures.1 in
-    asks_as ⊥ _ _ _ (λ e. sink_alone _ h.0 h.1 h.2 e) (asks_as _ ⊥ _ _ (λ e. absurd e) (asks_twice ⊥ _ (tally g.D.Sectors.faults g.D.Sectors.calls c.args.disk.now) (tally g.D.Sectors.faults g.D.Sectors.calls c.loop-i.disk) (tally g.D.Sectors.faults g.D.Sectors.calls c.read_user_word.new.disk) c.loop-i.invariant.disk_faults c.loop-i.invariant.asks c.in_ok-word.ensures.asks))
+returns-in_err-put-clause-asks g c = asks_word c.args.map.now c.args.machine.now c.loop-i.machine c.args.address c.args.self.now c.loop-i.self c.if-not-is_word_resident.self c.loop-i.i c.loop-i.invariant.view.same c.loop-i.invariant.self (word_counted g (goal.at.returns-in_err-put-clause-asks g c).After-read_user_word) _ (tally g.D.Sectors.faults g.D.Sectors.calls c.args.disk.now) (tally g.D.Sectors.faults g.D.Sectors.calls c.loop-i.disk) (tally g.D.Sectors.faults g.D.Sectors.calls c.read_user_word.new.disk) c.loop-i.invariant.disk_faults c.loop-i.invariant.calls c.in_ok-word.ensures.asks c.put.new.self c.in_err-put.ensures.reads

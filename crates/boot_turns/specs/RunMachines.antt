@@ -2,7 +2,7 @@
 use Rattle.std.specs.Prelude.{◌≡◌, ℕ, suc, ◌+◌, ◌-◌, ◌<◌, ◌≤◌, false, bit_or, Option, None, List, [], ◌∷◌, ◌++◌}
 use Rattle.mips_table.specs.Device.{Outside}
 use Rattle.mips_table.specs.Machine.{State, run}
-use Rattle.mips_table.specs.Turns.{begins, complete, lines_of, IsEnd, faults_before}
+use Rattle.mips_table.specs.Turns.{begins, complete, lines_of, faults_before}
 use Rattle.c0_meaning.specs.State.{State as C0}
 use Rattle.cvm_model.specs.Kernel.{Core}
 use Rattle.cvm_model.specs.Cvm.{System, Running, Cvm, IsCvm, Begin, Steps, Traps, Interrupts, status_of, begin}
@@ -10,13 +10,12 @@ use Rattle.cvm_model.specs.declared.row.Next.{Next}
 use Rattle.cvm_model.specs.declared.row.Next.TheVariants.{User}
 use Rattle.layer_contract.specs.Starts.{Beyond}
 use Rattle.boot_turns.specs.declared.completion.Begun.{Begun}
-use Rattle.boot_turns.specs.Completes.{note, ShownAs, Progress, Completed, Torn}
+use Rattle.boot_turns.specs.Completes.{note, ShownAs, Progress, Completed}
+use Rattle.boot_turns.specs.Torn.{Torn}
 use Rattle.boot_turns.specs.Premises.{StartsFrom}
-use Rattle.boot_turns.specs.TurnEnds.{Stood, Ahead}
-
--- the machine goes on where the CVM run is defined, within its bound and so many further steps
-abbrev pub GoesOnWithin : Outside → System → State → (more : ℕ) → Type 0
-GoesOnWithin x y s more = (k : ℕ) (c : Cvm) → IsCvm y (lines_of x s) k c → (t : ℕ) × IsEnd x s k t × (t ≤ c.bound + more)
+use Rattle.boot_turns.specs.TurnEnds.{Stood}
+use Rattle.boot_turns.specs.Ahead.{Ahead}
+use Rattle.boot_turns.specs.GoesOn.{GoesOnWithin}
 
 -- the CVM run is defined for as many turns as are complete at any step
 abbrev pub IsDefined : Outside → System → State → Type 0

@@ -3,7 +3,7 @@ use Rattle.mips_table.specs.Turns.{lines_of}
 use Rattle.c0_meaning.specs.State.{State as C0}
 use Rattle.layer_contract.specs.Starts.{StartsGoOn}
 use Rattle.layer_contract.specs.Users.{UserStepsLinked}
-use Rattle.boot_turns.specs.Machines.{MachinesRun, RunsStayTyped}
+use Rattle.boot_turns.specs.RunMachines.{MachinesRun, RunsStayTyped}
 use Rattle.boot_turns.proofs.Counting.{complete_small}
 use Rattle.boot_turns.proofs.Units.{one_cvm}
 use Rattle.boot_turns.proofs.Turning.{given}
