@@ -7,7 +7,8 @@ use Rattle.schedule_file.specs.Rows.{Rows}
 use Rattle.mips_machine.specs.Steps.{outside_of}
 use Rattle.cvm_model.specs.declared.row.Next.{Next}
 use Rattle.cvm_model.specs.declared.row.Next.TheVariants.{Halt, Fault}
-use Rattle.boot_turns.specs.AnyTurns.{NoSooner, ComesTo, BrokeOff}
+use Rattle.boot_turns.specs.AnyTurns.{BrokeOff}
+use Rattle.boot_turns.specs.Sooner.{NoSooner, ComesTo}
 use Rattle.boot_turns.specs.Completes.{seen}
 use Rattle.boot_turns.specs.declared.completion.Begun.{Begun}
 use Rattle.boot_turns.specs.declared.answers.Turn.{Turn}
@@ -15,7 +16,8 @@ use Rattle.boot_turns.specs.declared.answers.View.{View}
 use Rattle.boot_turns.specs.declared.tracer.Tracer.{Tracer}
 use Rattle.boot_turns.specs.declared.answers.RunFault.{RunFault}
 use Rattle.boot_turns.specs.declared.answers.RunFault.TheVariants.{StepLimit, Disk, Sink}
-use Rattle.boot_run.specs.AnyRun.{ended_off, is_traced, CameTo, WasCut, FromAnywhere, AnyTurnsRun, AnyGoRuns}
+use Rattle.boot_run.specs.AnyRun.{is_traced, CameTo, WasCut, FromAnywhere, AnyTurnsRun, AnyGoRuns}
+use Rattle.boot_run.specs.AnyEnds.{ended_off}
 use Rattle.boot_run.specs.LoadEnds.{Kept, viewed}
 use Rattle.boot_run.specs.Shown.{next_shown, end_of_next, fault_of_power}
 use Rattle.boot_run.specs.TurnCalls.{Around, around, KeepsLoad}

@@ -12,7 +12,8 @@ use Rattle.layer_contract.specs.Boots.{boot_of}
 use Rattle.boot_turns.specs.declared.tracer.Tracer.{Tracer}
 use Rattle.boot_turns.specs.declared.answers.View.TheVariants.{Trace}
 use Rattle.boot_turns.specs.Tracing.{CanTrace}
-use Rattle.boot_run.specs.LoadEnds.{tracer_fits, viewed, SeesUser}
+use Rattle.boot_run.specs.LoadEnds.{tracer_fits, viewed}
+use Rattle.boot_run.specs.RunEnds.{SeesUser}
 use Rattle.boot_run.specs.Placed.{PlacesHold}
 use Rattle.boot_run.proofs.Room.{few_pages, room, small}
 
@@ -24,21 +25,25 @@ all_are : (a b : Bool) → a ≡ true → b ≡ true → (a && b) ≡ true
 all_are a b e f = rw (e, f) refl
 
 -- what the test of a tracer says
-fits : (kept : Tracer) (users time : ℕ) → IsTrue (tracer_fits (Some kept) users time) → (1 ≤ kept.user) × (kept.user ≤ users) × (kept.steps ≤ time)
+fits : (kept : Tracer) (users time : ℕ) → IsTrue (tracer_fits (Some kept) users time) →
+    (1 ≤ kept.user) × (kept.user ≤ users) × (kept.steps ≤ time) × (kept.reads ≤ 4294967296 * time)
 fits kept users time h =
-    let a = both_are (nat_lt 0 kept.user && nat_lt kept.user (users + 1)) (nat_lt kept.steps (time + 1)) h in
+    let a = both_are (nat_lt 0 kept.user && nat_lt kept.user (users + 1)) (nat_lt kept.steps (time + 1) && nat_lt kept.reads (4294967296 * time + 1)) h in
     let b = both_are (nat_lt 0 kept.user) (nat_lt kept.user (users + 1)) a.0 in
+    let d = both_are (nat_lt kept.steps (time + 1)) (nat_lt kept.reads (4294967296 * time + 1)) a.1 in
     let low = ltb-true 0 kept.user b.0 in
     let high = ltb-true kept.user (users + 1) b.1 in
-    let steps = ltb-true kept.steps (time + 1) a.1 in
-    (omega (arith, low), omega (arith, high), omega (arith, steps))
+    let steps = ltb-true kept.steps (time + 1) d.0 in
+    let reads = ltb-true kept.reads (4294967296 * time + 1) d.1 in
+    (omega (arith, low), omega (arith, high), omega (arith, steps), omega (arith, reads))
 
 -- a tracer fits, by numbers
-pub fits_so : (kept : Tracer) (users time : ℕ) → 1 ≤ kept.user → kept.user ≤ users → kept.steps ≤ time → IsTrue (tracer_fits (Some kept) users time)
-fits_so kept users time low high steps =
-    all_are (nat_lt 0 kept.user && nat_lt kept.user (users + 1)) (nat_lt kept.steps (time + 1))
+pub fits_so : (kept : Tracer) (users time : ℕ) → 1 ≤ kept.user → kept.user ≤ users → kept.steps ≤ time → kept.reads ≤ 4294967296 * time → IsTrue (tracer_fits (Some kept) users time)
+fits_so kept users time low high steps reads =
+    all_are (nat_lt 0 kept.user && nat_lt kept.user (users + 1)) (nat_lt kept.steps (time + 1) && nat_lt kept.reads (4294967296 * time + 1))
     (all_are (nat_lt 0 kept.user) (nat_lt kept.user (users + 1)) (lt-ltb 0 kept.user low) (lt-ltb kept.user (users + 1) (omega (arith, high))))
-    (lt-ltb kept.steps (time + 1) (omega (arith, steps)))
+    (all_are (nat_lt kept.steps (time + 1)) (nat_lt kept.reads (4294967296 * time + 1)) (lt-ltb kept.steps (time + 1) (omega (arith, steps)))
+    (lt-ltb kept.reads (4294967296 * time + 1) (omega (arith, reads))))
 
 -- the users of a map
 users_are : (b : Booted) (m : Map) → m ≡ map_of (boot_of b) → m.users ≡ length b.users.items
@@ -55,6 +60,7 @@ can_trace b m places words count p whole (Some kept) time h size e =
       some = f.0;
       user = subst (λ n. kept.user ≤ n) (sym (users_are b m p.map)) f.1;
       few = f.2;
+      read = f.3;
       pages = omega (arith, pages);
       memory = p.memory;
       small = small b m places words count p whole;
@@ -65,7 +71,7 @@ can_trace b m places words count p whole (Some kept) time h size e =
 -- and it fits afterwards
 pub fits_after : (b : Booted) (m : Map) → m ≡ map_of (boot_of b) → (tracer : Option Tracer) (words time size : ℕ) → IfSome tracer (CanTrace m words time size) → IsTrue (tracer_fits tracer (length b.users.items) time)
 fits_after b m e None words time size h = refl
-fits_after b m e (Some kept) words time size h = fits_so kept (length b.users.items) time h.some (subst (λ n. kept.user ≤ n) (users_are b m e) h.user) h.few
+fits_after b m e (Some kept) words time size h = fits_so kept (length b.users.items) time h.some (subst (λ n. kept.user ≤ n) (users_are b m e) h.user) h.few h.read
 
 -- what is viewed stays
 some_none : (u : ℕ) → Some u ≡ None → ⊥

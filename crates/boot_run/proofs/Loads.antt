@@ -17,7 +17,8 @@ use Rattle.layer_contract.specs.declared.boot.Boot.{Boot as Booted}
 use Rattle.layer_contract.specs.Boots.{boot_of}
 use Rattle.layer_contract.specs.Follows.{loaded, loaded_memory, loaded_sector}
 use Rattle.boot_turns.specs.Completes.{seen}
-use Rattle.boot_run.specs.Loading.{calls_made, system_of, disk_pages, first_pages, pages_of_users, user_pages, written, with_words, TornAmong}
+use Rattle.boot_run.specs.Loading.{system_of, pages_of_users, written, with_words, TornAmong}
+use Rattle.boot_run.specs.LoadedPages.{calls_made, disk_pages, first_pages, user_pages}
 use Rattle.boot_run.specs.LoadEnds.{pages_needed, LoadCalls}
 use Rattle.boot_run.proofs.PageLemmas.{page_or, written_is}
 use Rattle.boot_run.proofs.UserPages.{dead_past}

@@ -8,7 +8,8 @@ use Rattle.std.proofs.lemmas.List.FromFn.{fill_by_all}
 use Rattle.mips_table.specs.Device.{sector_of}
 use Rattle.page_model.specs.Paging.{Pages}
 use Rattle.mips_machine.specs.Machine.{Held}
-use Rattle.boot_run.specs.Loading.{calls_made, with_call, with_page, words_of_page, written, StaysBut, TornAmong}
+use Rattle.boot_run.specs.Loading.{with_page, words_of_page, written, StaysBut, TornAmong}
+use Rattle.boot_run.specs.LoadedPages.{calls_made, with_call}
 use Rattle.cvm_outside.specs.Numbering.{Tally, until_fault}
 
 pub length-with_page : (p : Pages) (ss : List (List ℕ)) (q : ℕ) → length (with_page p ss q) ≡ length ss

@@ -1,6 +1,6 @@
 -- What a trace has printed at a step up to which its run goes on is a prefix of what it prints with no failed call.
 use Rattle.std.proofs.Common.{◌≡◌, ◌⊎◌, inl, inr, ℕ, zero, suc, ◌+◌, ◌-◌, ◌<◌, ◌≤◌, min, Bool, true, false, not, Option, Some, None, List, [], ◌++◌, length, take, refl, sym, ap, ◌∙◌, subst, ⊎_elim, arith, append_assoc, append-nil}
-use Rattle.std.specs.Prelude.{⊤, ◌||◌, is_some, if◌then◌else◌}
+use Rattle.std.specs.Prelude.{⊤, ◌||◌, is_some, IsSome, if◌then◌else◌}
 use Rattle.std.proofs.lemmas.Grind.{common_steps}
 use Rattle.std.proofs.lemmas.Bool.{cases_lt}
 use Rattle.mips_table.specs.Device.{Outside}
@@ -13,17 +13,18 @@ use Rattle.cvm_model.specs.Text.{steps_row, journal_rows_after, journal_rows, op
 use Rattle.c0_meaning.specs.State.{State as C0}
 use Rattle.boot_turns.specs.Headline as headline
 use Rattle.layer_contract.specs.Starts.{Beyond}
-use Rattle.boot_turns.specs.Headline.{Ending, RanFrom, TextAt, EndBroken, SinkBroken, ending, ending_of}
-use Rattle.boot_turns.specs.Machines.{RunMachines}
+use Rattle.boot_turns.specs.Headline.{Ending, RanFrom, TextAt, ArePut, TraceBroken, IsBegun, EndBroken, SinkBroken, ending, ending_of}
+use Rattle.boot_turns.specs.RunMachines.{RunMachines}
 use Rattle.boot_turns.specs.Premises.{StartsFrom}
 use Rattle.boot_turns.specs.Trace.{Shown}
 use Rattle.boot_turns.specs.Entries.{TraceGrows, TracesGrow, step_entries}
 use Rattle.boot_turns.specs.JournalText.{RowsFollow, pending_steps}
-use Rattle.boot_turns.specs.TurnEnds.{Printed, RowsAt, Whole, Prefix, first_of}
+use Rattle.boot_turns.specs.TurnEnds.{Printed, Whole, Prefix, first_of}
 use Rattle.boot_turns.specs.declared.answers.View.{View}
 use Rattle.boot_turns.specs.declared.answers.View.TheVariants.{Boot, Trace}
-use Rattle.boot_run.specs.LoadEnds.{SeesUser}
-use Rattle.boot_run.specs.Pieces.{TraceBroken, TurnPutFails}
+use Rattle.boot_run.specs.RunEnds.{SeesUser}
+use Rattle.boot_run.specs.Pieces.{TurnPutFails}
+use Rattle.boot_run.proofs.Going.{is_off}
 
 -- A PREFIX of a text is one of a longer text
 take_more : (n : ℕ) (a b : List ℕ) → take n a ≡ take (min n (length a)) (a ++ b)
@@ -127,9 +128,9 @@ module _ (follow : RowsFollow) (x : Outside) (y : System) (s0 : State) (delay bo
       let w = text_by (end_within x s0 turns steps) (is_end x s0 turns (end_within x s0 turns steps)) d.0 j d.1 s in
       (ending x s0 turns steps d.0, w.0, record { past = d.0; cvm = d.1; sectors = refl; beyond = stays_beyond bound old s0.device.sectors _ first (m.beyond (end_within x s0 turns steps)); status = refl; text_is = w.1 })
 
-  module _ (counts : TurnLaws) (at : ℕ) (most : at ≤ steps) (goes : (j : ℕ) → j < at → is_end x s0 turns j ≡ false) (now : List (List ℕ)) (whole text : List ℕ) (p : Prefix [] whole text) where
+  module _ (counts : TurnLaws) (at : ℕ) (most : at ≤ steps) (goes : (j : ℕ) → j < at → is_end x s0 turns j ≡ false) (whole text : List ℕ) (p : Prefix [] whole text) where
     -- a part was printed of the text at a step
-    printed_cut : TraceGrows x y s0 u → Printed x y s0 (Trace u) at whole → SinkBroken x y s0 bound old now (Trace u) turns steps text
+    printed_cut : TraceGrows x y s0 u → Printed x y s0 (Trace u) at whole → IsBegun x y s0 bound old u turns steps text
     printed_cut grows (j, s, is) =
         let end = end_within x s0 turns steps in
         let le : at ≤ end_within x s0 turns steps = before_end counts x y s0 turns steps at most goes in
@@ -144,7 +145,7 @@ module _ (follow : RowsFollow) (x : Outside) (y : System) (s0 : State) (delay bo
         )
 
     -- or of the whole text, where the run has ended
-    whole_cut : Whole x y s0 (Trace u) at whole → is_end x s0 turns at ≡ true → SinkBroken x y s0 bound old now (Trace u) turns steps text
+    whole_cut : Whole x y s0 (Trace u) at whole → is_end x s0 turns at ≡ true → IsBegun x y s0 bound old u turns steps text
     whole_cut (c, j, cvm, s, is) ended =
         let here : end_within x s0 turns steps ≡ at = counts.ends x s0 turns steps at (record { here = ended; first = goes }) most in
         let end_here : is_end x s0 turns (end_within x s0 turns steps) ≡ true = ap (is_end x s0 turns) here ∙ ended in
@@ -164,13 +165,17 @@ module _ (follow : RowsFollow) (x : Outside) (y : System) (s0 : State) (delay bo
           p,
         )
 
-    pub cut : TraceGrows x y s0 u → Printed x y s0 (Trace u) at whole ⊎ (Whole x y s0 (Trace u) at whole × (is_end x s0 turns at ≡ true)) → SinkBroken x y s0 bound old now (Trace u) turns steps text
-    cut grows h = ⊎_elim (λ (w : Printed x y s0 (Trace u) at whole). printed_cut grows w) (λ (w : Whole x y s0 (Trace u) at whole × (is_end x s0 turns at ≡ true)). whole_cut w.0 w.1) h
+    -- so it is of all rows that are put
+    pub cut : TraceGrows x y s0 u → (part : List ℕ) → ArePut x y s0 u at part whole → IsBegun x y s0 bound old u turns steps text
+    cut grows part (inl (zero_at, none, w)) = printed_cut grows (subst (λ n. Printed x y s0 (Trace u) n whole) (sym zero_at) w)
+    cut grows part (inr (inl (t, next, w, v))) = printed_cut grows v
+    cut grows part (inr (inr (w, v, (power, off)))) = whole_cut v (is_off x s0 turns at (subst (λ (o : Option ℕ). IsSome o) (sym off) refl))
 
 -- THE SINK'S FAULT IN A TURN of a trace
 pub trace_cut : TurnLaws → RowsFollow → (x : Outside) (y : System) (s0 : State) (delay bound : ℕ) (old : List (List ℕ)) → RunMachines x y s0 delay bound → Beyond bound old s0.device.sectors → (u turns steps : ℕ) → TraceGrows x y s0 u → (now : List (List ℕ)) (text : List ℕ) →
     TraceBroken x y s0 now u turns steps text → SinkBroken x y s0 bound old now (Trace u) turns steps text
-trace_cut counts follow x y s0 delay bound old m first u turns steps grows now text w = cut follow x y s0 delay bound old m first u turns steps counts w.at w.most w.goes_on now w.whole text w.printed grows w.is_whole
+trace_cut counts follow x y s0 delay bound old m first u turns steps grows now text w =
+    (cut follow x y s0 delay bound old m first u turns steps counts w.at w.most w.goes_on w.whole text (prefix_any w.part w.whole text w.printed) grows w.part w.are_put, inl w)
 
 -- BY THE VIEW: what is known of the journals of what is viewed
 abbrev pub GrowsFor : Outside → System → State → View → Type 0
@@ -191,7 +196,7 @@ put_ends counts follow x y s0 delay bound old m first (Trace u) grows turns step
     (subst (Beyond bound old) (sym w.sectors) (stays_beyond bound old s0.device.sectors _ first (m.beyond w.at)), trace_cut counts follow x y s0 delay bound old m first u turns steps grows now text w)
 
 -- or in the report
-pub report_ends : (x : Outside) (y : System) (s0 : State) (bound : ℕ) (old now : List (List ℕ)) (v : View) (turns steps : ℕ) (part whole text : List ℕ) → (RowsAt x y s0 v (end_within x s0 turns steps) part → EndBroken x y s0 now v turns steps text) →
-    Printed x y s0 v (end_within x s0 turns steps) part → RanFrom x y s0 bound old now v turns steps headline.Done whole → Prefix part whole text → SinkBroken x y s0 bound old now v turns steps text
-report_ends x y s0 bound old now Boot turns steps part whole text broken printed ran p = inr (broken printed)
-report_ends x y s0 bound old now (Trace u) turns steps part whole text broken printed ran p = (headline.Done, now, whole, ran, prefix_any part whole text p)
+pub report_ends : (x : Outside) (y : System) (s0 : State) (bound : ℕ) (old now : List (List ℕ)) (v : View) (turns steps : ℕ) (text : List ℕ) → (w : EndBroken x y s0 now v turns steps (Printed x y s0 v (end_within x s0 turns steps)) text) →
+    RanFrom x y s0 bound old now v turns steps headline.Done w.whole → SinkBroken x y s0 bound old now v turns steps text
+report_ends x y s0 bound old now Boot turns steps text w ran = inr w
+report_ends x y s0 bound old now (Trace u) turns steps text w ran = ((headline.Done, now, w.whole, ran, prefix_any w.rows w.whole text w.printed), inr w)

@@ -20,7 +20,8 @@ use Rattle.layer_contract.specs.Layer.{BusyWithin, Linked, Laws, site_with}
 use Rattle.layer_contract.specs.Follows.{site_of, loaded, SystemFits}
 use Rattle.layer_contract.specs.Starts.{Start, LoadedStarts, LoadedKeeps, user_sectors}
 use Rattle.boot_turns.specs.Premises.{StartsFrom}
-use Rattle.boot_turns.specs.Rom.{rom_sectors, RomStarts}
+use Rattle.boot_turns.specs.Rom.{rom_sectors}
+use Rattle.boot_turns.specs.RomStarts.{RomStarts}
 use Rattle.boot_run.specs.Loading.{system_of}
 use Rattle.boot_run.specs.LoadEnds.{pages_needed, rom_needed}
 use Rattle.boot_run.specs.Whole.{rom_start_of}

@@ -15,19 +15,21 @@ use Rattle.layer_contract.specs.Follows.{loaded, loaded_memory}
 use Rattle.layer_contract.specs.Starts.{user_sectors}
 use Rattle.boot_turns.specs.Completes.{seen}
 use Rattle.boot_turns.specs.Headline as headline
-use Rattle.boot_turns.specs.Machines.{MachinesRun}
+use Rattle.boot_turns.specs.RunMachines.{MachinesRun}
+use Rattle.boot_turns.specs.Tracing.{reads_of}
 use Rattle.boot_turns.specs.declared.answers.View.{View}
 use Rattle.boot_turns.specs.declared.answers.View.TheVariants.{Boot}
 use Rattle.boot_turns.specs.declared.answers.RunFault.{RunFault}
 use Rattle.boot_turns.specs.declared.tracer.Tracer.{Tracer}
 use Rattle.boot_run.specs.Loading.{system_of}
-use Rattle.boot_run.specs.LoadEnds.{Kept, SeesUser}
-use Rattle.boot_run.specs.Resuming.{SavedAt, IsFirst, after_saved, taken_up, TakesUp, SavedRunsJoin}
-use Rattle.boot_run.specs.Saving.{saved_run, AreBoots, GoesOnAs, IsDisk, IsResumed, JoinsBoot}
+use Rattle.boot_run.specs.LoadEnds.{Kept}
+use Rattle.boot_run.specs.RunEnds.{SeesUser, CallsFrom, ShownRunEnds, ending_of_end}
+use Rattle.boot_run.specs.Resuming.{IsFirst, taken_up, TakesUp, SavedRunsJoin}
+use Rattle.boot_run.specs.SavedRuns.{SavedAt, after_saved, GoesOnAs, IsDisk}
+use Rattle.boot_run.specs.Saving.{saved_run, AreBoots, IsResumed, JoinsBoot}
 use Rattle.boot_run.specs.declared.whole.RunEnd.{RunEnd}
 use Rattle.boot_run.specs.declared.whole.RunEnd.TheVariants as ends
 use Rattle.boot_run.specs.TurnCalls.{Around, around, Ready}
-use Rattle.boot_run.specs.Whole.{CallsFrom, ShownRunEnds, ending_of_end}
 use Rattle.boot_run.specs.Pieces.{Bootable, RunsToEnd}
 use Rattle.boot_run.proofs.Looping.{machines}
 
@@ -88,7 +90,7 @@ module _ {L : Type 0} (run_is : (u : CUnit) → MachinesRun (IsTypedState u)) (s
         subst (λ (v : View). Ready x y (loaded y old) v (after_saved had shown) (suc k) a.at a.past (around r told budget had)) (sym resumed.view)
         (subst (λ (w : Around). Ready x y (loaded y old) Boot (after_saved had shown) (suc k) a.at a.past w) (around_is r resumed told left budget had is) up.0) in
         let w = runs y (loaded y old) 1 (user_sectors y) old (after_saved had shown) (suc k) a.at turns steps a.past p (subst (λ (v : View). SeesUser v (length y.boot.users)) (sym resumed.view) tt) up.1
-        (omega (arith, turned, sum)) (omega (arith, turned, sum)) (omega (arith, spent, at, within, enough)) ready in
+        (omega (arith, turned, sum)) (omega (arith, turned, sum)) (omega (arith, spent, at, within, enough)) ready (ap reads_of resumed.tracer) in
         subst (λ (v : View). ShownRunEnds x y (loaded y old) (user_sectors y) old now v turns steps calls (after_saved had shown) has (ending_of_end e)) resumed.view
         (subst (λ (n : List (List ℕ)). ShownRunEnds x y (loaded y old) (user_sectors y) old n r.view turns steps calls (after_saved had shown) has (ending_of_end e)) (one_list retold w.0 now w.1 re) w.2)
 

@@ -15,7 +15,7 @@ use Rattle.layer_map.specs.Map.{Map}
 use Rattle.boot_report.specs.Texts.{EntriesFit, SameButViewed}
 use Rattle.boot_report.specs.Told.{RowsTell}
 use Rattle.boot_report.specs.Given.{GlobalRowsTell}
-use Rattle.boot_turns.specs.Machines.{MachinesRun, RunsStayTyped}
+use Rattle.boot_turns.specs.RunMachines.{MachinesRun, RunsStayTyped}
 use Rattle.boot_turns.specs.declared.answers.View.TheVariants.{Boot as OfBoot}
 use Rattle.boot_turns.specs.declared.answers.RunFault.{RunFault}
 use Rattle.boot_turns.specs.declared.answers.RunFault.TheVariants.{StepLimit}

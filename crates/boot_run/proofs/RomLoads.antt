@@ -20,7 +20,8 @@ use Rattle.layer_contract.specs.Follows.{loaded_sector}
 use Rattle.boot_rom.specs.Boots.{rom_memory}
 use Rattle.boot_turns.specs.Completes.{seen}
 use Rattle.boot_turns.specs.Rom.{page_of, rom_loaded, rom_sector, rom_sectors}
-use Rattle.boot_run.specs.Loading.{calls_made, system_of, disk_pages, pages_of_users, rom_pages, written, with_rom, TornAmong}
+use Rattle.boot_run.specs.Loading.{system_of, pages_of_users, written, with_rom, TornAmong}
+use Rattle.boot_run.specs.LoadedPages.{calls_made, disk_pages, rom_pages}
 use Rattle.boot_run.specs.LoadEnds.{rom_needed, RomLoadCalls}
 use Rattle.boot_run.proofs.PageLemmas.{written_is}
 use Rattle.boot_run.proofs.Loads.{lists, needed_is, page_if, page_below, page_behind, kept_behind, torn_becomes, told_many}

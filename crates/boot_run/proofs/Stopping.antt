@@ -20,27 +20,29 @@ use Rattle.layer_contract.specs.Starts.{Beyond}
 use Rattle.boot_report.specs.Leaves.{Asks}
 use Rattle.boot_turns.specs.Completes.{seen, SeenPorts}
 use Rattle.boot_turns.specs.Headline as headline
-use Rattle.boot_turns.specs.Headline.{CallsFit, ReportCalls, Ending, RanFrom, EndBroken, RowBroken, StepBroken, ending, ending_of}
-use Rattle.boot_turns.specs.Machines.{RunMachines, MachinesRun}
-use Rattle.boot_turns.specs.TurnEnds.{Stood, TextAfter}
+use Rattle.boot_turns.specs.Headline.{ReportCalls, Ending, RanFrom, EndBroken, RowBroken, StepBroken, ending, ending_of}
+use Rattle.boot_turns.specs.Tracing.{reads_of}
+use Rattle.boot_turns.specs.RunMachines.{RunMachines, MachinesRun}
+use Rattle.boot_turns.specs.TurnEnds.{Stood, Printed, RowsAt}
+use Rattle.boot_turns.specs.Ahead.{TextAfter}
 use Rattle.boot_turns.specs.declared.answers.View.{View}
 use Rattle.boot_turns.specs.declared.answers.View.TheVariants.{Boot}
 use Rattle.boot_turns.specs.declared.answers.RunFault.{RunFault}
 use Rattle.boot_turns.specs.declared.answers.RunFault.TheVariants.{StepLimit, Disk, Sink}
 use Rattle.boot_run.specs.Loading.{system_of}
-use Rattle.boot_run.specs.LoadEnds.{Kept, SeesUser}
-use Rattle.boot_run.specs.Resuming.{SavedAt}
-use Rattle.boot_run.specs.Saving.{end_of_stop, saved_run, EndsInTurn, HasHalted, RunsToStop, RunStops, StopsOrCloses}
+use Rattle.boot_run.specs.LoadEnds.{Kept}
+use Rattle.boot_run.specs.RunEnds.{SeesUser, CallsFrom, ShownRunEnds, ending_of_end}
+use Rattle.boot_run.specs.SavedRuns.{SavedAt, EndsInTurn}
+use Rattle.boot_run.specs.Saving.{end_of_stop, saved_run, HasHalted, RunsToStop, RunStops, StopsOrCloses}
 use Rattle.boot_run.specs.declared.whole.RunEnd.{RunEnd}
 use Rattle.boot_run.specs.declared.whole.RunEnd.TheVariants as ends
 use Rattle.boot_run.specs.declared.saving.SaveEnd.{SaveEnd}
 use Rattle.boot_run.specs.declared.saving.SaveEnd.TheVariants.{Stopped, Ended}
 use Rattle.boot_turns.specs.Entries.{TracesGrow}
 use Rattle.boot_turns.specs.JournalText.{RowsFollow}
-use Rattle.boot_run.proofs.Ending.{calls_fit, stand_told, to_close}
+use Rattle.boot_run.proofs.Ending.{boot_reads, calls_fit, stand_told, to_close}
 use Rattle.boot_run.specs.Sink.{Base}
 use Rattle.boot_run.specs.TurnCalls.{ended_of, Around, around, IsCalled, KeepsLoad}
-use Rattle.boot_run.specs.Whole.{CallsFrom, ShownRunEnds, ending_of_end}
 use Rattle.boot_run.specs.Pieces.{Gone, GoFails, GoRuns, RunsToEnd, end_of_fault}
 use Rattle.boot_run.proofs.Going.{running_of}
 use Rattle.boot_run.proofs.Looping.{machines}
@@ -101,6 +103,13 @@ pub seen_is : (told : Option (List (List ℕ))) (held : Held) (z : State) → se
 seen_is None held z e = absurd (none_state z e)
 seen_is (Some ss) held z e = let same = one_state (state_of held ss) z e in (ss, refl, same, ap (λ (s : State). s.device.sectors) same)
 
+-- a disk that failed in a step of a boot, for which no word was read
+in_step : (x : Outside) (y : System) (s0 : State) (turns steps : ℕ) (calls : ℕ → State → Type 0) (base : Base) (now : List (List ℕ)) (after : Option (List ℕ)) (text : List ℕ) → after ≡ base.shows text →
+    (made n : ℕ) → StepBroken x y s0 now Boot turns steps made n text → calls n (run x s0 made) → EndsInTurn x y s0 now turns steps calls base after ends.DiskFault
+in_step x y s0 turns steps calls base now after text shows made n broken fit =
+    let none : n ≡ 0 = broken.fails.read in
+    (text, made, subst (λ i. StepBroken x y s0 now Boot turns steps made i text) none broken, subst (λ i. calls i (run x s0 made)) none fit, shows)
+
 module _ (counts : TurnLaws) (x : Outside) (y : System) (s0 : State) (delay bound : ℕ) (old : List (List ℕ)) (m : RunMachines x y s0 delay bound) (first : Beyond bound old s0.device.sectors)
     (base : Base) (turns steps : ℕ) (mid : Around) (g : Gone x y s0 Boot base turns steps mid) where
   end_is : end_within x s0 turns steps ≡ g.at
@@ -118,13 +127,13 @@ module _ (counts : TurnLaws) (x : Outside) (y : System) (s0 : State) (delay boun
       ap (λ n. (run x s0 n).off) end_is ∙ halted_of g.past.status (run x s0 g.at) (subst (λ o. IsSome o) g.ready.ended over) done g.ready.stood.rests.0
 
   disk_in : (calls : ℕ → State → Type 0) → IsSome mid.ended → (now : List (List ℕ)) (after : Option (List ℕ)) (text : List ℕ) → after ≡ base.shows text →
-      ((made : ℕ) × StepBroken x y s0 now Boot turns steps made text × calls 0 (run x s0 made))
-      ⊎ (EndBroken x y s0 now Boot turns steps text × ReportCalls calls (run x s0 (end_within x s0 turns steps))) → HasHalted x s0 turns steps ⊎ EndsInTurn x y s0 now turns steps calls base after ends.DiskFault
-  disk_in calls over now after text shows (inl h) = inr (text, h.0, h.1, h.2, shows)
+      ((made n : ℕ) × StepBroken x y s0 now Boot turns steps made n text × calls n (run x s0 made))
+      ⊎ (EndBroken x y s0 now Boot turns steps (RowsAt x y s0 Boot (end_within x s0 turns steps)) text × ReportCalls x y s0 Boot (end_within x s0 turns steps) calls) → HasHalted x s0 turns steps ⊎ EndsInTurn x y s0 now turns steps calls base after ends.DiskFault
+  disk_in calls over now after text shows (inl (made, n, broken, fit)) = inr (in_step x y s0 turns steps calls base now after text shows made n broken fit)
   disk_in calls over now after text shows (inr (h, made)) = inl (halts over h.past h.cvm (sym h.done))
 
   sink_in : (calls : ℕ → State → Type 0) → IsSome mid.ended → (now : List (List ℕ)) (after : Option (List ℕ)) (text : List ℕ) → after ≡ base.shows text →
-      RowBroken x y s0 now turns steps text ⊎ EndBroken x y s0 now Boot turns steps text → HasHalted x s0 turns steps ⊎ EndsInTurn x y s0 now turns steps calls base after ends.SinkFault
+      RowBroken x y s0 now turns steps text ⊎ EndBroken x y s0 now Boot turns steps (Printed x y s0 Boot (end_within x s0 turns steps)) text → HasHalted x s0 turns steps ⊎ EndsInTurn x y s0 now turns steps calls base after ends.SinkFault
   sink_in calls over now after text shows (inl h) = inr (text, h, shows)
   sink_in calls over now after text shows (inr h) = inl (halts over h.past h.cvm (sym h.done))
 
@@ -222,7 +231,8 @@ module _ {L : Type 0} (run_is : (u : CUnit) → MachinesRun (IsTypedState u)) (c
       let m = machines run_is r.boot r.machine.rows count y s0 delay bound old p in
       let g : Gone x y s0 Boot base wanted total (around mid mid_told left mid_text) =
       subst (λ (v : View). Gone x y s0 v base wanted total (around mid mid_told left mid_text)) view (gone y s0 delay bound old base k t wanted total c p starts some more sum ready) in
-      let w = runs y s0 delay bound old base k t wanted total c p (subst (λ (v : View). SeesUser v (length y.boot.users)) (sym view) tt) starts some more sum ready in
+      let w = runs y s0 delay bound old base k t wanted total c p (subst (λ (v : View). SeesUser v (length y.boot.users)) (sym view) tt) starts some more sum ready
+      (boot_reads x y s0 r.view t r.tracer view ready.traces) in
       let calls : ℕ → State → Type 0 = CallsFrom (run x s0 t) made remade in
       let ends_so : ShownRunEnds x y s0 bound old w.0 Boot wanted total calls base retext (ending_of_end e) = subst (λ (v : View). ShownRunEnds x y s0 bound old w.0 v wanted total calls base retext (ending_of_end e)) view w.2 in (
         w.0,
@@ -241,11 +251,12 @@ one_told (Some c) a b e f = cc
 
 -- a fault of the loop ends it, in a turn
 module _ {L : Type 0} (count : ℕ) (r new : Kept L) (turns steps left : ℕ) (told retold : Option (List (List ℕ))) (text retext : Option (List ℕ)) where
-  in_turn : (x : Outside) (y : System) (s0 : State) (base : Base) (wanted total : ℕ) (calls : ℕ → State → Type 0) → (SeenPorts (run x s0 new.machine.time) (seen retold new.machine) → calls 0 (run x s0 new.machine.time)) →
+  in_turn : (x : Outside) (y : System) (s0 : State) (base : Base) (wanted total : ℕ) (calls : ℕ → State → Type 0) → (SeenPorts (run x s0 new.machine.time) (seen retold new.machine) → calls (reads_of new.tracer) (run x s0 new.machine.time)) →
       (now : List (List ℕ)) → retold ≡ Some now → (f : RunFault) → GoFails x y s0 Boot base wanted total (around new retold left retext) f → EndsInTurn x y s0 now wanted total calls base retext (end_of_fault f)
   in_turn x y s0 base wanted total calls fit now is StepLimit g = tt
   in_turn x y s0 base wanted total calls fit now is Disk (shown, there, stand, broken, ports, shows) =
-      (shown, new.machine.time, subst (λ (n : List (List ℕ)). StepBroken x y s0 n Boot wanted total new.machine.time shown) (one_told retold there now (stand_told retold new.machine there stand) is) broken, fit ports, shows)
+      in_step x y s0 wanted total calls base now retext shown shows new.machine.time (reads_of new.tracer)
+      (subst (λ (n : List (List ℕ)). StepBroken x y s0 n Boot wanted total new.machine.time (reads_of new.tracer) shown) (one_told retold there now (stand_told retold new.machine there stand) is) broken) (fit ports)
   in_turn x y s0 base wanted total calls fit now is Sink (shown, there, stand, broken, shows) =
       (shown, subst (λ (n : List (List ℕ)). RowBroken x y s0 n wanted total shown) (one_told retold there now (stand_told retold new.machine there stand) is) broken, shows)
 
@@ -254,13 +265,13 @@ module _ {L : Type 0} (count : ℕ) (r new : Kept L) (turns steps left : ℕ) (t
   breaks made remade called f fails runs = λ s0 delay bound old base k t wanted total c p view starts some more sum ready.
       let x = outside_of r.machine.rows count in
       let y = system_of r.boot r.machine.rows in
-      let w = runs y s0 delay bound old base k t wanted total c p (subst (λ (v : View). SeesUser v (length y.boot.users)) (sym view) tt) starts some more sum ready in
+      let w = runs y s0 delay bound old base k t wanted total c p (subst (λ (v : View). SeesUser v (length y.boot.users)) (sym view) tt) starts some more sum ready
+      (boot_reads x y s0 r.view t r.tracer view ready.traces) in
       let g : GoFails x y s0 Boot base wanted total (around new retold left retext) f =
       subst (λ (v : View). GoFails x y s0 v base wanted total (around new retold left retext) f) view (fails y s0 delay bound old base k t wanted total c p starts some more sum ready) in
       let calls : ℕ → State → Type 0 = CallsFrom (run x s0 t) made remade in
-      let fit : SeenPorts (run x s0 new.machine.time) (seen retold new.machine) → calls 0 (run x s0 new.machine.time) =
-      subst (λ (v : View). SeenPorts (run x s0 new.machine.time) (seen retold new.machine) → CallsFit v calls (run x s0 new.machine.time)) view
-      (calls_fit x y s0 base k t c r new told retold steps left text retext made remade ready called (run x s0 new.machine.time)) in
+      let fit : SeenPorts (run x s0 new.machine.time) (seen retold new.machine) → calls (reads_of new.tracer) (run x s0 new.machine.time) =
+      calls_fit x y s0 base k t c r new told retold steps left text retext made remade ready called (boot_reads x y s0 r.view t r.tracer view ready.traces) (run x s0 new.machine.time) in
       (w.0, w.1, (subst (λ (v : View). ShownRunEnds x y s0 bound old w.0 v wanted total calls base retext (ending_of_end (end_of_fault f))) view w.2, inr (in_turn x y s0 base wanted total calls fit w.0 w.1 f g)))
 
 -- by how it stops

@@ -12,7 +12,8 @@ use Rattle.layer_contract.specs.Follows.{loaded}
 use Rattle.layer_contract.specs.Starts.{user_sectors}
 use Rattle.boot_turns.specs.declared.answers.View.{View}
 use Rattle.boot_turns.specs.declared.answers.View.TheVariants.{Boot}
-use Rattle.boot_run.specs.Loading.{tally_made, system_of, user_pages}
+use Rattle.boot_run.specs.Loading.{system_of}
+use Rattle.boot_run.specs.LoadedPages.{tally_made, user_pages}
 use Rattle.boot_run.specs.LoadEnds.{Kept, IsFresh, LoadFails}
 use Rattle.boot_run.specs.declared.load.LoadFault.{LoadFault}
 use Rattle.boot_run.specs.declared.load.LoadFault.TheVariants.{NoSuchUser, SmallDisk, Memory, Disk}
@@ -23,7 +24,8 @@ use Rattle.boot_run.specs.declared.saving.SaveEnd.{SaveEnd}
 use Rattle.boot_run.specs.Saving.{saved_run, StopsOrEnds, RunsToStop, WholeSaveEnds, IsSaveDiskFault, IsSaveSinkFault, end_of_save, end_of_stop}
 use Rattle.boot_run.specs.Sink.{Base, behind}
 use Rattle.boot_run.specs.TurnCalls.{Around, around, Ready, StandsReady}
-use Rattle.boot_run.specs.Whole.{CallsFrom, WholeCalls, ending_of_end}
+use Rattle.boot_run.specs.Whole.{WholeCalls}
+use Rattle.boot_run.specs.RunEnds.{CallsFrom, ending_of_end}
 use Rattle.boot_run.specs.Pieces.{FirstAt, Bootable}
 
 one_list : (o : Option (List (List ℕ))) (a b : List (List ℕ)) → o ≡ Some a → o ≡ Some b → a ≡ b

@@ -8,7 +8,7 @@ use Rattle.layer_map.specs.Map.{next_page}
 use Rattle.mips_table.specs.Flat.{Flat}
 use Rattle.cvm_model.specs.Primitives.{no_flat, user_of, pages_of}
 use Rattle.cvm_model.specs.Cvm.{first_flat}
-use Rattle.boot_run.specs.Loading.{disk_pages, first_pages}
+use Rattle.boot_run.specs.LoadedPages.{disk_pages, first_pages}
 
 zeros : (n j : ℕ) → ◌≡◌ {A = ℕ} (get_or (replicate n 0) j 0) 0
 zeros zero j = refl

@@ -1,25 +1,20 @@
 -- What the calls of a loaded run come to on any run of the machine, whatever state that begins from: a run that is resumed from a file that no saved
 -- run left is one. Nothing is said of the text.
-use Rattle.std.specs.Prelude.{◌≡◌, ℕ, suc, ◌+◌, ◌<◌, ◌≤◌, ◌⊎◌, Bool, true, false, Option, Some, None, List, Result, MatchResult}
+use Rattle.std.specs.Prelude.{◌≡◌, ◌⊎◌, ℕ, suc, ◌+◌, ◌<◌, Bool, true, false, Option, Some, None, List, Result, MatchResult}
 use Rattle.mips_table.specs.Device.{Outside}
 use Rattle.mips_table.specs.Machine.{State, run}
 use Rattle.mips_machine.specs.Steps.{outside_of}
-use Rattle.cvm_model.specs.declared.row.Next.{Next}
-use Rattle.boot_turns.specs.AnyTurns.{NoSooner, ComesTo, BrokeOff}
-use Rattle.boot_turns.specs.Completes.{Torn}
+use Rattle.boot_turns.specs.AnyTurns.{BrokeOff}
+use Rattle.boot_turns.specs.Sooner.{NoSooner, ComesTo}
 use Rattle.boot_turns.specs.declared.answers.Turn.{Turn}
 use Rattle.boot_turns.specs.declared.answers.View.{View}
 use Rattle.boot_turns.specs.declared.answers.View.TheVariants.{Boot, Trace}
 use Rattle.boot_turns.specs.declared.answers.RunFault.{RunFault}
 use Rattle.boot_run.specs.declared.whole.RunEnd.{RunEnd}
-use Rattle.boot_run.specs.declared.whole.RunEnd.TheVariants.{Done, KernelFaulted, OutOfSteps, DiskFault, SinkFault}
+use Rattle.boot_run.specs.declared.whole.RunEnd.TheVariants.{KernelFaulted, DiskFault}
 use Rattle.boot_run.specs.LoadEnds.{Kept}
-use Rattle.boot_run.specs.Shown.{next_shown, end_of_next, has_faulted}
 use Rattle.boot_run.specs.TurnCalls.{Around}
-
--- how a run has ended, by its machine's power word
-abbrev pub ended_off : Option ℕ → Option Next
-ended_off off = end_of_next (next_shown off 0)
+use Rattle.boot_run.specs.AnyEnds.{ended_off, AnyEnds, SectorsTold}
 
 -- from step t on the machine came to the end of turns, k in all
 pub record CameTo (x : Outside) (s : State) (k t : ℕ) (before after : Around) : Type 0 where
@@ -40,7 +35,8 @@ WasCut x s v k t before after fault = BrokeOff x s (is_traced v) k t after.state
 
 -- P of each step t of each run from any s, of the machine of a run over a disk of so many sectors: k turns are complete there, and it is on
 abbrev pub FromAnywhere : {L : Type 0} → (count : ℕ) → Kept L → Around → (Outside → State → (k t : ℕ) → Type 0) → Type 0
-FromAnywhere count r before P = (s : State) (k t : ℕ) → ComesTo (outside_of r.machine.rows count) s k t → (run (outside_of r.machine.rows count) s t).off ≡ None →
+FromAnywhere count r before P = (s : State) (k t : ℕ) → ComesTo (outside_of r.machine.rows count) s k t →
+    (run (outside_of r.machine.rows count) s t).off ≡ None →
     before.state ≡ Some (run (outside_of r.machine.rows count) s t) → before.ended ≡ None → P (outside_of r.machine.rows count) s k t
 
 -- TURNS, so many at most
@@ -58,44 +54,14 @@ abbrev pub is_faulted : RunEnd → Bool
 is_faulted KernelFaulted = true
 is_faulted other = false
 
--- the sectors of the machine after so many steps are told
-abbrev pub SectorsTold : Outside → State → ℕ → Option (List (List ℕ)) → Type 0
-SectorsTold x s t told = told ≡ Some (run x s t).device.sectors
-
--- within so many steps of the run k turns are complete for the first time, or the machine is off: by a fault of the kernel, or not
-pub record EndsWithin (x : Outside) (s : State) (k total : ℕ) (faulted : Bool) (told : Option (List (List ℕ))) : Type 0 where
-  pub at : ℕ
-  pub comes : ComesTo x s k at
-  pub within : at ≤ total
-  pub how : has_faulted (ended_off (run x s at).off) ≡ faulted
-  pub sectors : SectorsTold x s at told
-
--- the disk failed in step number `at`, before k turns were complete: in the transfer that was due, or where a page was read for its rows
-pub record StepFailsWithin (x : Outside) (s : State) (k total : ℕ) (traced : Bool) (told : Option (List (List ℕ))) : Type 0 where
-  pub at : ℕ
-  pub sooner : NoSooner x s k (suc at)
-  pub less : at < total
-  pub now : List (List ℕ)
-  pub told_is : told ≡ Some now
-  pub torn : Torn x (run x s at) now ⊎ ((traced ≡ true) × (now ≡ (run x s (suc at)).device.sectors))
-
--- the sink failed after `at` steps, up to which no more than k turns were complete
-pub record PutFails (x : Outside) (s : State) (k total : ℕ) (told : Option (List (List ℕ))) : Type 0 where
-  pub at : ℕ
-  pub sooner : NoSooner x s k at
-  pub within : at ≤ total
-  pub sectors : SectorsTold x s at told
-
--- A RUN TO ITS END, in so many steps in all: k turns are complete or the machine halted; it is off by another power word; all steps were run, the
--- turns aren't complete, and the machine is on; the disk failed in a step, or in the report; or the sink failed
-abbrev pub AnyEnds : Outside → State → (k total : ℕ) → (traced : Bool) → (told : Option (List (List ℕ))) → RunEnd → Type 0
-AnyEnds x s k total traced told Done = EndsWithin x s k total false told
-AnyEnds x s k total traced told KernelFaulted = EndsWithin x s k total true told
-AnyEnds x s k total traced told OutOfSteps = NoSooner x s k (suc total) × SectorsTold x s total told
-AnyEnds x s k total traced told DiskFault = StepFailsWithin x s k total traced told ⊎ EndsWithin x s k total false told
-AnyEnds x s k total traced told SinkFault = PutFails x s k total told
+-- of a trace the disk may fail in a step that is done, where a page is read for its rows
+abbrev pub AnyRunEnds : Outside → State → View → (k total : ℕ) → (told : Option (List (List ℕ))) → RunEnd → Type 0
+AnyRunEnds x s Boot k total told e = AnyEnds x s k total told e
+AnyRunEnds x s (Trace u) k total told DiskFault = AnyEnds x s k total told DiskFault
+    ⊎ ((at : ℕ) × NoSooner x s k (suc at) × (at < total) × SectorsTold x s (suc at) told)
+AnyRunEnds x s (Trace u) k total told e = AnyEnds x s k total told e
 
 -- of a loaded run, from each step of each run in which its machine stands
 abbrev pub AnyRunsToEnd : {L : Type 0} → (count : ℕ) → Kept L → (turns : ℕ) → (before : Around) → (retold : Option (List (List ℕ))) → RunEnd → Type 0
 AnyRunsToEnd count r turns before retold result = FromAnywhere count r before
-    (λ x s k t. AnyEnds x s (k + turns) (before.budget + t) (is_traced r.view) retold result)
+    (λ x s k t. AnyRunEnds x s r.view (k + turns) (before.budget + t) retold result)

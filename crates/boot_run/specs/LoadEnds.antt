@@ -1,5 +1,5 @@
 -- What contracts see of a loaded run, and how a call of `load` ends.
-use Rattle.std.specs.Prelude.{◌≡◌, ◌≢◌, ℕ, ◌+◌, ◌*◌, ◌/◌, ◌<◌, ◌≤◌, ◌&&◌, Bool, true, nat_lt, Option, Some, None, IsSome, List, length, ⊤}
+use Rattle.std.specs.Prelude.{◌≡◌, ◌≢◌, ℕ, ◌+◌, ◌*◌, ◌/◌, ◌<◌, ◌≤◌, ◌&&◌, Bool, true, nat_lt, Option, Some, None, IsSome, List, length}
 use Rattle.std.specs.Prelude.{Result, Err, IfOk, IfErr, OnErr}
 use Rattle.std.specs.Option.{option_map}
 use Rattle.cvm_outside.specs.Causes.{Rose}
@@ -17,9 +17,11 @@ use Rattle.boot_turns.specs.declared.answers.RunFault.{RunFault}
 use Rattle.boot_turns.specs.declared.tracer.Tracer.{Tracer}
 use Rattle.boot_turns.specs.Completes.{seen}
 use Rattle.boot_turns.specs.Rom.{rom_loaded}
-use Rattle.boot_run.specs.Loading.{system_of, user_pages, rom_pages, calls_made, TornAmong}
+use Rattle.boot_run.specs.Loading.{system_of, TornAmong}
+use Rattle.boot_run.specs.LoadedPages.{user_pages, rom_pages, calls_made}
 use Rattle.boot_run.specs.declared.load.LoadFault.{LoadFault}
 use Rattle.boot_run.specs.declared.load.LoadFault.TheVariants.{NoSuchUser, SmallDisk, Memory, Disk}
+use Rattle.boot_run.specs.RunEnds.{SeesUser}
 
 -- the sectors that the users' pages take
 abbrev pub pages_needed : Booted → ℕ
@@ -28,11 +30,6 @@ pages_needed b = length b.users.items * b.params.pages
 -- and those that a machine with a boot ROM needs: the linked words' sectors stand behind them
 abbrev pub rom_needed : Booted → ℕ
 rom_needed b = pages_needed b + (length b.words.items + 1023) / 1024
-
--- what is viewed is a boot, or a user that there is
-abbrev pub SeesUser : View → ℕ → Type 0
-SeesUser Boot users = ⊤
-SeesUser (Trace u) users = (1 ≤ u) × (u ≤ users)
 
 -- a run that needs so many sectors can be loaded over a disk of so many
 pub record HasDiskRoom (b : Booted) (view : View) (need count : ℕ) : Type 0 where
@@ -69,17 +66,18 @@ RomLoadCalls b rows made remade = remade.calls ≡ calls_made (rom_pages (system
 -- what is kept of a trace before the first step
 abbrev pub first_tracer : View → Option Tracer
 first_tracer Boot = None
-first_tracer (Trace u) = Some (record { user = u; steps = 0; call = None })
+first_tracer (Trace u) = Some (record { user = u; steps = 0; call = None; reads = 0 })
 
 -- what is viewed is what a tracer is kept for
 abbrev pub viewed : Option Tracer → View
 viewed None = Boot
 viewed (Some kept) = Trace kept.user
 
--- a trace is of one of the users, and no more steps are pending than were made
+-- a trace is of one of the users, no more steps are pending than were made, and at most 2^32 words were read for the rows of each step
 abbrev pub tracer_fits : Option Tracer → (users time : ℕ) → Bool
 tracer_fits None users time = true
-tracer_fits (Some kept) users time = nat_lt 0 kept.user && nat_lt kept.user (users + 1) && nat_lt kept.steps (time + 1)
+tracer_fits (Some kept) users time =
+    nat_lt 0 kept.user && nat_lt kept.user (users + 1) && (nat_lt kept.steps (time + 1) && nat_lt kept.reads (4294967296 * time + 1))
 
 -- what contracts see of a loaded run: what it was loaded with, the number of its disk's sectors, its machine,
 -- the turns that are complete, the current user, how the run ended, the kept fault, and what is kept of a trace

@@ -1,6 +1,7 @@
 -- What the calls of a loaded run leave, in one record each; and what a call of `turn` says, which is one of `turns` that makes one turn at most.
 use Rattle.std.specs.Prelude.{◌≡◌, ◌≢◌, ℕ, ◌+◌, ◌<◌, ◌≤◌, ◌^◌, IfOk, IfErr, IfSome, IsSome, OnOk, Option, Some, None, List, Result, Ok, Err}
 use Rattle.cvm_outside.specs.Causes.{Rose}
+use Rattle.cvm_outside.specs.Numbering.{tally}
 use Rattle.boot_report.specs.Blames.{Blames}
 use Rattle.boot_report.specs.Leaves.{OnlyViews}
 use Rattle.boot_turns.specs.declared.answers.Turn.{Turn}
@@ -9,7 +10,7 @@ use Rattle.boot_turns.specs.declared.answers.RunFault.{RunFault}
 use Rattle.boot_turns.specs.declared.answers.RunFault.TheVariants.{StepLimit, Disk, Sink}
 use Rattle.boot_run.specs.Calls.{TakesTurns, ProceedsAnyhow}
 use Rattle.boot_run.specs.LoadEnds.{Kept}
-use Rattle.boot_run.specs.TurnCalls.{IsOver, KeepsLoad}
+use Rattle.boot_run.specs.TurnCalls.{IsCalled, IsOver, KeepsLoad}
 
 -- turns can be made, so many at most and one at least, over a disk of so many sectors and from such a budget
 pub record CanMake {L : Type 0} (most : ℕ) (run : Kept L) (count budget : ℕ) : Type 0 where
@@ -51,13 +52,6 @@ module _ {D O : Type 0} (size : D → ℕ) (sectors : D → Option (List (List �
     pub spent : new.machine.time + left ≡ run.machine.time + budget
     pub limit : result ≡ Err StepLimit → run.fault ≡ None → (left ≡ 0) × (new.machine.hardware.off ≡ None)
 
-  -- turns, so many at most: what they leave, and what they come to
-  pub record TurnsSay {L : Type 0} (most : ℕ) (run : Kept L) (disk : D) (budget : ℕ) (out : O) (new : Kept L) (retold : D) (left : ℕ) (printed : O)
-      (result : Result (ℕ × Turn) RunFault) : Type 0 where
-    pub leaves : TurnsLeave most run disk budget out new retold left printed result
-    pub ends : TakesTurns size sectors text most run disk budget out new retold left printed result
-    pub any : ProceedsAnyhow size sectors text most run disk budget out new retold left printed result
-
   -- what a report leaves: pages were at most read, and nothing of the run changes but what was viewed and its fault; a fault that it kept is answered
   -- again and nothing is touched; a new one is kept, and is a fault of the disk or of the sink, of which each has a count
   pub record ReportLeaves {L : Type 0} (run : Kept L) (disk : D) (out : O) (new : Kept L) (retold : D) (printed : O) (result : Result (Unit {0}) RunFault) :
@@ -73,6 +67,16 @@ module _ {D O : Type 0} (size : D → ℕ) (sectors : D → Option (List (List �
     pub disk_same : result ≢ Err Disk → broke retold ≡ broke disk
     pub sink_broke : result ≡ Err Sink → run.fault ≡ None → Rose (cut out) (cut printed)
     pub sink_same : result ≢ Err Sink → cut printed ≡ cut out
+
+-- and by the disk's count of calls
+module _ {D O : Type 0} (size : D → ℕ) (sectors : D → Option (List (List ℕ))) (broke made : D → ℕ) (text : O → Option (List ℕ)) (cut : O → ℕ) where
+  -- TURNS, so many at most: what they leave, what they come to, and how often the disk was called
+  pub record TurnsSay {L : Type 0} (most : ℕ) (run : Kept L) (disk : D) (budget : ℕ) (out : O) (new : Kept L) (retold : D) (left : ℕ) (printed : O)
+      (result : Result (ℕ × Turn) RunFault) : Type 0 where
+    pub leaves : TurnsLeave size sectors broke text cut most run disk budget out new retold left printed result
+    pub ends : TakesTurns size sectors text most run disk budget out new retold left printed result
+    pub any : ProceedsAnyhow size sectors text most run disk budget out new retold left printed result
+    pub calls : IsCalled run new (tally broke made disk) (tally broke made retold)
 
 -- one turn at most, as a call of `turns` answers it
 abbrev pub as_turns : Result Turn RunFault → Result (ℕ × Turn) RunFault

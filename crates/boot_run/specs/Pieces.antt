@@ -1,5 +1,5 @@
 -- What the pieces of a whole run come to, from which its end is put together: the premises, the loop over turns, what closes a run, and a run to its end.
-use Rattle.std.specs.Prelude.{◌≡◌, ℕ, suc, ◌+◌, ◌<◌, ◌≤◌, ◌⊎◌, true, false, Option, Some, List, [], length, Result, MatchResult}
+use Rattle.std.specs.Prelude.{◌≡◌, ℕ, suc, ◌+◌, ◌≤◌, false, Option, Some, List, length, Result, MatchResult}
 use Rattle.cvm_outside.specs.Numbering.{Tally}
 use Rattle.mips_table.specs.Device.{Outside}
 use Rattle.mips_table.specs.Machine.{State, run}
@@ -13,12 +13,13 @@ use Rattle.layer_contract.specs.declared.boot.Boot.{Boot as Booted}
 use Rattle.layer_contract.specs.Boots.{boot_of}
 use Rattle.layer_contract.specs.Follows.{loaded}
 use Rattle.layer_contract.specs.Starts.{user_sectors, Beyond}
-use Rattle.boot_turns.specs.AnyTurns.{NoSooner}
+use Rattle.boot_turns.specs.Sooner.{NoSooner}
 use Rattle.boot_turns.specs.Completes.{SeenPorts}
-use Rattle.boot_turns.specs.TurnEnds.{Printed, Whole, Prefix}
+use Rattle.boot_turns.specs.TurnEnds.{Printed}
 use Rattle.boot_turns.specs.Headline as headline
-use Rattle.boot_turns.specs.Headline.{RowBroken, StepBroken, ending_of}
+use Rattle.boot_turns.specs.Headline.{RowBroken, StepBroken, TraceBroken, ending_of}
 use Rattle.boot_turns.specs.Premises.{StartsFrom}
+use Rattle.boot_turns.specs.Tracing.{reads_of}
 use Rattle.boot_turns.specs.Rom.{rom_sectors, rom_steps}
 use Rattle.boot_turns.specs.declared.answers.View.{View}
 use Rattle.boot_turns.specs.declared.answers.View.TheVariants.{Boot, Trace}
@@ -27,11 +28,12 @@ use Rattle.boot_turns.specs.declared.answers.RunFault.TheVariants.{StepLimit, Di
 use Rattle.boot_run.specs.declared.whole.RunEnd.{RunEnd}
 use Rattle.boot_run.specs.declared.whole.RunEnd.TheVariants as ends
 use Rattle.boot_run.specs.Loading.{system_of}
-use Rattle.boot_run.specs.LoadEnds.{Kept, SeesUser, pages_needed, rom_needed}
+use Rattle.boot_run.specs.LoadEnds.{Kept, pages_needed, rom_needed}
+use Rattle.boot_run.specs.RunEnds.{SeesUser, CallsFrom, ShownRunEnds, ending_of_end}
 use Rattle.boot_run.specs.TurnCalls.{Around, Ready, Stand}
 use Rattle.boot_run.specs.Report.{Reported, ReportBroken}
 use Rattle.boot_run.specs.Sink.{Base}
-use Rattle.boot_run.specs.Whole.{CallsFrom, ShownRunEnds, ending_of_end, rom_start_of}
+use Rattle.boot_run.specs.Whole.{rom_start_of}
 
 -- The premises of a run: what is booted under these rows, over a disk of so many sectors, which were `old` before the load. It
 -- starts from `s`, from which the layer takes over after `late` steps, and its sectors are those below `held`.
@@ -71,17 +73,6 @@ pub record Late (x : Outside) (y : System) (s : State) (v : View) (base : Base) 
   pub printed : Printed x y s v (end_within x s turns steps) shown
   pub text : after.text ≡ base.shows shown
 
--- the sink failed in a trace after `at` steps, before which the run hadn't ended: a part was printed of what is to be printed there; of the whole
--- text where the run has ended
-pub record TraceBroken (x : Outside) (y : System) (s : State) (now : List (List ℕ)) (u turns steps : ℕ) (text : List ℕ) : Type 0 where
-  pub at : ℕ
-  pub most : at ≤ steps
-  pub goes_on : (j : ℕ) → j < at → is_end x s turns j ≡ false
-  pub sectors : now ≡ (run x s at).device.sectors
-  pub whole : List ℕ
-  pub is_whole : Printed x y s (Trace u) at whole ⊎ (Whole x y s (Trace u) at whole × (is_end x s turns at ≡ true))
-  pub printed : Prefix [] whole text
-
 -- the sink failed in a turn
 abbrev pub TurnPutFails : Outside → System → State → (now : List (List ℕ)) → View → (turns steps : ℕ) → List ℕ → Type 0
 TurnPutFails x y s now Boot turns steps text = RowBroken x y s now turns steps text
@@ -90,7 +81,8 @@ TurnPutFails x y s now (Trace u) turns steps text = TraceBroken x y s now u turn
 -- a fault of a turn
 abbrev pub GoFails : Outside → System → State → View → Base → (turns steps : ℕ) → Around → RunFault → Type 0
 GoFails x y s v base turns steps after StepLimit = Late x y s v base turns steps after
-GoFails x y s v base turns steps after Disk = (shown : List ℕ) × (now : List (List ℕ)) × Stand after now × StepBroken x y s now v turns steps after.steps shown
+GoFails x y s v base turns steps after Disk = (shown : List ℕ) × (now : List (List ℕ)) × Stand after now
+    × StepBroken x y s now v turns steps after.steps (reads_of after.tracer) shown
     × SeenPorts (run x s after.steps) after.state × (after.text ≡ base.shows shown)
 GoFails x y s v base turns steps after Sink = (shown : List ℕ) × (now : List (List ℕ)) × Stand after now × TurnPutFails x y s now v turns steps shown
     × (after.text ≡ base.shows shown)
@@ -123,14 +115,14 @@ CloseRuns count r before after result =
     Bootable r.boot r.machine.rows count y s late held old → Ready (outside_of r.machine.rows count) y s r.view base (suc k) t c before →
     CloseEnds (outside_of r.machine.rows count) y s r.view base t c before after result
 
--- a loaded run to its end, of one of the users where it is traced
+-- a loaded run to its end, of one of the users where it is traced, and then from before any word was read for its rows
 abbrev pub RunsToEnd : {L : Type 0} → (count : ℕ) → Kept L → (turns steps : ℕ) → (before : Around) → (retold : Option (List (List ℕ))) → (made remade : Tally) →
     (after : Option (List ℕ)) → RunEnd → Type 0
 RunsToEnd count r turns steps before retold made remade after result =
     (y : System) (s : State) (late held : ℕ) (old : List (List ℕ)) (base : Base) (k t wanted total : ℕ) (c : Cvm) →
     Bootable r.boot r.machine.rows count y s late held old → SeesUser r.view (length y.boot.users) →
     FirstAt (outside_of r.machine.rows count) s k t → 1 ≤ wanted → k + turns ≡ wanted → steps + t ≡ total →
-    Ready (outside_of r.machine.rows count) y s r.view base k t c before →
+    Ready (outside_of r.machine.rows count) y s r.view base k t c before → reads_of before.tracer ≡ 0 →
     (now : List (List ℕ)) × (retold ≡ Some now)
     × ShownRunEnds (outside_of r.machine.rows count) y s held old now r.view wanted total (CallsFrom (run (outside_of r.machine.rows count) s t) made remade) base after
     (ending_of_end result)

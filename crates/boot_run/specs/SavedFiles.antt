@@ -12,7 +12,7 @@ use Rattle.layer_contract.specs.Starts.{user_sectors}
 use Rattle.saved_file.specs.Resumable.{Wanted}
 use Rattle.saved_file.specs.Answer.{IsOfRun}
 use Rattle.boot_run.specs.Loading.{system_of}
-use Rattle.boot_run.specs.Resuming.{SavedAt}
+use Rattle.boot_run.specs.SavedRuns.{SavedAt}
 use Rattle.boot_run.specs.Pieces.{Bootable}
 
 -- what a saved machine has to fit to be taken up as this system's, under these rows, for so many turns
@@ -30,5 +30,6 @@ wanted_of b rows turns = record {
 abbrev pub SavedBootsAreOfRuns : Type 0
 SavedBootsAreOfRuns = (b : Booted) (rows : Rows) (count : ℕ) (old left : List (List ℕ)) (few spent turns : ℕ) (words shown : List ℕ) →
     Bootable b rows count (system_of b rows) (loaded (system_of b rows) old) 1 (user_sectors (system_of b rows)) old →
-    (a : SavedAt (outside_of rows count) (system_of b rows) (loaded (system_of b rows) old) few spent words left shown) → 1 ≤ few → few ≤ turns → turns < 2 ^ 32 → spent < 2 ^ 64 →
+    (a : SavedAt (outside_of rows count) (system_of b rows) (loaded (system_of b rows) old) few spent words left shown) → 1 ≤ few → few ≤ turns →
+    turns < 2 ^ 32 → spent < 2 ^ 64 →
     IsOfRun (outside_of rows count) (wanted_of b rows turns) (run (outside_of rows count) (loaded (system_of b rows) old) a.at) few a.past.core.current

@@ -1,9 +1,7 @@
 -- What a run that is to be saved comes to, and what one that is taken up from saved words does.
-use Rattle.std.specs.Prelude.{◌≡◌, ℕ, ◌+◌, ◌-◌, ◌≤◌, ◌⊎◌, ⊤, false, Option, Some, None, IsSome, All, List, [], ◌++◌, length, codes, Result, Ok, Err}
-use Rattle.std.specs.Io.KnownBytes.{append_known}
+use Rattle.std.specs.Prelude.{◌≡◌, ℕ, ◌+◌, ◌-◌, ◌≤◌, ◌⊎◌, Option, Some, None, IsSome, List, [], ◌++◌, codes, Result, Ok, Err}
 use Rattle.cvm_outside.specs.Numbering.{Tally}
 use Rattle.mips_table.specs.Device.{Outside}
-use Rattle.mips_table.specs.Fits.{IsPage}
 use Rattle.mips_table.specs.Machine.{State, run}
 use Rattle.mips_table.specs.Turns.{end_within}
 use Rattle.schedule_file.specs.Rows.{Rows}
@@ -15,7 +13,7 @@ use Rattle.layer_contract.specs.declared.boot.Boot.{Boot as Booted}
 use Rattle.layer_contract.specs.Follows.{loaded}
 use Rattle.layer_contract.specs.Starts.{user_sectors}
 use Rattle.boot_turns.specs.Headline as headline
-use Rattle.boot_turns.specs.Headline.{Ending, Ran, RanFrom, RowBroken, StepBroken}
+use Rattle.boot_turns.specs.Headline.{Ending, RanFrom}
 use Rattle.boot_turns.specs.declared.answers.View.TheVariants.{Boot}
 use Rattle.boot_run.specs.declared.load.LoadFault.{LoadFault}
 use Rattle.boot_run.specs.declared.load.LoadFault.TheVariants as load
@@ -23,13 +21,14 @@ use Rattle.boot_run.specs.declared.whole.RunEnd.{RunEnd}
 use Rattle.boot_run.specs.declared.whole.RunEnd.TheVariants as ends
 use Rattle.boot_run.specs.declared.saving.SaveEnd.{SaveEnd}
 use Rattle.boot_run.specs.declared.saving.SaveEnd.TheVariants.{Stopped, Ended}
-use Rattle.boot_run.specs.AnyRun.{AnyEnds}
+use Rattle.boot_run.specs.AnyEnds.{AnyEnds}
 use Rattle.boot_run.specs.Loading.{system_of}
 use Rattle.boot_run.specs.LoadEnds.{Kept}
-use Rattle.boot_run.specs.Resuming.{SavedAt, after_saved}
+use Rattle.boot_run.specs.SavedRuns.{SavedAt, EndsInTurn, IsDisk, GoesOnAs}
 use Rattle.boot_run.specs.Sink.{Base, behind}
 use Rattle.boot_run.specs.TurnCalls.{Around, around, Ready}
-use Rattle.boot_run.specs.Whole.{AnswerEnds, CallsFrom, ShownRunEnds, WholeCalls, ending_of_end}
+use Rattle.boot_run.specs.Whole.{AnswerEnds, WholeCalls}
+use Rattle.boot_run.specs.RunEnds.{CallsFrom, ShownRunEnds, ending_of_end}
 use Rattle.boot_run.specs.Pieces.{Bootable, CloseRuns, FirstAt}
 
 -- the words of a saved run: those of its machine, among which no sector stands, with its complete turns and its current user
@@ -40,15 +39,6 @@ saved_run r = saved r.machine.rows.inputs (state_of r.machine []) r.turns r.curr
 abbrev pub HasHalted : Outside → State → (turns steps : ℕ) → Type 0
 HasHalted x s turns steps = (run x s (end_within x s turns steps)).off ≡ Some 0
 
--- a run came to no report: its kernel faulted, or it is out of steps, or the disk failed in a step, or the sink in the row of a dispatch
-abbrev pub EndsInTurn : Outside → System → State → (now : List (List ℕ)) → (turns steps : ℕ) → (calls : ℕ → State → Type 0) → Base → (after : Option (List ℕ)) →
-    RunEnd → Type 0
-EndsInTurn x y s now turns steps calls base after ends.Done = ⊥
-EndsInTurn x y s now turns steps calls base after ends.DiskFault = (text : List ℕ) × (made : ℕ) × StepBroken x y s now Boot turns steps made text
-    × calls 0 (run x s made) × (after ≡ base.shows text)
-EndsInTurn x y s now turns steps calls base after ends.SinkFault = (text : List ℕ) × RowBroken x y s now turns steps text × (after ≡ base.shows text)
-EndsInTurn x y s now turns steps calls base after other = ⊤
-
 -- HOW A RUN THAT IS TO BE SAVED ENDS, from `s` over a disk that had the sectors `old`. It stops where the boot prints `stopped`: its text is the boot's up
 -- to there, and these words are those of the machine there. Or it ends as the boot does, and then it has halted, or it came to no report: a run that goes
 -- on prints no end row.
@@ -56,11 +46,13 @@ abbrev pub StopsOrEnds : Outside → System → State → (held : ℕ) → (old 
     (after : Option (List ℕ)) → (words : List ℕ) → SaveEnd → Type 0
 StopsOrEnds x y s held old now turns steps calls base after words Stopped = (shown : List ℕ) × (rest : List ℕ) × SavedAt x y s turns steps words now shown
     × RanFrom x y s held old now Boot turns steps headline.Done (shown ++ (codes "stopped\n" ++ rest)) × (after ≡ base.shows shown)
-StopsOrEnds x y s held old now turns steps calls base after words (Ended e) = ShownRunEnds x y s held old now Boot turns steps calls base after (ending_of_end e)
+StopsOrEnds x y s held old now turns steps calls base after words (Ended e) =
+    ShownRunEnds x y s held old now Boot turns steps calls base after (ending_of_end e)
     × (HasHalted x s turns steps ⊎ EndsInTurn x y s now turns steps calls base after e)
 
 -- so it is of a loaded run, from any moment at which turns are complete for the first time
-abbrev pub RunsToStop : {L : Type 0} → (count : ℕ) → (r new : Kept L) → (turns : ℕ) → (before : Around) → (retold : Option (List (List ℕ))) → (made remade : Tally) →
+abbrev pub RunsToStop : {L : Type 0} → (count : ℕ) → (r new : Kept L) → (turns : ℕ) → (before : Around) → (retold : Option (List (List ℕ))) →
+    (made remade : Tally) →
     (after : Option (List ℕ)) → SaveEnd → Type 0
 RunsToStop count r new turns before retold made remade after result =
     (s : State) (late held : ℕ) (old : List (List ℕ)) (base : Base) (k t wanted total : ℕ) (c : Cvm) →
@@ -71,7 +63,8 @@ RunsToStop count r new turns before retold made remade after result =
     (CallsFrom (run (outside_of r.machine.rows count) s t) made remade) base after (saved_run new) result
 
 -- HOW A CALL ENDS that loads a run to be saved, with the run: as the run; or as a boot that isn't loaded
-abbrev pub SaveAnswerEnds : {L : Type 0} → Outside → System → State → (held : ℕ) → (old now : List (List ℕ)) → (turns steps : ℕ) → (calls : ℕ → State → Type 0) →
+abbrev pub SaveAnswerEnds : {L : Type 0} → Outside → System → State → (held : ℕ) → (old now : List (List ℕ)) → (turns steps : ℕ) →
+    (calls : ℕ → State → Type 0) →
     (before after : Option (List ℕ)) → Result (Kept L × SaveEnd) LoadFault → Type 0
 SaveAnswerEnds x y s held old now turns steps calls before after (Ok (r, e)) =
     StopsOrEnds x y s held old now turns steps calls (behind before) after (saved_run r) e
@@ -121,25 +114,10 @@ pub record IsTakenUp {L : Type 0} (layer : L) (boot : Booted) (rows : Rows) (cou
   pub words_are : saved_run r ≡ words
   pub resumed : IsResumed r
 
--- so many sectors, of 1,024 words each
-pub record IsDisk (count : ℕ) (old : List (List ℕ)) : Type 0 where
-  pub size : length old ≡ count
-  pub each : All IsPage old
-
 -- what is booted under these rows can be, over each disk of so many sectors
 abbrev pub AreBoots : Booted → Rows → (count : ℕ) → Type 0
 AreBoots b rows count = (old : List (List ℕ)) → IsDisk count old →
     Bootable b rows count (system_of b rows) (loaded (system_of b rows) old) 1 (user_sectors (system_of b rows)) old
-
--- HOW A RUN THAT GOES ON ENDS, whose first part printed `shown`: with no failed call its text behind that, its ending and its sectors are the boot's;
--- and with one they are what this leaves of the boot
-abbrev pub GoesOnAs : Outside → System → (old now : List (List ℕ)) → (turns steps : ℕ) → (calls : ℕ → State → Type 0) → (shown : List ℕ) →
-    (had has : Option (List ℕ)) → Ending → Type 0
-GoesOnAs x y old now turns steps calls shown had has headline.DiskFault =
-    ShownRunEnds x y (loaded y old) (user_sectors y) old now Boot turns steps calls (after_saved had shown) has headline.DiskFault
-GoesOnAs x y old now turns steps calls shown had has headline.SinkFault =
-    ShownRunEnds x y (loaded y old) (user_sectors y) old now Boot turns steps calls (after_saved had shown) has headline.SinkFault
-GoesOnAs x y old now turns steps calls shown had has e = (text : List ℕ) × (has ≡ append_known had text) × Ran x y old now Boot turns steps e (shown ++ text)
 
 -- THE JOINT THEOREM, of a run that was taken up: for each boot that can be saved so, of no more steps, it ends as that boot does
 abbrev pub JoinsBoot : {L : Type 0} → (count : ℕ) → Kept L → (turns steps : ℕ) → (told retold : Option (List (List ℕ))) → (made remade : Tally) →
@@ -154,7 +132,7 @@ JoinsBoot count r turns steps told retold made remade had has result =
 -- A FILE THAT NO SAVED RUN LEFT: a run that was taken up is the machine's from the state that its words name, for as many turns and steps as are left
 abbrev pub GoesOnAnyhow : {L : Type 0} → (count : ℕ) → Kept L → (turns steps : ℕ) → (told retold : Option (List (List ℕ))) → RunEnd → Type 0
 GoesOnAnyhow count r turns steps told retold result = (left : List (List ℕ)) → IsResumed r → told ≡ Some left →
-    AnyEnds (outside_of r.machine.rows count) (state_of r.machine left) (turns - r.turns) (steps - r.machine.time) false retold result
+    AnyEnds (outside_of r.machine.rows count) (state_of r.machine left) (turns - r.turns) (steps - r.machine.time) retold result
 
 -- The calls, by the run, the disk and the sink before, and then by those after. The first four words of each tell the disk's size, its sectors, its
 -- counts and the sink's text.

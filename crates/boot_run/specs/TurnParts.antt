@@ -1,14 +1,15 @@
 -- The parts of a call of `turns`: what is printed before the machine goes on, the turn itself, and what is printed after it.
-use Rattle.std.specs.Prelude.{◌≡◌, ℕ, zero, suc, ◌+◌, ◌-◌, ◌^◌, min, if◌then◌else◌, Option, Some, None, List, [], ◌∷◌, ◌++◌, length, map, slice_index}
-use Rattle.std.specs.Prelude.{is_some, codes, Result, Ok, Err, MatchResult}
+use Rattle.std.specs.Prelude.{◌≡◌, ℕ, zero, suc, ◌+◌, ◌-◌, ◌≤◌, ◌^◌, min, All, if◌then◌else◌, Option, Some, None, List, [], ◌++◌, length, map, slice_index}
+use Rattle.std.specs.Prelude.{is_some, Result, Ok, Err, MatchResult}
 use Rattle.mips_table.specs.Flat.{Flat}
 use Rattle.mips_machine.specs.Machine.{Held}
+use Rattle.layer_map.specs.Map.{current_at}
 use Rattle.cvm_model.specs.Primitives.{user_of}
 use Rattle.cvm_model.specs.Cvm.{first_flat, map_of}
 use Rattle.cvm_model.specs.declared.row.Next.{Next}
 use Rattle.cvm_model.specs.declared.row.Next.TheVariants.{Fault}
-use Rattle.cvm_model.specs.Text.{steps_row, fault_name, rows_text, start_row}
-use Rattle.cvm_model.specs.declared.kernel_fault.KernelFault.{KernelFault}
+use Rattle.cvm_model.specs.Text.{steps_row, rows_text, start_row}
+use Rattle.boot_report.specs.Texts.{fault_row}
 use Rattle.layer_contract.specs.declared.boot.Boot.{Boot as Booted}
 use Rattle.layer_contract.specs.Boots.{boot_of}
 use Rattle.boot_turns.specs.declared.completion.Begun.{Begun}
@@ -19,7 +20,8 @@ use Rattle.boot_turns.specs.declared.answers.RunFault.{RunFault}
 use Rattle.boot_turns.specs.Advances.{Advances}
 use Rattle.boot_turns.specs.AnyTurns.{AnyTurns}
 use Rattle.boot_turns.specs.Tracing.{TraceRuns}
-use Rattle.boot_run.specs.LoadEnds.{Kept, SeesUser, viewed}
+use Rattle.boot_run.specs.LoadEnds.{Kept, viewed}
+use Rattle.boot_run.specs.RunEnds.{SeesUser}
 use Rattle.boot_run.specs.Shown.{next_shown, end_of_next}
 use Rattle.boot_run.specs.TurnCalls.{rows_of}
 
@@ -32,15 +34,17 @@ pub record Views {L : Type 0} (r : Kept L) : Type 0 where
 abbrev pub first_machine : Booted → ℕ → Flat
 first_machine b u = user_of (map first_flat (boot_of b).users) u
 
+-- this is one of the users, whose words fit their memories
+pub record HasUser (b : Booted) (user : ℕ) : Type 0 where
+  pub some : 1 ≤ user
+  pub there : user ≤ length b.users.items
+  pub fits : All (λ words. length words ≤ 1048576) (boot_of b).users
+
 -- what is printed after so many turns, before the next: before the first turn of a trace the start row
 abbrev pub rows_before : Booted → Option Tracer → ℕ → List ℕ
 rows_before b None turns = []
 rows_before b (Some kept) zero = start_row kept.user (first_machine b kept.user)
 rows_before b (Some kept) (suc turns) = []
-
--- the row of a kernel's fault
-abbrev pub fault_row : KernelFault → List ℕ
-fault_row f = codes "fault " ++ fault_name f ++ 10 ∷ []
 
 -- the last rows of a trace whose kernel faulted, after n steps that have no row yet
 abbrev pub fault_rows : ℕ → Option Next → List ℕ
@@ -54,7 +58,7 @@ rows_after (Some kept) ended answer = fault_rows kept.steps ended
 
 -- who is next, as a machine shows it
 abbrev pub next_of_held : Held → Next
-next_of_held held = next_shown held.hardware.off (slice_index held.hardware.memory 1024)
+next_of_held held = next_shown held.hardware.off (slice_index held.hardware.memory current_at)
 
 -- turns are counted up to the end of the counter's type
 abbrev pub count_on : ℕ → ℕ → ℕ
@@ -67,7 +71,7 @@ answer_of k user b next = if b.dispatched then Dispatch (record { turn = k; caus
 -- a turn is counted that came after so many untrapped steps, began so, and answered
 pub record Counted {L : Type 0} (old new : Kept L) (skipped : ℕ) (b : Begun) (answer : Turn) : Type 0 where
   pub turns : new.turns ≡ count_on (count_on old.turns skipped) 1
-  pub current : new.current ≡ slice_index new.machine.hardware.memory 1024
+  pub current : new.current ≡ slice_index new.machine.hardware.memory current_at
   pub ended : new.ended ≡ end_of_next (next_of_held new.machine)
   pub is : answer ≡ answer_of (count_on old.turns skipped) old.current b (next_of_held new.machine)
 

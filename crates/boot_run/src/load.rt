@@ -1,5 +1,5 @@
 // The machine of a boot, loaded.
-ghost use Rattle.std.specs.Prelude.{◌≡◌, ◌+◌, ◌*◌, ◌/◌, ◌<◌, ◌≤◌};
+ghost use Rattle.std.specs.Prelude.{◌≡◌, ◌+◌, ◌*◌, ◌/◌, ◌≤◌};
 ghost use Rattle.std.specs.Prelude.{ℕ, length, map, IfOk, IfErr, OnOk, Err, Ok};
 ghost use Rattle.layer_map.specs.Map.{MapInRange, memory_frames};
 ghost use Rattle.cvm_model.specs.Cvm.{map_of};
@@ -7,7 +7,8 @@ ghost use Rattle.layer_contract.specs.Boots.{boot_of};
 ghost use Rattle.mips_machine.specs.Machine.{started};
 ghost use Rattle.boot_run.specs.Loading.{with_words, with_rom};
 ghost use Rattle.boot_run.specs.declared.load.LoadFault.TheVariants.{Memory as NoRoom};
-ghost use Rattle.boot_run.specs.LoadEnds.{SeesUser, first_tracer};
+ghost use Rattle.boot_run.specs.LoadEnds.{first_tracer};
+ghost use Rattle.boot_run.specs.RunEnds.{SeesUser};
 
 use crate::pages::put_words;
 use boot_turns::View;
@@ -76,6 +77,7 @@ pub(crate) fn first_tracer(view: View) -> Option<Tracer>
             user,
             steps: 0,
             call: None,
+            reads: 0,
         }),
     }
 }

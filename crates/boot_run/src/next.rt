@@ -1,5 +1,6 @@
 // Who is next, as the machine shows it at the end of a turn.
 ghost use Rattle.std.specs.Prelude.{◌≡◌, ◌<◌, length, slice_index};
+ghost use Rattle.layer_map.specs.Map.{current_at};
 ghost use Rattle.boot_run.specs.Shown.{fault_of_power, next_shown, end_of_next, has_faulted};
 
 use cvm_model::{KernelFault, Next};
@@ -22,7 +23,7 @@ fn fault_of_power(power: u32) -> KernelFault
 // Who is next: where the machine is on the current user, and else by the power word.
 pub(crate) fn seen_next(machine: &Machine) -> Next
     requires { 1024 < length machine.now.hardware.memory }
-    ensures { result ≡ next_shown machine.now.hardware.off (slice_index machine.now.hardware.memory 1024) }
+    ensures { result ≡ next_shown machine.now.hardware.off (slice_index machine.now.hardware.memory current_at) }
 {
     match machine.off() {
         None => Next::User(machine.word(CURRENT)),

@@ -3,7 +3,8 @@ ghost use Rattle.std.specs.Prelude.{◌≡◌, ℕ, ◌+◌, ◌*◌, ◌<◌, �
 ghost use Rattle.std.specs.Option.{option_map};
 ghost use Rattle.cvm_outside.specs.Causes.{Counts};
 ghost use Rattle.cvm_outside.specs.Numbering.{tally};
-ghost use Rattle.boot_run.specs.Loading.{calls_made, pages_of_users, with_call, with_page, written, with_words, StaysBut, TornAmong};
+ghost use Rattle.boot_run.specs.Loading.{pages_of_users, with_page, written, with_words, StaysBut, TornAmong};
+ghost use Rattle.boot_run.specs.LoadedPages.{calls_made, with_call};
 
 use cvm_outside::{DiskFault, Sectors};
 use mips_machine::Machine;

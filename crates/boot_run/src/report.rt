@@ -1,31 +1,21 @@
 // The end and the report of a run, printed from its machine.
-ghost use Rattle.std.specs.Prelude.{◌≡◌, ◌≤◌, ◌++◌, length, Err};
+ghost use Rattle.std.specs.Prelude.{◌≡◌, ◌++◌, length, Err};
 ghost use Rattle.cvm_outside.specs.Numbering.{tally};
-ghost use Rattle.layer_map.specs.Map.{memory_words};
 ghost use Rattle.cvm_model.specs.Text.{steps_row as steps_text};
-ghost use Rattle.boot_report.specs.Globals.{AreInside};
-ghost use Rattle.boot_run.specs.Report.{end_row, kernel_rows, runs_now, ForClosing, ForTraceClosing, StepsStand};
+ghost use Rattle.boot_report.specs.Globals.{AreInside, GlobalsStand};
+ghost use Rattle.boot_report.specs.Texts.{end_row};
+ghost use Rattle.boot_run.specs.Report.{kernel_rows, runs_now, ForClosing, ForTraceClosing, StepsStand};
 ghost use Rattle.boot_report.specs.Leaves.{Asks, PrintsAll, Puts, Reads};
 ghost use Rattle.boot_report.specs.Stand.{BlocksStand, PagesStand, UserStands};
 
 use crate::places::Places;
 use boot_report::journal_text::steps_row;
-use boot_report::{ReportFault, put_globals, put_log, put_user_rows, put_users};
+use boot_report::{ReportFault, put_end, put_globals, put_log, put_user_rows, put_users};
 use boot_turns::tracer::Tracer;
 use c0_tree::Decl;
 use cvm_outside::{Sectors, Sink, SinkFault};
 use layer_map::Map;
 use mips_machine::Machine;
-
-// Prints whether a run halted or goes on.
-fn put_end<O: Sink>(halted: bool, out: &mut O) -> Result<(), SinkFault>
-    ensures { Puts O.text O.faults out.old out.new (end_row halted) result }
-{
-    if halted {
-        return out.put(b"halted\n");
-    }
-    out.put(b"stopped\n")
-}
 
 // Prints the end, the globals and the console's log.
 fn put_kernel<O: Sink>(
@@ -35,10 +25,7 @@ fn put_kernel<O: Sink>(
     halted: bool,
     out: &mut O,
 ) -> Result<(), SinkFault>
-    requires many { length places.now.offsets.items ≡ length decls.now }
-    requires memory { memory_words places.now.map ≤ length machine.now.hardware.memory }
-    requires small { memory_words places.now.map ≤ 30000000 }
-    requires inside { AreInside places.now.map places.now.offsets.items }
+    requires { GlobalsStand places.now.map (length machine.now.hardware.memory) places.now.offsets.items (length decls.now) }
     ensures { Puts O.text O.faults out.old out.new (kernel_rows halted machine.now places.now.map places.now.offsets.items decls.now) result }
 {
     put_end(halted, out)?;

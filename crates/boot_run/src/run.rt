@@ -1,6 +1,6 @@
 // A loaded run.
 ghost use Rattle.std.specs.Prelude.{◌≡◌, ◌≢◌, ◌∷◌, ◌+◌, ◌<◌, ◌≤◌, ◌^◌};
-ghost use Rattle.std.specs.Prelude.{false, [], length, slice_index, IfOk, IfErr, IsSome, OnOk, OnErr, Err, Ok, Some, None};
+ghost use Rattle.std.specs.Prelude.{false, true, [], length, slice_index, IfOk, IfErr, IsSome, OnOk, OnErr, Err, Ok, Some, None};
 ghost use Rattle.std.specs.Result.{result_err};
 ghost use Rattle.cvm_outside.specs.Numbering.{tally};
 ghost use Rattle.layer_map.specs.Map.{memory_words};
@@ -13,8 +13,8 @@ ghost use Rattle.boot_turns.specs.Rom.{rom_loaded};
 ghost use Rattle.boot_run.specs.Loading.{system_of};
 ghost use Rattle.boot_run.specs.LoadEnds.{pages_needed, rom_needed, IsFresh, StandsFrom, LoadCalls, LoadFails, LoadTorn, RomLoadCalls, RomTorn};
 ghost use Rattle.boot_report.specs.Leaves.{Asks, OnlyViews, Puts};
-ghost use Rattle.boot_run.specs.Calls.{MakesTurns, Proceeds, ProceedsAnyhow, TakesTurns, Reports};
-ghost use Rattle.boot_run.specs.OneTurn.{CanMake, TurnsLeave, TurnsMake, ReportLeaves, TurnsSay, as_turns};
+ghost use Rattle.boot_run.specs.Calls.{MakesTurns, Proceeds, ProceedsAnyhow, Reports};
+ghost use Rattle.boot_run.specs.OneTurn.{CanMake, TurnsMake, ReportLeaves, TurnsSay, as_turns};
 ghost use Rattle.boot_run.specs.Saving.{saved_run, AreBoots, IsTakenUp};
 ghost use Rattle.boot_run.specs.Shown.{has_faulted};
 ghost use Rattle.boot_run.specs.TurnCalls.{rows_of, IsCalled, StandsReady};
@@ -199,13 +199,6 @@ impl<L: Layer + Drop> Run<L> {
         }
     }
 
-    // A law: what is viewed is what a tracer is kept for.
-    pub(crate) fn views(&self)
-        ensures { Views self.now }
-    {
-        let _tracer = &self.tracer;
-    }
-
     // Prints what stands before the next turn: the first row of a trace, before its first turn.
     fn put_before<O: Sink>(&self, out: &mut O) -> Result<(), SinkFault>
         ensures put { Puts O.text O.faults out.old out.new (rows_before self.now.boot self.now.tracer self.now.turns) result }
@@ -275,6 +268,7 @@ impl<L: Layer + Drop> Run<L> {
     fn put_after<O: Sink>(&self, answer: Turn, out: &mut O) -> Result<(), SinkFault>
         ensures put { Puts O.text O.faults out.old out.new (rows_after self.now.tracer self.now.ended answer) result }
         ensures dispatch { self.now.tracer ≡ None → OnErr result ((row : OneRow) × (rows_of answer ≡ row ∷ [])) }
+        ensures faulted { IsSome self.now.tracer → OnErr result (has_faulted self.now.ended ≡ true) }
     {
         match self.tracer {
             None => put_row(answer, out),
@@ -323,11 +317,8 @@ impl<L: Layer + Drop> Run<L> {
         out: &mut O,
     ) -> Result<(u32, Turn), RunFault>
         requires can { CanMake most self.old (D.size disk.old) budget.old }
-        ensures rest { TurnsLeave D.size D.sectors D.faults O.text O.faults most
+        ensures says { TurnsSay D.size D.sectors D.faults D.calls O.text O.faults most
             self.old disk.old budget.old out.old self.new disk.new budget.new out.new result }
-        ensures ends { TakesTurns D.size D.sectors O.text most self.old disk.old budget.old out.old self.new disk.new budget.new out.new result }
-        ensures any { ProceedsAnyhow D.size D.sectors O.text most self.old disk.old budget.old out.old self.new disk.new budget.new out.new result }
-        ensures calls { IsCalled self.old self.new (tally D.faults D.calls disk.old) (tally D.faults D.calls disk.new) }
     {
         if let Some(fault) = self.fault {
             return Err(fault);
@@ -356,9 +347,8 @@ impl<L: Layer + Drop> Run<L> {
         out: &mut O,
     ) -> Result<Turn, RunFault>
         requires can { CanMake 1 self.old (D.size disk.old) budget.old }
-        ensures says { TurnsSay D.size D.sectors D.faults O.text O.faults 1
+        ensures says { TurnsSay D.size D.sectors D.faults D.calls O.text O.faults 1
             self.old disk.old budget.old out.old self.new disk.new budget.new out.new (as_turns result) }
-        ensures calls { IsCalled self.old self.new (tally D.faults D.calls disk.old) (tally D.faults D.calls disk.new) }
     {
         let (_, turn) = self.turns(1, budget, disk, out)?;
         Ok(turn)

@@ -1,16 +1,16 @@
 // What a call of `turn` prints beside the rows of a journal: the first row of a trace, a dispatch's row, and the kernel's fault.
-ghost use Rattle.std.specs.Prelude.{◌≡◌, ◌≤◌, ◌∷◌, ◌++◌, All, [], length, OnErr};
+ghost use Rattle.std.specs.Prelude.{◌≡◌, ◌∷◌, ◌++◌, [], true, OnErr};
 ghost use Rattle.cvm_model.specs.Primitives.{pages_of};
 ghost use Rattle.cvm_model.specs.Text.{rows_text, start_row as start_text, steps_row as steps_text};
 ghost use Rattle.cvm_model.specs.declared.row.Row.{Row as OneRow};
-ghost use Rattle.layer_contract.specs.Boots.{boot_of};
+ghost use Rattle.boot_run.specs.Shown.{has_faulted};
 ghost use Rattle.boot_run.specs.TurnCalls.{rows_of};
-ghost use Rattle.boot_run.specs.TurnParts.{first_machine, fault_row, fault_rows};
+ghost use Rattle.boot_run.specs.TurnParts.{first_machine, fault_rows, HasUser};
 ghost use Rattle.boot_report.specs.Leaves.{Puts};
+ghost use Rattle.boot_report.specs.Texts.{fault_row};
 
-use arrayvec::ArrayString;
 use boot_report::journal_text::{start_row, steps_row};
-use boot_report::row_text::row_text;
+use boot_report::row_text::{fault_row, row_text};
 use boot_turns::Turn;
 use cvm_model::{KernelFault, Next};
 use cvm_outside::{Sink, SinkFault};
@@ -18,9 +18,7 @@ use layer_contract::Boot;
 
 // The number of pages of a user's machine at the start: those that its words reach into.
 fn first_pages(boot: &Boot, user: u32) -> u32
-    requires some { 1 ≤ user }
-    requires there { user ≤ length boot.now.users.items }
-    requires fits { All (λ words. length words ≤ 1048576) (boot_of boot.now).users }
+    requires { HasUser boot.now user }
     ensures { pages_of (first_machine boot.now user) ≡ result }
 {
     let words = boot.users[user as usize - 1].as_slice();
@@ -33,9 +31,7 @@ fn first_pages(boot: &Boot, user: u32) -> u32
 //
 // A fault of the sink.
 pub(crate) fn put_start<O: Sink>(boot: &Boot, user: u32, out: &mut O) -> Result<(), SinkFault>
-    requires some { 1 ≤ user }
-    requires there { user ≤ length boot.now.users.items }
-    requires fits { All (λ words. length words ≤ 1048576) (boot_of boot.now).users }
+    requires { HasUser boot.now user }
     ensures { Puts O.text O.faults out.old out.new (start_text user (first_machine boot.now user)) result }
 {
     let pages = first_pages(boot, user);
@@ -55,17 +51,6 @@ pub(crate) fn put_row<O: Sink>(answer: Turn, out: &mut O) -> Result<(), SinkFaul
         Turn::Dispatch(row) => out.put(row_text(&row).as_str().as_bytes()),
         Turn::Step(_) | Turn::Over => Ok(()),
     }
-}
-
-// The row of a kernel's fault.
-fn fault_row(fault: KernelFault) -> ArrayString<64>
-    ensures { result.bytes ≡ fault_row fault }
-{
-    let mut text = ArrayString::new();
-    text.push_str("fault ");
-    text.push_str(fault.name());
-    text.push('\n');
-    text
 }
 
 // Prints the row of so many steps that have none yet, and that of a kernel's fault.
@@ -90,7 +75,8 @@ pub(crate) fn put_fault<O: Sink>(
     ended: Option<Next>,
     out: &mut O,
 ) -> Result<(), SinkFault>
-    ensures { Puts O.text O.faults out.old out.new (fault_rows steps ended) result }
+    ensures put { Puts O.text O.faults out.old out.new (fault_rows steps ended) result }
+    ensures faulted { OnErr result (has_faulted ended ≡ true) }
 {
     match ended {
         Some(Next::Fault(fault)) => put_both(steps, fault, out),

@@ -12,7 +12,7 @@ use Rattle.mips_machine.specs.Steps.{outside_of}
 use Rattle.layer_contract.specs.declared.boot.Boot.{Boot as Booted}
 use Rattle.layer_contract.specs.Follows.{loaded}
 use Rattle.layer_contract.specs.Starts.{user_sectors}
-use Rattle.boot_turns.specs.Machines.{MachinesRun}
+use Rattle.boot_turns.specs.RunMachines.{MachinesRun}
 use Rattle.saved_file.specs.Resumable.{CanBeResumed}
 use Rattle.saved_file.specs.Answer.{answer, SavedIsReadBack}
 use Rattle.boot_run.specs.Loading.{system_of}

@@ -1,5 +1,5 @@
 -- What a call answers that resumes, by what was taken up and how that went on.
-use Rattle.std.proofs.Common.{◌≡◌, ℕ, ◌-◌, ◌≤◌, ◌<◌, ◌^◌, false, Option, Some, None, List, Ok, Err, inl, inr, refl, sym, ap, subst, ◌∙◌, arith}
+use Rattle.std.proofs.Common.{◌≡◌, ℕ, ◌-◌, ◌≤◌, ◌<◌, ◌^◌, Option, Some, None, List, Ok, Err, inl, inr, refl, sym, ap, subst, ◌∙◌, arith}
 use Rattle.std.specs.Prelude.{slice_index, IsSome, Result}
 use Rattle.std.specs.List.{flat_map}
 use Rattle.cvm_words.specs.Bytes.{word}
@@ -14,13 +14,13 @@ use Rattle.layer_contract.specs.declared.boot.Boot.{Boot as Booted}
 use Rattle.layer_contract.specs.Follows.{loaded}
 use Rattle.saved_file.specs.Answer.{answer}
 use Rattle.saved_file.specs.declared.fault.SaveFault.TheVariants.{Memory}
-use Rattle.boot_run.specs.AnyRun.{AnyEnds}
+use Rattle.boot_run.specs.AnyEnds.{AnyEnds}
 use Rattle.boot_run.specs.Loading.{system_of}
 use Rattle.boot_run.specs.LoadEnds.{Kept, pages_needed}
-use Rattle.boot_run.specs.Resuming.{SavedAt}
-use Rattle.boot_run.specs.Saving.{saved_run, AreBoots, GoesOnAnyhow, GoesOnAs, IsDisk, IsResumed, IsTakenUp, JoinsBoot}
+use Rattle.boot_run.specs.SavedRuns.{SavedAt, GoesOnAs, IsDisk}
+use Rattle.boot_run.specs.Saving.{saved_run, AreBoots, GoesOnAnyhow, IsResumed, IsTakenUp, JoinsBoot}
 use Rattle.boot_run.specs.SavedFiles.{wanted_of}
-use Rattle.boot_run.specs.Whole.{CallsFrom, ending_of_end}
+use Rattle.boot_run.specs.RunEnds.{CallsFrom, ending_of_end}
 use Rattle.boot_run.specs.declared.whole.RunEnd.{RunEnd}
 use Rattle.boot_run.specs.declared.whole.RunEnd.TheVariants.{Done, KernelFaulted, OutOfSteps, DiskFault, SinkFault}
 use Rattle.machine_save.specs.Resume.{ResumesFile}
@@ -103,7 +103,7 @@ refused_joins layer b rows turns steps count bytes told retold made remade had h
 
 -- ANY WORDS
 abbrev AnyAt : (rows : Rows) → (count : ℕ) → State → (more budget : ℕ) → (retold : Option (List (List ℕ))) → RunEnd → Type 0
-AnyAt rows count z more budget retold e = AnyEnds (outside_of rows count) z more budget false retold e
+AnyAt rows count z more budget retold e = AnyEnds (outside_of rows count) z more budget retold e
 
 pub any_so : {L : Type 0} (layer : L) (b : Booted) (rows : Rows) (turns steps count : ℕ) (bytes : List ℕ) (told retold : Option (List (List ℕ))) (r : Kept L) (e : RunEnd) → SavedOnce →
     ResumesFile layer b rows turns count bytes (Ok r) → GoesOnAnyhow count r turns steps told retold e → GoesOnFromFile b rows turns steps count bytes told retold (Ok e)
@@ -129,7 +129,7 @@ is_some : (o : Option (List (List ℕ))) (now : List (List ℕ)) → o ≡ Some 
 is_some None now h = absurd (cc)
 is_some (Some x) now h = refl
 
-any_told : (x : Outside) (z : State) (k total : ℕ) (told : Option (List (List ℕ))) (e : RunEnd) → AnyEnds x z k total false told e → IsSome told
+any_told : (x : Outside) (z : State) (k total : ℕ) (told : Option (List (List ℕ))) (e : RunEnd) → AnyEnds x z k total told e → IsSome told
 any_told x z k total told Done h = is_some told _ h.sectors
 any_told x z k total told KernelFaulted h = is_some told _ h.sectors
 any_told x z k total told OutOfSteps h = is_some told _ h.1

@@ -18,7 +18,8 @@ use Rattle.boot_turns.specs.declared.answers.View.{View}
 use Rattle.saved_file.specs.Resumable.{CanBeResumed}
 use Rattle.boot_run.specs.Loading.{system_of}
 use Rattle.boot_run.specs.LoadEnds.{Kept, LoadsRun, pages_needed}
-use Rattle.boot_run.specs.Saving.{saved_run, IsDisk, IsSaveDiskFault, IsSaveSinkFault, WholeSaveEnds, StopsOrEnds, end_of_save}
+use Rattle.boot_run.specs.Saving.{saved_run, IsSaveDiskFault, IsSaveSinkFault, WholeSaveEnds, StopsOrEnds, end_of_save}
+use Rattle.boot_run.specs.SavedRuns.{IsDisk}
 use Rattle.boot_run.specs.SavedFiles.{wanted_of}
 use Rattle.boot_run.specs.Sink.{behind}
 use Rattle.boot_run.specs.declared.load.LoadFault.{LoadFault}

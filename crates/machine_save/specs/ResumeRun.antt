@@ -1,5 +1,5 @@
 -- What a call comes to that takes up a run from the bytes of a file and goes on with it.
-use Rattle.std.specs.Prelude.{◌≡◌, ℕ, ◌-◌, ◌<◌, ◌≤◌, ◌⊎◌, false, Option, Some, List, Result, Ok, Err, MatchResult, IfOk}
+use Rattle.std.specs.Prelude.{◌≡◌, ℕ, ◌-◌, ◌<◌, ◌≤◌, ◌⊎◌, Option, Some, List, Result, Ok, Err, MatchResult, IfOk}
 use Rattle.std.specs.List.{flat_map}
 use Rattle.cvm_words.specs.Bytes.{word}
 use Rattle.cvm_outside.specs.Numbering.{Tally}
@@ -14,13 +14,12 @@ use Rattle.saved_file.specs.Resumable.{CanBeResumed}
 use Rattle.saved_file.specs.Answer.{answer}
 use Rattle.saved_file.specs.declared.fault.SaveFault.TheVariants.{Memory}
 use Rattle.boot_run.specs.declared.whole.RunEnd.{RunEnd}
-use Rattle.boot_run.specs.AnyRun.{AnyEnds}
+use Rattle.boot_run.specs.AnyEnds.{AnyEnds}
 use Rattle.boot_run.specs.Loading.{system_of}
 use Rattle.boot_run.specs.LoadEnds.{pages_needed}
-use Rattle.boot_run.specs.Resuming.{SavedAt}
-use Rattle.boot_run.specs.Saving.{IsDisk, GoesOnAs}
+use Rattle.boot_run.specs.SavedRuns.{SavedAt, IsDisk, GoesOnAs}
 use Rattle.boot_run.specs.SavedFiles.{wanted_of}
-use Rattle.boot_run.specs.Whole.{CallsFrom, ending_of_end}
+use Rattle.boot_run.specs.RunEnds.{CallsFrom, ending_of_end}
 use Rattle.machine_save.specs.declared.resuming.ResumeFault.{ResumeFault}
 use Rattle.machine_save.specs.declared.resuming.ResumeFault.TheVariants.{Save, SmallDisk}
 
@@ -59,7 +58,7 @@ pub record GoesOnFrom (x : Outside) (inputs words : List ℕ) (sectors : List (L
   pub user : ℕ
   pub named : Names inputs words sectors machine done user
   pub only : (z : State) (more other : ℕ) → Names inputs words sectors z more other → z ≡ machine
-  pub ends : AnyEnds x machine (turns - done) (steps - machine.time) false retold e
+  pub ends : AnyEnds x machine (turns - done) (steps - machine.time) retold e
 
 -- so it is of a file that is taken up, over told sectors
 abbrev pub GoesOnFromFile : Booted → Rows → (turns steps count : ℕ) → (bytes : List ℕ) → (told retold : Option (List (List ℕ))) →

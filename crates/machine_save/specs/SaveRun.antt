@@ -21,8 +21,8 @@ use Rattle.boot_turns.specs.declared.answers.View.TheVariants.{Boot}
 use Rattle.boot_run.specs.declared.load.LoadFault.{LoadFault}
 use Rattle.boot_run.specs.Loading.{system_of}
 use Rattle.boot_run.specs.LoadEnds.{Kept}
-use Rattle.boot_run.specs.Resuming.{SavedAt}
-use Rattle.boot_run.specs.Saving.{HasHalted, EndsInTurn}
+use Rattle.boot_run.specs.SavedRuns.{SavedAt, EndsInTurn}
+use Rattle.boot_run.specs.Saving.{HasHalted}
 use Rattle.boot_run.specs.Sink.{behind}
 use Rattle.boot_run.specs.Saving.{saved_run}
 use Rattle.boot_run.specs.Whole.{AnswerEnds, WholeCalls, ending_of_answer}

@@ -6,13 +6,13 @@ use Rattle.schedule_file.specs.Rows.{Rows}
 use Rattle.mips_machine.specs.Steps.{outside_of}
 use Rattle.layer_contract.specs.declared.boot.Boot.{Boot as Booted}
 use Rattle.layer_contract.specs.Follows.{loaded}
-use Rattle.boot_turns.specs.Headline.{GoesOn}
+use Rattle.boot_turns.specs.GoesOn.{GoesOn}
 use Rattle.saved_file.specs.Resumable.{CanBeResumed}
 use Rattle.saved_file.specs.Answer.{answer}
 use Rattle.boot_run.specs.Loading.{system_of}
 use Rattle.boot_run.specs.LoadEnds.{pages_needed}
-use Rattle.boot_run.specs.Resuming.{SavedAt}
-use Rattle.boot_run.specs.Saving.{AreBoots, IsDisk}
+use Rattle.boot_run.specs.SavedRuns.{SavedAt, IsDisk}
+use Rattle.boot_run.specs.Saving.{AreBoots}
 use Rattle.boot_run.specs.SavedFiles.{wanted_of}
 
 -- it can be booted over each that has the sectors which it needs

@@ -1,5 +1,5 @@
 use Rattle.std.proofs.Common.{length, map, sym, ◌∙◌, lt-ltb, le-ltb}
-use Rattle.boot_run.specs.Loading.{disk_pages}
+use Rattle.boot_run.specs.LoadedPages.{disk_pages}
 use Rattle.boot_run.proofs.UserPages.{on_err, on_ok}
 use Rattle.boot_run.proofs.PageLemmas.{call_made, no_call, page_written, page_left, on_torn}
 use Rattle.boot_run.proofs.pages.write_page.Goals as goal

@@ -1,6 +1,6 @@
 use Rattle.std.proofs.Common.{◌+◌, map, refl, ◌∙◌, arith}
 use Rattle.cvm_outside.specs.Numbering.{tally}
-use Rattle.boot_run.specs.Loading.{disk_pages}
+use Rattle.boot_run.specs.LoadedPages.{disk_pages}
 use Rattle.boot_run.proofs.UserPages.{on_err}
 use Rattle.boot_run.proofs.PageLemmas.{calls_more, torn_among, written_more}
 use Rattle.boot_run.proofs.pages.write_pages.Goals as goal

@@ -1,7 +1,8 @@
 use Rattle.std.proofs.Common.{◌≡◌, map}
 use Rattle.std.specs.Option.{option_map}
 use Rattle.cvm_outside.specs.Numbering.{tally}
-use Rattle.boot_run.specs.Loading.{calls_made, disk_pages, written}
+use Rattle.boot_run.specs.Loading.{written}
+use Rattle.boot_run.specs.LoadedPages.{calls_made, disk_pages}
 use Rattle.boot_run.proofs.pages.write_pages.Given as goal
 
 abbrev pub invariant-loop-q : goal.invariant-loop-q

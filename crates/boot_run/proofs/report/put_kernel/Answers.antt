@@ -3,10 +3,9 @@ use Rattle.std.proofs.lemmas.Result.{err_from_is_err_and}
 use Rattle.std.specs.Io.KnownBytes.{append_known}
 use Rattle.cvm_outside.specs.Told.{AppendsPart}
 use Rattle.layer_map.specs.Map.{globals_at}
-use Rattle.boot_report.specs.Texts.{log_rows}
+use Rattle.boot_report.specs.Texts.{end_row, log_rows}
 use Rattle.boot_report.specs.Globals.{globals_rows}
 use Rattle.boot_report.proofs.Leaves.{done, fails}
-use Rattle.boot_run.specs.Report.{end_row}
 use Rattle.boot_run.proofs.Rows.{three, first_part, second_part, third_part}
 use Rattle.boot_run.proofs.report.put_kernel.Goals as goal
 

@@ -5,7 +5,7 @@ use Rattle.cvm_outside.specs.Told.{AppendsPart}
 use Rattle.cvm_outside.proofs.Parts.{part-front}
 use Rattle.cvm_model.specs.Text.{steps_row}
 use Rattle.boot_report.proofs.Leaves.{fails, then_puts}
-use Rattle.boot_run.specs.Report.{end_row}
+use Rattle.boot_report.specs.Texts.{end_row}
 use Rattle.boot_run.proofs.report.put_last.Goals as goal
 
 pub returns-in_err-put : goal.returns-in_err-put

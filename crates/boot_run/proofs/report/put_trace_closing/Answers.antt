@@ -4,10 +4,10 @@ use Rattle.cvm_outside.specs.Told.{AppendsPart}
 use Rattle.mips_machine.specs.Machine.{state_of}
 use Rattle.cvm_model.specs.Paged.{paged_of}
 use Rattle.cvm_model.specs.Text.{steps_row}
-use Rattle.boot_report.specs.Texts.{rows_of_user}
+use Rattle.boot_report.specs.Texts.{end_row, rows_of_user}
 use Rattle.boot_report.specs.Leaves.{PrintsAll}
 use Rattle.boot_report.proofs.Leaves.{broken}
-use Rattle.boot_run.specs.Report.{end_row, runs_now}
+use Rattle.boot_run.specs.Report.{runs_now}
 use Rattle.boot_run.proofs.Rows.{front_part, part_behind, then_printed, of_err}
 use Rattle.boot_run.proofs.report.put_trace_closing.Goals as goal
 

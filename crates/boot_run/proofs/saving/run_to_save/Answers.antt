@@ -6,7 +6,8 @@ use Rattle.mips_machine.specs.Steps.{outside_of}
 use Rattle.layer_contract.specs.Follows.{loaded}
 use Rattle.layer_contract.specs.Starts.{user_sectors}
 use Rattle.boot_turns.specs.declared.answers.View.TheVariants.{Boot}
-use Rattle.boot_run.specs.Loading.{system_of, user_pages}
+use Rattle.boot_run.specs.Loading.{system_of}
+use Rattle.boot_run.specs.LoadedPages.{user_pages}
 use Rattle.boot_run.specs.LoadEnds.{pages_needed}
 use Rattle.boot_run.specs.Whole.{WholeCalls}
 use Rattle.boot_run.proofs.Loads.{needed_is}

@@ -1,5 +1,5 @@
 use Rattle.std.proofs.Common.{◌≡◌, ◌-◌, ◌≤◌, inr, refl, sym, ◌∙◌, arith}
-use Rattle.std.specs.Prelude.{is_some, IsSome}
+use Rattle.std.specs.Prelude.{IsSome}
 use Rattle.std.proofs.lemmas.Result.{err_from_is_err_and}
 use Rattle.cvm_outside.specs.Numbering.{tally}
 use Rattle.boot_turns.proofs.CallCounts.{steps_stay}
@@ -17,7 +17,7 @@ loop-left-init g c = record {
   disk = refl;
   sink = refl;
   few = omega arith;
-  calls = steps_stay (is_some c.args.run.now.tracer) c.args.run.now.machine (tally g.D.Sectors.faults g.D.Sectors.calls c.args.disk.now);
+  calls = steps_stay c.args.run.now.machine c.args.run.now.tracer (tally g.D.Sectors.faults g.D.Sectors.calls c.args.disk.now);
   going = keeps_first (g.D.Sectors.size c.args.disk.now) c.args.run.now (around c.args.run.now (g.D.Sectors.sectors c.args.disk.now) c.args.budget.now (g.O.Sink.text c.args.out.now)) _ (omega arith);
   anyhow = any_first (g.D.Sectors.size c.args.disk.now) c.args.run.now (around c.args.run.now (g.D.Sectors.sectors c.args.disk.now) c.args.budget.now (g.O.Sink.text c.args.out.now)) _ (omega arith);
 }
@@ -25,15 +25,15 @@ loop-left-init g c = record {
 pub returns-in_err-made-clause-ends : goal.returns-in_err-made-clause-ends
 returns-in_err-made-clause-ends g c =
     let w = err_from_is_err_and c.from_residual.result c.from_residual.ensures.1 in
-    let on = not_failed c.loop-left.run.ended c.in_err-made.field-0.0 (λ o. c.in_err-made.ensures.rest.over c.loop-left.invariant.fault o) in
+    let on = not_failed c.loop-left.run.ended c.in_err-made.field-0.0 (λ o. c.in_err-made.ensures.says.leaves.over c.loop-left.invariant.fault o) in
     let few = c.loop-left.invariant.few in
     go_failed c.turns_are_counted.ensures (g.D.Sectors.size c.args.disk.now) (g.D.Sectors.size c.loop-left.disk) c.args.run.now c.loop-left.run c.args.turns _ _ _ _ c.loop-left.left c.in_err-made.field-0.0 w.0 c.from_residual.result
-    c.loop-left.invariant.kept c.loop-left.invariant.size (omega (arith, few)) on (c.in_err-made.ensures.ends c.loop-left.invariant.fault on) c.loop-left.invariant.going w.1 (sym w.2)
+    c.loop-left.invariant.kept c.loop-left.invariant.size (omega (arith, few)) on (c.in_err-made.ensures.says.ends c.loop-left.invariant.fault on) c.loop-left.invariant.going w.1 (sym w.2)
 
 pub returns-then-made-eq0-clause-ends : goal.returns-then-made-eq0-clause-ends
 returns-then-made-eq0-clause-ends g c =
-    let over : IsSome c.loop-left.run.ended = was_over c.loop-left.run.ended c.in_ok-made.made c.in_ok-made.ensures.rest.made.1 c.if-made-eq0.true in
-    let st = c.in_ok-made.ensures.rest.still (inr over) in
+    let over : IsSome c.loop-left.run.ended = was_over c.loop-left.run.ended c.in_ok-made.made c.in_ok-made.ensures.says.leaves.made.1 c.if-made-eq0.true in
+    let st = c.in_ok-made.ensures.says.leaves.still (inr over) in
     let s0 = st.0 in
     let s1 = st.1 in
     let s2 = st.2 in
@@ -47,11 +47,11 @@ pub loop-left-preserved : goal.loop-left-preserved
 loop-left-preserved g c =
     let not_none = c.if-made-eq0.false in
     let some : 1 ≤ c.in_ok-made.made = omega (arith, not_none) in
-    let on = not_over c.loop-left.run.ended c.in_ok-made.made c.in_ok-made.field-0-1 (λ o. c.in_ok-made.ensures.rest.over c.loop-left.invariant.fault o) some in
-    let kept = c.in_ok-made.ensures.rest.kept in
+    let on = not_over c.loop-left.run.ended c.in_ok-made.made c.in_ok-made.field-0-1 (λ o. c.in_ok-made.ensures.says.leaves.over c.loop-left.invariant.fault o) some in
+    let kept = c.in_ok-made.ensures.says.leaves.kept in
     let was = c.loop-left.invariant.kept in
     let few = c.loop-left.invariant.few in
-    let most = c.in_ok-made.ensures.rest.made.0 in
+    let most = c.in_ok-made.ensures.says.leaves.made.0 in
     record {
       kept = record {
         layer_is = kept.layer_is ∙ was.layer_is;
@@ -61,18 +61,18 @@ loop-left-preserved g c =
         count_is = kept.count_is ∙ was.count_is;
         memory = kept.memory ∙ was.memory;
       };
-      fault = c.in_ok-made.ensures.rest.fine;
-      size = c.in_ok-made.ensures.rest.same_size ∙ c.loop-left.invariant.size;
-      time = c.in_ok-made.ensures.rest.spent ∙ c.loop-left.invariant.time;
-      disk = c.in_ok-made.ensures.rest.disk_same (λ v. absurd (cc)) ∙ c.loop-left.invariant.disk;
-      sink = c.in_ok-made.ensures.rest.sink_same (λ v. absurd (cc)) ∙ c.loop-left.invariant.sink;
+      fault = c.in_ok-made.ensures.says.leaves.fine;
+      size = c.in_ok-made.ensures.says.leaves.same_size ∙ c.loop-left.invariant.size;
+      time = c.in_ok-made.ensures.says.leaves.spent ∙ c.loop-left.invariant.time;
+      disk = c.in_ok-made.ensures.says.leaves.disk_same (λ v. absurd (cc)) ∙ c.loop-left.invariant.disk;
+      sink = c.in_ok-made.ensures.says.leaves.sink_same (λ v. absurd (cc)) ∙ c.loop-left.invariant.sink;
       few = omega (arith, few);
       calls = calls_on c.args.run.now c.loop-left.run c.turns.new.self (tally g.D.Sectors.faults g.D.Sectors.calls c.args.disk.now) (tally g.D.Sectors.faults g.D.Sectors.calls c.loop-left.disk) (tally g.D.Sectors.faults g.D.Sectors.calls c.turns.new.disk)
-          c.views.ensures c.views-in-loop-left.ensures was.view_is c.loop-left.invariant.disk c.loop-left.invariant.calls c.in_ok-made.ensures.calls;
+          c.loop-left.invariant.disk c.loop-left.invariant.calls c.in_ok-made.ensures.says.calls;
       going = keeps_next (g.D.Sectors.size c.args.disk.now) (g.D.Sectors.size c.loop-left.disk) c.args.run.now c.loop-left.run _ _ _ (c.args.turns - c.loop-left.left) _ c.loop-left.left c.in_ok-made.made c.in_ok-made.field-0-1
-          c.loop-left.invariant.kept c.loop-left.invariant.size on (c.in_ok-made.ensures.ends c.loop-left.invariant.fault on) (omega (arith, few, most)) c.loop-left.invariant.going;
+          c.loop-left.invariant.kept c.loop-left.invariant.size on (c.in_ok-made.ensures.says.ends c.loop-left.invariant.fault on) (omega (arith, few, most)) c.loop-left.invariant.going;
       anyhow = any_next (g.D.Sectors.size c.args.disk.now) (g.D.Sectors.size c.loop-left.disk) c.args.run.now c.loop-left.run c.loop-left.invariant.kept c.loop-left.invariant.size _ _ _ (c.args.turns - c.loop-left.left) c.loop-left.left on
-          c.loop-left.invariant.anyhow _ c.in_ok-made.made c.in_ok-made.field-0-1 (c.in_ok-made.ensures.any c.loop-left.invariant.fault on) (omega (arith, few, most));
+          c.loop-left.invariant.anyhow _ c.in_ok-made.made c.in_ok-made.field-0-1 (c.in_ok-made.ensures.says.any c.loop-left.invariant.fault on) (omega (arith, few, most));
     }
 
 pub returns-clause-ends : goal.returns-clause-ends
@@ -84,15 +84,15 @@ returns-clause-ends g c =
 pub returns-in_err-made-clause-any : goal.returns-in_err-made-clause-any
 returns-in_err-made-clause-any g c =
     let w = err_from_is_err_and c.from_residual.result c.from_residual.ensures.1 in
-    let on = not_failed c.loop-left.run.ended c.in_err-made.field-0.0 (λ o. c.in_err-made.ensures.rest.over c.loop-left.invariant.fault o) in
+    let on = not_failed c.loop-left.run.ended c.in_err-made.field-0.0 (λ o. c.in_err-made.ensures.says.leaves.over c.loop-left.invariant.fault o) in
     let few = c.loop-left.invariant.few in
     any_failed (g.D.Sectors.size c.args.disk.now) (g.D.Sectors.size c.loop-left.disk) c.args.run.now c.loop-left.run c.loop-left.invariant.kept c.loop-left.invariant.size _ _ _ _ c.loop-left.left on c.loop-left.invariant.anyhow
-    c.args.turns c.in_err-made.field-0.0 w.0 c.from_residual.result (c.in_err-made.ensures.any c.loop-left.invariant.fault on) (omega (arith, few)) w.1 (sym w.2)
+    c.args.turns c.in_err-made.field-0.0 w.0 c.from_residual.result (c.in_err-made.ensures.says.any c.loop-left.invariant.fault on) (omega (arith, few)) w.1 (sym w.2)
 
 pub returns-then-made-eq0-clause-any : goal.returns-then-made-eq0-clause-any
 returns-then-made-eq0-clause-any g c =
-    let over : IsSome c.loop-left.run.ended = was_over c.loop-left.run.ended c.in_ok-made.made c.in_ok-made.ensures.rest.made.1 c.if-made-eq0.true in
-    let st = c.in_ok-made.ensures.rest.still (inr over) in
+    let over : IsSome c.loop-left.run.ended = was_over c.loop-left.run.ended c.in_ok-made.made c.in_ok-made.ensures.says.leaves.made.1 c.if-made-eq0.true in
+    let st = c.in_ok-made.ensures.says.leaves.still (inr over) in
     let s0 = st.0 in
     let s1 = st.1 in
     let s2 = st.2 in
@@ -111,9 +111,9 @@ returns-clause-any g c =
 pub returns-in_err-made-clause-calls : goal.returns-in_err-made-clause-calls
 returns-in_err-made-clause-calls g c =
     calls_on c.args.run.now c.loop-left.run c.turns.new.self (tally g.D.Sectors.faults g.D.Sectors.calls c.args.disk.now) (tally g.D.Sectors.faults g.D.Sectors.calls c.loop-left.disk) (tally g.D.Sectors.faults g.D.Sectors.calls c.turns.new.disk)
-    c.views.ensures c.views-in-loop-left.ensures c.loop-left.invariant.kept.view_is c.loop-left.invariant.disk c.loop-left.invariant.calls c.in_err-made.ensures.calls
+    c.loop-left.invariant.disk c.loop-left.invariant.calls c.in_err-made.ensures.says.calls
 
 pub returns-then-made-eq0-clause-calls : goal.returns-then-made-eq0-clause-calls
 returns-then-made-eq0-clause-calls g c =
     calls_on c.args.run.now c.loop-left.run c.turns.new.self (tally g.D.Sectors.faults g.D.Sectors.calls c.args.disk.now) (tally g.D.Sectors.faults g.D.Sectors.calls c.loop-left.disk) (tally g.D.Sectors.faults g.D.Sectors.calls c.turns.new.disk)
-    c.views.ensures c.views-in-loop-left.ensures c.loop-left.invariant.kept.view_is c.loop-left.invariant.disk c.loop-left.invariant.calls c.in_ok-made.ensures.calls
+    c.loop-left.invariant.disk c.loop-left.invariant.calls c.in_ok-made.ensures.says.calls

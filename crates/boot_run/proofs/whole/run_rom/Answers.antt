@@ -4,9 +4,11 @@ use Rattle.cvm_outside.specs.Causes.{Rose}
 use Rattle.cvm_outside.specs.Numbering.{tally}
 use Rattle.mips_machine.specs.Steps.{outside_of}
 use Rattle.boot_turns.specs.Rom.{rom_loaded, rom_sectors, rom_steps}
-use Rattle.boot_run.specs.Loading.{system_of, rom_pages, tally_made}
+use Rattle.boot_run.specs.Loading.{system_of}
+use Rattle.boot_run.specs.LoadedPages.{rom_pages, tally_made}
 use Rattle.boot_run.specs.LoadEnds.{rom_needed}
-use Rattle.boot_run.specs.Whole.{AnswerEnds, CallsFrom, LoadStopped, rom_start_of}
+use Rattle.boot_run.specs.Whole.{AnswerEnds, LoadStopped, rom_start_of}
+use Rattle.boot_run.specs.RunEnds.{CallsFrom}
 use Rattle.boot_run.specs.Pieces.{Bootable}
 use Rattle.boot_run.proofs.RomLoads.{rom_needed_is}
 use Rattle.boot_run.proofs.Looping.{machines}

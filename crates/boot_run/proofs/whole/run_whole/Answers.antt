@@ -5,7 +5,8 @@ use Rattle.cvm_outside.specs.Numbering.{tally}
 use Rattle.mips_machine.specs.Steps.{outside_of}
 use Rattle.layer_contract.specs.Follows.{loaded}
 use Rattle.layer_contract.specs.Starts.{user_sectors}
-use Rattle.boot_run.specs.Loading.{system_of, user_pages, tally_made}
+use Rattle.boot_run.specs.Loading.{system_of}
+use Rattle.boot_run.specs.LoadedPages.{user_pages, tally_made}
 use Rattle.boot_run.specs.LoadEnds.{pages_needed}
 use Rattle.boot_run.specs.Whole.{WholeCalls}
 use Rattle.boot_run.proofs.Loads.{needed_is}

@@ -6,7 +6,8 @@ use Rattle.layer_map.specs.Map.{Map, MapInRange, memory_words}
 use Rattle.boot_run.specs.Loading.{pages_of_users, written, system_of}
 use Rattle.mips_machine.specs.Machine.{Held}
 use Rattle.layer_contract.specs.Follows.{loaded}
-use Rattle.boot_run.specs.LoadEnds.{SeesUser, names_sector}
+use Rattle.boot_run.specs.LoadEnds.{names_sector}
+use Rattle.boot_run.specs.RunEnds.{SeesUser}
 use Rattle.boot_run.proofs.Readiness.{first_fits, loaded_ready}
 use Rattle.boot_run.proofs.Loads.{loaded_long, loaded_whole, stands_loaded, torn_loaded, user_calls, user_torn}
 use Rattle.boot_run.proofs.run.Run.load.Goals as goal

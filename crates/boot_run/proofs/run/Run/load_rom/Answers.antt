@@ -6,7 +6,8 @@ use Rattle.layer_map.specs.Map.{Map, MapInRange, memory_words}
 use Rattle.mips_machine.specs.Machine.{Held}
 use Rattle.boot_turns.specs.Rom.{rom_loaded}
 use Rattle.boot_run.specs.Loading.{system_of}
-use Rattle.boot_run.specs.LoadEnds.{SeesUser, names_sector, rom_needed}
+use Rattle.boot_run.specs.LoadEnds.{names_sector, rom_needed}
+use Rattle.boot_run.specs.RunEnds.{SeesUser}
 use Rattle.boot_run.proofs.Readiness.{first_fits, loaded_ready}
 use Rattle.boot_run.proofs.RomLoads.{calls_so, made_so, need_is, rom_long, rom_torn, stands_from_rom, torn_so, written_so}
 use Rattle.boot_run.proofs.run.Run.load_rom.Goals as goal

@@ -1,6 +1,8 @@
 use Rattle.std.proofs.Common.{Err, ap, sym}
 use Rattle.std.proofs.lemmas.Result.{err_from_is_err_and}
+use Rattle.cvm_outside.specs.Numbering.{tally}
 use Rattle.boot_turns.specs.declared.answers.RunFault.TheVariants.{Sink}
+use Rattle.boot_turns.proofs.CallCounts.{steps_stay}
 use Rattle.boot_run.proofs.AnyCalls.{any_cut_before, any_broke_off, any_made, any_cut_after, any_passed}
 use Rattle.boot_run.proofs.Proceeding.{cut_before, broke_off, went, cut_after, passed}
 use Rattle.boot_run.proofs.run.Run.proceed.Goals as goal
@@ -20,7 +22,7 @@ returns-in_err-made-clause-ends g c = λ _.
     (broke_off c.args.self.now c.make_turn.new.self (g.D.Sectors.size c.args.disk.now) c.args.most c.requires.can.some (g.D.Sectors.sectors c.args.disk.now) (g.D.Sectors.sectors c.make_turn.new.disk) c.args.budget.now c.make_turn.new.budget (g.O.Sink.text c.args.out.now)
     (g.O.Sink.text c.put_before.new.out) (g.O.Sink.text c.make_turn.new.out) (g.O.Sink.text c.make_turn.new.out) c.put_before.ensures.views c.machines_run.ensures c.traces_grow.ensures c.journal_rows_follow.ensures
     c.in_ok-put_before.ensures.put.ok (λ e. ap g.O.Sink.text (c.make_turn.ensures.untraced e).1) c.make_turn.ensures.makes.spent
-    c.in_err-made.field-0.0 c.in_err-made.ensures.ends.0 (λ e f. c.in_err-made.ensures.no_sink e (ap (λ q. Err q) f)) c.in_err-made.ensures.ends.1)
+    c.in_err-made.field-0.0 c.in_err-made.ensures.ends.0 (λ e f. c.in_err-made.ensures.no_sink e (ap (λ q. Err q) f)) c.in_err-made.ensures.ends.1 (λ e. (c.make_turn.ensures.untraced e).0))
 
 pub returns-in_err-put_after-clause-ends : goal.returns-in_err-put_after-clause-ends
 returns-in_err-put_after-clause-ends g c = λ _.
@@ -31,7 +33,7 @@ returns-in_err-put_after-clause-ends g c = λ _.
     (g.O.Sink.text c.put_before.new.out) (g.O.Sink.text c.make_turn.new.out) (g.O.Sink.text c.put_after.new.out) c.put_before.ensures.views c.machines_run.ensures c.traces_grow.ensures c.journal_rows_follow.ensures
     c.in_ok-put_before.ensures.put.ok (λ e. ap g.O.Sink.text (c.make_turn.ensures.untraced e).1) c.make_turn.ensures.makes.spent
     c.in_ok-made.made turns.0 turns.1 c.in_ok-made.answer turns.2 turns.3 turns.4 c.requires.can.steps c.make_turn.ensures.makes.fault (λ e. (c.make_turn.ensures.untraced e).0)
-    (λ e. c.in_err-put_after.ensures.dispatch (c.make_turn.ensures.untraced e).0) c.in_err-put_after.ensures.put.err)
+    (λ e. c.in_err-put_after.ensures.dispatch (c.make_turn.ensures.untraced e).0) c.in_err-put_after.ensures.faulted c.in_err-put_after.ensures.put.err)
 
 pub returns-clause-ends : goal.returns-clause-ends
 returns-clause-ends g c = λ _.
@@ -70,3 +72,7 @@ returns-clause-any g c = λ _ e.
     let turns = c.in_ok-made.ensures.ends in
     any_made c.args.self.now c.make_turn.new.self c.put_before.ensures.views (g.D.Sectors.size c.args.disk.now) c.args.most (g.D.Sectors.sectors c.args.disk.now) (g.D.Sectors.sectors c.make_turn.new.disk) c.args.budget.now c.make_turn.new.budget
     (g.O.Sink.text c.args.out.now) (g.O.Sink.text c.put_before.new.out) (g.O.Sink.text c.make_turn.new.out) (g.O.Sink.text c.put_after.new.out) c.in_ok-made.made turns.0 turns.1 c.in_ok-made.answer turns.2 turns.3 turns.4
+
+-- no step was made
+pub returns-in_err-put_before-clause-calls : goal.returns-in_err-put_before-clause-calls
+returns-in_err-put_before-clause-calls g c = steps_stay c.args.self.now.machine c.args.self.now.tracer (tally g.D.Sectors.faults g.D.Sectors.calls c.args.disk.now)

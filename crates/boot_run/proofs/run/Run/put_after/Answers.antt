@@ -12,4 +12,4 @@ returns-in-None-clause-put g c = subst (λ rows. Puts g.O.Sink.text g.O.Sink.fau
 pub returns-in-Some-clause-put : goal.returns-in-Some-clause-put
 returns-in-Some-clause-put g c = subst (λ rows. Puts g.O.Sink.text g.O.Sink.faults c.args.out.now c.put_fault.new.out rows c.put_fault.result)
     (ap (λ o. rows_after o c.self.inside.ended c.args.answer) (sym c.in-Some.is) ∙ ap (λ (q : Kept _). rows_after q.tracer q.ended c.args.answer) c.self.view_is)
-    c.put_fault.ensures
+    c.put_fault.ensures.put
