@@ -2,7 +2,7 @@
 #![tactic(auto)]
 
 use cvm_outside::{FileSectors, FileShelf, OutSink};
-use cvm_shell::{Status, run};
+use cvm_shell::{ExitStatus, run};
 use std::alloc::{AllocError, Global};
 use std::env;
 use std::io::{ErrorKind, Write};
@@ -32,10 +32,10 @@ fn has_output(rt: HostRuntime) -> bool {
 fn main(rt: HostRuntime) -> ExitCode {
     let alloc: Global = rt.alloc();
     if !has_output(rt) {
-        return ExitCode::from(Status::Sink.code());
+        return ExitCode::from(ExitStatus::Sink.code());
     }
     let Ok(words) = words_of(rt) else {
-        return ExitCode::from(Status::Memory.code());
+        return ExitCode::from(ExitStatus::Memory.code());
     };
     let mut shelf = FileShelf::new(rt);
     let mut out = OutSink::new(rt);

@@ -3,8 +3,8 @@ use Rattle.std.proofs.Common.{◌≡◌, ℕ, ◌<◌, ◌^◌, List, [], ◌∷
 use Rattle.std.specs.Prelude.{decimal, slice_index, ◌==◌, if◌then◌else◌}
 use Rattle.std.specs.Str.Parse.{digits_value}
 use Rattle.std.proofs.lemmas.Fmt.{decimal_is_IsNumeral}
-use Rattle.cvm_shell.specs.declared.boot.Start.{Start}
-use Rattle.cvm_shell.specs.declared.boot.Start.TheVariants.{Loaded, Rom}
+use Rattle.cvm_shell.specs.declared.boot.StartPoint.{StartPoint}
+use Rattle.cvm_shell.specs.declared.boot.StartPoint.TheVariants.{Loaded, Rom}
 use Rattle.cvm_shell.specs.Command.{Boot, Trace, Save, Command, boot, trace, save, resume, compile_user, compile_kernel, compile_program, link, migrate, sample, IsCommand, start_word, check}
 
 -- what stands at a place
@@ -27,7 +27,7 @@ second text = slice_index text 1
 abbrev third : List ℕ → ℕ
 third text = slice_index text 2
 
-abbrev boot_of : Start → List (List ℕ) → Boot
+abbrev boot_of : StartPoint → List (List ℕ) → Boot
 boot_of start words = record { start = start; image = at words 1; schedule = at words 2; turns = number (at words 3); steps = number (at words 4) }
 
 abbrev save_of : List (List ℕ) → Save
@@ -57,14 +57,14 @@ boot_back b few less =
     ap (λ turns. with_numbers turns (number (decimal b.steps))) (read_back b.turns (omega (arith, few))) ∙ ap (with_numbers b.turns) (read_back b.steps less)
 
 -- the first letter of a boot's words tells its start
-boot_meant : (start : Start) (image schedule turns steps : List ℕ) → meant (start_word start ∷ image ∷ schedule ∷ turns ∷ steps ∷ []) ≡ boot (boot_of start ([] ∷ image ∷ schedule ∷ turns ∷ steps ∷ []))
+boot_meant : (start : StartPoint) (image schedule turns steps : List ℕ) → meant (start_word start ∷ image ∷ schedule ∷ turns ∷ steps ∷ []) ≡ boot (boot_of start ([] ∷ image ∷ schedule ∷ turns ∷ steps ∷ []))
 boot_meant Loaded image schedule turns steps = refl
 boot_meant Rom image schedule turns steps = refl
 
 -- that of a trace is no ROM
-loaded_meant : (b : Boot) (start : Start) → Loaded ≡ start → boot_of Loaded ([] ∷ b.image ∷ b.schedule ∷ decimal b.turns ∷ decimal b.steps ∷ [])
+loaded_meant : (b : Boot) (start : StartPoint) → Loaded ≡ start → boot_of Loaded ([] ∷ b.image ∷ b.schedule ∷ decimal b.turns ∷ decimal b.steps ∷ [])
     ≡ boot_of start ([] ∷ b.image ∷ b.schedule ∷ decimal b.turns ∷ decimal b.steps ∷ [])
-loaded_meant b start e = ap (λ (s : Start). boot_of s ([] ∷ b.image ∷ b.schedule ∷ decimal b.turns ∷ decimal b.steps ∷ [])) e
+loaded_meant b start e = ap (λ (s : StartPoint). boot_of s ([] ∷ b.image ∷ b.schedule ∷ decimal b.turns ∷ decimal b.steps ∷ [])) e
 
 -- nor is that of a save
 save_back : (c : Save) → c.boot.start ≡ Loaded → c.boot.turns < 2 ^ 32 → c.boot.steps < 2 ^ 64

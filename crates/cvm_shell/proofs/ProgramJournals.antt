@@ -12,7 +12,7 @@ use Rattle.c0_tree.specs.declared.tree.Unit.{Unit as Source}
 use Rattle.c0_tree.specs.View.{unit_view}
 use Rattle.cvm_model.specs.Kernel.{JournalEntry}
 use Rattle.cvm_model.specs.Primitives.{no_flat}
-use Rattle.cvm_model.specs.Cvm.{System as Booted, first_flat}
+use Rattle.cvm_model.specs.Cvm.{System, first_flat}
 use Rattle.cvm_model.specs.Journal.{journal, replay}
 use Rattle.cvm_model.specs.Text.{start_row, open_journal_rows}
 use Rattle.boot_turns.specs.Trace.{entries_so_far}
@@ -20,12 +20,12 @@ use Rattle.boot_turns.specs.TurnEnds.{first_of, Printed}
 use Rattle.boot_turns.specs.Headline as headline
 use Rattle.boot_turns.specs.Headline.{Ending, TextAt}
 use Rattle.boot_turns.specs.declared.answers.View.{View}
-use Rattle.boot_run.specs.LoadEnds.{SeesUser}
+use Rattle.boot_run.specs.RunEnds.{SeesUser}
 use Rattle.kernel_linker.specs.Accept.{ImageSystem}
 use Rattle.user_c0.specs.Image.{image_words}
 use Rattle.user_c0.specs.Events.{IsAnswered}
 use Rattle.user_c0.specs.Program.{ImagesRun, Follows}
-use Rattle.cvm_shell.specs.declared.status.Status.TheVariants.{StepLimit}
+use Rattle.cvm_shell.specs.declared.exit_status.ExitStatus.TheVariants.{StepLimit}
 use Rattle.cvm_shell.specs.Boot.{booted, around, first_state, ended_as}
 use Rattle.cvm_shell.specs.Stages.{JournalsReplay}
 use Rattle.cvm_shell.specs.Programs.{HasProgram, BootedProgramsRun, SpentTracesTell, SpentProgramsRun}
@@ -58,7 +58,7 @@ pub spent_programs : ImagesRun → SpentProgramsRun
 spent_programs law session u s rows before old new a program has answered = runs law program s rows u a.entries _ has a.replayed answered
 
 -- THE TEXT of a trace whose steps are spent
-text_so_far : (x : Surroundings) (y : Booted) (s : State) (v : View) (t : ℕ) (e : Ending) (text : List ℕ) → ended_as e ≡ StepLimit → TextAt x y s v t e text → Printed x y s v t text
+text_so_far : (x : Surroundings) (y : System) (s : State) (v : View) (t : ℕ) (e : Ending) (text : List ℕ) → ended_as e ≡ StepLimit → TextAt x y s v t e text → Printed x y s v t text
 text_so_far x y s v t headline.Done text e h = absurd (cc)
 text_so_far x y s v t headline.KernelFaulted text e h = absurd (cc)
 text_so_far x y s v t headline.OutOfSteps text e h = h

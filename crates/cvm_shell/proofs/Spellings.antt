@@ -6,8 +6,8 @@ use Rattle.std.specs.Char.{is_ascii_digit}
 use Rattle.std.proofs.lemmas.Fmt.{decimal_injective}
 use Rattle.cvm_text.specs.Number.{number_at}
 use Rattle.cvm_shell.specs.CompileProgram.{CompileProgram, IsCompileProgram}
-use Rattle.cvm_shell.specs.declared.boot.Start.{Start}
-use Rattle.cvm_shell.specs.declared.boot.Start.TheVariants.{Loaded, Rom}
+use Rattle.cvm_shell.specs.declared.boot.StartPoint.{StartPoint}
+use Rattle.cvm_shell.specs.declared.boot.StartPoint.TheVariants.{Loaded, Rom}
 use Rattle.cvm_shell.specs.Command.{Boot, Trace, CompileUser, CompileKernel, Link, Migrate, Sample, start_word, IsBoot, IsTrace, IsCompileUser, IsCompileKernel, IsLink, IsMigrate, IsSample}
 
 -- that the numbers which are spelled are read, as the reader of numbers says it
@@ -25,20 +25,20 @@ pub same_number : (text : List ℕ) (n m : ℕ) → n < 2 ^ 64 → m < 2 ^ 64 �
 same_number text n m a b e d = decimal_injective n m a b (sym e ∙ d)
 
 -- a word names one start
-same_start : (a b : Start) → start_word a ≡ start_word b → a ≡ b
+same_start : (a b : StartPoint) → start_word a ≡ start_word b → a ≡ b
 same_start Loaded Loaded e = refl
 same_start Loaded Rom e = absurd (cc)
 same_start Rom Loaded e = absurd (cc)
 same_start Rom Rom e = refl
 
 -- these words, with numbers that they spell, are a boot
-pub words_of_boot : (words : List (List ℕ)) (start : Start) (word image schedule t s : List ℕ) (turns steps : ℕ) → words ≡ word ∷ image ∷ schedule ∷ t ∷ s ∷ [] → word ≡ start_word start
+pub words_of_boot : (words : List (List ℕ)) (start : StartPoint) (word image schedule t s : List ℕ) (turns steps : ℕ) → words ≡ word ∷ image ∷ schedule ∷ t ∷ s ∷ [] → word ≡ start_word start
     → t ≡ decimal turns → 1 ≤ turns → turns < 2 ^ 32 → s ≡ decimal steps → steps < 2 ^ 64
     → IsBoot words (record { start = start; image = image; schedule = schedule; turns = turns; steps = steps })
 words_of_boot words start word image schedule t s turns steps e w a some fit b less = record { spelled = cc; some_turns = some; turns_fit = fit; steps_fit = less }
 
 -- and no other
-pub words_of_one : (words : List (List ℕ)) (start : Start) (word image schedule t s : List ℕ) (turns steps : ℕ) → words ≡ word ∷ image ∷ schedule ∷ t ∷ s ∷ [] → word ≡ start_word start
+pub words_of_one : (words : List (List ℕ)) (start : StartPoint) (word image schedule t s : List ℕ) (turns steps : ℕ) → words ≡ word ∷ image ∷ schedule ∷ t ∷ s ∷ [] → word ≡ start_word start
     → t ≡ decimal turns → turns < 2 ^ 32 → s ≡ decimal steps → steps < 2 ^ 64
     → (b : Boot) → IsBoot words b → record { start = start; image = image; schedule = schedule; turns = turns; steps = steps } ≡ b
 words_of_one words start word image schedule t s turns steps e w a fit c less b is =
@@ -53,12 +53,12 @@ words_of_one words start word image schedule t s turns steps e w a fit c less b 
     let h : start ≡ b.start = same_start start b.start (sym w ∙ first) in
     let m : turns ≡ b.turns = same_number t turns b.turns turns_small wanted_small a k in
     let n : steps ≡ b.steps = same_number s steps b.steps less is.steps_fit c l in
-    let boot_of : Start → List ℕ → List ℕ → ℕ → ℕ → Boot = λ v x y z w. record { start = v; image = x; schedule = y; turns = z; steps = w } in
+    let boot_of : StartPoint → List ℕ → List ℕ → ℕ → ℕ → Boot = λ v x y z w. record { start = v; image = x; schedule = y; turns = z; steps = w } in
     ap (λ x. boot_of x image schedule turns steps) h ∙ ap (λ x. boot_of b.start x schedule turns steps) i ∙ ap (λ x. boot_of b.start b.image x turns steps) j
     ∙ ap (λ x. boot_of b.start b.image b.schedule x steps) m ∙ ap (λ x. boot_of b.start b.image b.schedule b.turns x) n
 
 -- words whose first names no start
-pub none_for_start : (words : List (List ℕ)) (word image schedule t s : List ℕ) → words ≡ word ∷ image ∷ schedule ∷ t ∷ s ∷ [] → ((a : Start) → word ≡ start_word a → ⊥) → (b : Boot) → IsBoot words b → ⊥
+pub none_for_start : (words : List (List ℕ)) (word image schedule t s : List ℕ) → words ≡ word ∷ image ∷ schedule ∷ t ∷ s ∷ [] → ((a : StartPoint) → word ≡ start_word a → ⊥) → (b : Boot) → IsBoot words b → ⊥
 none_for_start words word image schedule t s e none b is =
     let spelled : word ∷ image ∷ schedule ∷ t ∷ s ∷ [] ≡ start_word b.start ∷ b.image ∷ b.schedule ∷ decimal b.turns ∷ decimal b.steps ∷ [] = sym e ∙ is.spelled in
     let first : word ≡ start_word b.start = cc in

@@ -19,9 +19,9 @@ use Rattle.boot_run.specs.declared.whole.RunEnd.{RunEnd}
 use Rattle.kernel_linker.specs.Accept.{system_of}
 use Rattle.cvm_shell.specs.declared.boot.Ready.{Ready}
 use Rattle.cvm_shell.specs.declared.boot.Session.{Session}
-use Rattle.cvm_shell.specs.declared.boot.Start.{Start}
-use Rattle.cvm_shell.specs.declared.boot.Start.TheVariants.{Loaded, Rom}
-use Rattle.cvm_shell.specs.Outside.{Host, counts}
+use Rattle.cvm_shell.specs.declared.boot.StartPoint.{StartPoint}
+use Rattle.cvm_shell.specs.declared.boot.StartPoint.TheVariants.{Loaded, Rom}
+use Rattle.cvm_shell.specs.Host.{Host, counts}
 use Rattle.cvm_shell.specs.Boot.{booted, around, held_of, first_state, CallsOf}
 use Rattle.cvm_shell.specs.Stages.{CallAnswers}
 
@@ -45,7 +45,7 @@ pub record Called (b : Booted) (session : Session) (need : ℕ) (answer : Result
   pub rose : IsDiskFault answer → Rose old.disk.faults new.disk.faults
 
 -- a run of this session but for its start
-abbrev from : Start → Session → Session
+abbrev from : StartPoint → Session → Session
 from start session = record { start = start; view = session.view; turns = session.turns; steps = session.steps }
 
 if_done : {A E : Type 0} (answer : Result A E) (P Q : Type 0) → (P → Q) → IfOk answer (λ e. P) → IfOk answer (λ e. Q)
@@ -58,7 +58,7 @@ pub loaded_answers : (r : Ready) (session : Session) (answer : Result RunEnd Loa
     → WholeGoesOn r.boot r.schedule old.disk.size old.disk.sectors → (answer ≡ Err load.Disk → WholeStopped r.boot r.schedule old.disk.sectors new.disk.sectors (counts old.disk) (counts new.disk))
     → Called r.boot session (pages_needed r.boot) answer old new → CallAnswers r session answer old new
 loaded_answers r session answer old new start ends goes_on stopped called =
-    subst (λ (a : Start). CallAnswers r (from a session) answer old new) (sym start) (record {
+    subst (λ (a : StartPoint). CallAnswers r (from a session) answer old new) (sym start) (record {
       ends = ends;
       goes_on = if_done answer (HasDiskRoom r.boot session.view (pages_needed r.boot) old.disk.size) _
           (λ room before told k c is. let (t, end, within) = goes_on before told room.room k c is in (t, end, omega (arith, within))) called.loaded;
@@ -76,7 +76,7 @@ pub rom_answers : (r : Ready) (session : Session) (answer : Result RunEnd LoadFa
     → RomGoesOn r.boot r.schedule old.disk.size old.disk.sectors → (answer ≡ Err load.Disk → RomStopped r.boot r.schedule old.disk.sectors new.disk.sectors (counts old.disk) (counts new.disk))
     → Called r.boot session (rom_needed r.boot) answer old new → CallAnswers r session answer old new
 rom_answers r session answer old new start ends goes_on stopped called =
-    subst (λ (a : Start). CallAnswers r (from a session) answer old new) (sym start) (record {
+    subst (λ (a : StartPoint). CallAnswers r (from a session) answer old new) (sym start) (record {
       ends = ends;
       goes_on = if_done answer (HasDiskRoom r.boot session.view (rom_needed r.boot) old.disk.size) _ (λ room before told. goes_on before told room.room) called.loaded;
       told = called.told;
@@ -123,7 +123,7 @@ unmade_answers r session f have old new start count stays other fails =
     let counted : LoadFails r.boot session.view (rom_needed r.boot) old.disk.size 0 0 f = subst (λ (n : ℕ). LoadFails r.boot session.view (rom_needed r.boot) n 0 0 f) count fails in
     let needed : LoadFails r.boot session.view (held_of Rom (booted (system_of r.boot) r.schedule)) old.disk.size 0 0 f =
     subst (λ (n : ℕ). LoadFails r.boot session.view n old.disk.size 0 0 f) (same_rom_need r.boot r.schedule) counted in
-    subst (λ (a : Start). CallAnswers r (from a session) (Err f) old new) (sym start) (record {
+    subst (λ (a : StartPoint). CallAnswers r (from a session) (Err f) old new) (sym start) (record {
       ends = λ before after is now.
           unmade_ends (around r.schedule old) (booted (system_of r.boot) r.schedule) (first_state (from Rom session) (system_of r.boot) r.schedule before) (held_of Rom (booted (system_of r.boot) r.schedule)) before after
           session.view session.turns session.steps (CallsOf (from Rom session) (system_of r.boot) r.schedule before old new) old.sink.text new.sink.text f other (one_disk before after (sym is ∙ sym stays.sectors ∙ now)) stays.text;

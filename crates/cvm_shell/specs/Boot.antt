@@ -12,32 +12,31 @@ use Rattle.mips_table.specs.Device.{Outside as Surroundings}
 use Rattle.mips_table.specs.Machine.{State}
 use Rattle.mips_machine.specs.Steps.{outside_of}
 use Rattle.mips_table.specs.Turns.{lines_of}
-use Rattle.cvm_model.specs.Cvm.{System as Booted, Cvm, IsCvm}
+use Rattle.cvm_model.specs.Cvm.{System, Cvm, IsCvm}
 use Rattle.cvm_model.specs.KernelMeaning.{kernel_meaning}
 use Rattle.layer_contract.specs.Follows.{loaded}
 use Rattle.layer_contract.specs.Starts.{user_sectors}
 use Rattle.boot_turns.specs.declared.answers.View.TheVariants as view
 use Rattle.boot_turns.specs.Headline.{Ending, Done as IsDone, KernelFaulted, OutOfSteps, DiskFault, SinkFault, NoMemory, RanFrom, RunEndsFrom, LoadBroken}
-use Rattle.boot_turns.specs.Machines.{GoesOnWithin}
+use Rattle.boot_turns.specs.GoesOn.{GoesOnWithin}
 use Rattle.boot_turns.specs.Rom.{own_rom, rom_loaded, rom_sectors, rom_steps}
-use Rattle.boot_run.specs.LoadEnds.{SeesUser}
-use Rattle.boot_run.specs.Loading.{user_pages, rom_pages, tally_made}
-use Rattle.boot_run.specs.Whole.{CallsFrom}
+use Rattle.boot_run.specs.RunEnds.{SeesUser, CallsFrom}
+use Rattle.boot_run.specs.LoadedPages.{user_pages, rom_pages, tally_made}
 use Rattle.kernel_linker.specs.Accept.{ImageSystem}
-use Rattle.cvm_shell.specs.declared.status.Status.{Status}
-use Rattle.cvm_shell.specs.declared.status.Status.TheVariants.{Done, Refused, KernelFault, StepLimit, Disk, Sink, Memory}
+use Rattle.cvm_shell.specs.declared.exit_status.ExitStatus.{ExitStatus}
+use Rattle.cvm_shell.specs.declared.exit_status.ExitStatus.TheVariants.{Done, Refused, KernelFault, StepLimit, Disk, Sink, Memory}
 use Rattle.cvm_shell.specs.declared.boot.Session.{Session}
-use Rattle.cvm_shell.specs.declared.boot.Start.{Start}
-use Rattle.cvm_shell.specs.declared.boot.Start.TheVariants.{Loaded, Rom}
+use Rattle.cvm_shell.specs.declared.boot.StartPoint.{StartPoint}
+use Rattle.cvm_shell.specs.declared.boot.StartPoint.TheVariants.{Loaded, Rom}
 use Rattle.sample_maker.specs.Parts.{Parts as Sampled}
 use Rattle.sample_maker.specs.Sample.{sample_of}
 use Rattle.cvm_shell.specs.Command.{Boot, Trace, Sample, IsBoot, IsTrace, IsSample, boot_session, trace_session, sample_session}
-use Rattle.cvm_shell.specs.Outside.{Host, LeavesHost, Says, counts}
+use Rattle.cvm_shell.specs.Host.{Host, LeavesHost, Says, counts}
 use Rattle.cvm_shell.specs.Refusal.{small_disk, no_such_user, refusal_text}
 use Rattle.cvm_shell.specs.Plan.{Accepts, IsLinkedTo}
 
 -- the abstract run of an accepted system under a schedule: its kernel is what its own source means
-abbrev pub booted : ImageSystem → Rows → Booted
+abbrev pub booted : ImageSystem → Rows → System
 booted s rows = record {
   boot = record { params = s.params; meaning = kernel_meaning s.unit s.params; words = s.words; users = s.users };
   input = rows.inputs;
@@ -49,22 +48,22 @@ abbrev pub around : Rows → Host → Surroundings
 around rows old = outside_of rows old.disk.size
 
 -- THE START of a run, over a disk with these sectors: the loaded machine; or the machine with the boot ROM that loads it
-abbrev pub start_of : Start → Booted → (sectors : List (List ℕ)) → State
+abbrev pub start_of : StartPoint → System → (sectors : List (List ℕ)) → State
 start_of Loaded y sectors = loaded y sectors
 start_of Rom y sectors = rom_loaded y (own_rom y) sectors
 
 -- how many sectors a run uses: the users' pages; and for a ROM the linked words behind them
-abbrev pub held_of : Start → Booted → ℕ
+abbrev pub held_of : StartPoint → System → ℕ
 held_of Loaded y = user_sectors y
 held_of Rom y = rom_sectors y
 
 -- whether its load writes a sector: words reach into its page, of the user whose page it is; and for a ROM, behind the users' pages, the linked words
-abbrev pub is_written : Start → Booted → ℕ → Bool
+abbrev pub is_written : StartPoint → System → ℕ → Bool
 is_written Loaded y = (user_pages y).live
 is_written Rom y = (rom_pages y).live
 
 -- how many steps it takes at most before the layer does: none; or those of the ROM
-abbrev pub steps_before : Start → Booted → ℕ
+abbrev pub steps_before : StartPoint → System → ℕ
 steps_before Loaded y = 0
 steps_before Rom y = rom_steps y
 
@@ -100,14 +99,15 @@ CallsOf session s rows sectors old new =
     CallsFrom (first_state session s rows sectors) (load_calls session s rows (sectors_needed session s rows) (counts old.disk)) (counts new.disk)
 
 -- by any ending of a run whose load was done: where the disk failed, in the step or the report that it names, with the text up to there. Its calls up to
--- the first that failed fit that step, with none more of a boot, and some that read pages for rows of a trace; or the end of the run, with one more at least
+-- the first that failed fit that step, and of a trace one more for each word of its rows so far that was read; or the end of the run, with one more at
+-- least for the report
 abbrev pub EndsLoaded : Session → ImageSystem → Rows → (old new : Host) → (before after : List (List ℕ)) → (text : List ℕ) → Ending → Type 0
 EndsLoaded session s rows old new before after text e =
     RunEndsFrom (around rows old) (booted s rows) (first_state session s rows before) (sectors_needed session s rows) before after
     session.view session.turns session.steps (CallsOf session s rows before old new) text e
 
 -- an ending as a status
-abbrev pub ended_as : Ending → Status
+abbrev pub ended_as : Ending → ExitStatus
 ended_as IsDone = Done
 ended_as KernelFaulted = KernelFault
 ended_as OutOfSteps = StepLimit
@@ -162,7 +162,7 @@ pub record IsUnloaded (session : Session) (s : ImageSystem) (rows : Rows) (old n
 
 -- HOW A BOOT OR A TRACE ENDS: the user of a trace that is none is refused; then a disk that is too small, with no fault of the disk; else there may be
 -- no memory, and nothing is printed and no sector changes; then the system is loaded, in which the disk may fail; and what was loaded is run
-pub data SessionEnds (session : Session) (s : ImageSystem) (rows : Rows) (status : Status) (old new : Host) : Type 0 where
+pub data SessionEnds (session : Session) (s : ImageSystem) (rows : Rows) (status : ExitStatus) (old new : Host) : Type 0 where
   no_user : (u : ℕ) → session.view ≡ view.Trace u → (SeesUser session.view (length s.users) → ⊥) → new.disk.faults ≡ old.disk.faults
       → Says Refused (refusal_text (no_such_user u (length s.users))) old new status → SessionEnds session s rows status old new
   small : SeesUser session.view (length s.users) → old.disk.size < sectors_needed session s rows → new.disk.faults ≡ old.disk.faults
@@ -173,7 +173,7 @@ pub data SessionEnds (session : Session) (s : ImageSystem) (rows : Rows) (status
 
 -- THE HEADLINE, of a run with no failed call: the sectors are those of the machine that runs the image's words, and status and text are those of
 -- the abstract run of the image's own kernel, with each line at the turn where the machine met it
-pub record Headline (session : Session) (s : ImageSystem) (rows : Rows) (before : List (List ℕ)) (old new : Host) (status : Status) : Type 0 where
+pub record Headline (session : Session) (s : ImageSystem) (rows : Rows) (before : List (List ℕ)) (old new : Host) (status : ExitStatus) : Type 0 where
   pub after : List (List ℕ)
   pub text : List ℕ
   pub ending : Ending

@@ -6,13 +6,13 @@ use Rattle.boot_turns.specs.declared.answers.View.{View}
 use Rattle.boot_turns.specs.declared.answers.View.TheVariants as view
 use Rattle.cvm_shell.specs.CompileProgram.{CompileProgram, IsCompileProgram}
 use Rattle.cvm_shell.specs.declared.boot.Session.{Session}
-use Rattle.cvm_shell.specs.declared.boot.Start.{Start}
-use Rattle.cvm_shell.specs.declared.boot.Start.TheVariants.{Loaded, Rom}
+use Rattle.cvm_shell.specs.declared.boot.StartPoint.{StartPoint}
+use Rattle.cvm_shell.specs.declared.boot.StartPoint.TheVariants.{Loaded, Rom}
 use Rattle.cvm_shell.specs.Check.{Check, IsCheck}
 
 -- boot an image under a schedule from this start, for so many turns and at most so many steps
 pub record Boot : Type 0 where
-  pub start : Start
+  pub start : StartPoint
   pub image : List ℕ
   pub schedule : List ℕ
   pub turns : ℕ
@@ -73,7 +73,7 @@ abbrev pub texts : List (String Global) → List (List ℕ)
 texts words = map string_bytes words
 
 -- the word that names a start
-abbrev pub start_word : Start → List ℕ
+abbrev pub start_word : StartPoint → List ℕ
 start_word Loaded = codes "boot"
 start_word Rom = codes "rom"
 

@@ -224,7 +224,8 @@ linked_plan name (Err f) = refuses (unlinked f)
 -- AFTER THE PARTS of a system they are linked: users or parameters that don't fit are refused, whatever the source is
 pub data AfterParts (layer : Map → List ℕ → List ℕ) (name : List ℕ) (o : Object) (params : Params) (users : List (List ℕ)) : Plan → Type 0 where
   unfit : (f : LinkFault) → fitting params users ≡ Err f → AfterParts layer name o params users (refuses (unlinked f))
-  answered : (front : Result Unit SourceFault) → IsAnswer o.source front → AfterParts layer name o params users (linked_plan name (link_answer layer o params users front))
+  answered : (front : Result Unit SourceFault) → IsAnswer o.source front →
+      AfterParts layer name o params users (linked_plan name (link_answer layer o params users front))
 
 -- AFTER THE PARAMETERS the users' words are read
 abbrev pub AfterUsers : (layer : Map → List ℕ → List ℕ) → (name : List ℕ) → Object → Params → Result (List (List ℕ)) FileFault → Plan → Type 0
@@ -239,7 +240,8 @@ AfterParams layer name o users (Err f) p = p ≡ refuses (bad_file f)
 -- AFTER THE FILES of a system the object is read
 pub data AfterSystem (layer : Map → List ℕ → List ℕ) (name object params : List ℕ) (users : List (List ℕ)) : Plan → Type 0 where
   no_object : (f : ObjectFault) → IsObject object (Err f) → AfterSystem layer name object params users (refuses (bad_object f))
-  has_object : (o : Object) (p : Plan) → IsObject object (Ok o) → AfterParams layer name o users (params_of params) p → AfterSystem layer name object params users p
+  has_object : (o : Object) (p : Plan) → IsObject object (Ok o) → AfterParams layer name o users (params_of params) p →
+      AfterSystem layer name object params users p
 
 -- link OBJ PARAMS OUT USER.. gets the object, then the parameters, then the users
 abbrev pub LinkPlan : (layer : Map → List ℕ → List ℕ) → (List ℕ → Option (List ℕ)) → Link → Plan → Type 0

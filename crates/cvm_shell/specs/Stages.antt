@@ -29,7 +29,8 @@ use Rattle.layer_contract.specs.Boots.{BootFollows}
 use Rattle.boot_turns.specs.TurnEnds.{first_of}
 use Rattle.boot_turns.specs.declared.answers.View.TheVariants as view
 use Rattle.boot_run.specs.LoadEnds.{HasDiskRoom, LoadFails, pages_needed}
-use Rattle.boot_run.specs.Whole.{AnswerEnds, LoadStopped, WholeGoesOn, WholeStopped, IsDiskFault, ending_of_end}
+use Rattle.boot_run.specs.Whole.{AnswerEnds, LoadStopped, WholeGoesOn, WholeStopped, IsDiskFault}
+use Rattle.boot_run.specs.RunEnds.{ending_of_end}
 use Rattle.machine_save.specs.SavedBoots.{AreDisk, AreTakenUp}
 use Rattle.machine_save.specs.SaveRun.{SaveRunEnds, IfUnput, IsSavedDiskFault}
 use Rattle.machine_save.specs.declared.saving.SavedEnd.{SavedEnd}
@@ -50,8 +51,8 @@ use Rattle.cvm_shell.specs.declared.resuming.Resumable.{Resumable}
 use Rattle.cvm_shell.specs.declared.boot.Stop.{Stop}
 use Rattle.cvm_shell.specs.declared.boot.Stop.TheVariants as stop
 use Rattle.cvm_shell.specs.declared.refusal.Refusal.TheVariants as refusal
-use Rattle.cvm_shell.specs.declared.status.Status.{Status}
-use Rattle.cvm_shell.specs.declared.status.Status.TheVariants.{Done, Shelf, Sink, Memory}
+use Rattle.cvm_shell.specs.declared.exit_status.ExitStatus.{ExitStatus}
+use Rattle.cvm_shell.specs.declared.exit_status.ExitStatus.TheVariants.{Done, Shelf, Sink, Memory}
 use Rattle.std.specs.Global.{Vec}
 use Rattle.cvm_shell.specs.declared.boot.Session.{Session}
 use Rattle.cvm_shell.specs.CompileProgram.{CompileProgram}
@@ -60,9 +61,9 @@ use Rattle.cvm_shell.specs.Plan.{Plan, puts, boots, saves, most_bytes, wanted_by
 use Rattle.cvm_shell.specs.Check.{Check}
 use Rattle.boot_turns.specs.declared.answers.View.{View}
 use Rattle.cvm_shell.specs.Views.{IfPlan}
-use Rattle.cvm_shell.specs.Outside.{Drive, Files, Host, LeavesHost, counts}
+use Rattle.cvm_shell.specs.Host.{Drive, Files, Host, LeavesHost, counts}
 use Rattle.cvm_shell.specs.Boot.{booted, around, first_state, is_written, sectors_needed, ended_as, CallsOf, SessionGoesOn, SessionEnds}
-use Rattle.cvm_shell.specs.Outcome.{PlanEnds, CommandEnds}
+use Rattle.cvm_shell.specs.CommandEnds.{PlanEnds, CommandEnds}
 use Rattle.cvm_shell.specs.Saves.{SaveSessionEnds}
 
 -- what a fault of the shelf comes to
@@ -149,16 +150,17 @@ abbrev pub PlanCounts : {T : Type 0} → ℕ → ℕ → Result T Stop → Type 
 PlanCounts before now result = MatchResult result (λ _. now ≡ before) (StopCount before now)
 
 -- how a command ends, whatever the disk, which it leaves alone
-abbrev pub CommandEndsAs : {A : Type 0} → Command → (Drive → A → Host) → Status → (old new : A) → Type 0
+abbrev pub CommandEndsAs : {A : Type 0} → Command → (Drive → A → Host) → ExitStatus → (old new : A) → Type 0
 CommandEndsAs c see status old new = (words : List (List ℕ)) (disk : Drive) → IsCommand words c → CommandEnds words status (see disk old) (see disk new)
 
 -- how a boot or a trace ends, which may change the disk
-abbrev pub BootEndsAs : {A : Type 0} → Boot → View → (A → Host) → Status → (old new : A) → Type 0
+abbrev pub BootEndsAs : {A : Type 0} → Boot → View → (A → Host) → ExitStatus → (old new : A) → Type 0
 BootEndsAs b view see status old new = (words : List (List ℕ)) → IsCommand words (command_of b view) → CommandEnds words status (see old) (see new)
 
 -- how a sample ends, whatever the files, which it leaves alone
-abbrev pub SampleEndsAs : {A : Type 0} → (number : ℕ) → (Files → A → Host) → Status → (old new : A) → Type 0
-SampleEndsAs number see status old new = (words : List (List ℕ)) (shelf : Files) → IsSample words (record { number = number }) → CommandEnds words status (see shelf old) (see shelf new)
+abbrev pub SampleEndsAs : {A : Type 0} → (number : ℕ) → (Files → A → Host) → ExitStatus → (old new : A) → Type 0
+SampleEndsAs number see status old new = (words : List (List ℕ)) (shelf : Files) → IsSample words (record { number = number }) →
+    CommandEnds words status (see shelf old) (see shelf new)
 
 -- the sectors that a run of a session needs
 abbrev pub needs : Ready → Session → ℕ
@@ -191,7 +193,7 @@ abbrev pub AnswersAs : {A : Type 0} → Ready → Session → (Files → A → H
 AnswersAs r session see answer old new = (before after : Files) → CallAnswers r session answer (see before old) (see after new)
 
 -- how the run of a system ends, whatever the files, which it leaves alone
-abbrev pub RunsAs : {A : Type 0} → Ready → Session → (Files → A → Host) → Status → (old new : A) → Type 0
+abbrev pub RunsAs : {A : Type 0} → Ready → Session → (Files → A → Host) → ExitStatus → (old new : A) → Type 0
 RunsAs r session see status old new = (before after : Files) → ((n : List ℕ) → after.file n ≡ before.file n)
     → SessionEnds session (system_of r.boot) r.schedule status (see before old) (see after new)
 
@@ -217,10 +219,10 @@ HasNoRoom s stop.Shelf = ⊥
 HasNoRoom s stop.Memory = ⊤
 
 -- how a save and how a resume ends, which may change the file and the disk
-abbrev pub SaveEndsAs : {A : Type 0} → Save → (A → Host) → Status → (old new : A) → Type 0
+abbrev pub SaveEndsAs : {A : Type 0} → Save → (A → Host) → ExitStatus → (old new : A) → Type 0
 SaveEndsAs c see status old new = (words : List (List ℕ)) → IsCommand words (save c) → CommandEnds words status (see old) (see new)
 
-abbrev pub ResumeEndsAs : {A : Type 0} → Save → (A → Host) → Status → (old new : A) → Type 0
+abbrev pub ResumeEndsAs : {A : Type 0} → Save → (A → Host) → ExitStatus → (old new : A) → Type 0
 ResumeEndsAs c see status old new = (words : List (List ℕ)) → IsCommand words (resume c) → CommandEnds words status (see old) (see new)
 
 -- WHAT A CALL ANSWERS that runs a system which is to be saved, of what is seen around it
@@ -250,19 +252,19 @@ abbrev pub SaveIs : {A : Type 0} → Saveable → Save → (A → Host) → Resu
 SaveIs r c see answer old new = SaveCallAnswers r.ready c answer (see old) (see new)
 
 -- how the run of a system ends that is to be saved, from other files that tell the same
-abbrev pub SavesAs : {A : Type 0} → Saveable → Save → (A → Host) → Status → (old new : A) → Type 0
+abbrev pub SavesAs : {A : Type 0} → Saveable → Save → (A → Host) → ExitStatus → (old new : A) → Type 0
 SavesAs r c see status old new = (before : Files) → ((n : List ℕ) → (see old).shelf.file n ≡ before.file n)
     → SaveSessionEnds (save_session c) (system_of r.ready.boot) r.ready.schedule c.file status (with_files before (see old)) (see new)
 
 -- the status of a run that was to be saved, by its end
-abbrev pub status_of_saved : SavedEnd → Status
+abbrev pub status_of_saved : SavedEnd → ExitStatus
 status_of_saved saved_end.Saved = Done
 status_of_saved saved_end.ShelfFault = Shelf
 status_of_saved saved_end.RowFault = Sink
 status_of_saved (saved_end.Ended e) = ended_as (ending_of_end e)
 
 -- how a resume ends, whatever the files, which it leaves alone: as its plan says, or there was no memory
-abbrev pub ResumesAs : {A : Type 0} → Resumable → Save → (Files → A → Host) → Status → (old new : A) → Type 0
+abbrev pub ResumesAs : {A : Type 0} → Resumable → Save → (Files → A → Host) → ExitStatus → (old new : A) → Type 0
 ResumesAs r c see status old new = (before after : Files) → ((n : List ℕ) → after.file n ≡ before.file n)
     → ((status ≡ Memory) × LeavesHost (see before old) (see after new) []) ⊎ PlanEnds (resumable_for c r) status (see before old) (see after new)
 
@@ -321,5 +323,6 @@ IsProgramPlan file c p = IsPlan (GetsTold file (compile_program c)) (ProgramPlan
 
 -- a law of every system: with whatever units its run comes to a state, that state is one; and the replay of a user's journal is its machine there
 abbrev pub JournalsReplay : Type 0
-JournalsReplay = (s : ImageSystem) (rows : Rows) (lines : ℕ → ℕ) (n k u : ℕ) (c d : Cvm) → 1 ≤ u → u ≤ length s.users → cvm (booted s rows) lines n k ≡ Some c → IsCvm (booted s rows) lines k d
+JournalsReplay = (s : ImageSystem) (rows : Rows) (lines : ℕ → ℕ) (n k u : ℕ) (c d : Cvm) → 1 ≤ u → u ≤ length s.users →
+    cvm (booted s rows) lines n k ≡ Some c → IsCvm (booted s rows) lines k d
     → (c ≡ d) × (replay (first_of (booted s rows) u) (journal (booted s rows) lines n u k) ≡ Some (user_of c.core.users u))

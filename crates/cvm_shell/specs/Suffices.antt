@@ -11,10 +11,10 @@ use Rattle.cvm_model.specs.declared.kernel_fault.KernelFault.TheVariants.{StackO
 use Rattle.cvm_model.specs.Cvm.{Faulted}
 use Rattle.cvm_model.specs.Text.{fault_name}
 use Rattle.kernel_linker.specs.Accept.{ImageSystem}
-use Rattle.cvm_shell.specs.declared.status.Status.{Status}
+use Rattle.cvm_shell.specs.declared.exit_status.ExitStatus.{ExitStatus}
 use Rattle.cvm_shell.specs.declared.boot.Session.{Session}
 use Rattle.cvm_shell.specs.Check.{Check, IsCheck}
-use Rattle.cvm_shell.specs.Outside.{Host}
+use Rattle.cvm_shell.specs.Host.{Host}
 use Rattle.cvm_shell.specs.Plan.{Accepts}
 use Rattle.cvm_shell.specs.Boot.{booted, Headline}
 
@@ -47,8 +47,9 @@ NeverOut s = (rows : Rows) → RunsNeverOut (booted s rows)
 
 -- THE STACK IS ENOUGH where a check said `yes`, with whatever status: for each accepted system of that source with as much, whatever its users and other
 -- parameters are
-abbrev pub Suffices : {A : Type 0} → (A → Host) → List (List ℕ) → Status → (old new : A) → Type 0
-Suffices see words status old new = (source : List ℕ) (stack : ℕ) (s : ImageSystem) → SaysYes words source stack (see old) (see new) → HasStack source stack s → NeverOut s
+abbrev pub Suffices : {A : Type 0} → (A → Host) → List (List ℕ) → ExitStatus → (old new : A) → Type 0
+Suffices see words status old new = (source : List ℕ) (stack : ℕ) (s : ImageSystem) → SaysYes words source stack (see old) (see new) →
+    HasStack source stack s → NeverOut s
 
 -- what was printed in a call ends with this row
 pub record EndsWith (row : List ℕ) (old new : Host) : Type 0 where
@@ -63,13 +64,13 @@ fault_row f = codes "fault " ++ fault_name f ++ 10 ∷ []
 
 -- a run of a headline meets no want of stack: the abstract run that it goes by has no such fault where it ends, so with the status of a kernel's fault it is
 -- another one; and what is printed doesn't end with the row `fault StackOut`, behind which nothing would be printed
-pub record MeetsNoStackOut (session : Session) (s : ImageSystem) (rows : Rows) (sectors : List (List ℕ)) (before after : Host) (ended : Status)
+pub record MeetsNoStackOut (session : Session) (s : ImageSystem) (rows : Rows) (sectors : List (List ℕ)) (before after : Host) (ended : ExitStatus)
     (h : Headline session s rows sectors before after ended) : Type 0 where
   pub meant : h.ran.past.status ≢ Faulted StackOut
   pub printed : EndsWith (fault_row StackOut) before after → ⊥
 
 -- A LAW: where a check said `yes`, no run of such a system by a boot, a rom, a trace or a sample meets it, as long as no call fails
 abbrev pub StackOutIsNotPrinted : Type 0
-StackOutIsNotPrinted = (words : List (List ℕ)) (status ended : Status) (old new before after : Host) (source : List ℕ) (stack : ℕ) (session : Session) (s : ImageSystem) (rows : Rows) (sectors : List (List ℕ))
+StackOutIsNotPrinted = (words : List (List ℕ)) (status ended : ExitStatus) (old new before after : Host) (source : List ℕ) (stack : ℕ) (session : Session) (s : ImageSystem) (rows : Rows) (sectors : List (List ℕ))
     → Suffices (λ o. o) words status old new → SaysYes words source stack old new → HasStack source stack s
     → (h : Headline session s rows sectors before after ended) → MeetsNoStackOut session s rows sectors before after ended h

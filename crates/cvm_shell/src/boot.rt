@@ -3,19 +3,19 @@ ghost use Rattle.std.specs.Prelude.{◌≡◌, ◌≢◌, ◌↔◌, ◌≤◌, 
 ghost use Rattle.cvm_outside.specs.Causes.{Rose};
 ghost use Rattle.cvm_outside.specs.Told.{TOO_LONG};
 ghost use Rattle.real_layer.specs.Image.{layer_image};
-ghost use Rattle.boot_run.specs.Whole.{ending_of_end};
+ghost use Rattle.boot_run.specs.RunEnds.{ending_of_end};
 ghost use Rattle.cvm_shell.specs.Boot.{ended_as};
-ghost use Rattle.cvm_shell.specs.Outside.{within};
+ghost use Rattle.cvm_shell.specs.Host.{within};
 ghost use Rattle.cvm_shell.specs.Plan.{AfterFiles, IsPlan};
 ghost use Rattle.cvm_shell.specs.Stages.{stop_of, accept_stop, schedule_stop, PlanCounts, ready_for, IsBootPlan, SystemFollows, RunsAs};
 ghost use Rattle.cvm_shell.specs.Views.{boot_view, IfPlan};
 
 use crate::accepted::accept_image;
 use crate::command::Boot;
+use crate::exit_status::ExitStatus;
 use crate::refusal::Refusal;
 use crate::saying::refuse;
 use crate::starting::load_and_run;
-use crate::status::Status;
 use boot_run::{LoadFault, RunEnd, View};
 use c0_types::laws::sources_have_one_answer;
 use cvm_outside::{Sectors, Shelf, ShelfFault, Sink};
@@ -83,7 +83,7 @@ pub struct Ready {
 
 /// Where the run of a system starts.
 #[derive(Clone, Copy, Debug, PartialEq, Eq)]
-pub enum Start {
+pub enum StartPoint {
     /// At the loaded machine, whose memory holds the linked words.
     Loaded,
     /// At the machine with a boot ROM, which brings the linked words from the disk.
@@ -94,7 +94,7 @@ pub enum Start {
 #[derive(Clone, Copy, Debug, PartialEq, Eq)]
 pub struct Session {
     /// Where it starts.
-    pub start: Start,
+    pub start: StartPoint,
     /// What is printed: the rows and the report of a boot, or the trace of one user.
     pub view: View,
     /// How many turns are wanted, at least 1.
@@ -142,20 +142,20 @@ pub fn run_system<O: Sink, D: Sectors>(
     session: Session,
     out: &mut O,
     disk: &mut D,
-) -> Status
+) -> ExitStatus
     requires follows { SystemFollows ready }
     requires some { 1 ≤ session.turns }
     ensures ends { RunsAs ready session (within O.Sink D.Sectors) result (out.old, disk.old) (out.new, disk.new) }
-    ensures rose { result ≡ Status.Sink → Rose (O.faults out.old) (O.faults out.new) }
-    ensures same { result ≢ Status.Sink → O.faults out.new ≡ O.faults out.old }
-    ensures disk_same { result ≢ Status.Disk → D.faults disk.new ≡ D.faults disk.old }
-    ensures never { (result ≢ Status.Words) × (result ≢ Status.Shelf) }
+    ensures rose { result ≡ ExitStatus.Sink → Rose (O.faults out.old) (O.faults out.new) }
+    ensures same { result ≢ ExitStatus.Sink → O.faults out.new ≡ O.faults out.old }
+    ensures disk_same { result ≢ ExitStatus.Disk → D.faults disk.new ≡ D.faults disk.old }
+    ensures never { (result ≢ ExitStatus.Words) × (result ≢ ExitStatus.Shelf) }
 {
     match load_and_run(alloc, ready, session, out, disk) {
         Ok(end) => status_of(end),
         Err(LoadFault::SmallDisk { need, have }) => refuse(&Refusal::SmallDisk { need, have }, out),
-        Err(LoadFault::Disk) => Status::Disk,
-        Err(LoadFault::Memory) => Status::Memory,
+        Err(LoadFault::Disk) => ExitStatus::Disk,
+        Err(LoadFault::Memory) => ExitStatus::Memory,
         Err(LoadFault::NoSuchUser { user, users }) => {
             refuse(&Refusal::NoSuchUser { user, users }, out)
         }
@@ -163,14 +163,14 @@ pub fn run_system<O: Sink, D: Sectors>(
 }
 
 // The status of a run by its end.
-pub(crate) fn status_of(end: RunEnd) -> Status
+pub(crate) fn status_of(end: RunEnd) -> ExitStatus
     ensures { result ≡ ended_as (ending_of_end end) }
 {
     match end {
-        RunEnd::Done => Status::Done,
-        RunEnd::KernelFaulted => Status::KernelFault,
-        RunEnd::OutOfSteps => Status::StepLimit,
-        RunEnd::DiskFault => Status::Disk,
-        RunEnd::SinkFault => Status::Sink,
+        RunEnd::Done => ExitStatus::Done,
+        RunEnd::KernelFaulted => ExitStatus::KernelFault,
+        RunEnd::OutOfSteps => ExitStatus::StepLimit,
+        RunEnd::DiskFault => ExitStatus::Disk,
+        RunEnd::SinkFault => ExitStatus::Sink,
     }
 }

@@ -5,17 +5,17 @@ ghost use Rattle.cvm_outside.specs.Told.{TOO_LONG};
 ghost use Rattle.cvm_shell.specs.Check as checking;
 ghost use Rattle.cvm_shell.specs.Check.{IsCheck, TellsUnit};
 ghost use Rattle.cvm_shell.specs.Command as command;
-ghost use Rattle.cvm_shell.specs.Outcome.{Causes};
-ghost use Rattle.cvm_shell.specs.Outside.{Drive, beside};
+ghost use Rattle.cvm_shell.specs.CommandEnds.{Causes};
+ghost use Rattle.cvm_shell.specs.Host.{Drive, beside};
 ghost use Rattle.cvm_shell.specs.Plan.{AfterChecked, IsPlan};
 ghost use Rattle.cvm_shell.specs.Stages.{CommandEndsAs, PlanCounts, told_text, IsCheckPlan};
 ghost use Rattle.cvm_shell.specs.Views.{check_view, IfPlan, IsStackNumber};
 
 use crate::boot::Stop;
 use crate::command::read_number;
+use crate::exit_status::ExitStatus;
 use crate::refusal::Refusal;
 use crate::saying::{refuse, say};
-use crate::status::Status;
 use bound_check::{answer_text, answers_are_one, bound};
 use c0_meaning::Checked;
 use c0_types::laws::sources_have_one_answer;
@@ -81,15 +81,15 @@ pub fn check_object<S: Shelf, O: Sink>(
     check: &Check,
     shelf: &mut S,
     out: &mut O,
-) -> Status
+) -> ExitStatus
     ensures ends { CommandEndsAs (command.check (check_view check.now)) (beside S.Shelf O.Sink) result (shelf.old, out.old) (shelf.new, out.new) }
     ensures causes { (disk : Drive) → Causes (beside S.Shelf O.Sink disk) result (shelf.old, out.old) (shelf.new, out.new) }
 {
     match stack_text(alloc, check, shelf) {
-        Ok(text) => say(out, &text, Status::Done),
+        Ok(text) => say(out, &text, ExitStatus::Done),
         Err(Stop::Refused(refusal)) => refuse(&refusal, out),
-        Err(Stop::Shelf) => Status::Shelf,
-        Err(Stop::Memory) => Status::Memory,
+        Err(Stop::Shelf) => ExitStatus::Shelf,
+        Err(Stop::Memory) => ExitStatus::Memory,
     }
 }
 

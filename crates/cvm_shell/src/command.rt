@@ -3,7 +3,7 @@ ghost use Rattle.std.specs.Prelude.{◌≡◌, ◌<◌, ◌≤◌, ◌^◌, ℕ,
 ghost use Rattle.cvm_shell.specs.Command as command;
 ghost use Rattle.cvm_shell.specs.Views.{boot_view, trace_view, user_view, kernel_view, link_view, migrate_view, sample_view, command_view, IsUserNumber};
 
-use crate::boot::Start;
+use crate::boot::StartPoint;
 use crate::check::{Check, read_check};
 use crate::program::{CompileProgram, read_compile_program};
 use crate::saving_words::{Save, read_resume, read_save};
@@ -19,7 +19,7 @@ const MOST_USERS: u64 = 64;
 #[derive(Clone, Copy, Drop)]
 pub struct Boot<'a> {
     /// Where it starts, by the first word.
-    pub start: Start,
+    pub start: StartPoint,
     /// The name of the image's file.
     pub image: &'a str,
     /// The name of the schedule's file.
@@ -191,7 +191,7 @@ pub fn read_trace(words: &Vec<String>) -> Option<Trace<'_>>
     let user = read_user(user.as_str())?;
     Some(Trace {
         boot: Boot {
-            start: Start::Loaded,
+            start: StartPoint::Loaded,
             image: image.as_str(),
             schedule: schedule.as_str(),
             turns,
@@ -298,14 +298,14 @@ pub fn read_sample(words: &Vec<String>) -> Option<Sample>
 }
 
 // The start that a word names.
-fn read_start(text: &str) -> Option<Start>
-    ensures { MatchOption result ((s : Start) → text.now ≡ command.start_word s → ⊥) (λ s. text.now ≡ command.start_word s) }
+fn read_start(text: &str) -> Option<StartPoint>
+    ensures { MatchOption result ((s : StartPoint) → text.now ≡ command.start_word s → ⊥) (λ s. text.now ≡ command.start_word s) }
 {
     if text == "boot" {
-        return Some(Start::Loaded);
+        return Some(StartPoint::Loaded);
     }
     if text == "rom" {
-        return Some(Start::Rom);
+        return Some(StartPoint::Rom);
     }
     None
 }

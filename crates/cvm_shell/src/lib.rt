@@ -4,8 +4,8 @@
 ghost use Rattle.std.specs.Prelude.{◌≤◌};
 ghost use Rattle.cvm_shell.specs.Command as command;
 ghost use Rattle.cvm_shell.specs.Command.{texts};
-ghost use Rattle.cvm_shell.specs.Outcome.{RunOutcome, Caused, Causes, Headlines, RunCompletes, SavesComplete, ResumesComplete, Isolates};
-ghost use Rattle.cvm_shell.specs.Outside.{Drive, Files, seen, beside, within};
+ghost use Rattle.cvm_shell.specs.CommandEnds.{RunOutcome, Caused, Causes, Headlines, RunCompletes, SavesComplete, ResumesComplete, Isolates};
+ghost use Rattle.cvm_shell.specs.Host.{Drive, Files, seen, beside, within};
 ghost use Rattle.cvm_shell.specs.Resumes.{Resumes};
 ghost use Rattle.cvm_shell.specs.Saves.{Saves};
 ghost use Rattle.cvm_shell.specs.Suffices.{Suffices};
@@ -17,6 +17,7 @@ pub mod assembly;
 pub mod boot;
 pub mod check;
 pub mod command;
+pub mod exit_status;
 pub mod laws;
 pub mod linking;
 pub mod migration;
@@ -29,10 +30,9 @@ pub mod saving;
 pub mod saving_words;
 pub mod saying;
 mod starting;
-pub mod status;
 
 pub use assembly::{user_image, words_have_four_bytes};
-pub use boot::{Ready, Session, Start, Stop, plan, run_system};
+pub use boot::{Ready, Session, StartPoint, Stop, plan, run_system};
 use boot_run::View;
 use bound_check::longest_chains_are_kept;
 use c0_types::laws::sources_have_one_answer;
@@ -44,6 +44,7 @@ pub use command::{
 };
 use cvm_model::{units_are_kernels, units_dont_matter, units_replay, users_are_isolated};
 use cvm_outside::{Sectors, Shelf, Sink};
+pub use exit_status::ExitStatus;
 use kernel_linker::laws::opened_units_are_their_sources;
 pub use linking::system_image;
 pub use migration::migrated_image;
@@ -59,7 +60,6 @@ pub use sampling::sampled;
 pub use saving::{Saveable, plan_save, run_save};
 pub use saving_words::{Save, read_resume, read_save};
 use saying::{refuse, say};
-pub use status::Status;
 use std::alloc::Global;
 
 /// Runs the command of these words over a shelf of files, a sink of text and a disk.
@@ -92,7 +92,7 @@ pub fn run<S: Shelf, O: Sink, D: Sectors>(
     shelf: &mut S,
     out: &mut O,
     disk: &mut D,
-) -> Status
+) -> ExitStatus
     ensures ends { RunOutcome (seen S.Shelf O.Sink D.Sectors) (texts words.now.items) result (shelf.old, out.old, disk.old) (shelf.new, out.new, disk.new) }
     ensures causes { Caused (seen S.Shelf O.Sink D.Sectors) (texts words.now.items) result (shelf.old, out.old, disk.old) (shelf.new, out.new, disk.new) }
     ensures headline { Headlines (seen S.Shelf O.Sink D.Sectors) (texts words.now.items) result (shelf.old, out.old, disk.old) (shelf.new, out.new, disk.new) }
@@ -133,12 +133,12 @@ fn run_command<S: Shelf, O: Sink, D: Sectors>(
     shelf: &mut S,
     out: &mut O,
     disk: &mut D,
-) -> Status
+) -> ExitStatus
     ensures ends { RunOutcome (seen S.Shelf O.Sink D.Sectors) (texts words.now.items) result (shelf.old, out.old, disk.old) (shelf.new, out.new, disk.new) }
     ensures causes { Causes (seen S.Shelf O.Sink D.Sectors) result (shelf.old, out.old, disk.old) (shelf.new, out.new, disk.new) }
 {
     match read_command(words) {
-        None => say(out, b"bad words\n", Status::Words),
+        None => say(out, b"bad words\n", ExitStatus::Words),
         Some(Command::Boot(boot)) => run_boot(alloc, &boot, View::Boot, shelf, out, disk),
         Some(Command::Trace(trace)) => {
             let view = View::Trace(trace.user);
@@ -164,7 +164,7 @@ fn run_boot<S: Shelf, O: Sink, D: Sectors>(
     shelf: &mut S,
     out: &mut O,
     disk: &mut D,
-) -> Status
+) -> ExitStatus
     requires { 1 ≤ (boot_view boot.now).turns }
     ensures ends { BootEndsAs (boot_view boot.now) view (seen S.Shelf O.Sink D.Sectors) result (shelf.old, out.old, disk.old) (shelf.new, out.new, disk.new) }
     ensures causes { Causes (seen S.Shelf O.Sink D.Sectors) result (shelf.old, out.old, disk.old) (shelf.new, out.new, disk.new) }
@@ -178,8 +178,8 @@ fn run_boot<S: Shelf, O: Sink, D: Sectors>(
     match plan(alloc, boot, shelf) {
         Ok(ready) => run_system(alloc, ready, session, out, disk),
         Err(Stop::Refused(refusal)) => refuse(&refusal, out),
-        Err(Stop::Shelf) => Status::Shelf,
-        Err(Stop::Memory) => Status::Memory,
+        Err(Stop::Shelf) => ExitStatus::Shelf,
+        Err(Stop::Memory) => ExitStatus::Memory,
     }
 }
 
@@ -189,19 +189,19 @@ fn compile_user<S: Shelf, O: Sink>(
     names: &CompileUser,
     shelf: &mut S,
     out: &mut O,
-) -> Status
+) -> ExitStatus
     ensures ends { CommandEndsAs (command.compile_user (user_view names.now)) (beside S.Shelf O.Sink) result (shelf.old, out.old) (shelf.new, out.new) }
     ensures causes { (disk : Drive) → Causes (beside S.Shelf O.Sink disk) result (shelf.old, out.old) (shelf.new, out.new) }
 {
     let image = match user_image(alloc, names, shelf) {
         Ok(image) => image,
         Err(Stop::Refused(refusal)) => return refuse(&refusal, out),
-        Err(Stop::Shelf) => return Status::Shelf,
-        Err(Stop::Memory) => return Status::Memory,
+        Err(Stop::Shelf) => return ExitStatus::Shelf,
+        Err(Stop::Memory) => return ExitStatus::Memory,
     };
     match shelf.put(names.image, &image) {
-        Ok(()) => Status::Done,
-        Err(_) => Status::Shelf,
+        Ok(()) => ExitStatus::Done,
+        Err(_) => ExitStatus::Shelf,
     }
 }
 
@@ -211,36 +211,41 @@ fn compile_kernel<S: Shelf, O: Sink>(
     names: &CompileKernel,
     shelf: &mut S,
     out: &mut O,
-) -> Status
+) -> ExitStatus
     ensures ends { CommandEndsAs (command.compile_kernel (kernel_view names.now)) (beside S.Shelf O.Sink) result (shelf.old, out.old) (shelf.new, out.new) }
     ensures causes { (disk : Drive) → Causes (beside S.Shelf O.Sink disk) result (shelf.old, out.old) (shelf.new, out.new) }
 {
     let object = match kernel_object(alloc, names, shelf) {
         Ok(object) => object,
         Err(Stop::Refused(refusal)) => return refuse(&refusal, out),
-        Err(Stop::Shelf) => return Status::Shelf,
-        Err(Stop::Memory) => return Status::Memory,
+        Err(Stop::Shelf) => return ExitStatus::Shelf,
+        Err(Stop::Memory) => return ExitStatus::Memory,
     };
     match shelf.put(names.object, &object) {
-        Ok(()) => Status::Done,
-        Err(_) => Status::Shelf,
+        Ok(()) => ExitStatus::Done,
+        Err(_) => ExitStatus::Shelf,
     }
 }
 
 // Puts the image of a system, whose object, parameters and users are got, read and linked.
-fn link_system<S: Shelf, O: Sink>(alloc: Global, names: &Link, shelf: &mut S, out: &mut O) -> Status
+fn link_system<S: Shelf, O: Sink>(
+    alloc: Global,
+    names: &Link,
+    shelf: &mut S,
+    out: &mut O,
+) -> ExitStatus
     ensures ends { CommandEndsAs (command.link (link_view names.now)) (beside S.Shelf O.Sink) result (shelf.old, out.old) (shelf.new, out.new) }
     ensures causes { (disk : Drive) → Causes (beside S.Shelf O.Sink disk) result (shelf.old, out.old) (shelf.new, out.new) }
 {
     let linked = match system_image::<RealLayer, S>(alloc, names, shelf) {
         Ok(linked) => linked,
         Err(Stop::Refused(refusal)) => return refuse(&refusal, out),
-        Err(Stop::Shelf) => return Status::Shelf,
-        Err(Stop::Memory) => return Status::Memory,
+        Err(Stop::Shelf) => return ExitStatus::Shelf,
+        Err(Stop::Memory) => return ExitStatus::Memory,
     };
     match shelf.put(names.image, &linked) {
-        Ok(()) => Status::Done,
-        Err(_) => Status::Shelf,
+        Ok(()) => ExitStatus::Done,
+        Err(_) => ExitStatus::Shelf,
     }
 }
 
@@ -250,29 +255,34 @@ fn migrate_image<S: Shelf, O: Sink>(
     names: &Migrate,
     shelf: &mut S,
     out: &mut O,
-) -> Status
+) -> ExitStatus
     ensures ends { CommandEndsAs (command.migrate (migrate_view names.now)) (beside S.Shelf O.Sink) result (shelf.old, out.old) (shelf.new, out.new) }
     ensures causes { (disk : Drive) → Causes (beside S.Shelf O.Sink disk) result (shelf.old, out.old) (shelf.new, out.new) }
 {
     let made = match migrated_image::<RealLayer, S>(alloc, names, shelf) {
         Ok(made) => made,
         Err(Stop::Refused(refusal)) => return refuse(&refusal, out),
-        Err(Stop::Shelf) => return Status::Shelf,
-        Err(Stop::Memory) => return Status::Memory,
+        Err(Stop::Shelf) => return ExitStatus::Shelf,
+        Err(Stop::Memory) => return ExitStatus::Memory,
     };
     match shelf.put(names.image, &made) {
-        Ok(()) => Status::Done,
-        Err(_) => Status::Shelf,
+        Ok(()) => ExitStatus::Done,
+        Err(_) => ExitStatus::Shelf,
     }
 }
 
 // Makes, links and boots the sample of a number.
-fn run_sample<O: Sink, D: Sectors>(alloc: Global, number: u32, out: &mut O, disk: &mut D) -> Status
+fn run_sample<O: Sink, D: Sectors>(
+    alloc: Global,
+    number: u32,
+    out: &mut O,
+    disk: &mut D,
+) -> ExitStatus
     ensures ends { SampleEndsAs number (within O.Sink D.Sectors) result (out.old, disk.old) (out.new, disk.new) }
     ensures causes { (shelf : Files) → Causes (within O.Sink D.Sectors shelf) result (out.old, disk.old) (out.new, disk.new) }
 {
     let session = Session {
-        start: Start::Loaded,
+        start: StartPoint::Loaded,
         view: View::Boot,
         turns: 100_000,
         steps: 4_000_000_000,
@@ -280,7 +290,7 @@ fn run_sample<O: Sink, D: Sectors>(alloc: Global, number: u32, out: &mut O, disk
     match sampled(alloc, number) {
         Ok(ready) => run_system(alloc, ready, session, out, disk),
         Err(Stop::Refused(refusal)) => refuse(&refusal, out),
-        Err(Stop::Shelf) => Status::Shelf,
-        Err(Stop::Memory) => Status::Memory,
+        Err(Stop::Shelf) => ExitStatus::Shelf,
+        Err(Stop::Memory) => ExitStatus::Memory,
     }
 }

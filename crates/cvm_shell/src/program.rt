@@ -3,17 +3,17 @@ ghost use Rattle.std.specs.Prelude.{◌≡◌, ◌≢◌, ◌↔◌, ⊤, ℕ, L
 ghost use Rattle.cvm_outside.specs.Told.{TOO_LONG};
 ghost use Rattle.cvm_shell.specs.Command as command;
 ghost use Rattle.cvm_shell.specs.CompileProgram as compiling;
-ghost use Rattle.cvm_shell.specs.Outcome.{Causes};
-ghost use Rattle.cvm_shell.specs.Outside.{Drive, beside};
+ghost use Rattle.cvm_shell.specs.CommandEnds.{Causes};
+ghost use Rattle.cvm_shell.specs.Host.{Drive, beside};
 ghost use Rattle.cvm_shell.specs.Plan.{AfterProgram, IsPlan};
 ghost use Rattle.cvm_shell.specs.Stages.{program_stop, CommandEndsAs, PlanCounts, runnable, IsProgramPlan};
 ghost use Rattle.cvm_shell.specs.Views.{program_view, IfPlan};
 
 use crate::assembly::little_endian;
 use crate::boot::Stop;
+use crate::exit_status::ExitStatus;
 use crate::refusal::Refusal;
 use crate::saying::refuse;
-use crate::status::Status;
 use c0_meaning::laws::least_fault_is_there;
 use c0_types::read_program;
 use cvm_outside::{Shelf, Sink};
@@ -98,18 +98,18 @@ pub fn compile_program<S: Shelf, O: Sink>(
     names: &CompileProgram,
     shelf: &mut S,
     out: &mut O,
-) -> Status
+) -> ExitStatus
     ensures ends { CommandEndsAs (command.compile_program (program_view names.now)) (beside S.Shelf O.Sink) result (shelf.old, out.old) (shelf.new, out.new) }
     ensures causes { (disk : Drive) → Causes (beside S.Shelf O.Sink disk) result (shelf.old, out.old) (shelf.new, out.new) }
 {
     let image = match program_image(alloc, names, shelf) {
         Ok(image) => image,
         Err(Stop::Refused(refusal)) => return refuse(&refusal, out),
-        Err(Stop::Shelf) => return Status::Shelf,
-        Err(Stop::Memory) => return Status::Memory,
+        Err(Stop::Shelf) => return ExitStatus::Shelf,
+        Err(Stop::Memory) => return ExitStatus::Memory,
     };
     match shelf.put(names.image, &image) {
-        Ok(()) => Status::Done,
-        Err(_) => Status::Shelf,
+        Ok(()) => ExitStatus::Done,
+        Err(_) => ExitStatus::Shelf,
     }
 }

@@ -4,17 +4,17 @@ ghost use Rattle.std.specs.Io.KnownBytes.{append_known};
 ghost use Rattle.cvm_outside.specs.Causes.{Rose};
 ghost use Rattle.cvm_outside.specs.Told.{AppendsPart, TOO_LONG};
 ghost use Rattle.real_layer.specs.Image.{layer_image};
-ghost use Rattle.cvm_shell.specs.Outcome.{Causes};
-ghost use Rattle.cvm_shell.specs.Outside.{seen, within};
+ghost use Rattle.cvm_shell.specs.CommandEnds.{Causes};
+ghost use Rattle.cvm_shell.specs.Host.{seen, within};
 ghost use Rattle.cvm_shell.specs.Refusal.{bad_save, refusal_text};
 ghost use Rattle.cvm_shell.specs.Stages.{resumable_for, SystemFollows, IsResumePlan, PlanCounts, ResumeEndsAs, ResumesAs};
 ghost use Rattle.cvm_shell.specs.Views.{save_view, IfPlan};
 
 use crate::boot::{Ready, Stop, ready_of, status_of};
+use crate::exit_status::ExitStatus;
 use crate::refusal::Refusal;
 use crate::saving_words::Save;
 use crate::saying::refuse;
-use crate::status::Status;
 use cvm_outside::{Sectors, Shelf, Sink};
 use machine_save::{ResumeFault, SaveFault, resume_run};
 use std::alloc::Global;
@@ -50,15 +50,15 @@ pub fn run_resume<S: Shelf, O: Sink, D: Sectors>(
     shelf: &mut S,
     out: &mut O,
     disk: &mut D,
-) -> Status
+) -> ExitStatus
     ensures ends { ResumeEndsAs (save_view resume.now) (seen S.Shelf O.Sink D.Sectors) result (shelf.old, out.old, disk.old) (shelf.new, out.new, disk.new) }
     ensures causes { Causes (seen S.Shelf O.Sink D.Sectors) result (shelf.old, out.old, disk.old) (shelf.new, out.new, disk.new) }
 {
     match plan_resume(alloc, resume, shelf) {
         Ok(resumable) => resume_system(alloc, resumable, resume, out, disk),
         Err(Stop::Refused(refusal)) => refuse(&refusal, out),
-        Err(Stop::Shelf) => Status::Shelf,
-        Err(Stop::Memory) => Status::Memory,
+        Err(Stop::Shelf) => ExitStatus::Shelf,
+        Err(Stop::Memory) => ExitStatus::Memory,
     }
 }
 
@@ -69,13 +69,13 @@ fn resume_system<O: Sink, D: Sectors>(
     resume: &Save,
     out: &mut O,
     disk: &mut D,
-) -> Status
+) -> ExitStatus
     requires follows { SystemFollows resumable.ready }
     ensures ends { ResumesAs resumable (save_view resume.now) (within O.Sink D.Sectors) result (out.old, disk.old) (out.new, disk.new) }
-    ensures rose { result ≡ Status.Sink → Rose (O.faults out.old) (O.faults out.new) }
-    ensures same { result ≢ Status.Sink → O.faults out.new ≡ O.faults out.old }
-    ensures disk_same { result ≢ Status.Disk → D.faults disk.new ≡ D.faults disk.old }
-    ensures never { (result ≢ Status.Words) × (result ≢ Status.Shelf) }
+    ensures rose { result ≡ ExitStatus.Sink → Rose (O.faults out.old) (O.faults out.new) }
+    ensures same { result ≢ ExitStatus.Sink → O.faults out.new ≡ O.faults out.old }
+    ensures disk_same { result ≢ ExitStatus.Disk → D.faults disk.new ≡ D.faults disk.old }
+    ensures never { (result ≢ ExitStatus.Words) × (result ≢ ExitStatus.Shelf) }
 {
     match resume_run(
         alloc,
@@ -97,15 +97,16 @@ fn resume_system<O: Sink, D: Sectors>(
 }
 
 // Prints the row of a fault of a saved machine's file. Want of memory is none.
-fn refuse_file<O: Sink>(fault: SaveFault, out: &mut O) -> Status
-    ensures cases { ((result ≡ Status.Memory) × (out.new ≡ out.old)) ⊎ ((fault ≢ SaveFault.Memory) × ((result ≡ Status.Refused) ⊎ (result ≡ Status.Sink))) }
-    ensures whole { result ≡ Status.Refused → O.text out.new ≡ append_known (O.text out.old) (refusal_text (bad_save fault)) }
-    ensures part { result ≡ Status.Sink → AppendsPart (O.text out.old) (O.text out.new) (refusal_text (bad_save fault)) }
-    ensures rose { result ≡ Status.Sink → Rose (O.faults out.old) (O.faults out.new) }
-    ensures same { result ≢ Status.Sink → O.faults out.new ≡ O.faults out.old }
+fn refuse_file<O: Sink>(fault: SaveFault, out: &mut O) -> ExitStatus
+    ensures cases { ((result ≡ ExitStatus.Memory) × (out.new ≡ out.old))
+        ⊎ ((fault ≢ SaveFault.Memory) × ((result ≡ ExitStatus.Refused) ⊎ (result ≡ ExitStatus.Sink))) }
+    ensures whole { result ≡ ExitStatus.Refused → O.text out.new ≡ append_known (O.text out.old) (refusal_text (bad_save fault)) }
+    ensures part { result ≡ ExitStatus.Sink → AppendsPart (O.text out.old) (O.text out.new) (refusal_text (bad_save fault)) }
+    ensures rose { result ≡ ExitStatus.Sink → Rose (O.faults out.old) (O.faults out.new) }
+    ensures same { result ≢ ExitStatus.Sink → O.faults out.new ≡ O.faults out.old }
 {
     if let SaveFault::Memory = fault {
-        return Status::Memory;
+        return ExitStatus::Memory;
     }
     refuse(&Refusal::BadSave(fault), out)
 }

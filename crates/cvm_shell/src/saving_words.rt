@@ -3,7 +3,7 @@ ghost use Rattle.std.specs.Prelude.{◌≡◌, IfSome, IfNone, Some, option_map}
 ghost use Rattle.cvm_shell.specs.Command as command;
 ghost use Rattle.cvm_shell.specs.Views.{save_view};
 
-use crate::boot::Start;
+use crate::boot::StartPoint;
 use crate::command::{Boot, read_number, read_turns};
 
 /// The command `save IMAGE SCHEDULE TURNS STEPS FILE`, or `resume IMAGE SCHEDULE TURNS STEPS FILE`.
@@ -49,7 +49,7 @@ fn read_by<'a>(words: &'a Vec<String>, first: &str) -> Option<Save<'a>>
     let steps = read_number(steps.as_str())?;
     Some(Save {
         boot: Boot {
-            start: Start::Loaded,
+            start: StartPoint::Loaded,
             image: image.as_str(),
             schedule: schedule.as_str(),
             turns,

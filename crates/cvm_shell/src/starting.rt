@@ -3,12 +3,13 @@ ghost use Rattle.std.specs.Prelude.{◌≡◌, ◌≢◌, ◌≤◌, ◌+◌, �
 ghost use Rattle.cvm_outside.specs.Causes.{Rose};
 ghost use Rattle.boot_turns.specs.Rom.{own_rom};
 ghost use Rattle.boot_run.specs.Loading.{system_of};
-ghost use Rattle.boot_run.specs.LoadEnds.{LoadFails, SeesUser, rom_needed};
+ghost use Rattle.boot_run.specs.LoadEnds.{LoadFails, rom_needed};
+ghost use Rattle.boot_run.specs.RunEnds.{SeesUser};
 ghost use Rattle.boot_run.specs.Whole.{IsDiskFault, IsSinkFault};
-ghost use Rattle.cvm_shell.specs.Outside.{within};
+ghost use Rattle.cvm_shell.specs.Host.{within};
 ghost use Rattle.cvm_shell.specs.Stages.{AnswersAs, SystemFollows};
 
-use crate::boot::{Ready, Session, Start};
+use crate::boot::{Ready, Session, StartPoint};
 use boot_rom::rom_words;
 use boot_run::{LoadFault, RunEnd, View, run_rom, run_whole};
 use cvm_outside::{Sectors, Sink};
@@ -33,8 +34,8 @@ pub(crate) fn load_and_run<O: Sink, D: Sectors>(
     ensures sink_same { (IsSinkFault result → ⊥) → O.faults out.new ≡ O.faults out.old }
 {
     match session.start {
-        Start::Loaded => run_loaded(alloc, ready, session, out, disk),
-        Start::Rom => run_from_rom(alloc, ready, session, out, disk),
+        StartPoint::Loaded => run_loaded(alloc, ready, session, out, disk),
+        StartPoint::Rom => run_from_rom(alloc, ready, session, out, disk),
     }
 }
 
@@ -48,7 +49,7 @@ fn run_loaded<O: Sink, D: Sectors>(
 ) -> Result<RunEnd, LoadFault>
     requires follows { SystemFollows ready }
     requires some { 1 ≤ session.turns }
-    requires start { session.start ≡ Start.Loaded }
+    requires start { session.start ≡ StartPoint.Loaded }
     ensures answers { AnswersAs ready session (within O.Sink D.Sectors) result (out.old, disk.old) (out.new, disk.new) }
     ensures unprinted { IfErr result (λ _. out.new ≡ out.old) }
     ensures still { result ≢ Err LoadFault.Disk → OnErr result (disk.new ≡ disk.old) }
@@ -79,7 +80,7 @@ fn run_from_rom<O: Sink, D: Sectors>(
 ) -> Result<RunEnd, LoadFault>
     requires follows { SystemFollows ready }
     requires some { 1 ≤ session.turns }
-    requires start { session.start ≡ Start.Rom }
+    requires start { session.start ≡ StartPoint.Rom }
     ensures answers { AnswersAs ready session (within O.Sink D.Sectors) result (out.old, disk.old) (out.new, disk.new) }
     ensures unprinted { IfErr result (λ _. out.new ≡ out.old) }
     ensures still { result ≢ Err LoadFault.Disk → OnErr result (disk.new ≡ disk.old) }

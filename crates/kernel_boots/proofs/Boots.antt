@@ -8,7 +8,7 @@ use Rattle.mips_table.specs.Turns.{lines_of}
 use Rattle.mips_table.specs.Machine.{State}
 use Rattle.boot_turns.specs.declared.answers.View.TheVariants.{Boot}
 use Rattle.boot_turns.specs.Headline.{Ending, Done, KernelFaulted, OutOfSteps, DiskFault, SinkFault, NoMemory, ending_of, TextAt, RanFrom}
-use Rattle.cvm_model.specs.Cvm.{System as Booted, Cvm, Status, Running, Halted, Faulted, IsCvm}
+use Rattle.cvm_model.specs.Cvm.{System, Cvm, Status, Running, Halted, Faulted, IsCvm}
 use Rattle.cvm_model.specs.Invariant.{HasEight, IsSafe}
 use Rattle.c0_types.specs.Front.{IsUnitOf}
 use Rattle.real_layer.specs.Image.{layer_image}
@@ -17,10 +17,10 @@ use Rattle.boot_image.specs.declared.fault.ImageFault.{ImageFault}
 use Rattle.boot_image.specs.Reading.{answer as image_of}
 use Rattle.kernel_linker.specs.Accept.{ImageSystem}
 use Rattle.kernel_linker.specs.Sources.{IsOfImage, AcceptedAreOfImages}
-use Rattle.cvm_shell.specs.declared.status.Status.{Status as Shown}
-use Rattle.cvm_shell.specs.declared.status.Status.TheVariants.{KernelFault}
+use Rattle.cvm_shell.specs.declared.exit_status.ExitStatus.{ExitStatus}
+use Rattle.cvm_shell.specs.declared.exit_status.ExitStatus.TheVariants.{KernelFault}
 use Rattle.cvm_shell.specs.declared.boot.Session.{Session}
-use Rattle.cvm_shell.specs.Outside.{Host}
+use Rattle.cvm_shell.specs.Host.{Host}
 use Rattle.cvm_shell.specs.Plan.{Accepts}
 use Rattle.cvm_shell.specs.Boot.{booted, around, first_state, sectors_needed, ended_as, AskFor, by_boot, by_trace, by_sample, Headline}
 use Rattle.kernel_boots.specs.Boots.{OfStates, AlwaysHas, TextOfState, Shows, BootsShow, HasSource, AsksSource, RunsItsSource, BootsOf}
@@ -41,7 +41,7 @@ no_fault : (b : Bool) (s : Status) → IsSafe s → NoFault (if b then ending_of
 no_fault true s h = no_fault_of s h
 no_fault false s h = tt
 
-abbrev OtherStatus : Shown → Type 0
+abbrev OtherStatus : ExitStatus → Type 0
 OtherStatus KernelFault = ⊥
 OtherStatus other = Unit {0}
 
@@ -57,12 +57,12 @@ no_status : (e : Ending) → NoFault e → ended_as e ≢ KernelFault
 no_status e h eq = subst OtherStatus eq (other_status e h)
 
 -- WHAT WAS PRINTED is the text of a state
-module _ (P : OfStates) (x : Surroundings) (y : Booted) (always : AlwaysHas y P) (s : State) (eight : HasEight (lines_of x s)) (held : ℕ) (old now : List (List ℕ)) (turns steps : ℕ) where
+module _ (P : OfStates) (x : Surroundings) (y : System) (always : AlwaysHas y P) (s : State) (eight : HasEight (lines_of x s)) (held : ℕ) (old now : List (List ℕ)) (turns steps : ℕ) where
   has : (k : ℕ) (c : Cvm) → IsCvm y (lines_of x s) k c → P (lines_of x s) k c
   has k c is = always (lines_of x s) eight k c is
 
   -- of a status by which a state has this text
-  shows_as : (status : Shown) (k : ℕ) (c : Cvm) (text : List ℕ) → IsCvm y (lines_of x s) k c → TextOfState y status c text → Shows y P status text
+  shows_as : (status : ExitStatus) (k : ℕ) (c : Cvm) (text : List ℕ) → IsCvm y (lines_of x s) k c → TextOfState y status c text → Shows y P status text
   shows_as status k c text is e = record { lines = lines_of x s; turns = k; state = c; is = is; has = has k c is; text_is = e }
 
   shows : (t : ℕ) (e : Ending) (text : List ℕ) → TextAt x y s Boot t e text → Shows y P (ended_as e) text
@@ -101,7 +101,7 @@ boots_show P words status old new headlines session s rows before honest some vi
     let eight : HasEight (lines_of x first) = turns_have_eight x first (asked_eight words old.shelf.file session s rows honest.asked old) in
     let ran = subst (λ v. RanFrom x y first held before h.after v session.turns session.steps h.ending h.text) view h.ran in
     record {
-      printed = (h.text, h.printed, subst (λ (z : Shown). Shows y P z h.text) (sym h.status_is) (ran_shows P x y always first eight held before h.after session.turns session.steps h.ending h.text ran));
+      printed = (h.text, h.printed, subst (λ (z : ExitStatus). Shows y P z h.text) (sym h.status_is) (ran_shows P x y always first eight held before h.after session.turns session.steps h.ending h.text ran));
       no_fault = λ safe e. no_status h.ending (ran_safe P x y always first eight held before h.after session.turns session.steps h.ending h.text ran safe) (sym h.status_is ∙ e);
     }
 
@@ -135,9 +135,9 @@ runs_its_source law source words session s rows before old new h a = (asked_read
 
 -- EACH BOOT OF A SOURCE shows a property that excludes faults, where the run of each system with that source's unit, with room for 64 words of stack and
 -- for its users, always has it
-pub boots_of : AcceptedAreOfImages → (source : List ℕ) (Is : ImageSystem → Type 0) (P : Booted → OfStates)
+pub boots_of : AcceptedAreOfImages → (source : List ℕ) (Is : ImageSystem → Type 0) (P : System → OfStates)
     → ((s : ImageSystem) (rows : Rows) → IsUnitOf source s.unit → Roomy s → Is s → length rows.inputs ≤ 4096 → AlwaysHas (booted s rows) (P (booted s rows)))
-    → ((y : Booted) (lines : ℕ → ℕ) (k : ℕ) (c : Cvm) → P y lines k c → IsSafe c.status) → BootsOf source Is P
+    → ((y : System) (lines : ℕ → ℕ) (k : ℕ) (c : Cvm) → P y lines k c → IsSafe c.status) → BootsOf source Is P
 boots_of law source Is P always safe words status old new headlines session s rows before h some view asks is =
     let read : IsRead source s = asked_read law source words old.shelf.file session s rows h.asked asks in
     let few : length rows.inputs ≤ 4096 = asked_few words old.shelf.file session s rows h.asked in

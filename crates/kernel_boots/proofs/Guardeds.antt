@@ -1,6 +1,6 @@
 -- Each boot of the guarded kernel: no state of its run has a fault.
 use Rattle.std.proofs.Common.{◌≡◌, ◌≤◌, ℕ, zero, suc, length, Some, subst, arith}
-use Rattle.cvm_model.specs.Cvm.{System as Booted, Cvm, IsCvm, first_cvm}
+use Rattle.cvm_model.specs.Cvm.{System, Cvm, IsCvm, first_cvm}
 use Rattle.cvm_model.specs.Invariant.{HasEight, IsSafe}
 use Rattle.kernel_linker.specs.Sources.{AcceptedAreOfImages}
 use Rattle.cvm_shell.specs.Boot.{booted}
@@ -10,10 +10,10 @@ use Rattle.kernel_theorems.specs.Guarded.{text, RunsGuarded, GuardedNeverFaults}
 use Rattle.kernel_boots.specs.Guardeds.{GuardedKernelsBoot}
 use Rattle.kernel_boots.proofs.Boots.{boots_of}
 
-at_start : (y : Booted) (c : Cvm) → Some (first_cvm y) ≡ Some c → IsSafe c.status
+at_start : (y : System) (c : Cvm) → Some (first_cvm y) ≡ Some c → IsSafe c.status
 at_start y c e = let s : first_cvm y ≡ c = cc in subst (λ (c : Cvm). IsSafe c.status) s tt
 
-safe : GuardedNeverFaults → (y : Booted) → RunsGuarded y → (lines : ℕ → ℕ) → HasEight lines → (k : ℕ) (c : Cvm) → IsCvm y lines k c → IsSafe c.status
+safe : GuardedNeverFaults → (y : System) → RunsGuarded y → (lines : ℕ → ℕ) → HasEight lines → (k : ℕ) (c : Cvm) → IsCvm y lines k c → IsSafe c.status
 safe law y r lines eight zero c is = at_start y c is.is
 safe law y r lines eight (suc k) c is = (law y r lines eight k).1 c is
 

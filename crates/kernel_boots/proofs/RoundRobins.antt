@@ -1,6 +1,6 @@
 -- Each boot of the round robin: each state of its run is ordered.
 use Rattle.std.proofs.Common.{◌≡◌, ℕ, zero, suc, length, Some, subst, arith}
-use Rattle.cvm_model.specs.Cvm.{System as Booted, Cvm, IsCvm, first_cvm}
+use Rattle.cvm_model.specs.Cvm.{System, Cvm, IsCvm, first_cvm}
 use Rattle.cvm_model.specs.Invariant.{HasEight}
 use Rattle.kernel_linker.specs.Sources.{AcceptedAreOfImages}
 use Rattle.cvm_shell.specs.Boot.{booted}
@@ -10,10 +10,10 @@ use Rattle.kernel_theorems.specs.RoundRobinText.{text}
 use Rattle.kernel_boots.specs.RoundRobins.{IsOrdered, RoundRobinsBoot}
 use Rattle.kernel_boots.proofs.Boots.{boots_of}
 
-at_start : (y : Booted) (c : Cvm) → Some (first_cvm y) ≡ Some c → IsOrdered c
+at_start : (y : System) (c : Cvm) → Some (first_cvm y) ≡ Some c → IsOrdered c
 at_start y c e = let s : first_cvm y ≡ c = cc in subst IsOrdered s (record { safe = tt; order = tt })
 
-ordered : RoundRobinIsFair → (y : Booted) → RunsRoundRobin y 3 → (lines : ℕ → ℕ) → HasEight lines → (k : ℕ) (c : Cvm) → IsCvm y lines k c → IsOrdered c
+ordered : RoundRobinIsFair → (y : System) → RunsRoundRobin y 3 → (lines : ℕ → ℕ) → HasEight lines → (k : ℕ) (c : Cvm) → IsCvm y lines k c → IsOrdered c
 ordered law y r lines eight zero c is = at_start y c is.is
 ordered law y r lines eight (suc k) c is = let f = (law y 3 r lines eight k).1 c is in record { safe = f.safe; order = f.order }
 

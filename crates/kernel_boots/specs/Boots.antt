@@ -6,32 +6,32 @@ use Rattle.boot_image.specs.Parts.{Parts as Image}
 use Rattle.boot_image.specs.Reading.{answer as image_of}
 use Rattle.boot_turns.specs.declared.answers.View.TheVariants.{Boot}
 use Rattle.c0_types.specs.Front.{IsUnitOf}
-use Rattle.cvm_model.specs.Cvm.{System as Booted, Cvm, IsCvm}
+use Rattle.cvm_model.specs.Cvm.{System, Cvm, IsCvm}
 use Rattle.cvm_model.specs.Invariant.{HasEight, IsSafe}
 use Rattle.cvm_model.specs.Text.{rows_text, boot_text}
 use Rattle.kernel_linker.specs.Accept.{ImageSystem}
-use Rattle.cvm_shell.specs.declared.status.Status.{Status}
-use Rattle.cvm_shell.specs.declared.status.Status.TheVariants.{KernelFault, StepLimit, Memory}
+use Rattle.cvm_shell.specs.declared.exit_status.ExitStatus.{ExitStatus}
+use Rattle.cvm_shell.specs.declared.exit_status.ExitStatus.TheVariants.{KernelFault, StepLimit, Memory}
 use Rattle.cvm_shell.specs.declared.boot.Session.{Session}
-use Rattle.cvm_shell.specs.Outside.{Host}
+use Rattle.cvm_shell.specs.Host.{Host}
 use Rattle.cvm_shell.specs.Boot.{booted, AskFor, by_boot, by_trace, by_sample, IsHonest}
-use Rattle.cvm_shell.specs.Outcome.{Headlines}
+use Rattle.cvm_shell.specs.CommandEnds.{Headlines}
 
 -- a property of a state after so many turns with these lines
 abbrev pub OfStates : Type 1
 OfStates = (ℕ → ℕ) → ℕ → Cvm → Type 0
 
 -- EACH STATE of a system's run has it, whatever lines are raised
-abbrev pub AlwaysHas : Booted → OfStates → Type 0
+abbrev pub AlwaysHas : System → OfStates → Type 0
 AlwaysHas y P = (lines : ℕ → ℕ) → HasEight lines → (k : ℕ) (c : Cvm) → IsCvm y lines k c → P lines k c
 
 -- THE TEXT of a state, by the status: where the steps ran out its rows so far, else the whole report, with its rows in front
-abbrev pub TextOfState : Booted → Status → Cvm → List ℕ → Type 0
+abbrev pub TextOfState : System → ExitStatus → Cvm → List ℕ → Type 0
 TextOfState y StepLimit c text = text ≡ rows_text c.rows
 TextOfState y other c text = text ≡ boot_text y c
 
 -- a text is that of a state that has the property
-pub record Shows (y : Booted) (P : OfStates) (status : Status) (text : List ℕ) : Type 0 where
+pub record Shows (y : System) (P : OfStates) (status : ExitStatus) (text : List ℕ) : Type 0 where
   pub lines : ℕ → ℕ
   pub turns : ℕ
   pub state : Cvm
@@ -40,13 +40,13 @@ pub record Shows (y : Booted) (P : OfStates) (status : Status) (text : List ℕ)
   pub text_is : TextOfState y status state text
 
 -- A BOOT SHOWS IT: what it printed is the text of such a state; and where the property excludes faults, its status is not that of a kernel's fault
-pub record BootShows (y : Booted) (P : OfStates) (old new : Host) (status : Status) : Type 0 where
+pub record BootShows (y : System) (P : OfStates) (old new : Host) (status : ExitStatus) : Type 0 where
   pub printed : (text : List ℕ) × (new.sink.text ≡ append_known old.sink.text text) × Shows y P status text
   pub no_fault : ((lines : ℕ → ℕ) (k : ℕ) (c : Cvm) → P lines k c → IsSafe c.status) → status ≢ KernelFault
 
 -- THE COROLLARY, for any property of states: by the headline of `run` each boot with no failed call shows it, where the system's run always has it
 abbrev pub BootsShow : Type 1
-BootsShow = (P : OfStates) (words : List (List ℕ)) (status : Status) (old new : Host) → Headlines (λ (o : Host). o) words status old new
+BootsShow = (P : OfStates) (words : List (List ℕ)) (status : ExitStatus) (old new : Host) → Headlines (λ (o : Host). o) words status old new
     → (session : Session) (s : ImageSystem) (rows : Rows) (before : List (List ℕ)) → IsHonest words session s rows before old new
     → status ≢ Memory → session.view ≡ Boot → AlwaysHas (booted s rows) P → BootShows (booted s rows) P old new status
 
@@ -67,12 +67,12 @@ RunsItsSource = (source : List ℕ) (words : List (List ℕ)) (session : Session
     → (h : IsHonest words session s rows before old new) → AsksSource source h.asked → IsUnitOf source s.unit
 
 -- what it printed is the text of a state that has the property, and its status is no kernel's fault
-abbrev pub ShowsOf : Booted → OfStates → (old new : Host) → Status → Type 0
+abbrev pub ShowsOf : System → OfStates → (old new : Host) → ExitStatus → Type 0
 ShowsOf y P old new status = (status ≢ KernelFault) × ((text : List ℕ) × (new.sink.text ≡ append_known old.sink.text text) × Shows y P status text)
 
 -- EACH BOOT of an image with this source: where a fact of its system is given (how many users it has), it shows a property that excludes faults. A boot is
 -- one by `boot`, `rom` or `sample` under the headline's premises, with a status other than 8.
-abbrev pub BootsOf : (source : List ℕ) → (ImageSystem → Type 0) → (Booted → OfStates) → Type 0
-BootsOf source Is P = (words : List (List ℕ)) (status : Status) (old new : Host) → Headlines (λ (o : Host). o) words status old new
+abbrev pub BootsOf : (source : List ℕ) → (ImageSystem → Type 0) → (System → OfStates) → Type 0
+BootsOf source Is P = (words : List (List ℕ)) (status : ExitStatus) (old new : Host) → Headlines (λ (o : Host). o) words status old new
     → (session : Session) (s : ImageSystem) (rows : Rows) (before : List (List ℕ)) → (h : IsHonest words session s rows before old new)
     → status ≢ Memory → session.view ≡ Boot → AsksSource source h.asked → Is s → ShowsOf (booted s rows) (P (booted s rows)) old new status

@@ -1,6 +1,6 @@
 -- Each boot of the semaphore: in each state of its run at most one user is inside.
 use Rattle.std.proofs.Common.{◌≡◌, ℕ, zero, suc, [], length, Some, refl, subst, arith}
-use Rattle.cvm_model.specs.Cvm.{System as Booted, Cvm, IsCvm, first_cvm}
+use Rattle.cvm_model.specs.Cvm.{System, Cvm, IsCvm, first_cvm}
 use Rattle.cvm_model.specs.Invariant.{dispatches_of, HasEight}
 use Rattle.kernel_linker.specs.Sources.{AcceptedAreOfImages}
 use Rattle.cvm_shell.specs.Boot.{booted}
@@ -12,10 +12,10 @@ use Rattle.semaphore.specs.Property.{Runs, PropertyHolds}
 use Rattle.semaphore.specs.Boots.{IsExclusive, SemaphoresBoot}
 
 -- before the first turn nobody is inside
-at_start : (y : Booted) (c : Cvm) → Some (first_cvm y) ≡ Some c → IsExclusive [] c
+at_start : (y : System) (c : Cvm) → Some (first_cvm y) ≡ Some c → IsExclusive [] c
 at_start y c e = let s : first_cvm y ≡ c = cc in subst (IsExclusive []) s (record { safe = tt; rows = refl; one = λ u v some other in_u in_v. absurd (cc); answered = tt })
 
-exclusive : PropertyHolds → (y : Booted) → Runs y → (lines : ℕ → ℕ) → HasEight lines → (k : ℕ) (c : Cvm) → IsCvm y lines k c → IsExclusive (dispatches_of y lines 400 k) c
+exclusive : PropertyHolds → (y : System) → Runs y → (lines : ℕ → ℕ) → HasEight lines → (k : ℕ) (c : Cvm) → IsCvm y lines k c → IsExclusive (dispatches_of y lines 400 k) c
 exclusive law y r lines eight zero c is = at_start y c is.is
 exclusive law y r lines eight (suc k) c is = let h = (law y r lines eight k).1 c is in record { safe = h.safe; rows = h.rows; one = h.kept.one; answered = h.kept.answered }
 

@@ -1,7 +1,7 @@
 use Rattle.std.proofs.Common.{refl, subst}
 use Rattle.cvm_shell.specs.declared.command.Command.{Command}
 use Rattle.cvm_shell.specs.Command.{IsCommand, texts}
-use Rattle.cvm_shell.specs.Outside.{drive, files}
+use Rattle.cvm_shell.specs.Host.{drive, files}
 use Rattle.cvm_shell.specs.Views.{command_view}
 use Rattle.cvm_shell.proofs.Endings.{bad_words_end}
 use Rattle.cvm_shell.proofs.run_command.Goals as goal

@@ -3,7 +3,7 @@ use Rattle.boot_run.specs.LoadEnds.{LoadFails}
 use Rattle.boot_run.specs.declared.load.LoadFault.{LoadFault}
 use Rattle.std.specs.Io.KnownBytes.{append_known}
 use Rattle.cvm_outside.specs.Told.{AppendsPart}
-use Rattle.cvm_shell.specs.Outside.{within}
+use Rattle.cvm_shell.specs.Host.{within}
 use Rattle.cvm_shell.specs.Refusal.{small_disk, no_such_user, refusal_text}
 use Rattle.cvm_shell.specs.Stages.{needs, CallAnswers}
 use Rattle.cvm_shell.proofs.BootEndings.{ok_made, disk_made, memory_made, small_named, small_made, user_named, user_made}

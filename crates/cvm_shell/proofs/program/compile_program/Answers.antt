@@ -3,7 +3,7 @@ use Rattle.cvm_shell.specs.declared.boot.Stop.{Stop}
 use Rattle.cvm_shell.specs.declared.boot.Stop.TheVariants as Stops
 use Rattle.cvm_shell.specs.declared.refusal.Refusal.{Refusal}
 use Rattle.cvm_shell.specs.Command.{compile_program}
-use Rattle.cvm_shell.specs.Outside.{files}
+use Rattle.cvm_shell.specs.Host.{files}
 use Rattle.cvm_shell.specs.Stages.{IsProgramPlan}
 use Rattle.cvm_shell.specs.Views.{program_view, IfRefused}
 use Rattle.cvm_shell.proofs.Endings.{Long, stopped_long, none_long, shelf_long, memory_long, refused_end, undone_end, put_end, put_broken}

@@ -6,7 +6,7 @@ use Rattle.saved_file.specs.declared.fault.SaveFault.{SaveFault}
 use Rattle.machine_save.specs.ResumeRun.{ResumeAnswers, JoinsSaved, GoesOnFromFile}
 use Rattle.machine_save.specs.declared.resuming.ResumeFault.{ResumeFault}
 use Rattle.machine_save.specs.declared.resuming.ResumeFault.TheVariants as fault
-use Rattle.cvm_shell.specs.Outside.{counts, within}
+use Rattle.cvm_shell.specs.Host.{counts, within}
 use Rattle.cvm_shell.specs.Refusal.{bad_save, small_disk, refusal_text}
 use Rattle.cvm_shell.specs.Views.{save_view}
 use Rattle.cvm_shell.proofs.ResumeEndings.{file_refused, small_refused, resumed_made, small_named, text_same}

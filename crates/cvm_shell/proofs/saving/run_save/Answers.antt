@@ -6,7 +6,7 @@ use Rattle.cvm_shell.specs.declared.boot.Stop.{Stop}
 use Rattle.cvm_shell.specs.declared.boot.Stop.TheVariants as Stops
 use Rattle.cvm_shell.specs.declared.refusal.Refusal.{Refusal}
 use Rattle.cvm_shell.specs.Command.{save}
-use Rattle.cvm_shell.specs.Outside.{files, seen}
+use Rattle.cvm_shell.specs.Host.{files, seen}
 use Rattle.cvm_shell.specs.Stages.{IsSavePlan}
 use Rattle.cvm_shell.specs.Views.{save_view, IfRefused}
 use Rattle.cvm_shell.proofs.Endings.{Long, stopped_long, none_long, shelf_long, memory_long, refused_end, undone_end}

@@ -4,7 +4,7 @@ use Rattle.boot_run.specs.LoadEnds.{LoadFails, pages_needed}
 use Rattle.boot_run.specs.declared.load.LoadFault.{LoadFault}
 use Rattle.std.specs.Io.KnownBytes.{append_known}
 use Rattle.cvm_outside.specs.Told.{AppendsPart}
-use Rattle.cvm_shell.specs.Outside.{seen}
+use Rattle.cvm_shell.specs.Host.{seen}
 use Rattle.cvm_shell.specs.Refusal.{small_disk, refusal_text}
 use Rattle.cvm_shell.specs.Stages.{SaveCallAnswers, with_files}
 use Rattle.cvm_shell.specs.Views.{save_view}

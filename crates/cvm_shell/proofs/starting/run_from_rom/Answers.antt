@@ -1,7 +1,7 @@
 use Rattle.std.proofs.Common.{refl, ap, Err}
 use Rattle.std.proofs.lemmas.Result.{err_from_is_err_and}
 use Rattle.boot_run.specs.declared.load.LoadFault.{LoadFault}
-use Rattle.cvm_shell.specs.Outside.{within}
+use Rattle.cvm_shell.specs.Host.{within}
 use Rattle.cvm_shell.proofs.StartAnswers.{rom_answers, unmade_answers}
 use Rattle.cvm_shell.proofs.starting.run_from_rom.Goals as goal
 
