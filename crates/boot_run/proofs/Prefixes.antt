@@ -13,7 +13,7 @@ use Rattle.cvm_model.specs.Text.{steps_row, journal_rows_after, journal_rows, op
 use Rattle.c0_meaning.specs.State.{State as C0}
 use Rattle.boot_turns.specs.Headline as headline
 use Rattle.layer_contract.specs.Starts.{Beyond}
-use Rattle.boot_turns.specs.Headline.{Ending, RanFrom, TextAt, ArePut, TraceBroken, IsBegun, EndBroken, SinkBroken, ending, ending_of}
+use Rattle.boot_turns.specs.Headline.{Ending, RanFrom, TextAt, ArePut, TraceBroken, TurnPutFails, EndCalls, IsBegun, EndBroken, SinkBroken, ending, ending_of}
 use Rattle.boot_turns.specs.RunMachines.{RunMachines}
 use Rattle.boot_turns.specs.Premises.{StartsFrom}
 use Rattle.boot_turns.specs.Trace.{Shown}
@@ -23,7 +23,6 @@ use Rattle.boot_turns.specs.TurnEnds.{Printed, Whole, Prefix, first_of}
 use Rattle.boot_turns.specs.declared.answers.View.{View}
 use Rattle.boot_turns.specs.declared.answers.View.TheVariants.{Boot, Trace}
 use Rattle.boot_run.specs.RunEnds.{SeesUser}
-use Rattle.boot_run.specs.Pieces.{TurnPutFails}
 use Rattle.boot_run.proofs.Going.{is_off}
 
 -- A PREFIX of a text is one of a longer text
@@ -168,14 +167,14 @@ module _ (follow : RowsFollow) (x : Outside) (y : System) (s0 : State) (delay bo
     -- so it is of all rows that are put
     pub cut : TraceGrows x y s0 u → (part : List ℕ) → ArePut x y s0 u at part whole → IsBegun x y s0 bound old u turns steps text
     cut grows part (inl (zero_at, none, w)) = printed_cut grows (subst (λ n. Printed x y s0 (Trace u) n whole) (sym zero_at) w)
-    cut grows part (inr (inl (t, next, w, v))) = printed_cut grows v
+    cut grows part (inr (inl (t, next, w, v, some))) = printed_cut grows v
     cut grows part (inr (inr (w, v, (power, off)))) = whole_cut v (is_off x s0 turns at (subst (λ (o : Option ℕ). IsSome o) (sym off) refl))
 
 -- THE SINK'S FAULT IN A TURN of a trace
-pub trace_cut : TurnLaws → RowsFollow → (x : Outside) (y : System) (s0 : State) (delay bound : ℕ) (old : List (List ℕ)) → RunMachines x y s0 delay bound → Beyond bound old s0.device.sectors → (u turns steps : ℕ) → TraceGrows x y s0 u → (now : List (List ℕ)) (text : List ℕ) →
-    TraceBroken x y s0 now u turns steps text → SinkBroken x y s0 bound old now (Trace u) turns steps text
-trace_cut counts follow x y s0 delay bound old m first u turns steps grows now text w =
-    (cut follow x y s0 delay bound old m first u turns steps counts w.at w.most w.goes_on w.whole text (prefix_any w.part w.whole text w.printed) grows w.part w.are_put, inl w)
+pub trace_cut : TurnLaws → RowsFollow → (x : Outside) (y : System) (s0 : State) (delay bound : ℕ) (old : List (List ℕ)) → RunMachines x y s0 delay bound → Beyond bound old s0.device.sectors → (u turns steps : ℕ) → TraceGrows x y s0 u → (now : List (List ℕ)) (calls : ℕ → State → Type 0) (at n : ℕ) (text : List ℕ) →
+    TraceBroken x y s0 now u turns steps at n text → calls n (run x s0 at) → SinkBroken x y s0 bound old now (Trace u) turns steps calls text
+trace_cut counts follow x y s0 delay bound old m first u turns steps grows now calls at n text w fit =
+    (cut follow x y s0 delay bound old m first u turns steps counts at w.most w.goes_on w.whole text (prefix_any w.part w.whole text w.printed) grows w.part w.are_put, inl (at, n, w, fit))
 
 -- BY THE VIEW: what is known of the journals of what is viewed
 abbrev pub GrowsFor : Outside → System → State → View → Type 0
@@ -188,15 +187,16 @@ grows_for Typed law x y s0 delay bound lawful Boot sees = tt
 grows_for Typed law x y s0 delay bound lawful (Trace u) sees = law x y s0 delay bound u lawful sees.0 sees.1
 
 -- the sink failed in a turn
-pub put_ends : TurnLaws → RowsFollow → (x : Outside) (y : System) (s0 : State) (delay bound : ℕ) (old : List (List ℕ)) → RunMachines x y s0 delay bound → Beyond bound old s0.device.sectors → (v : View) → GrowsFor x y s0 v → (turns steps : ℕ) (now : List (List ℕ)) (text : List ℕ) → TurnPutFails x y s0 now v turns steps text →
-    Beyond bound old now × SinkBroken x y s0 bound old now v turns steps text
-put_ends counts follow x y s0 delay bound old m first Boot grows turns steps now text w =
-    (subst (Beyond bound old) (sym w.sectors) (stays_beyond bound old s0.device.sectors _ first (m.beyond w.end)), inl w)
-put_ends counts follow x y s0 delay bound old m first (Trace u) grows turns steps now text w =
-    (subst (Beyond bound old) (sym w.sectors) (stays_beyond bound old s0.device.sectors _ first (m.beyond w.at)), trace_cut counts follow x y s0 delay bound old m first u turns steps grows now text w)
+pub put_ends : TurnLaws → RowsFollow → (x : Outside) (y : System) (s0 : State) (delay bound : ℕ) (old : List (List ℕ)) → RunMachines x y s0 delay bound → Beyond bound old s0.device.sectors → (v : View) → GrowsFor x y s0 v → (turns steps : ℕ) (now : List (List ℕ)) (calls : ℕ → State → Type 0) (at n : ℕ) (text : List ℕ) →
+    TurnPutFails x y s0 now v turns steps at n text → calls n (run x s0 at) → Beyond bound old now × SinkBroken x y s0 bound old now v turns steps calls text
+put_ends counts follow x y s0 delay bound old m first Boot grows turns steps now calls at n text w fit =
+    (subst (Beyond bound old) (sym w.0.sectors) (stays_beyond bound old s0.device.sectors _ first (m.beyond at)), inl (at, n, w, fit))
+put_ends counts follow x y s0 delay bound old m first (Trace u) grows turns steps now calls at n text w fit =
+    (subst (Beyond bound old) (sym w.sectors) (stays_beyond bound old s0.device.sectors _ first (m.beyond at)), trace_cut counts follow x y s0 delay bound old m first u turns steps grows now calls at n text w fit)
 
 -- or in the report
-pub report_ends : (x : Outside) (y : System) (s0 : State) (bound : ℕ) (old now : List (List ℕ)) (v : View) (turns steps : ℕ) (text : List ℕ) → (w : EndBroken x y s0 now v turns steps (Printed x y s0 v (end_within x s0 turns steps)) text) →
-    RanFrom x y s0 bound old now v turns steps headline.Done w.whole → SinkBroken x y s0 bound old now v turns steps text
-report_ends x y s0 bound old now Boot turns steps text w ran = inr w
-report_ends x y s0 bound old now (Trace u) turns steps text w ran = ((headline.Done, now, w.whole, ran, prefix_any w.rows w.whole text w.printed), inr w)
+pub report_ends : (x : Outside) (y : System) (s0 : State) (bound : ℕ) (old now : List (List ℕ)) (v : View) (turns steps : ℕ) (calls : ℕ → State → Type 0) (text : List ℕ) →
+    (w : EndBroken x y s0 now v turns steps (Printed x y s0 v (end_within x s0 turns steps)) text) → EndCalls x y s0 v (end_within x s0 turns steps) calls →
+    RanFrom x y s0 bound old now v turns steps headline.Done w.whole → SinkBroken x y s0 bound old now v turns steps calls text
+report_ends x y s0 bound old now Boot turns steps calls text w fit ran = inr (w, fit)
+report_ends x y s0 bound old now (Trace u) turns steps calls text w fit ran = ((headline.Done, now, w.whole, ran, prefix_any w.rows w.whole text w.printed), inr (w, fit))

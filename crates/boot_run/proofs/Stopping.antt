@@ -20,10 +20,10 @@ use Rattle.layer_contract.specs.Starts.{Beyond}
 use Rattle.boot_report.specs.Leaves.{Asks}
 use Rattle.boot_turns.specs.Completes.{seen, SeenPorts}
 use Rattle.boot_turns.specs.Headline as headline
-use Rattle.boot_turns.specs.Headline.{ReportCalls, Ending, RanFrom, EndBroken, RowBroken, StepBroken, ending, ending_of}
+use Rattle.boot_turns.specs.Headline.{ReportCalls, Ending, RanFrom, EndBroken, StepBroken, SinkFails, TurnPutFails, ending, ending_of}
 use Rattle.boot_turns.specs.Tracing.{reads_of}
 use Rattle.boot_turns.specs.RunMachines.{RunMachines, MachinesRun}
-use Rattle.boot_turns.specs.TurnEnds.{Stood, Printed, RowsAt}
+use Rattle.boot_turns.specs.TurnEnds.{Stood, RowsAt}
 use Rattle.boot_turns.specs.Ahead.{TextAfter}
 use Rattle.boot_turns.specs.declared.answers.View.{View}
 use Rattle.boot_turns.specs.declared.answers.View.TheVariants.{Boot}
@@ -110,6 +110,11 @@ in_step x y s0 turns steps calls base now after text shows made n broken fit =
     let none : n ≡ 0 = broken.fails.read in
     (text, made, subst (λ i. StepBroken x y s0 now Boot turns steps made i text) none broken, subst (λ i. calls i (run x s0 made)) none fit, shows)
 
+-- and a sink that failed in a row of one
+in_row : (x : Outside) (y : System) (s0 : State) (turns steps : ℕ) (calls : ℕ → State → Type 0) (base : Base) (now : List (List ℕ)) (after : Option (List ℕ)) (text : List ℕ) → after ≡ base.shows text →
+    (made n : ℕ) → TurnPutFails x y s0 now Boot turns steps made n text → calls n (run x s0 made) → EndsInTurn x y s0 now turns steps calls base after ends.SinkFault
+in_row x y s0 turns steps calls base now after text shows made n broken fit = (text, made, broken.0, subst (λ i. calls i (run x s0 made)) broken.1 fit, shows)
+
 module _ (counts : TurnLaws) (x : Outside) (y : System) (s0 : State) (delay bound : ℕ) (old : List (List ℕ)) (m : RunMachines x y s0 delay bound) (first : Beyond bound old s0.device.sectors)
     (base : Base) (turns steps : ℕ) (mid : Around) (g : Gone x y s0 Boot base turns steps mid) where
   end_is : end_within x s0 turns steps ≡ g.at
@@ -133,9 +138,9 @@ module _ (counts : TurnLaws) (x : Outside) (y : System) (s0 : State) (delay boun
   disk_in calls over now after text shows (inr (h, made)) = inl (halts over h.past h.cvm (sym h.done))
 
   sink_in : (calls : ℕ → State → Type 0) → IsSome mid.ended → (now : List (List ℕ)) (after : Option (List ℕ)) (text : List ℕ) → after ≡ base.shows text →
-      RowBroken x y s0 now turns steps text ⊎ EndBroken x y s0 now Boot turns steps (Printed x y s0 Boot (end_within x s0 turns steps)) text → HasHalted x s0 turns steps ⊎ EndsInTurn x y s0 now turns steps calls base after ends.SinkFault
-  sink_in calls over now after text shows (inl h) = inr (text, h, shows)
-  sink_in calls over now after text shows (inr h) = inl (halts over h.past h.cvm (sym h.done))
+      SinkFails x y s0 now Boot turns steps calls text → HasHalted x s0 turns steps ⊎ EndsInTurn x y s0 now turns steps calls base after ends.SinkFault
+  sink_in calls over now after text shows (inl (at, n, broken, fit)) = inr (in_row x y s0 turns steps calls base now after text shows at n broken fit)
+  sink_in calls over now after text shows (inr (h, made)) = inl (halts over h.past h.cvm (sym h.done))
 
   -- so a run that is closed has, or came to no report
   pub halted_or : (calls : ℕ → State → Type 0) → IsSome mid.ended → (now : List (List ℕ)) (after : Option (List ℕ)) (e : RunEnd) → ShownRunEnds x y s0 bound old now Boot turns steps calls base after (ending_of_end e) →
@@ -257,8 +262,9 @@ module _ {L : Type 0} (count : ℕ) (r new : Kept L) (turns steps left : ℕ) (t
   in_turn x y s0 base wanted total calls fit now is Disk (shown, there, stand, broken, ports, shows) =
       in_step x y s0 wanted total calls base now retext shown shows new.machine.time (reads_of new.tracer)
       (subst (λ (n : List (List ℕ)). StepBroken x y s0 n Boot wanted total new.machine.time (reads_of new.tracer) shown) (one_told retold there now (stand_told retold new.machine there stand) is) broken) (fit ports)
-  in_turn x y s0 base wanted total calls fit now is Sink (shown, there, stand, broken, shows) =
-      (shown, subst (λ (n : List (List ℕ)). RowBroken x y s0 n wanted total shown) (one_told retold there now (stand_told retold new.machine there stand) is) broken, shows)
+  in_turn x y s0 base wanted total calls fit now is Sink (shown, there, stand, broken, ports, shows) =
+      in_row x y s0 wanted total calls base now retext shown shows new.machine.time (reads_of new.tracer)
+      (subst (λ (n : List (List ℕ)). TurnPutFails x y s0 n Boot wanted total new.machine.time (reads_of new.tracer) shown) (one_told retold there now (stand_told retold new.machine there stand) is) broken) (fit ports)
 
   pub breaks : (made remade : Tally) → IsCalled r new made remade → (f : RunFault) → GoRuns count r turns (around r told steps text) (around new retold left retext) (Err f) →
       RunsToEnd count r turns steps (around r told steps text) retold made remade retext (end_of_fault f) → RunsToStop count r new turns (around r told steps text) retold made remade retext (Ended (end_of_fault f))

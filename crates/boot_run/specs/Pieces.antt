@@ -17,12 +17,11 @@ use Rattle.boot_turns.specs.Sooner.{NoSooner}
 use Rattle.boot_turns.specs.Completes.{SeenPorts}
 use Rattle.boot_turns.specs.TurnEnds.{Printed}
 use Rattle.boot_turns.specs.Headline as headline
-use Rattle.boot_turns.specs.Headline.{RowBroken, StepBroken, TraceBroken, ending_of}
+use Rattle.boot_turns.specs.Headline.{StepBroken, TurnPutFails, ending_of}
 use Rattle.boot_turns.specs.Premises.{StartsFrom}
 use Rattle.boot_turns.specs.Tracing.{reads_of}
 use Rattle.boot_turns.specs.Rom.{rom_sectors, rom_steps}
 use Rattle.boot_turns.specs.declared.answers.View.{View}
-use Rattle.boot_turns.specs.declared.answers.View.TheVariants.{Boot, Trace}
 use Rattle.boot_turns.specs.declared.answers.RunFault.{RunFault}
 use Rattle.boot_turns.specs.declared.answers.RunFault.TheVariants.{StepLimit, Disk, Sink}
 use Rattle.boot_run.specs.declared.whole.RunEnd.{RunEnd}
@@ -73,19 +72,15 @@ pub record Late (x : Outside) (y : System) (s : State) (v : View) (base : Base) 
   pub printed : Printed x y s v (end_within x s turns steps) shown
   pub text : after.text ≡ base.shows shown
 
--- the sink failed in a turn
-abbrev pub TurnPutFails : Outside → System → State → (now : List (List ℕ)) → View → (turns steps : ℕ) → List ℕ → Type 0
-TurnPutFails x y s now Boot turns steps text = RowBroken x y s now turns steps text
-TurnPutFails x y s now (Trace u) turns steps text = TraceBroken x y s now u turns steps text
-
 -- a fault of a turn
 abbrev pub GoFails : Outside → System → State → View → Base → (turns steps : ℕ) → Around → RunFault → Type 0
 GoFails x y s v base turns steps after StepLimit = Late x y s v base turns steps after
 GoFails x y s v base turns steps after Disk = (shown : List ℕ) × (now : List (List ℕ)) × Stand after now
     × StepBroken x y s now v turns steps after.steps (reads_of after.tracer) shown
     × SeenPorts (run x s after.steps) after.state × (after.text ≡ base.shows shown)
-GoFails x y s v base turns steps after Sink = (shown : List ℕ) × (now : List (List ℕ)) × Stand after now × TurnPutFails x y s now v turns steps shown
-    × (after.text ≡ base.shows shown)
+GoFails x y s v base turns steps after Sink = (shown : List ℕ) × (now : List (List ℕ)) × Stand after now
+    × TurnPutFails x y s now v turns steps after.steps (reads_of after.tracer) shown
+    × SeenPorts (run x s after.steps) after.state × (after.text ≡ base.shows shown)
 
 -- k turns are complete at step t for the first time: before, fewer were, and the machine was on
 abbrev pub FirstAt : Outside → State → (k t : ℕ) → Type 0

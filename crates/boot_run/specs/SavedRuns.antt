@@ -42,7 +42,8 @@ abbrev pub EndsInTurn : Outside → System → State → (now : List (List ℕ))
 EndsInTurn x y s now turns steps calls base after ends.Done = ⊥
 EndsInTurn x y s now turns steps calls base after ends.DiskFault = (text : List ℕ) × (made : ℕ) × StepBroken x y s now Boot turns steps made 0 text
     × calls 0 (run x s made) × (after ≡ base.shows text)
-EndsInTurn x y s now turns steps calls base after ends.SinkFault = (text : List ℕ) × RowBroken x y s now turns steps text × (after ≡ base.shows text)
+EndsInTurn x y s now turns steps calls base after ends.SinkFault = (text : List ℕ) × (made : ℕ) × RowBroken x y s now turns steps made text
+    × calls 0 (run x s made) × (after ≡ base.shows text)
 EndsInTurn x y s now turns steps calls base after other = ⊤
 
 -- so many sectors, of 1,024 words each

@@ -63,6 +63,9 @@ step_rows a b c o k l x y z traced same_ports same calls asks = record {
 pub steps_ports : (a b c : Held) (j k : Option Tracer) (x y : Tally) → c.hardware.ports ≡ b.hardware.ports → StepCalls a b j k x y → StepCalls a c j k x y
 steps_ports a b c j k x y same calls = record { more = calls.more; read = calls.read; calls = subst (λ (p : Ports). CallsWith calls.more a.hardware.ports p x y) (sym same) calls.calls }
 
--- a fault of the sink is none of the disk
+-- a fault of the sink is none of the disk, nor one of the disk of the sink
 pub sink_alone : {T : Type 0} (r : Result T RunFault) (f : RunFault) → r ≡ Err f → f ≡ Sink → r ≡ Err Disk → ⊥
 sink_alone r f is at_sink e = cc
+
+pub disk_alone : {T : Type 0} (r : Result T RunFault) (f : RunFault) → r ≡ Err f → f ≡ Disk → r ≡ Err Sink → ⊥
+disk_alone r f is at_disk e = cc

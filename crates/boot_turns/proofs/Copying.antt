@@ -1,5 +1,5 @@
 -- The rows of words that are put one after another.
-use Rattle.std.proofs.Common.{◌≡◌, ℕ, zero, suc, ◌+◌, ◌-◌, ◌*◌, ◌/◌, ◌<◌, ◌≤◌, false, Option, List, [], ◌∷◌, ◌++◌, length, take, drop, refl, sym, ap, ap₂, ◌∙◌, subst, arith, append-nil, ne_eqb}
+use Rattle.std.proofs.Common.{◌≡◌, ◌≢◌, ℕ, zero, suc, ◌+◌, ◌-◌, ◌*◌, ◌/◌, ◌<◌, ◌≤◌, false, Option, List, [], ◌∷◌, ◌++◌, length, take, drop, refl, sym, ap, ap₂, ◌∙◌, subst, arith, append-nil, ne_eqb}
 use Rattle.std.specs.Prelude.{◌==◌}
 use Rattle.std.specs.Io.KnownBytes.{append_known}
 use Rattle.std.proofs.lemmas.List.{append_assoc, get_or-drop, length-drop, take_more}
@@ -21,7 +21,7 @@ use Rattle.boot_turns.specs.declared.tracer.Tracer.{Tracer}
 use Rattle.boot_turns.specs.JournalText.{steps_after}
 use Rattle.boot_turns.specs.Copies.{user_words, copy_rows, copied_kept, steps_left}
 use Rattle.boot_turns.specs.Returns.{words_read}
-use Rattle.boot_turns.proofs.JournalRows.{more}
+use Rattle.boot_turns.proofs.JournalRows.{more, nil_back, put_some}
 use Rattle.boot_turns.proofs.Reading.{next_read}
 
 -- one word more is put
@@ -78,6 +78,14 @@ module _ (m : Map) (a : Paged) (u steps address : ℕ) where
       ∙ more false steps (puts address (user_words m a u (address / 4) n)) (Put (address + 4 * n) (user_word m a u (address / 4 + n)) ∷ [])
       ∙ ap (λ s. copy_rows m a u steps address n ++ journal_rows_after false s (Put (address + 4 * n) (user_word m a u (address / 4 + n)) ∷ [])) (left_is n)
       ∙ ap (λ r. copy_rows m a u steps address n ++ r) (append-nil _)
+
+  -- there are some, where there is a word
+  pub copies_some : (n : ℕ) → 1 ≤ n → copy_rows m a u steps address n ≢ []
+  copies_some zero le e = absurd (omega (arith, le))
+  copies_some (suc n) le e =
+      put_some (address + 4 * n) (user_word m a u (address / 4 + n))
+      (nil_back (steps_row (steps_left steps n)) (entry_row (Put (address + 4 * n) (user_word m a u (address / 4 + n))))
+      (nil_back (copy_rows m a u steps address n) (steps_row (steps_left steps n) ++ entry_row (Put (address + 4 * n) (user_word m a u (address / 4 + n)))) (sym (rows_next n) ∙ e)))
 
   -- the rows of some are the first of those of more
   pub rows_grow : (i d : ℕ) → (rest : List ℕ) × (copy_rows m a u steps address (i + d) ≡ copy_rows m a u steps address i ++ rest)

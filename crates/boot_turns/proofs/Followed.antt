@@ -17,12 +17,12 @@ use Rattle.boot_turns.specs.declared.completion.Begun.{Begun}
 use Rattle.boot_turns.specs.declared.tracer.Entered.{Entered}
 use Rattle.boot_turns.specs.declared.tracer.Tracer.{Tracer}
 use Rattle.boot_turns.specs.Completes.{note}
-use Rattle.boot_turns.specs.Copies.{copy_rows, copied_kept, steps_left}
+use Rattle.boot_turns.specs.Copies.{copy_rows, copied_kept, steps_left, CopyCut}
 use Rattle.boot_turns.specs.Entries.{IsPlaced, call_ends, turn_begins, return_entries}
 use Rattle.boot_turns.specs.Returns.{returned, notes_on, words_read, call_reads, return_reads}
 use Rattle.boot_turns.specs.JournalText.{steps_after}
-use Rattle.boot_turns.specs.Tracing.{ReturnTold, followed, followed_rows, followed_reads, ended_rows, ended_kept, kept_after}
-use Rattle.boot_turns.proofs.Copying.{puts_first, puts_length, copies_tell, left_is}
+use Rattle.boot_turns.specs.Tracing.{ReturnTold, followed, followed_rows, followed_reads, ended_rows, ended_kept, kept_after, EndCut}
+use Rattle.boot_turns.proofs.Copying.{puts_first, puts_length, copies_tell, copies_some, left_is}
 use Rattle.boot_turns.proofs.Reading.{reads_seen}
 
 -- the entries of a primitive that has copied words to the user
@@ -78,6 +78,16 @@ pub copied_then : (m : Map) (held : Held) (ss : List (List ℕ)) (kept : Tracer)
 copied_then m held ss kept answer e words one user sixth told placed =
     ap₂ (λ (n r : ℕ). record kept { steps = n; reads = kept.reads + r }) (copied_steps m (state_of held ss) kept.user kept.steps answer e words one user sixth told placed) (sym (call_copies m (state_of held []) kept.user answer e one user sixth))
 
+-- and where the sink failed in the rows of the words, it did in the primitive's
+pub copied_cut : (told : Option (List (List ℕ))) (m : Map) (held : Held) (kept new : Tracer) (answer : ℕ) (e : Entered) → answer ≡ 1 → slice_index e.arguments 2 ≡ kept.user → e.primitive ≡ 6 →
+    CopyCut held m kept new (slice_index e.arguments 3) (slice_index e.arguments 4) → EndCut told held m kept new e answer
+copied_cut told m held kept new answer e one user sixth cut = record {
+  some = λ ss words is there placed. subst (λ (rows : List ℕ). rows ≢ [])
+      (copied_rows m (state_of held ss) kept.user kept.steps answer e words one user sixth there placed)
+      (copies_some m (paged_of m (state_of held ss)) kept.user kept.steps (slice_index e.arguments 3) (slice_index e.arguments 4) cut.some);
+  read = let reads = call_copies m (state_of held []) kept.user answer e one user sixth in let most = cut.read in omega (arith, reads, most);
+}
+
 -- which words are read is told by the memory alone, whatever the sectors hold
 pub call_seen : (m : Map) (held : Held) (ss : List (List ℕ)) (u answer : ℕ) (e : Entered) → call_reads m (state_of held ss) u e answer ≡ call_reads m (state_of held []) u e answer
 call_seen m held ss u answer e =
@@ -95,6 +105,9 @@ module _ (s : State) (kept : Tracer) (current : ℕ) (began : Bool) (words : Lis
 
     rows_begun : (old new : Option (List ℕ)) → AppendsPart old new (journal_rows_after false kept.steps j) → AppendsPart old new (followed_rows s kept current began words)
     rows_begun old new p = subst (AppendsPart old new) rows_are p
+
+    pub rows_some : journal_rows_after false kept.steps j ≢ [] → followed_rows s kept current began words ≢ []
+    rows_some some = subst (λ (rows : List ℕ). rows ≢ []) rows_are some
 
     kept_read : (m : Map) (n : ℕ) (mid : Tracer) (next : Option Entered) → followed_reads m s kept began ≡ n → mid ≡ record kept { steps = steps_after kept.steps j; reads = kept.reads + n } → next ≡ notes_on s kept.call →
         record mid { call = next } ≡ kept_after m s kept current began words
@@ -156,6 +169,9 @@ module _ (s : State) (kept : Tracer) (current : ℕ) (began : Bool) (words : Lis
     pub call_begun : (old new : Option (List ℕ)) → (WordsAreTold m s kept.user words → IsPlaced kept.user e answer words → AppendsPart old new (ended_rows kept e answer words)) →
         AppendsPart old new (followed_rows s kept current began words)
     call_begun old new put = rows_begun (call_ends kept.user e answer words) call_returned old new (put told_there.0 placed)
+
+    pub call_some : (WordsAreTold m s kept.user words → IsPlaced kept.user e answer words → ended_rows kept e answer words ≢ []) → followed_rows s kept current began words ≢ []
+    call_some some = rows_some (call_ends kept.user e answer words) call_returned (some told_there.0 placed)
 
     -- by a state of the same memory
     pub call_kept : (z : State) (mid : Tracer) (next : Option Entered) → call_reads m s kept.user e answer ≡ call_reads m z kept.user e answer →

@@ -13,7 +13,7 @@ use Rattle.cvm_outside.specs.Numbering.{Tally}
 use Rattle.boot_report.specs.Leaves.{AsksFor}
 use Rattle.boot_report.proofs.Leaves.{called_behind}
 use Rattle.boot_turns.specs.declared.tracer.Tracer.{Tracer}
-use Rattle.boot_turns.specs.Copies.{copy_rows, copied_kept, steps_left, CopyFails}
+use Rattle.boot_turns.specs.Copies.{copy_rows, copied_kept, steps_left, CopyCut, CopyFails}
 use Rattle.boot_turns.specs.Returns.{words_read}
 use Rattle.boot_turns.specs.Steps.{KeepsTracer, RowsAsk}
 
@@ -33,6 +33,15 @@ few_read m s u k (suc n) = let a = few_read m s u k n in let b = one_read m s u 
 -- of one word more
 pub next_read : (m : Map) (s : State) (u k n : ℕ) → words_read m s u k (n + 1) ≡ words_read m s u k n + word_reads m s u (k + n)
 next_read m s u k n = let e : n + 1 ≡ suc n = omega arith in ap (words_read m s u k) e
+
+-- and those of some words are no more than those of more
+pub reads_grow : (m : Map) (s : State) (u k i d : ℕ) → words_read m s u k i ≤ words_read m s u k (i + d)
+reads_grow m s u k i zero = let e : i ≡ i + 0 = omega arith in let f = ap (words_read m s u k) e in omega (arith, f)
+reads_grow m s u k i (suc d) =
+    let a = reads_grow m s u k i d in
+    let e : i + suc d ≡ suc (i + d) = omega arith in
+    let f : words_read m s u k (i + suc d) ≡ words_read m s u k (i + d) + word_reads m s u (k + (i + d)) = ap (words_read m s u k) e in
+    omega (arith, a, f)
 
 -- which are read is told by the memory alone, whatever the sectors hold
 pub reads_seen : (m : Map) (held : Held) (ss : List (List ℕ)) (u k n : ℕ) → words_read m (state_of held ss) u k n ≡ words_read m (state_of held []) u k n
@@ -80,6 +89,15 @@ module _ (m : Map) (old now : Held) (address : ℕ) (kept cur mid : Tracer) (i :
       let next = next_read m (state_of old []) kept.user (address / 4) i in
       record { words = i; less = lt; away = omega (arith, a, one); read = omega (arith, e, next); printed = printed }
 
+  -- or the sink where its row was put
+  pub cut_there : (new : Tracer) (n : ℕ) → i < n → new.reads ≡ mid.reads → CopyCut old m kept new address n
+  cut_there new n lt is =
+      let e = all_read in
+      let f : i + 1 + (n - (i + 1)) ≡ n = omega (arith, lt) in
+      let g : words_read m (state_of old []) kept.user (address / 4) (i + 1 + (n - (i + 1))) ≡ words_read m (state_of old []) kept.user (address / 4) n = ap (words_read m (state_of old []) kept.user (address / 4)) f in
+      let le = reads_grow m (state_of old []) kept.user (address / 4) (i + 1) (n - (i + 1)) in
+      record { some = omega (arith, lt); read = omega (arith, is, e, g, le) }
+
   -- what is kept then
   pub keeps_word : (new : Tracer) (n : ℕ) → i < n → n < 4294967296 → new.user ≡ mid.user → new.steps ≤ mid.steps → new.reads ≡ mid.reads → KeepsTracer kept new
   keeps_word new n lt most user steps is =
@@ -120,3 +138,7 @@ asks_nothing old new x y is same = record { more = 0; read = omega (arith, is); 
 
 pub asks_same : (old mid new : Tracer) (x y z : Tally) → RowsAsk old mid x y → new.reads ≡ mid.reads → z ≡ y → RowsAsk old new x z
 asks_same old mid new x y z a is same = record { more = a.more; read = is ∙ a.read; calls = ap (λ (n : Tally). n.calls) same ∙ a.calls }
+
+-- so no fewer words are read after them than before
+pub asks_more : (old new : Tracer) (x y : Tally) → RowsAsk old new x y → old.reads ≤ new.reads
+asks_more old new x y a = let e = a.read in omega (arith, e)

@@ -1,6 +1,6 @@
 -- What the loop has printed of a trace: what one step adds to it, where the step or its rows fail, and how far it is at each step of the loop.
-use Rattle.std.proofs.Common.{◌≡◌, ℕ, suc, ◌+◌, ◌/◌, ◌<◌, ◌≤◌, inl, inr, Bool, true, Option, Some, None, Result, Ok, Err, List, [], ◌++◌, length, take, slice_index, refl, sym, ap, ap₂, ◌∙◌, subst, subst₂, length-append, arith}
-use Rattle.std.specs.Prelude.{IfSome, MatchResult, false}
+use Rattle.std.proofs.Common.{◌≡◌, ◌≢◌, ℕ, suc, ◌+◌, ◌/◌, ◌<◌, ◌≤◌, inl, inr, Bool, true, Option, Some, None, Result, Ok, Err, List, [], ◌++◌, length, take, slice_index, refl, sym, ap, ap₂, ◌∙◌, subst, subst₂, length-append, arith}
+use Rattle.std.specs.Prelude.{IfSome, MatchResult, false, if◌then◌else◌}
 use Rattle.std.specs.Option.{option_map}
 use Rattle.std.specs.Io.KnownBytes.{append_known}
 use Rattle.std.proofs.Math.Seq.{take-append-add, take-append_seam}
@@ -30,15 +30,16 @@ use Rattle.boot_turns.specs.Completes.{seen, SeenTorn, StepTorn}
 use Rattle.boot_turns.specs.Premises.{StartsFrom}
 use Rattle.boot_turns.specs.TurnEnds.{Prefix}
 use Rattle.boot_turns.specs.Entries.{call_ends, IsPlaced, step_entries, WordsAt, ShowsMore, HasRows, TracesGrow}
-use Rattle.boot_turns.specs.Returns.{noted_call, notes_on, returned, copy_reads, reads_before, IsCopyTo}
+use Rattle.boot_turns.specs.Returns.{noted_call, notes_on, returned, copy_reads, return_reads, reads_before, IsCopyTo}
 use Rattle.boot_turns.specs.Copies.{FollowFails}
 use Rattle.boot_turns.specs.JournalText.{steps_after, pending_steps, RowsFollow}
-use Rattle.boot_turns.specs.Tracing.{followed, followed_reads, kept_after, reads_of, ReturnTold, tracer_at, Traced, RowsTorn, RowsCut, TracedOn, TraceStops, Tracing, TraceRuns}
+use Rattle.boot_turns.specs.Tracing.{followed, followed_reads, kept_after, reads_of, ReturnTold, tracer_at, FollowCut, Traced, RowsTorn, RowsCut, TracedOn, TraceStops, Tracing, TraceRuns}
 use Rattle.boot_turns.specs.TraceSteps.{StepStops, StepTraces}
 use Rattle.boot_turns.proofs.Events.{told_as_some, step_torn}
 use Rattle.boot_turns.proofs.Opening.{seen_more}
 use Rattle.boot_turns.proofs.Reading.{reads_seen}
-use Rattle.boot_turns.proofs.Followed.{call_returned, copied_length, first_rows}
+use Rattle.boot_turns.proofs.Followed.{call_returned, call_seen, copied_length, first_rows}
+use Rattle.boot_turns.proofs.JournalRows.{nil_behind}
 
 -- THE ROWS: those of the entries d follow those of j
 module _ (f : RowsFollow) (base text : Option (List ℕ)) (j d : List JournalEntry) (is : text ≡ append_known base (open_journal_rows j)) where
@@ -50,6 +51,10 @@ module _ (f : RowsFollow) (base text : Option (List ℕ)) (j d : List JournalEnt
   rows_first retext i h =
       puts-both base text retext (open_journal_rows j) (journal_rows_after false (pending_steps j) (take i d)) is h
       ∙ ap (append_known base) (sym (f.more j (take i d)) ∙ ap (λ (l : List JournalEntry). open_journal_rows l) (sym (take-append-add j d i)))
+
+  -- and where there are some of d the rows are others
+  rows_others : journal_rows_after false (pending_steps j) d ≢ [] → open_journal_rows j ≢ open_journal_rows (j ++ d)
+  rows_others some e = some (nil_behind (open_journal_rows j) (journal_rows_after false (pending_steps j) d) (e ∙ f.more j d))
 
   -- or a part of them was put
   rows_cut : (retext : Option (List ℕ)) → AppendsPart text retext (journal_rows_after false (pending_steps j) d) →
@@ -97,10 +102,23 @@ module _ (f : RowsFollow) (x : Outside) (y : System) (s : State) (u t : ℕ) (ba
         printed = rows_first f base text w.journal entries w.printed retext i h;
       })
 
-  step_cut_rows : rests (run x s (suc t)) ≡ false → (retext : Option (List ℕ)) → AppendsPart text retext (journal_rows_after false (pending_steps w.journal) entries) → RowsCut x y s u t base retext
-  step_cut_rows busy retext part =
+  step_cut_rows : rests (run x s (suc t)) ≡ false → journal_rows_after false (pending_steps w.journal) entries ≢ [] → (n : ℕ) → reads_before x (map_of y.boot) s u t ≤ n → n ≤ reads_before x (map_of y.boot) s u (suc t) →
+      (retext : Option (List ℕ)) → AppendsPart text retext (journal_rows_after false (pending_steps w.journal) entries) → RowsCut x y s u t n base retext
+  step_cut_rows busy some n least most retext part =
       let r = rows_cut f base text w.journal entries w.printed retext part in
-      record { busy = busy; before = w.journal; after = w.journal ++ entries; shown_before = w.shown; shown_after = more.shown; rows = r.0; part = r.1; printed = r.2 }
+      record {
+        busy = busy;
+        before = w.journal;
+        after = w.journal ++ entries;
+        shown_before = w.shown;
+        shown_after = more.shown;
+        some = rows_others f base text w.journal entries w.printed some;
+        least = least;
+        most = most;
+        rows = r.0;
+        part = r.1;
+        printed = r.2;
+      }
 
   step_done_rows : (retext : Option (List ℕ)) (after : Tracer) → retext ≡ append_known text (journal_rows_after false (pending_steps w.journal) entries) →
       after ≡ tracer_of u (steps_after (pending_steps w.journal) entries) (notes_on (run x s (suc t)) (noted_call x s t)) (reads_before x (map_of y.boot) s u (suc t)) → Traced x y s u (suc t) base (Some after) retext
@@ -172,6 +190,15 @@ returned_seen : (held : Held) (ss : List (List ℕ)) (noted : Option Entered) �
 returned_seen held ss None = refl
 returned_seen held ss (Some e) = refl
 
+-- how many words of it are read, too
+return_seen : (m : Map) (held : Held) (ss : List (List ℕ)) (u : ℕ) (o : Option Entered) → return_reads m (state_of held ss) u o ≡ return_reads m (state_of held []) u o
+return_seen m held ss u None = refl
+return_seen m held ss u (Some e) = call_seen m held ss u (slice_index held.hardware.cpu.regs ANSWER) e
+
+followed_seen : (m : Map) (held : Held) (ss : List (List ℕ)) (k : Tracer) (began : Bool) → followed_reads m (state_of held ss) k began ≡ followed_reads m (state_of held []) k began
+followed_seen m held ss k began =
+    ap (λ (n : ℕ). if began then 0 else n) (ap (return_reads m (state_of held ss) k.user) (returned_seen held ss k.call) ∙ return_seen m held ss k.user (returned (state_of held []) k.call))
+
 -- and so is whether a step has rows
 rows_seen : (held : Held) (ss : List (List ℕ)) (noted : Option Entered) (began : Bool) → HasRows (state_of held []) noted began → HasRows (state_of held ss) noted began
 rows_seen held ss noted true h = h
@@ -239,6 +266,13 @@ module _ (grow : (c : CUnit) → TracesGrow (IsTypedState c)) (f : RowsFollow) (
     -- how many words are read for the rows so far
     reads_at : (b : Here) → k.reads + followed_reads m (state_of mid (told_at b).0) k began ≡ reads_before x (map_of b.y.boot) b.s b.u (suc b.t)
     reads_at b = reads_is x b.y b.s b.u b.t b.traced.journal m b.map_is k (keeps_at b) (state_of mid (told_at b).0) (told_at b).2 began (begun_at b)
+
+    -- where the sink failed they are at least those of the steps before, and at most those of this one, too
+    least_at : (b : Here) (n : ℕ) → k.reads ≤ n → reads_before x (map_of b.y.boot) b.s b.u b.t ≤ n
+    least_at b n least = let e : k.reads ≡ reads_before x (map_of b.y.boot) b.s b.u b.t = ap (λ (k : Tracer). k.reads) (keeps_at b) in omega (arith, e, least)
+
+    most_at : (b : Here) (n : ℕ) → n ≤ k.reads + followed_reads m (state_of mid []) k began → n ≤ reads_before x (map_of b.y.boot) b.s b.u (suc b.t)
+    most_at b n most = subst (λ r. n ≤ r) (ap (λ r. k.reads + r) (sym (followed_seen m mid (told_at b).0 k began)) ∙ reads_at b) most
 
     -- what is kept after the step
     kept_at : (b : Here) →
@@ -321,22 +355,30 @@ module _ (grow : (c : CUnit) → TracesGrow (IsTypedState c)) (f : RowsFollow) (
         let seen_there : HasRows (run x b.s (suc b.t)) k.call began = subst (λ z. HasRows z k.call began) (told_at b).2 (rows_seen mid (told_at b).0 k.call began h) in
         (grow b.unit x b.y b.s b.late b.held b.u b.from b.low b.high).busy b.t is_on (subst₂ (HasRows (run x b.s (suc b.t))) (call_at b) (begun_at b) seen_there)
 
+    -- the sink failed in the rows of the step
+    cut_at : (after : Tracer) (retext : Option (List ℕ)) → HasRows (state_of mid []) k.call began → FollowCut midtold mid m k after current began → k.reads ≤ after.reads → (b : Here) →
+        AppendsPart text retext (journal_rows_after false (pending_steps b.traced.journal) (step_entries x b.s b.u b.t (more_at b).words)) → RowsCut x b.y b.s b.u b.t after.reads b.base retext
+    cut_at after retext puts cut least b part =
+        let some = subst (λ (rows : List ℕ). rows ≢ []) (rows_at b) (cut.some (told_at b).0 (more_at b).words (told_at b).1 (returns_at b)) in
+        step_cut_rows f x b.y b.s b.u b.t b.base text (Some k) b.traced (more_at b) (busy_at b puts) some after.reads (least_at b after.reads least) (most_at b after.reads cut.read) retext part
+
     pub step_stops : (before : Option Tracer) (after : Tracer) (retext : Option (List ℕ)) (result : Result Stepped RunFault) (e fault : RunFault) → before ≡ Some k → result ≡ Err e → e ≡ fault → (fault ≡ StepLimit → ⊥) →
         (fault ≡ Disk → FollowFails midtold mid m k after began text retext) → (fault ≡ Sink → HasRows (state_of mid []) k.call began) →
+        (fault ≡ Sink → FollowCut midtold mid m k after current began) → k.reads ≤ after.reads →
         ((ss : List (List ℕ)) (words : List ℕ) → midtold ≡ Some ss → ReturnTold m (state_of mid ss) k.user words (returned (state_of mid ss) k.call) →
         AppendsPart text retext (journal_rows_after false k.steps (followed (state_of mid ss) k current began words))) →
         StepTraces x m held new told retold before (Some after) text retext result
-    step_stops before after retext result e fault hb hr he limit fails puts says =
-        rw (hb, hr, he) (each_step x m held new told retold (Some k) (Some after) text retext (Err fault) (λ (b : Here). by_fault b fault limit fails puts))
+    step_stops before after retext result e fault hb hr he limit fails puts cut least says =
+        rw (hb, hr, he) (each_step x m held new told retold (Some k) (Some after) text retext (Err fault) (λ (b : Here). by_fault b fault limit fails puts cut))
       where
         part : (b : Here) → AppendsPart text retext (journal_rows_after false (pending_steps b.traced.journal) (step_entries x b.s b.u b.t (more_at b).words))
         part b = subst (AppendsPart text retext) (rows_at b) (says (told_at b).0 (more_at b).words (told_at b).1 (returns_at b))
 
         by_fault : (b : Here) (fault : RunFault) → (fault ≡ StepLimit → ⊥) → (fault ≡ Disk → FollowFails midtold mid m k after began text retext) → (fault ≡ Sink → HasRows (state_of mid []) k.call began) →
-            StepStops x b.y b.s b.u b.t b.base (seen retold new) (Some after) retext fault
-        by_fault b StepLimit limit fails puts = limit refl
-        by_fault b Disk limit fails puts = torn_there after retext (fails refl) b (same ∙ seen_more x (seen told held) (seen midtold mid) (run x b.s b.t) ran b.at)
-        by_fault b Sink limit fails puts = step_cut_rows f x b.y b.s b.u b.t b.base text (Some k) b.traced (more_at b) (busy_at b (puts refl)) retext (part b)
+            (fault ≡ Sink → FollowCut midtold mid m k after current began) → StepStops x b.y b.s b.u b.t b.base (seen retold new) (Some after) retext fault
+        by_fault b StepLimit limit fails puts cut = limit refl
+        by_fault b Disk limit fails puts cut = torn_there after retext (fails refl) b (same ∙ seen_more x (seen told held) (seen midtold mid) (run x b.s b.t) ran b.at)
+        by_fault b Sink limit fails puts cut = cut_at after retext (puts refl) (cut refl) least b (part b)
 
 -- where none is printed there is nothing to be said
 pub step_untraced : (x : Outside) (m : Map) (held new : Held) (told retold : Option (List (List ℕ))) (after : Option Tracer) (text retext : Option (List ℕ)) (result : Result Stepped RunFault) → StepTraces x m held new told retold None after text retext result

@@ -1,5 +1,5 @@
 -- The rows of words that were copied to a user, as its pages show them; and what of them stands where the disk fails.
-use Rattle.std.specs.Prelude.{◌≡◌, ℕ, zero, suc, ◌+◌, ◌/◌, ◌<◌, ◌==◌, if◌then◌else◌, Bool, false, Option, List, [], ◌∷◌, ◌++◌, slice_index}
+use Rattle.std.specs.Prelude.{◌≡◌, ℕ, zero, suc, ◌+◌, ◌/◌, ◌<◌, ◌≤◌, ◌==◌, if◌then◌else◌, Bool, false, Option, List, [], ◌∷◌, ◌++◌, slice_index}
 use Rattle.std.specs.Io.KnownBytes.{append_known}
 use Rattle.mips_table.specs.Machine.{State}
 use Rattle.mips_machine.specs.Machine.{Held, state_of}
@@ -44,6 +44,11 @@ pub record CopyFails (told : Option (List (List ℕ))) (held : Held) (m : Map) (
   pub away : words_read m (state_of held []) kept.user (address / 4) words < words_read m (state_of held []) kept.user (address / 4) (suc words)
   pub read : new.reads ≡ kept.reads + words_read m (state_of held []) kept.user (address / 4) (suc words)
   pub printed : WherePaged told held m (λ a. retext ≡ append_known text (copy_rows m a kept.user kept.steps address words))
+
+-- the sink failed in the rows of so many words: there are some, and at most these were read
+pub record CopyCut (held : Held) (m : Map) (kept new : Tracer) (address n : ℕ) : Type 0 where
+  pub some : 1 ≤ n
+  pub read : new.reads ≤ kept.reads + words_read m (state_of held []) kept.user (address / 4) n
 
 -- of the words that a primitive with this answer copied to the user
 pub record CallFails (told : Option (List (List ℕ))) (held : Held) (m : Map) (kept new : Tracer) (e : Entered) (answer : ℕ) (text retext : Option (List ℕ)) :

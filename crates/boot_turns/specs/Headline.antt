@@ -1,5 +1,5 @@
 -- How a run from a start ends, what is printed of it and which sectors stand; and the headline of a boot, which is that of the loaded machine.
-use Rattle.std.specs.Prelude.{◌≡◌, ℕ, suc, ◌+◌, ◌<◌, ◌≤◌, ◌⊎◌, false, if◌then◌else◌, Some, List, [], ◌∷◌, ◌++◌, length, take}
+use Rattle.std.specs.Prelude.{◌≡◌, ◌≢◌, ℕ, suc, ◌+◌, ◌-◌, ◌<◌, ◌≤◌, ◌⊎◌, false, if◌then◌else◌, Some, List, [], ◌∷◌, ◌++◌, length, take}
 use Rattle.mips_table.specs.Device.{Outside, sector_of}
 use Rattle.mips_table.specs.Machine.{State, run}
 use Rattle.mips_table.specs.Turns.{complete, lines_of, is_end, IsEnd, end_within}
@@ -104,10 +104,9 @@ pub record EndBroken (x : Outside) (y : System) (s : State) (now : List (List �
   pub printed : Prefix rows whole text
 
 -- the sink failed in the row of a turn that dispatches: the row of the abstract run's turn number `count`, which is complete at step `end`
-pub record RowBroken (x : Outside) (y : System) (s : State) (now : List (List ℕ)) (turns steps : ℕ) (text : List ℕ) : Type 0 where
+pub record RowBroken (x : Outside) (y : System) (s : State) (now : List (List ℕ)) (turns steps end : ℕ) (text : List ℕ) : Type 0 where
   pub count : ℕ
   pub less : count < turns
-  pub end : ℕ
   pub most : end ≤ steps
   pub past : Cvm
   pub cvm : IsCvm y (lines_of x s) count past
@@ -121,48 +120,69 @@ pub record RowBroken (x : Outside) (y : System) (s : State) (now : List (List �
   pub printed : Prefix (rows_text past.rows) (rows_text after.rows) text
 
 -- which rows of a trace were put after `at` steps, as `part` stood and `whole` was to stand: its first one, before any step; those of the last of these
--- steps; or that of a kernel's fault
+-- steps, of which there are some; or that of a kernel's fault
 abbrev pub ArePut : Outside → System → State → (u at : ℕ) → (part whole : List ℕ) → Type 0
 ArePut x y s u at part whole = ((at ≡ 0) × (part ≡ []) × Printed x y s (Trace u) 0 whole)
-    ⊎ (((t : ℕ) × (at ≡ suc t) × Printed x y s (Trace u) t part × Printed x y s (Trace u) at whole)
+    ⊎ (((t : ℕ) × (at ≡ suc t) × Printed x y s (Trace u) t part × Printed x y s (Trace u) at whole × (part ≢ whole))
     ⊎ (Printed x y s (Trace u) at part × Whole x y s (Trace u) at whole × ((power : ℕ) × ((run x s at).off ≡ Some (suc power)))))
 
--- the sink failed in rows of a trace that were put after `at` steps, before which the run hadn't ended; the sectors are those of the machine
-pub record TraceBroken (x : Outside) (y : System) (s : State) (now : List (List ℕ)) (u turns steps : ℕ) (text : List ℕ) : Type 0 where
-  pub at : ℕ
+-- in rows that were put after `at` steps n words were read from the disk in all: those for the rows of each step before the last, and of its own at most all
+pub record ReadWithin (x : Outside) (y : System) (s : State) (v : View) (at n : ℕ) : Type 0 where
+  pub least : rows_read x y s v (at - 1) ≤ n
+  pub most : n ≤ rows_read x y s v at
+
+-- the sink failed in rows of a trace that were put after `at` steps, before which the run hadn't ended, once n words were read for rows; the sectors are
+-- those of the machine
+pub record TraceBroken (x : Outside) (y : System) (s : State) (now : List (List ℕ)) (u turns steps at n : ℕ) (text : List ℕ) : Type 0 where
   pub most : at ≤ steps
   pub goes_on : (j : ℕ) → j < at → is_end x s turns j ≡ false
   pub sectors : now ≡ (run x s at).device.sectors
+  pub read : ReadWithin x y s (Trace u) at n
   pub part : List ℕ
   pub whole : List ℕ
   pub are_put : ArePut x y s u at part whole
   pub printed : Prefix part whole text
+
+-- the sink failed in rows of a turn, which were put after `at` steps, once n words were read for rows: of a boot none
+abbrev pub TurnPutFails : Outside → System → State → (now : List (List ℕ)) → View → (turns steps at n : ℕ) → List ℕ → Type 0
+TurnPutFails x y s now Boot turns steps at n text = RowBroken x y s now turns steps at text × (n ≡ 0)
+TurnPutFails x y s now (Trace u) turns steps at n text = TraceBroken x y s now u turns steps at n text
 
 -- what was printed of a trace is a prefix of what it prints with no failed call
 abbrev pub IsBegun : Outside → System → State → (held : ℕ) → (old : List (List ℕ)) → (u turns steps : ℕ) → List ℕ → Type 0
 IsBegun x y s held old u turns steps text =
     (e : Ending) × (clean : List (List ℕ)) × (whole : List ℕ) × RanFrom x y s held old clean (Trace u) turns steps e whole × Prefix [] whole text
 
--- the sink failed in rows of a turn, or in the end row or the report
-abbrev pub SinkBroken : Outside → System → State → (held : ℕ) → (old now : List (List ℕ)) → View → (turns steps : ℕ) → List ℕ → Type 0
-SinkBroken x y s held old now Boot turns steps text =
-    RowBroken x y s now turns steps text ⊎ EndBroken x y s now Boot turns steps (Printed x y s Boot (end_within x s turns steps)) text
-SinkBroken x y s held old now (Trace u) turns steps text = IsBegun x y s held old u turns steps text × (TraceBroken x y s now u turns steps text
-    ⊎ EndBroken x y s now (Trace u) turns steps (Printed x y s (Trace u) (end_within x s turns steps)) text)
-
 -- the calls of a disk that failed in the report, behind the run's step `at`: one at least beside those of the machine's commands and of the rows
 abbrev pub ReportCalls : Outside → System → State → View → (at : ℕ) → (calls : ℕ → State → Type 0) → Type 0
 ReportCalls x y s v at calls = (n : ℕ) × calls (rows_read x y s v at + suc n) (run x s at)
 
+-- and of one that didn't, where the sink failed in the end row or the report
+abbrev pub EndCalls : Outside → System → State → View → (at : ℕ) → (calls : ℕ → State → Type 0) → Type 0
+EndCalls x y s v at calls = (n : ℕ) × calls (rows_read x y s v at + n) (run x s at)
+
+-- the sink failed in rows of a turn, or in the end row or the report; and how often the disk had been called by then
+abbrev pub SinkFails : Outside → System → State → (now : List (List ℕ)) → View → (turns steps : ℕ) → (calls : ℕ → State → Type 0) → List ℕ → Type 0
+SinkFails x y s now v turns steps calls text = ((at n : ℕ) × TurnPutFails x y s now v turns steps at n text × calls n (run x s at))
+    ⊎ (EndBroken x y s now v turns steps (Printed x y s v (end_within x s turns steps)) text × EndCalls x y s v (end_within x s turns steps) calls)
+
+-- of a trace what was printed is a prefix of all that is
+abbrev pub SinkBroken : Outside → System → State → (held : ℕ) → (old now : List (List ℕ)) → View → (turns steps : ℕ) → (calls : ℕ → State → Type 0) →
+    List ℕ → Type 0
+SinkBroken x y s held old now Boot turns steps calls text = SinkFails x y s now Boot turns steps calls text
+SinkBroken x y s held old now (Trace u) turns steps calls text =
+    IsBegun x y s held old u turns steps text × SinkFails x y s now (Trace u) turns steps calls text
+
 -- HOW A LOADED RUN ENDS. `calls n z` says that a disk's calls, up to the first that failed, fit the state z: one for each transfer up to it, and n for
 -- rows. Where the disk failed in a step they fit the state behind that step, so over a disk with no fault before rows which come a turn late don't pass
--- for those of an earlier call; and where it failed in the report, they fit the end of the run, with one at least for the report.
+-- for those of an earlier call; and where it failed in the report, they fit the end of the run, with one at least for the report. Where the sink failed
+-- they fit the step after which its rows were put, so rows that were held back over a transfer don't pass, either.
 abbrev pub RunEndsFrom : Outside → System → State → (held : ℕ) → (old now : List (List ℕ)) → View → (turns steps : ℕ) → (calls : ℕ → State → Type 0) →
     List ℕ → Ending → Type 0
 RunEndsFrom x y s held old now v turns steps calls text DiskFault = Beyond held old now
     × (((made n : ℕ) × StepBroken x y s now v turns steps made n text × calls n (run x s made))
     ⊎ (EndBroken x y s now v turns steps (RowsAt x y s v (end_within x s turns steps)) text × ReportCalls x y s v (end_within x s turns steps) calls))
-RunEndsFrom x y s held old now v turns steps calls text SinkFault = Beyond held old now × SinkBroken x y s held old now v turns steps text
+RunEndsFrom x y s held old now v turns steps calls text SinkFault = Beyond held old now × SinkBroken x y s held old now v turns steps calls text
 RunEndsFrom x y s held old now v turns steps calls text NoMemory = (text ≡ []) × (now ≡ old)
 RunEndsFrom x y s held old now v turns steps calls text e = RanFrom x y s held old now v turns steps e text
 

@@ -22,7 +22,7 @@ abbrev pub StepStops : Outside → System → State → (u t : ℕ) → (base : 
     (text : Option (List ℕ)) → RunFault → Type 0
 StepStops x y s u t base now kept text StepLimit = ⊥
 StepStops x y s u t base now kept text Disk = RowsTorn x y s u t (reads_of kept) base now text
-StepStops x y s u t base now kept text Sink = RowsCut x y s u t base text
+StepStops x y s u t base now kept text Sink = RowsCut x y s u t (reads_of kept) base text
 
 -- ONE STEP OF A TRACE: for every run from a start that stands there, of one of its users
 abbrev pub StepTraces : Outside → Map → (held new : Held) → (told retold : Option (List (List ℕ))) → (before after : Option Tracer) →

@@ -1,5 +1,5 @@
 -- What a trace has printed, and what is kept of it, while the machine steps.
-use Rattle.std.specs.Prelude.{◌≡◌, ℕ, suc, ◌+◌, ◌*◌, ◌<◌, ◌≤◌, ◌⊎◌, ◌==◌, Bool, false, if◌then◌else◌}
+use Rattle.std.specs.Prelude.{◌≡◌, ◌≢◌, ℕ, suc, ◌+◌, ◌*◌, ◌<◌, ◌≤◌, ◌⊎◌, ◌==◌, Bool, false, if◌then◌else◌}
 use Rattle.std.specs.Prelude.{Option, Some, None, List, [], length, take, slice_index, Result, MatchResult, OnOk}
 use Rattle.std.specs.Io.KnownBytes.{append_known}
 use Rattle.mips_table.specs.Device.{Outside}
@@ -114,6 +114,16 @@ abbrev pub EndedKeeps : {T E : Type 0} → (told : Option (List (List ℕ))) →
 EndedKeeps told held m kept new e answer result = WhereCopied told held m kept e answer
     (λ words. OnOk result (new ≡ ended_kept m (state_of held []) kept e answer words))
 
+-- the sink failed in the rows of what follows: there are some, and at most all of their words were read
+pub record FollowCut (told : Option (List (List ℕ))) (held : Held) (m : Map) (kept new : Tracer) (current : ℕ) (began : Bool) : Type 0 where
+  pub some : WhereTold told held m kept (λ s words. followed_rows s kept current began words ≢ [])
+  pub read : new.reads ≤ kept.reads + followed_reads m (state_of held []) kept began
+
+-- and in those of a primitive that has given this answer
+pub record EndCut (told : Option (List (List ℕ))) (held : Held) (m : Map) (kept new : Tracer) (e : Entered) (answer : ℕ) : Type 0 where
+  pub some : WhereCopied told held m kept e answer (λ words. ended_rows kept e answer words ≢ [])
+  pub read : new.reads ≤ kept.reads + call_reads m (state_of held []) kept.user e answer
+
 -- what is kept at step t, where j is shown
 abbrev pub tracer_at : Outside → System → State → (u t : ℕ) → List JournalEntry → Tracer
 tracer_at x y s u t j = record { user = u; steps = pending_steps j; call = noted_call x s t; reads = reads_before x (map_of y.boot) s u t }
@@ -152,13 +162,17 @@ pub record RowsTear (x : Outside) (y : System) (s : State) (u at n : ℕ) (base 
 abbrev pub RowsTorn : Outside → System → State → (u at n : ℕ) → (base : Option (List ℕ)) → (now : Option State) → (text : Option (List ℕ)) → Type 0
 RowsTorn x y s u at n base now text = StepTears x y s u at n base now text ⊎ RowsTear x y s u at n base now text
 
--- the sink failed in the rows of step number `at`, which completes no turn: those of what was shown before it stand
-pub record RowsCut (x : Outside) (y : System) (s : State) (u at : ℕ) (base text : Option (List ℕ)) : Type 0 where
+-- the sink failed in the rows of step number `at`, which completes no turn and has some: those of what was shown before it stand, and n words had been
+-- read for rows, of its own at most all
+pub record RowsCut (x : Outside) (y : System) (s : State) (u at n : ℕ) (base text : Option (List ℕ)) : Type 0 where
   pub busy : rests (run x s (suc at)) ≡ false
   pub before : List JournalEntry
   pub after : List JournalEntry
   pub shown_before : Shown x s y u at before
   pub shown_after : Shown x s y u (suc at) after
+  pub some : open_journal_rows before ≢ open_journal_rows after
+  pub least : reads_before x (map_of y.boot) s u at ≤ n
+  pub most : n ≤ reads_before x (map_of y.boot) s u (suc at)
   pub rows : List ℕ
   pub part : Prefix (open_journal_rows before) (open_journal_rows after) rows
   pub printed : text ≡ append_known base rows
@@ -183,7 +197,7 @@ TraceStops x y s u t base now before after kept text StepLimit = TracedOn x y s 
 TraceStops x y s u t base now before after kept text Disk = (at : ℕ) × (t ≤ at) × (after + suc at ≡ before + t)
     × RowsTorn x y s u at (reads_of kept) base now text
 TraceStops x y s u t base now before after kept text Sink = (at : ℕ) × (t ≤ at) × (after + suc at ≡ before + t) × (now ≡ Some (run x s (suc at)))
-    × RowsCut x y s u at base text
+    × RowsCut x y s u at (reads_of kept) base text
 
 -- what is kept of a trace, the sink's text, and the budget, before and after
 pub record Tracing : Type 0 where

@@ -7,7 +7,7 @@ ghost use Rattle.boot_turns.specs.Entries.{HasRows};
 ghost use Rattle.boot_turns.specs.Returns.{notes_on, returned};
 ghost use Rattle.boot_turns.specs.Copies.{CallFails, FollowFails};
 ghost use Rattle.boot_turns.specs.Steps.{KeepsTracer, RowsAsk, RowsLeave};
-ghost use Rattle.boot_turns.specs.Tracing.{CanTrace, counted, ForEnded, EndedKeeps, ForFollowed, FollowedKeeps};
+ghost use Rattle.boot_turns.specs.Tracing.{CanTrace, counted, EndCut, EndedKeeps, FollowCut, ForEnded, ForFollowed, FollowedKeeps};
 ghost use Rattle.boot_report.specs.Leaves.{PrintsAll};
 
 use crate::answers::RunFault;
@@ -76,6 +76,7 @@ impl Tracer {
         ensures steps { EndedKeeps (D.sectors disk.old) machine.old map.now self.old self.new call.now answer result }
         ensures fails { result ≡ Err RunFault.Disk → CallFails (D.sectors disk.old) machine.old map.now self.old self.new call.now answer
             (O.text out.old) (O.text out.new) }
+        ensures cut { result ≡ Err RunFault.Sink → EndCut (D.sectors disk.old) machine.old map.now self.old self.new call.now answer }
         ensures keeps { KeepsTracer self.old self.new }
         ensures read { RowsLeave machine.old machine.new D.sectors D.size D.faults disk.old disk.new O.faults out.old out.new result }
         ensures asks { RowsAsk self.old self.new (tally D.faults D.calls disk.old) (tally D.faults D.calls disk.new) }
@@ -108,6 +109,7 @@ impl Tracer {
         ensures steps { EndedKeeps (D.sectors disk.old) machine.old map.now self.old self.new call.now answer result }
         ensures fails { result ≡ Err RunFault.Disk → CallFails (D.sectors disk.old) machine.old map.now self.old self.new call.now answer
             (O.text out.old) (O.text out.new) }
+        ensures cut { result ≡ Err RunFault.Sink → EndCut (D.sectors disk.old) machine.old map.now self.old self.new call.now answer }
         ensures keeps { KeepsTracer self.old self.new }
         ensures read { RowsLeave machine.old machine.new D.sectors D.size D.faults disk.old disk.new O.faults out.old out.new result }
         ensures asks { RowsAsk self.old self.new (tally D.faults D.calls disk.old) (tally D.faults D.calls disk.new) }
@@ -159,6 +161,7 @@ impl Tracer {
         ensures puts { result ≡ Err RunFault.Sink → HasRows (state_of machine.old []) self.old.call began }
         ensures fails { result ≡ Err RunFault.Disk → FollowFails (D.sectors disk.old) machine.old map.now self.old self.new began
             (O.text out.old) (O.text out.new) }
+        ensures cut { result ≡ Err RunFault.Sink → FollowCut (D.sectors disk.old) machine.old map.now self.old self.new current began }
         ensures can { CanTrace map.now (length machine.new.hardware.memory) machine.new.time (D.size disk.new) self.new }
         ensures user { self.new.user ≡ self.old.user }
         ensures read { RowsLeave machine.old machine.new D.sectors D.size D.faults disk.old disk.new O.faults out.old out.new result }

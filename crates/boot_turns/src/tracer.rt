@@ -1,11 +1,11 @@
 // What a trace keeps between two steps, and the rows that it prints.
-ghost use Rattle.std.specs.Prelude.{◌≡◌, ◌*◌, ◌/◌, ◌≤◌, length, Err, ◌+◌, ◌-◌, ◌<◌, ◌^◌, ◌++◌, [], OnOk, OnErr, true};
+ghost use Rattle.std.specs.Prelude.{◌≡◌, ◌≢◌, ◌*◌, ◌/◌, ◌≤◌, length, Err, ◌+◌, ◌-◌, ◌<◌, ◌^◌, ◌++◌, [], OnOk, OnErr, true};
 ghost use Rattle.cvm_outside.specs.Numbering.{tally};
 ghost use Rattle.mips_machine.specs.Machine.{state_of};
 ghost use Rattle.cvm_model.specs.Text.{steps_row as steps_text};
 ghost use Rattle.boot_turns.specs.Entries.{turn_begins, call_ends, IsNoCopy};
 ghost use Rattle.boot_turns.specs.Returns.{noted_at};
-ghost use Rattle.boot_turns.specs.Copies.{copied_kept, CopyFails, ForCopied};
+ghost use Rattle.boot_turns.specs.Copies.{copied_kept, CopyCut, CopyFails, ForCopied};
 ghost use Rattle.boot_turns.specs.JournalText.{steps_after};
 ghost use Rattle.boot_turns.specs.Steps.{KeepsTracer, RowsAsk, RowsLeave};
 ghost use Rattle.boot_turns.specs.Tracing.{CanTrace, begun_rows, ended_rows};
@@ -94,6 +94,7 @@ impl Tracer {
         ensures put { Puts O.text O.faults out.old out.new (begun_rows self.old current begun.now) result }
         ensures steps { OnOk result (self.new ≡ record self.old { steps = steps_after self.old.steps (turn_begins self.old.user current begun.now) }) }
         ensures puts { OnErr result (begun.now.dispatched ≡ true) }
+        ensures some { OnErr result (begun_rows self.old current begun.now ≢ []) }
         ensures user { self.new.user ≡ self.old.user }
         ensures reads { self.new.reads ≡ self.old.reads }
         ensures few { self.new.steps ≤ self.old.steps + 1 }
@@ -141,6 +142,7 @@ impl Tracer {
     ) -> Result<(), SinkFault>
         requires no_copy { IsNoCopy call.now }
         ensures put { Puts O.text O.faults out.old out.new (ended_rows self.old call.now answer []) result }
+        ensures some { OnErr result (ended_rows self.old call.now answer [] ≢ []) }
         ensures steps { OnOk result (self.new ≡ record self.old { steps = steps_after self.old.steps (call_ends self.old.user call.now answer []) }) }
         ensures keeps { KeepsTracer self.old self.new }
         ensures reads { self.new.reads ≡ self.old.reads }
@@ -184,6 +186,7 @@ impl Tracer {
         ensures asks { RowsAsk self.old self.new (tally D.faults D.calls disk.old) (tally D.faults D.calls disk.new) }
         ensures fails { result ≡ Err RunFault.Disk → CopyFails (D.sectors disk.old) machine.old map.now self.old self.new address count
             (O.text out.old) (O.text out.new) }
+        ensures cut { result ≡ Err RunFault.Sink → CopyCut machine.old map.now self.old self.new address count }
     {
         // so the words that are read can be counted in as many bits
         prove!(self.reads <= 4294967296 * u128::from(machine.steps()));

@@ -9,6 +9,7 @@ use Rattle.boot_turns.specs.Completes.{seen, KeptUser, StepTorn, StepFails, Port
 use Rattle.boot_turns.specs.Tracing.{reads_of}
 use Rattle.boot_turns.proofs.CallCounts.{step_alone, step_rows}
 use Rattle.boot_turns.proofs.Counted.{step_counted, counted_reads}
+use Rattle.boot_turns.proofs.Reading.{asks_more}
 use Rattle.std.proofs.lemmas.Result.{err_from_is_err_and}
 use Rattle.mips_machine.specs.Steps.{outside_of}
 use Rattle.boot_turns.specs.declared.tracer.Tracer.{Tracer}
@@ -69,7 +70,7 @@ returns-in_err-follow-clause-traced g c =
     c.in_ok-stepped.ensures.ran c.current_user-current.result c.current_user-current.ensures c.began-began.result (began g (goal.at.returns-in_err-follow-clause-traced g c).In-Some)
     c.args.tracer.now c.follow.new.self (g.O.Sink.text c.follow.new.out) c.from_residual-in_err-follow.result w.0 c.in_err-follow.field-0.0 (here g (goal.at.returns-in_err-follow-clause-traced g c).In-Some) w.1 w.2
     (λ e. c.in_err-follow.ensures.read.no_limit (ap (λ f. Err f) e)) (λ e. c.in_err-follow.ensures.fails (ap (λ f. Err f) e))
-    (λ e. c.in_err-follow.ensures.puts (ap (λ f. Err f) e)) (λ ss words e told. (c.in_err-follow.ensures.put ss words e told).err)
+    (λ e. c.in_err-follow.ensures.puts (ap (λ f. Err f) e)) (λ e. c.in_err-follow.ensures.cut (ap (λ f. Err f) e)) (asks_more c.in-Some.kept c.follow.new.self (tally g.D.Sectors.faults g.D.Sectors.calls c.step_once.new.disk) (tally g.D.Sectors.faults g.D.Sectors.calls c.follow.new.disk) c.in_err-follow.ensures.asks) (λ ss words e told. (c.in_err-follow.ensures.put ss words e told).err)
 
 pub returns-in-Some-clause-traced : goal.returns-in-Some-clause-traced
 returns-in-Some-clause-traced g c =

@@ -4,7 +4,7 @@ use Rattle.std.specs.Prelude.{OnOk}
 use Rattle.mips_machine.specs.Machine.{state_of}
 use Rattle.boot_report.specs.Leaves.{PrintsAll}
 use Rattle.boot_turns.specs.declared.tracer.Tracer.{Tracer}
-use Rattle.boot_turns.proofs.Followed.{copied_rows, copied_then}
+use Rattle.boot_turns.proofs.Followed.{copied_rows, copied_then, copied_cut}
 use Rattle.boot_turns.proofs.tracer.Tracer.end_copy.Goals as goal
 
 pub returns-clause-put : goal.returns-clause-put
@@ -24,3 +24,7 @@ returns-clause-fails g c = λ e.
     let f = c.put_words.ensures.fails e in
     let less = f.less in
     record { copy = record { copies = c.requires.copy; user = c.if-user-self.false; done = c.if-answer-ne1.false; some = omega (arith, less) }; fails = f }
+
+pub returns-clause-cut : goal.returns-clause-cut
+returns-clause-cut g c = λ e.
+    copied_cut (g.D.Sectors.sectors c.args.disk.now) c.args.map.now c.args.machine.now c.args.self.now c.put_words.new.self c.args.answer c.args.call.now c.if-answer-ne1.false c.if-user-self.false c.requires.copy (c.put_words.ensures.cut e)

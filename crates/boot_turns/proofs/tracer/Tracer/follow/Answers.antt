@@ -1,5 +1,5 @@
 -- What a step adds is what its branch prints: a turn of the user, a turn of another, a primitive that returned, or nothing.
-use Rattle.std.proofs.Common.{◌≡◌, ℕ, List, [], Bool, true, false, Option, Some, Err, slice_index, refl, sym, ap, ap₂, ◌∙◌, subst}
+use Rattle.std.proofs.Common.{◌≡◌, ◌≢◌, ℕ, List, [], Bool, true, false, Option, Some, Err, slice_index, refl, sym, ap, ap₂, ◌∙◌, subst, arith}
 use Rattle.std.specs.Prelude.{IsSome}
 use Rattle.std.specs.Io.KnownBytes.{append_known}
 use Rattle.cvm_outside.proofs.Parts.{append_known-nil}
@@ -17,9 +17,9 @@ use Rattle.boot_turns.specs.Completes.{shown}
 use Rattle.boot_turns.specs.declared.completion.Begun.{Begun}
 use Rattle.std.proofs.lemmas.Result.{err_from_is_err_and}
 use Rattle.boot_report.proofs.Leaves.{broken, printed}
-use Rattle.boot_turns.specs.Tracing.{followed_rows}
+use Rattle.boot_turns.specs.Tracing.{begun_rows, followed_rows, EndCut, FollowCut}
 use Rattle.boot_turns.proofs.Reading.{asks_nothing, asks_same}
-use Rattle.boot_turns.proofs.Followed.{own_turn, other_turn, none_returned, begun_reads, free_reads, call_seen, rows_put, kept_then, call_put, call_begun, call_kept}
+use Rattle.boot_turns.proofs.Followed.{own_turn, other_turn, none_returned, begun_reads, free_reads, returned_reads, call_seen, rows_some, rows_put, kept_then, call_some, call_put, call_begun, call_kept}
 use Rattle.boot_turns.proofs.tracer.Tracer.follow.Goals.{then-began+then-current-self+else-prove+in_ok-begin, then-began+else-current-self, else-began+in-Some+in_ok-end, else-began+in_default}
 use Rattle.boot_turns.proofs.tracer.Tracer.follow.Goals as goal
 
@@ -38,15 +38,43 @@ call_fails told a m kept new began o e answer text retext none is some reads f =
     record { goes_on = none; ends = record { call = e; returns = sym is ∙ some; copy = subst (IsCopyTo kept.user e) reads f.copy }; fails = f.fails }
 
 -- a turn that begins with rows is a dispatch
-begun_rows : (a : Held) (noted : Option Entered) (b : Begun) (began : Bool) → began ≡ true → b ≡ shown a → b.dispatched ≡ true → HasRows (state_of a []) noted began
-begun_rows a noted b began is same d = rw is (ap (λ (n : Begun). n.dispatched) (sym same) ∙ d)
+rows_begun : (a : Held) (noted : Option Entered) (b : Begun) (began : Bool) → began ≡ true → b ≡ shown a → b.dispatched ≡ true → HasRows (state_of a []) noted began
+rows_begun a noted b began is same d = rw is (ap (λ (n : Begun). n.dispatched) (sym same) ∙ d)
 
 -- and else a primitive has returned
 returned_rows : (a : Held) (noted o : Option Entered) (e : Entered) (began : Bool) → began ≡ false → o ≡ returned (state_of a []) noted → o ≡ Some e → HasRows (state_of a []) noted began
 returned_rows a noted o e began is same some = rw is (subst IsSome (sym some ∙ same) refl)
 
+-- where the sink failed in the rows of a turn that begins, it did in those of the step
+begin_cut : (told : Option (List (List ℕ))) (a : Held) (m : Map) (kept new : Tracer) (current : ℕ) (began : Bool) (b : Begun) → began ≡ true → b ≡ shown a → begun_rows kept current b ≢ [] → new.reads ≡ kept.reads →
+    FollowCut told a m kept new current began
+begin_cut told a m kept new current began b is same some read = record {
+  some = λ ss words e t.
+      let s : State = state_of a ss in
+      rows_some s kept current began words (turn_begins kept.user current b) (own_turn s kept current began words b is same) some;
+  read = omega (arith, read);
+}
+
+-- and where it failed in those of a primitive that returned
+call_cut : (told : Option (List (List ℕ))) (a : Held) (m : Map) (kept new : Tracer) (current : ℕ) (began : Bool) (o : Option Entered) (e : Entered) (answer : ℕ) → began ≡ false → o ≡ returned (state_of a []) kept.call → o ≡ Some e →
+    answer ≡ slice_index a.hardware.cpu.regs 2 → EndCut told a m kept new e answer → FollowCut told a m kept new current began
+call_cut told a m kept new current began o e answer none is some reads cut = record {
+  some = λ ss words h t. call_some (state_of a ss) kept current began words m o e answer none is some reads t (cut.some ss words h);
+  read = let r = returned_reads (state_of a []) kept current began [] m o e answer none is some reads in let most = cut.read in omega (arith, r, most);
+}
+
+pub returns-in_err-begin-clause-cut : goal.returns-in_err-begin-clause-cut
+returns-in_err-begin-clause-cut g c = λ e.
+    begin_cut (g.D.Sectors.sectors c.args.disk.now) c.args.machine.now c.args.map.now c.args.self.now c.begin.new.self c.args.current c.args.began c.begun_now.result c.if-began.true c.begun_now.ensures c.in_err-begin.ensures.some c.in_err-begin.ensures.reads
+
+pub returns-in_err-end-clause-cut : goal.returns-in_err-end-clause-cut
+returns-in_err-end-clause-cut g c = λ e.
+    let w = err_from_is_err_and c.from_residual-in_err-end.result c.from_residual-in_err-end.ensures.1 in
+    call_cut (g.D.Sectors.sectors c.args.disk.now) c.args.machine.now c.args.map.now c.args.self.now c.end.new.self c.args.current c.args.began c.returned_call.result c.in-Some.call c.reg.result
+    c.if-began.false c.returned_call.ensures c.in-Some.is c.reg.ensures (c.in_err-end.ensures.cut (sym (ap (λ f. Err f) w.2) ∙ sym w.1 ∙ e))
+
 pub returns-in_err-begin-clause-puts : goal.returns-in_err-begin-clause-puts
-returns-in_err-begin-clause-puts g c = λ e. begun_rows c.args.machine.now c.args.self.now.call c.begun_now.result c.args.began c.if-began.true c.begun_now.ensures c.in_err-begin.ensures.puts
+returns-in_err-begin-clause-puts g c = λ e. rows_begun c.args.machine.now c.args.self.now.call c.begun_now.result c.args.began c.if-began.true c.begun_now.ensures c.in_err-begin.ensures.puts
 
 pub returns-in_err-end-clause-puts : goal.returns-in_err-end-clause-puts
 returns-in_err-end-clause-puts g c = λ e. returned_rows c.args.machine.now c.args.self.now.call c.returned_call.result c.in-Some.call c.args.began c.if-began.false c.returned_call.ensures c.in-Some.is
@@ -116,6 +144,11 @@ returns-clause-kept g c = λ ss words e told.
           (noted_there c.args.machine.now c.if-began.machine ss kept.call c.if-began.self.call w.machine-is (ap (λ (t : Tracer). t.call) w.self-is))
           )
     ]
+
+pub returns-in_err-begin-clause-asks : goal.returns-in_err-begin-clause-asks
+returns-in_err-begin-clause-asks g c =
+    let n = tally g.D.Sectors.faults g.D.Sectors.calls c.args.disk.now in
+    asks_nothing c.args.self.now c.begin.new.self n n c.in_err-begin.ensures.reads refl
 
 pub returns-clause-asks : goal.returns-clause-asks
 returns-clause-asks g c =

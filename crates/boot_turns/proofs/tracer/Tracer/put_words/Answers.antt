@@ -8,8 +8,8 @@ use Rattle.boot_report.specs.Resident.{word_reads}
 use Rattle.boot_report.proofs.Leaves.{broken, printed, views_twice}
 use Rattle.boot_turns.specs.declared.tracer.Tracer.{Tracer}
 use Rattle.boot_turns.specs.Copies.{copy_rows, copied_kept, steps_left}
-use Rattle.boot_turns.proofs.CallCounts.{sink_alone}
-use Rattle.boot_turns.proofs.Reading.{few_read, none_read, read_then, fails_there, keeps_word, keeps_all, calls_word, asks_word}
+use Rattle.boot_turns.proofs.CallCounts.{sink_alone, disk_alone}
+use Rattle.boot_turns.proofs.Reading.{few_read, none_read, read_then, fails_there, cut_there, keeps_word, keeps_all, calls_word, asks_word}
 use Rattle.boot_turns.proofs.Copying.{one_put, part_put, stop_put, none_put, put_tracer, fits_then, row_read}
 use Rattle.boot_turns.proofs.tracer.Tracer.put_words.Given.{Over}
 use Rattle.boot_turns.proofs.tracer.Tracer.put_words.Goals.{After-read_user_word, then-not-is_word_resident, else-not-is_word_resident}
@@ -127,3 +127,10 @@ returns-in_err-put-clause-keeps g c =
 
 pub returns-in_err-put-clause-asks : goal.returns-in_err-put-clause-asks
 returns-in_err-put-clause-asks g c = asks_word c.args.map.now c.args.machine.now c.loop-i.machine c.args.address c.args.self.now c.loop-i.self c.if-not-is_word_resident.self c.loop-i.i c.loop-i.invariant.view.same c.loop-i.invariant.self (word_counted g (goal.at.returns-in_err-put-clause-asks g c).After-read_user_word) _ (tally g.D.Sectors.faults g.D.Sectors.calls c.args.disk.now) (tally g.D.Sectors.faults g.D.Sectors.calls c.loop-i.disk) (tally g.D.Sectors.faults g.D.Sectors.calls c.read_user_word.new.disk) c.loop-i.invariant.disk_faults c.loop-i.invariant.calls c.in_ok-word.ensures.asks c.put.new.self c.in_err-put.ensures.reads
+
+pub returns-in_err-word-clause-cut : goal.returns-in_err-word-clause-cut
+returns-in_err-word-clause-cut g c = λ e. let h = err_from_is_err_and c.from_residual.result c.from_residual.ensures.1 in absurd (disk_alone _ h.0 h.1 h.2 e)
+
+pub returns-in_err-put-clause-cut : goal.returns-in_err-put-clause-cut
+returns-in_err-put-clause-cut g c = λ e.
+    cut_there c.args.map.now c.args.machine.now c.loop-i.machine c.args.address c.args.self.now c.loop-i.self c.if-not-is_word_resident.self c.loop-i.i c.loop-i.invariant.view.same c.loop-i.invariant.self (word_counted g (goal.at.returns-in_err-put-clause-cut g c).After-read_user_word) c.put.new.self c.args.count c.loop-i-test.true c.in_err-put.ensures.reads

@@ -1,0 +1,9 @@
+use Rattle.std.proofs.Common.{refl}
+use Rattle.cvm_outside.specs.Numbering.{tally}
+use Rattle.boot_turns.proofs.Reading.{asks_nothing}
+use Rattle.boot_turns.proofs.tracer.Tracer.end.Goals as goal
+
+pub returns-in_err-end_call-clause-asks : goal.returns-in_err-end_call-clause-asks
+returns-in_err-end_call-clause-asks g c =
+    let n = tally g.D.Sectors.faults g.D.Sectors.calls c.args.disk.now in
+    asks_nothing c.args.self.now c.end_call.new.self n n c.in_err-end_call.ensures.reads refl
