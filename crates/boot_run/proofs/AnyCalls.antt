@@ -1,6 +1,7 @@
 -- What calls of a run come to on any run of the machine: turns, and the loop over them.
-use Rattle.std.proofs.Common.{◌≡◌, ◌≢◌, ℕ, suc, ◌+◌, ◌≤◌, ◌==◌, Bool, true, false, Option, Some, None, List, Result, Ok, Err, refl, sym, ap, ◌∙◌, subst, arith}
+use Rattle.std.proofs.Common.{◌≡◌, ◌≢◌, ℕ, suc, ◌+◌, ◌<◌, ◌≤◌, ◌==◌, Bool, true, false, Option, Some, None, List, Result, Ok, Err, refl, sym, ap, ◌∙◌, subst, ⊎_elim, arith}
 use Rattle.std.specs.Prelude.{IsSome, is_some, if◌then◌else◌, slice_index, MatchResult}
+use Rattle.std.proofs.lemmas.Bool.{cases_lt}
 use Rattle.mips_table.specs.Device.{Outside}
 use Rattle.mips_table.specs.Machine.{State, run}
 use Rattle.schedule_file.specs.Rows.{Rows}
@@ -27,6 +28,13 @@ use Rattle.boot_run.proofs.Turned.{seen_parts}
 -- fewer turns at an earlier step
 pub sooner_than : (x : Outside) (s : State) (k m t : ℕ) → k ≤ m → NoSooner x s k t → NoSooner x s m t
 sooner_than x s k m t le n = record { before = λ j l. let b = n.before j l in omega (arith, b, le); on = n.on }
+
+-- more turns are complete no earlier
+no_earlier : (x : Outside) (s : State) (k t i u : ℕ) → ComesTo x s k t → ComesTo x s (k + i) u → t ≤ u
+no_earlier x s k t i u c d = ⊎_elim
+    (λ (lt : u < t). let less = c.sooner.before u lt in let all = (d.here (c.sooner.on u lt)).1 in absurd (omega (arith, less, all)))
+    (λ (ge : t ≤ u). ge)
+    (cases_lt u t)
 
 -- how a run ended doesn't hang on the current user
 ended_any : (off : Option ℕ) (current : ℕ) → end_of_next (next_shown off current) ≡ ended_off off
@@ -62,7 +70,7 @@ traced_by (Some kept) = refl
 module _ {L : Type 0} (r new : Kept L) (views : Views r) (count most : ℕ) (told retold : Option (List (List ℕ))) (budget left : ℕ) (text mid late retext : Option (List ℕ)) where
   -- the first row couldn't be printed
   pub any_cut_before : AnyTurnsRun count r most (around r told budget text) (around r told budget retext) (Err Sink)
-  any_cut_before = λ s k t c on is none. (t, sooner_than (outside_of r.machine.rows count) s k (k + most) t (omega arith) c.sooner, is, refl)
+  any_cut_before = λ s k t c on is none. (t, omega arith, sooner_than (outside_of r.machine.rows count) s k (k + most) t (omega arith) c.sooner, is, refl)
 
   -- the turns were broken off
   pub any_broke_off : (f : RunFault) → Moved count r new most told retold mid late budget left (Err f) → AnyTurnsRun count r most (around r told budget text) (around new retold left retext) (Err f)
@@ -92,7 +100,7 @@ module _ {L : Type 0} (r new : Kept L) (views : Views r) (count most : ℕ) (tol
     pub any_cut_after : made ≤ most → AnyTurnsRun count r most (around r told budget text) (around new retold left retext) (Err Sink)
     any_cut_after few = λ s k t c on is none.
         let d = came s k t c on is in
-        (d.at, sooner_than (outside_of r.machine.rows count) s (k + made) (k + most) d.at (omega (arith, few)) d.comes.sooner, d.state, d.spent)
+        (d.at, no_earlier (outside_of r.machine.rows count) s k t made d.at c d.comes, sooner_than (outside_of r.machine.rows count) s (k + made) (k + most) d.at (omega (arith, few)) d.comes.sooner, d.state, d.spent)
 
 -- a fault that is passed on
 pub any_passed : {L : Type 0} (count : ℕ) (r : Kept L) (most : ℕ) (before after : Around) (f e : RunFault) (result : Result (ℕ × Turn) RunFault) → result ≡ Err e → f ≡ e → AnyTurnsRun count r most before after (Err f) → AnyTurnsRun count r most before after result
@@ -123,12 +131,12 @@ joins x s k m t before mid after c d = record {
 }
 
 -- the budget that is spent is that of the first call
-cut_later : (x : Outside) (s : State) (traced : Bool) (k t u : ℕ) (now : Option State) (budget mid left : ℕ) → mid + u ≡ budget + t → (f : RunFault) → BrokeOff x s traced k u now mid left f → BrokeOff x s traced k t now budget left f
-cut_later x s traced k t u now budget mid left sum StepLimit (none, sooner, is) =
+cut_later : (x : Outside) (s : State) (traced : Bool) (k t u : ℕ) (now : Option State) (budget mid left : ℕ) → t ≤ u → mid + u ≡ budget + t → (f : RunFault) → BrokeOff x s traced k u now mid left f → BrokeOff x s traced k t now budget left f
+cut_later x s traced k t u now budget mid left le sum StepLimit (none, sooner, is) =
     let at : u + mid ≡ t + budget = omega (arith, sum) in
     (none, subst (λ i. NoSooner x s k (suc i)) at sooner, subst (λ i. now ≡ Some (run x s i)) at is)
-cut_later x s traced k t u now budget mid left sum Disk (at, sooner, leaves, spent) = (at, sooner, leaves, omega (arith, spent, sum))
-cut_later x s traced k t u now budget mid left sum Sink (at, sooner, is, spent) = (at, sooner, is, omega (arith, spent, sum))
+cut_later x s traced k t u now budget mid left le sum Disk (at, from, sooner, leaves, spent) = (at, omega (arith, le, from), sooner, leaves, omega (arith, spent, sum))
+cut_later x s traced k t u now budget mid left le sum Sink (at, from, sooner, is, spent) = (at, omega (arith, le, from), sooner, is, omega (arith, spent, sum))
 
 -- after i turns of a run that was found as r
 abbrev pub AnyGoing : {L : Type 0} → (count : ℕ) → Kept L → (before : Around) → ℕ → Around → Type 0
@@ -171,7 +179,7 @@ module _ {L : Type 0} (count size : ℕ) (r now : Kept L) (kept : KeepsLoad r no
       let g = so s k t c here at none in
       let there : k + i + most ≡ k + turns = omega (arith, all) in
       rw (so_is, sym fault)
-      (cut_later x s (is_traced r.view) (k + turns) t g.at after.state before.budget mid.budget after.budget g.spent f
+      (cut_later x s (is_traced r.view) (k + turns) t g.at after.state before.budget mid.budget after.budget (no_earlier x s k t i g.at c g.comes) g.spent f
       (subst (λ n. BrokeOff x s (is_traced r.view) n g.at after.state mid.budget after.budget f) there
       (at_load (Err f) runs s (k + i) g.at g.comes (is_on (run x s g.at).off (sym g.ended ∙ on)) g.state on)))
 

@@ -84,8 +84,8 @@ module _ (x : Outside) (s : State) (k t : ℕ) (told : Option (List (List ℕ)))
       let sum : t + budget ≡ budget + t = omega arith in
       at_view x s v k (budget + t) told ends.OutOfSteps
       (subst (λ n. NoSooner x s k (suc n)) sum sooner, subst (λ n. SectorsTold x s n told) sum (told_at x s (t + budget) told held is))
-  broke_as v Disk (at, sooner, leaves, spent) = read_as v at sooner spent leaves
-  broke_as v Sink (at, sooner, is, spent) = at_view x s v k (budget + t) told ends.SinkFault (record { at = at; sooner = sooner; within = omega (arith, spent); sectors = told_at x s at told held is })
+  broke_as v Disk (at, from, sooner, leaves, spent) = read_as v at sooner spent leaves
+  broke_as v Sink (at, from, sooner, is, spent) = at_view x s v k (budget + t) told ends.SinkFault (record { at = at; sooner = sooner; within = omega (arith, spent); sectors = told_at x s at told held is })
 
 pub any_fault : {L : Type 0} (count : ℕ) (r : Kept L) (turns : ℕ) (before : Around) (new : Kept L) (retold : Option (List (List ℕ))) (left : ℕ) (text : Option (List ℕ)) (f : RunFault) →
     AnyGoRuns count r turns before (around new retold left text) (Err f) → AnyRunsToEnd count r turns before retold (end_of_fault f)

@@ -221,16 +221,16 @@ any_err : (x : Outside) (s : State) (k t : ℕ) → ComesTo x s k t → (run x s
 any_err x s k t c on traced now budget left StepLimit (u, le, spent, is, none, here, p) =
     let at : u ≡ t + budget = omega (arith, spent, none) in
     (none, subst (λ i. NoSooner x s (suc k) (suc i)) at (not_yet x s k t c on u p.0 p.1 here), subst (λ i. now ≡ Some (run x s i)) at is)
-any_err x s k t c on traced now budget left Disk (u, le, spent, p, leaves, here) = let sum : left + suc u ≡ budget + t = omega (arith, spent) in (u, not_yet x s k t c on u p.0 p.1 here, leaves, sum)
-any_err x s k t c on traced now budget left Sink (u, le, spent, p, is, here) = let sum : left + suc u ≡ budget + t = omega (arith, spent) in (suc u, not_yet x s k t c on u p.0 p.1 here, is, sum)
+any_err x s k t c on traced now budget left Disk (u, le, spent, p, leaves, here) = let sum : left + suc u ≡ budget + t = omega (arith, spent) in (u, le, not_yet x s k t c on u p.0 p.1 here, leaves, sum)
+any_err x s k t c on traced now budget left Sink (u, le, spent, p, is, here) = let sum : left + suc u ≡ budget + t = omega (arith, spent) in (suc u, omega (arith, le), not_yet x s k t c on u p.0 p.1 here, is, sum)
 
 -- behind turns that were passed, of so many at most
 broke_later : (x : Outside) (s : State) (traced : Bool) (k m t n : ℕ) (now : Option State) (budget left : ℕ) → k ≤ m → n ≤ budget → (f : RunFault) → BrokeOff x s traced k (t + n) now (budget - n) left f → BrokeOff x s traced m t now budget left f
 broke_later x s traced k m t n now budget left le few StepLimit (none, sooner, is) =
     let at : t + n + (budget - n) ≡ t + budget = omega (arith, few) in
     (none, subst (λ i. NoSooner x s m (suc i)) at (sooner_than x s k m (suc (t + n + (budget - n))) (suc (t + n + (budget - n))) le (omega arith) sooner), subst (λ i. now ≡ Some (run x s i)) at is)
-broke_later x s traced k m t n now budget left le few Disk (at, sooner, leaves, spent) = (at, sooner_than x s k m (suc at) (suc at) le (omega arith) sooner, leaves, omega (arith, spent, few))
-broke_later x s traced k m t n now budget left le few Sink (at, sooner, is, spent) = (at, sooner_than x s k m at at le (omega arith) sooner, is, omega (arith, spent, few))
+broke_later x s traced k m t n now budget left le few Disk (at, from, sooner, leaves, spent) = (at, omega (arith, from), sooner_than x s k m (suc at) (suc at) le (omega arith) sooner, leaves, omega (arith, spent, few))
+broke_later x s traced k m t n now budget left le few Sink (at, from, sooner, is, spent) = (at, omega (arith, from), sooner_than x s k m at at le (omega arith) sooner, is, omega (arith, spent, few))
 
 by_result : (x : Outside) (s : State) (k t : ℕ) → ComesTo x s k t → (run x s t).off ≡ None → (traced : Bool) (now : Option State) (budget left most : ℕ) (result : Result (ℕ × Begun) RunFault) → CompleteEnds x traced now budget left s t most result →
     MatchResult result (λ r. Came x s (k + suc r.0) t now budget left) (BrokeOff x s traced (k + most) t now budget left)

@@ -1,5 +1,5 @@
 -- What turns do to the machine of any run, whatever state it begins from: no start, no layer and no abstract run is asked for.
-use Rattle.std.specs.Prelude.{◌≡◌, ℕ, suc, ◌+◌, Bool, Option, Some, None, List, Result, MatchResult}
+use Rattle.std.specs.Prelude.{◌≡◌, ℕ, suc, ◌+◌, ◌≤◌, Bool, Option, Some, None, List, Result, MatchResult}
 use Rattle.mips_table.specs.Device.{Outside}
 use Rattle.mips_table.specs.Machine.{State, run}
 use Rattle.mips_machine.specs.Machine.{Held}
@@ -14,12 +14,12 @@ use Rattle.boot_turns.specs.Sooner.{NoSooner, ComesTo}
 abbrev pub Came : Outside → State → (k t : ℕ) → Option State → (budget left : ℕ) → Type 0
 Came x s k t now budget left = (at : ℕ) × ComesTo x s k at × (now ≡ Some (run x s at)) × (left + at ≡ budget + t)
 
--- or it was broken off before k turns were complete: the budget was spent; or the disk failed in step number `at`, or where a user is traced behind
--- it; or the sink failed after `at` steps
+-- or it was broken off before k turns were complete: the budget was spent; or the disk failed in step number `at`, of those from t on, or where a user
+-- is traced behind it; or the sink failed after `at` steps
 abbrev pub BrokeOff : Outside → State → (traced : Bool) → (k t : ℕ) → Option State → (budget left : ℕ) → RunFault → Type 0
 BrokeOff x s traced k t now budget left StepLimit = (left ≡ 0) × NoSooner x s k (suc (t + budget)) × (now ≡ Some (run x s (t + budget)))
-BrokeOff x s traced k t now budget left Disk = (at : ℕ) × NoSooner x s k (suc at) × DiskLeaves x s at traced now × (left + suc at ≡ budget + t)
-BrokeOff x s traced k t now budget left Sink = (at : ℕ) × NoSooner x s k at × (now ≡ Some (run x s at)) × (left + at ≡ budget + t)
+BrokeOff x s traced k t now budget left Disk = (at : ℕ) × (t ≤ at) × NoSooner x s k (suc at) × DiskLeaves x s at traced now × (left + suc at ≡ budget + t)
+BrokeOff x s traced k t now budget left Sink = (at : ℕ) × (t ≤ at) × NoSooner x s k at × (now ≡ Some (run x s at)) × (left + at ≡ budget + t)
 
 -- TURNS OF ANY RUN, over a disk of so many sectors: so many at most, from any step of it in which the machine stands, is on, and k turns are complete
 abbrev pub AnyTurns : (count : ℕ) → (traced : Bool) → (old new : Held) → (told retold : Option (List (List ℕ))) → (budget left most : ℕ) →
