@@ -13,7 +13,8 @@ use Rattle.boot_turns.specs.Headline.{Ending, TextAt}
 use Rattle.boot_turns.specs.declared.answers.View.{View}
 use Rattle.boot_turns.specs.declared.answers.View.TheVariants as view
 use Rattle.cvm_shell.specs.Boot.{booted, around, first_state}
-use Rattle.cvm_shell.specs.Suffices.{EndsWith, fault_row, StackOutIsNotPrinted}
+use Rattle.boot_report.specs.Texts.{fault_row}
+use Rattle.cvm_shell.specs.Suffices.{EndsWith, StackOutIsNotPrinted}
 use Rattle.cvm_shell.proofs.Sufficient.{one_text}
 use Rattle.cvm_shell.proofs.StackTexts.{IsClean, rows_clean, boot_clean, journal_clean, trace_clean, clean_end}
 

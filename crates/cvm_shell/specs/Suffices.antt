@@ -1,15 +1,14 @@
 -- What a `yes` of a check means: no run of a system of the object's source with so much stack stops for want of stack.
-use Rattle.std.specs.Prelude.{◌≡◌, ◌≢◌, ℕ, ◌≤◌, List, [], ◌∷◌, ◌++◌, codes, Some, Ok}
+use Rattle.std.specs.Prelude.{◌≡◌, ◌≢◌, ℕ, ◌≤◌, List, ◌++◌, codes, Some, Ok}
 use Rattle.schedule_file.specs.Rows.{Rows}
 use Rattle.bound_check.specs.Kept.{NeverOut as RunsNeverOut}
 use Rattle.object_file.specs.Answer.{IsAnswer as IsObject}
 use Rattle.object_file.specs.Parts.{Parts as Object}
 use Rattle.boot_image.specs.Parts.{Parts as Image}
 use Rattle.real_layer.specs.Image.{layer_image}
-use Rattle.cvm_model.specs.declared.kernel_fault.KernelFault.{KernelFault}
 use Rattle.cvm_model.specs.declared.kernel_fault.KernelFault.TheVariants.{StackOut}
 use Rattle.cvm_model.specs.Cvm.{Faulted}
-use Rattle.cvm_model.specs.Text.{fault_name}
+use Rattle.boot_report.specs.Texts.{fault_row}
 use Rattle.kernel_linker.specs.Accept.{ImageSystem}
 use Rattle.cvm_shell.specs.declared.exit_status.ExitStatus.{ExitStatus}
 use Rattle.cvm_shell.specs.declared.boot.Session.{Session}
@@ -57,10 +56,6 @@ pub record EndsWith (row : List ℕ) (old new : Host) : Type 0 where
   pub before_told : old.sink.text ≡ Some before
   pub front : List ℕ
   pub printed : new.sink.text ≡ Some (before ++ (front ++ row))
-
--- the words with which the row of a turn, or the end of a trace, names a kernel's fault
-abbrev pub fault_row : KernelFault → List ℕ
-fault_row f = codes "fault " ++ fault_name f ++ 10 ∷ []
 
 -- a run of a headline meets no want of stack: the abstract run that it goes by has no such fault where it ends, so with the status of a kernel's fault it is
 -- another one; and what is printed doesn't end with the row `fault StackOut`, behind which nothing would be printed
