@@ -32,7 +32,13 @@ def end(number, frame):
 
 
 def guarded(name, main, words):
-    """Runs a tool's main function with the words given, and gives the status to end with."""
+    """Runs a tool's main function with the words given, and gives the status to end with: 7 where there is no standard output, before anything is done.
+
+    With that closed, the first file that a tool opens would get its number, and what is printed would go into that file.
+    """
+    if sys.stdout is None:
+        say('%s: there is no standard output; nothing was done' % name)
+        return 7
     before = signal.getsignal(signal.SIGTERM)
     try:
         signal.signal(signal.SIGTERM, end)

@@ -138,6 +138,13 @@ class Full(unittest.TestCase):
                 ran = subprocess.run([sys.executable, *words], cwd=pages.TOP, stdout=full, stderr=subprocess.PIPE, text=True)
             self.assertEqual((ran.returncode, 'Traceback' in ran.stderr, 'standard output could not be written' in ran.stderr), (7, False, True))
 
+    def test_a_closed_output_changes_nothing(self):
+        for words in (['try', 'sample', '5'], ['try', 'compile', 'user', 'examples/adder/user1.s', 'out.img'], ['cvm', 'sample', '5']):
+            with tempfile.TemporaryDirectory() as room:
+                words = [os.path.join(pages.TOP, word) if '/' in word or word in ('try', 'cvm') else word for word in words]
+                ran = subprocess.run([sys.executable, *words], cwd=room, stderr=subprocess.PIPE, text=True, preexec_fn=lambda: os.close(1))
+                self.assertEqual((ran.returncode, 'there is no standard output' in ran.stderr, os.listdir(room)), (7, True, []))
+
 
 class BadInput(unittest.TestCase):
     def run_tool(self, *words):
