@@ -70,14 +70,15 @@ pub fn the_kernel_is_called<L: Layer>(layer: &L)
     layer.keeps_laws();
 }
 
-/// A law: the same where the linked words are as many as the map says.
+/// A law: a step of a user that takes no handled fault is the flat machine's step, its trap, or the taking of the pending lines, where the linked words
+/// are as many as the map says.
 pub fn users_follow_linked()
     ensures { UserStepsLinked }
 {
     words_stay_words();
 }
 
-/// A law: any step of a user is one of these, or takes a handled fault.
+/// A law: any step of a user is one of these, or takes a handled fault, where the linked words end before the zero frame.
 pub fn users_follow_or_fault()
     ensures { UserStepsOrFaults }
 {

@@ -18,7 +18,7 @@ use trap_entry::{
 };
 
 /// The machine makes each run of a block of the layer's code, whatever lines are raised: its pc stays in the block up to the end of the run, the
-/// linked words stay, and so do the sectors past the users' pages, for which there is no command.
+/// linked words stay, and so do the frames beyond the map and the sectors past the users' pages, for which there is no command.
 pub fn blocks_run()
     ensures { BlocksRun }
 {
