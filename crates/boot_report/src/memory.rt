@@ -1,15 +1,13 @@
 // The rows of a user's memory.
-ghost use Rattle.std.specs.Prelude.{◌≡◌, ◌+◌, ◌*◌, ◌/◌, ◌%◌, ◌<◌, ◌≤◌, ◌^◌};
-ghost use Rattle.std.specs.Prelude.{ℕ, [], length, slice_index, true, is_err, if◌then◌else◌, IfSome, IfOk, Err};
-ghost use Rattle.cvm_outside.specs.Causes.{Counts};
-ghost use Rattle.cvm_outside.specs.Numbering.{tally};
+ghost use Rattle.std.specs.Prelude.{◌≡◌, ◌↔◌, ◌+◌, ◌*◌, ◌/◌, ◌%◌, ◌<◌, ◌≤◌, ◌^◌};
+ghost use Rattle.std.specs.Prelude.{ℕ, [], length, slice_index, true, if◌then◌else◌, IfSome, IfOk};
 ghost use Rattle.layer_map.specs.Map.{memory_frames};
 ghost use Rattle.mips_machine.specs.Machine.{state_of};
-ghost use Rattle.boot_report.specs.Told.{user_word, WherePaged};
-ghost use Rattle.boot_report.specs.Texts.{texts, memory_row, page_word, pages_rows, ShowsPage};
-ghost use Rattle.boot_report.specs.Leaves.{Asks, AsksFor, OnlyViews, PrintsAll, Puts, Reads};
+ghost use Rattle.boot_report.specs.Told.{user_word, ForPages};
+ghost use Rattle.boot_report.specs.Texts.{texts, memory_row, page_word, ShowsPage};
+ghost use Rattle.boot_report.specs.Leaves.{Puts, ReadsFor, Reports};
 ghost use Rattle.boot_report.specs.Resident.{is_resident, page_reads, word_reads};
-ghost use Rattle.boot_report.specs.Stand.{PagesStand, WordStands};
+ghost use Rattle.boot_report.specs.Stand.{CanReadPage, CanReadPages, CanReadWord};
 
 use crate::fault::ReportFault;
 use crate::rows::put_word;
@@ -31,8 +29,7 @@ fn words_of_page(machine: &Machine, frame: Option<u32>) -> &[u32; 1024]
 
 // Whether all these words are 0. The loop has no way out before the end, so that the compiler takes many words at once.
 fn are_zero(words: &[u32]) -> bool
-    ensures zero { result ≡ true → (i : ℕ) → i < length words.now → slice_index words.now i ≡ 0 }
-    ensures other { ((i : ℕ) → i < length words.now → slice_index words.now i ≡ 0) → result ≡ true }
+    ensures { result ≡ true ↔ ((i : ℕ) → i < length words.now → slice_index words.now i ≡ 0) }
 {
     let mut seen = 0;
     for i in 0..words.len() {
@@ -77,8 +74,7 @@ fn put_page<O: Sink>(
 
 // Whether a page, by its number of all pages, is in a frame of the memory.
 fn is_resident(machine: &Machine, map: &Map, q: u32) -> bool
-    requires page { q < map.now.users * map.now.params.pages }
-    requires pages { PagesStand map.now (length machine.now.hardware.memory) (map.now.users * map.now.params.pages) }
+    requires { CanReadPage map.now q (length machine.now.hardware.memory) (map.now.users * map.now.params.pages) }
     ensures { result ≡ is_resident map.now (state_of machine.now []) q }
 {
     let entry = machine.word(map.page_tables() + 4 * q);
@@ -96,14 +92,10 @@ fn find_page<D: Sectors>(
     q: u32,
     disk: &mut D,
 ) -> Result<Option<u32>, DiskFault>
-    requires page { q < map.now.users * map.now.params.pages }
-    requires pages { PagesStand map.now (length machine.old.hardware.memory) (D.size disk.old) }
+    requires { CanReadPage map.now q (length machine.old.hardware.memory) (D.size disk.old) }
     ensures frame { IfOk result (λ o. IfSome o (λ f. f < memory_frames map.now)) }
-    ensures shown { WherePaged (D.sectors disk.old) machine.old map.now (λ a. IfOk result (λ o. ShowsPage machine.new o a q)) }
-    ensures view { OnlyViews machine.old machine.new D.sectors D.size disk.old disk.new }
-    ensures count { Counts (D.faults disk.old) (D.faults disk.new) result }
-    ensures asks { AsksFor (page_reads map.now (state_of machine.old []) q) (is_err result ≡ true)
-        (tally D.faults D.calls disk.old) (tally D.faults D.calls disk.new) }
+    ensures read { ReadsFor (λ a o. ShowsPage machine.new o a q) (page_reads map.now (state_of machine.old []) q)
+        map.now machine.old machine.new D.sectors D.size D.faults D.calls disk.old disk.new result }
 {
     if is_resident(machine, map, q) {
         return Ok(Some(machine.word(map.page_tables() + 4 * q) / 4096));
@@ -114,8 +106,7 @@ fn find_page<D: Sectors>(
 
 /// Whether the page of a user's word with this number, from 0, is in a frame: where it isn't, its sector is read for it.
 pub fn is_word_resident(machine: &Machine, map: &Map, user: u32, k: u32) -> bool
-    requires word { WordStands map.now user k }
-    requires pages { PagesStand map.now (length machine.now.hardware.memory) (map.now.users * map.now.params.pages) }
+    requires { CanReadWord map.now user k (length machine.now.hardware.memory) (map.now.users * map.now.params.pages) }
     ensures { word_reads map.now (state_of machine.now []) user k ≡ (if result then 0 else 1) }
 {
     is_resident(machine, map, (user - 1) * map.params().pages + k / 1024)
@@ -133,13 +124,9 @@ pub fn read_user_word<D: Sectors>(
     k: u32,
     disk: &mut D,
 ) -> Result<u32, DiskFault>
-    requires word { WordStands map.now user k }
-    requires pages { PagesStand map.now (length machine.old.hardware.memory) (D.size disk.old) }
-    ensures shown { WherePaged (D.sectors disk.old) machine.old map.now (λ a. IfOk result (λ w. w ≡ user_word map.now a user k)) }
-    ensures view { OnlyViews machine.old machine.new D.sectors D.size disk.old disk.new }
-    ensures count { Counts (D.faults disk.old) (D.faults disk.new) result }
-    ensures asks { AsksFor (word_reads map.now (state_of machine.old []) user k) (is_err result ≡ true)
-        (tally D.faults D.calls disk.old) (tally D.faults D.calls disk.new) }
+    requires { CanReadWord map.now user k (length machine.old.hardware.memory) (D.size disk.old) }
+    ensures { ReadsFor (λ a w. w ≡ user_word map.now a user k) (word_reads map.now (state_of machine.old []) user k)
+        map.now machine.old machine.new D.sectors D.size D.faults D.calls disk.old disk.new result }
 {
     let page = (user - 1) * map.params().pages + k / 1024;
     let frame = find_page(machine, map, page, disk)?;
@@ -159,12 +146,9 @@ pub(crate) fn put_memory<D: Sectors, O: Sink>(
     disk: &mut D,
     out: &mut O,
 ) -> Result<(), ReportFault>
-    requires few { pages ≤ 1024 }
-    requires inside { first + pages ≤ map.now.users * map.now.params.pages }
-    requires pages { PagesStand map.now (length machine.old.hardware.memory) (D.size disk.old) }
-    ensures put { WherePaged (D.sectors disk.old) machine.old map.now (λ a. PrintsAll (O.text out.old) (O.text out.new) (pages_rows a first pages) result) }
-    ensures leaves { Reads machine.old machine.new D.sectors D.size D.faults disk.old disk.new O.faults out.old out.new result }
-    ensures asks { Asks (result ≡ Err ReportFault.Disk) (tally D.faults D.calls disk.old) (tally D.faults D.calls disk.new) }
+    requires { CanReadPages map.now first pages (length machine.old.hardware.memory) (D.size disk.old) }
+    ensures { Reports (ForPages (D.sectors disk.old) machine.old map.now first pages)
+        machine.old machine.new D.sectors D.size D.faults D.calls disk.old disk.new O.text O.faults out.old out.new result }
 {
     for p in 0..pages {
         let frame = find_page(machine, map, first + p, disk)?;

@@ -1,12 +1,11 @@
 // The rows of the users.
 ghost use Rattle.std.specs.Prelude.{◌≡◌, ◌+◌, ◌-◌, ◌*◌, ◌<◌, ◌≤◌, ◌==◌};
-ghost use Rattle.std.specs.Prelude.{length, min, slice_index, Err};
-ghost use Rattle.cvm_outside.specs.Numbering.{tally};
+ghost use Rattle.std.specs.Prelude.{length, min, slice_index};
 ghost use Rattle.layer_map.specs.Map.{block_at};
 ghost use Rattle.boot_report.specs.Texts.{cpu_of, register_rows, processor_rows, log_rows};
 ghost use Rattle.boot_report.specs.Told.{ForUser, ForUsers};
-ghost use Rattle.boot_report.specs.Leaves.{Asks, PrintsAll, Puts, Reads};
-ghost use Rattle.boot_report.specs.Stand.{BlockStands, BlocksStand, PagesStand, UserStands};
+ghost use Rattle.boot_report.specs.Leaves.{Puts, Reports};
+ghost use Rattle.boot_report.specs.Stand.{BlockStands, CanReadUser, CanReadUsers};
 
 use crate::fault::ReportFault;
 use crate::memory::put_memory;
@@ -117,11 +116,9 @@ fn put_one<D: Sectors, O: Sink>(
     disk: &mut D,
     out: &mut O,
 ) -> Result<(), ReportFault>
-    requires user { UserStands map.now user (length machine.old.hardware.memory) }
-    requires pages { PagesStand map.now (length machine.old.hardware.memory) (D.size disk.old) }
-    ensures put { ForUser (D.sectors disk.old) machine.old map.now runs user (PrintsAll (O.text out.old) (O.text out.new)) result }
-    ensures leaves { Reads machine.old machine.new D.sectors D.size D.faults disk.old disk.new O.faults out.old out.new result }
-    ensures asks { Asks (result ≡ Err ReportFault.Disk) (tally D.faults D.calls disk.old) (tally D.faults D.calls disk.new) }
+    requires { CanReadUser map.now user (length machine.old.hardware.memory) (D.size disk.old) }
+    ensures { Reports (ForUser (D.sectors disk.old) machine.old map.now runs user)
+        machine.old machine.new D.sectors D.size D.faults D.calls disk.old disk.new O.text O.faults out.old out.new result }
 {
     let most = map.params().pages;
     let pages = block_word(machine, user, BLOCK_SIZE).min(most);
@@ -142,11 +139,9 @@ pub fn put_user_rows<D: Sectors, O: Sink>(
     disk: &mut D,
     out: &mut O,
 ) -> Result<(), ReportFault>
-    requires user { UserStands map.now user (length machine.old.hardware.memory) }
-    requires pages { PagesStand map.now (length machine.old.hardware.memory) (D.size disk.old) }
-    ensures put { ForUser (D.sectors disk.old) machine.old map.now (user == running) user (PrintsAll (O.text out.old) (O.text out.new)) result }
-    ensures leaves { Reads machine.old machine.new D.sectors D.size D.faults disk.old disk.new O.faults out.old out.new result }
-    ensures asks { Asks (result ≡ Err ReportFault.Disk) (tally D.faults D.calls disk.old) (tally D.faults D.calls disk.new) }
+    requires { CanReadUser map.now user (length machine.old.hardware.memory) (D.size disk.old) }
+    ensures { Reports (ForUser (D.sectors disk.old) machine.old map.now (user == running) user)
+        machine.old machine.new D.sectors D.size D.faults D.calls disk.old disk.new O.text O.faults out.old out.new result }
 {
     put_one(machine, map, user == running, user, disk, out)
 }
@@ -163,11 +158,9 @@ pub fn put_users<D: Sectors, O: Sink>(
     disk: &mut D,
     out: &mut O,
 ) -> Result<(), ReportFault>
-    requires users { BlocksStand map.now (length machine.old.hardware.memory) }
-    requires pages { PagesStand map.now (length machine.old.hardware.memory) (D.size disk.old) }
-    ensures put { ForUsers (D.sectors disk.old) machine.old map.now running (PrintsAll (O.text out.old) (O.text out.new)) result }
-    ensures leaves { Reads machine.old machine.new D.sectors D.size D.faults disk.old disk.new O.faults out.old out.new result }
-    ensures asks { Asks (result ≡ Err ReportFault.Disk) (tally D.faults D.calls disk.old) (tally D.faults D.calls disk.new) }
+    requires { CanReadUsers map.now (length machine.old.hardware.memory) (D.size disk.old) }
+    ensures { Reports (ForUsers (D.sectors disk.old) machine.old map.now running)
+        machine.old machine.new D.sectors D.size D.faults D.calls disk.old disk.new O.text O.faults out.old out.new result }
 {
     for i in 0..map.users() {
         put_user_rows(machine, map, running, i + 1, disk, out)?;

@@ -1,4 +1,5 @@
 -- A run that was taken up is the machine's from the state that its words name.
+-- It serves `run_on` alone.
 use Rattle.std.proofs.Common.{◌≡◌, ◌⊎◌, inl, inr, ℕ, ◌+◌, ◌-◌, false, Option, Some, None, List, refl, ap, subst, arith}
 use Rattle.std.specs.Prelude.{IsSome}
 use Rattle.mips_table.specs.Device.{Outside}

@@ -19,7 +19,7 @@ use Rattle.layer_contract.specs.Follows.{loaded, loaded_memory, loaded_sector}
 use Rattle.boot_turns.specs.Completes.{seen}
 use Rattle.boot_run.specs.Loading.{system_of, pages_of_users, written, with_words, TornAmong}
 use Rattle.boot_run.specs.LoadedPages.{calls_made, disk_pages, first_pages, user_pages}
-use Rattle.boot_run.specs.LoadEnds.{pages_needed, LoadCalls}
+use Rattle.boot_run.specs.LoadEnds.{pages_needed}
 use Rattle.boot_run.proofs.PageLemmas.{page_or, written_is}
 use Rattle.boot_run.proofs.UserPages.{dead_past}
 
@@ -138,7 +138,7 @@ torn_loaded b rows told retold made remade count some w sized le =
 
 -- what the code counted, and wrote from its own lists, as the definitions say it
 module _ (b : Booted) (rows : Rows) (us : List (Vec ℕ Global)) (n : ℕ) (told retold : Option (List (List ℕ))) (made remade : Tally) (users : us ≡ b.users.items) (many : n ≡ length b.users.items) where
-  pub user_calls : remade.calls ≡ calls_made (pages_of_users b.params.pages us []).live (n * b.params.pages) made → LoadCalls b rows made remade
+  pub user_calls : remade.calls ≡ calls_made (pages_of_users b.params.pages us []).live (n * b.params.pages) made → remade.calls ≡ calls_made (user_pages (system_of b rows)).live (pages_needed b) made
   user_calls w =
       subst (λ (vs : List (Vec ℕ Global)). remade.calls ≡ calls_made (pages_of_users b.params.pages vs []).live (length b.users.items * b.params.pages) made) users
       (subst (λ m. remade.calls ≡ calls_made (pages_of_users b.params.pages us []).live (m * b.params.pages) made) many w)

@@ -1,4 +1,5 @@
 -- One turn of a run as its code has it, from what the call that steps the machine says.
+-- It serves `Run::make_turn` alone.
 use Rattle.std.proofs.Common.{◌≡◌, ℕ, ◌+◌, Bool, true, false, not, Option, List, Result, Ok, Err, refl, sym, ap, ◌∙◌, subst}
 use Rattle.std.specs.Prelude.{is_some, if◌then◌else◌}
 use Rattle.layer_map.specs.Map.{Map}

@@ -1,4 +1,5 @@
 -- A call of `turn` answers what its call of `turns` does.
+-- It serves `Run::turn` alone.
 use Rattle.std.proofs.Common.{◌≡◌, ℕ, ◌≤◌, Option, Some, None, Result, Ok, Err, refl, sym, ap, ◌∙◌, arith}
 use Rattle.std.specs.Prelude.{IfSome, IsSome}
 use Rattle.cvm_model.specs.declared.row.Next.{Next}

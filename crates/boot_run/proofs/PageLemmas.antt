@@ -10,6 +10,7 @@ use Rattle.page_model.specs.Paging.{Pages}
 use Rattle.mips_machine.specs.Machine.{Held}
 use Rattle.boot_run.specs.Loading.{with_page, words_of_page, written, StaysBut, TornAmong}
 use Rattle.boot_run.specs.LoadedPages.{calls_made, with_call}
+use Rattle.boot_run.specs.Writes.{PageTorn}
 use Rattle.cvm_outside.specs.Numbering.{Tally, until_fault}
 
 pub length-with_page : (p : Pages) (ss : List (List ℕ)) (q : ℕ) → length (with_page p ss q) ≡ length ss
@@ -91,9 +92,14 @@ torn_but : (q : ℕ) (words : List ℕ) (told retold : Option (List (List ℕ)))
 torn_but q words None retold e = λ k ne. ap (option_map (λ ss. sector_of ss k)) e
 torn_but q words (Some ss) retold e = λ k ne. ap (option_map (λ ss. sector_of ss k)) e ∙ ap Some (get_or-set_other ss q k words [] ne)
 
-pub on_torn : {T E : Type 0} (r : Result T E) (q : ℕ) (told retold : Option (List (List ℕ))) → OnErr r ((words : List ℕ) × (retold ≡ option_map (λ ss. set ss q words) told)) → OnErr r (StaysBut q told retold)
-on_torn (Ok v) q told retold h = tt
-on_torn (Err e) q told retold h = torn_but q h.0 told retold h.1
+pub page_torn : {T E : Type 0} (r : Result T E) (p : Pages) (q : ℕ) (told retold : Option (List (List ℕ))) (made remade : Tally) → p.live q ≡ true → remade.calls ≡ until_fault made.faults made.calls →
+    OnErr r ((words : List ℕ) × (retold ≡ option_map (λ ss. set ss q words) told)) → OnErr r (PageTorn p q told retold made remade)
+page_torn (Ok v) p q told retold made remade live now h = tt
+page_torn (Err e) p q told retold made remade live now h = record {
+  sectors = torn_but q h.0 told retold h.1;
+  page = live;
+  calls = call_made p.live q made.faults made.calls remade.calls live now;
+}
 
 -- one more word is put over the beginning of a list
 put_word : (ws mem : List ℕ) (i w : ℕ) → i < length ws → length ws ≤ length mem → w ≡ get_or ws i 0 → set (take i ws ++ drop i mem) i w ≡ take (suc i) ws ++ drop (suc i) mem

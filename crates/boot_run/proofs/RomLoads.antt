@@ -22,7 +22,7 @@ use Rattle.boot_turns.specs.Completes.{seen}
 use Rattle.boot_turns.specs.Rom.{page_of, rom_loaded, rom_sector, rom_sectors}
 use Rattle.boot_run.specs.Loading.{system_of, pages_of_users, written, with_rom, TornAmong}
 use Rattle.boot_run.specs.LoadedPages.{calls_made, disk_pages, rom_pages}
-use Rattle.boot_run.specs.LoadEnds.{rom_needed, RomLoadCalls}
+use Rattle.boot_run.specs.LoadEnds.{rom_needed}
 use Rattle.boot_run.proofs.PageLemmas.{written_is}
 use Rattle.boot_run.proofs.Loads.{lists, needed_is, page_if, page_below, page_behind, kept_behind, torn_becomes, told_many}
 
@@ -111,16 +111,18 @@ module _ (b : Booted) (rows : Rows) where
       torn_becomes (rom_needed b) (written (rom_pages (system_of b rows)) (rom_needed b)) (λ ss. (rom_loaded (system_of b rows) rom ss).device.sectors) told retold (rom_pages (system_of b rows)).live made remade
       (λ ss all. rom_sectors_are some ss all) (λ ss e. let many = told_many told ss count e sized in omega (arith, many, le)) w
 
-  -- its memory has room for the map
-  pub rom_long : (rom : List ℕ) → length rom ≤ 1024 → 1 ≤ frames → (held : Held) → held ≡ with_rom frames rom rows → memory_words (map_of (boot_of b)) ≤ length held.hardware.memory
-  rom_long rom few some held e =
+  -- its memory is the map's, and the ROM's frame
+  pub rom_whole : (rom : List ℕ) → length rom ≤ 1024 → 1 ≤ frames → (held : Held) → held ≡ with_rom frames rom rows → length held.hardware.memory ≡ memory_words (map_of (boot_of b)) + 1024
+  rom_whole rom few some held e =
       let l = ap length (memory_is frames rom rows some few) in
       let h = ap (λ (m : Held). length m.hardware.memory) e in
       let j : ℕ = encoding (J (1024 * frames)) in
       let a = length-append (j ∷ replicate (1024 * frames - 1) 0) (rom ++ replicate (1024 - length rom) 0) in
       let r = length-replicate {A = ℕ} (1024 * frames - 1) 0 in
+      let d = length-append rom (replicate (1024 - length rom) 0) in
+      let z = length-replicate {A = ℕ} (1024 - length rom) 0 in
       let whole : 1024 * memory_frames (map_of (boot_of b)) ≡ memory_words (map_of (boot_of b)) = omega arith in
-      omega (arith, l, h, a, r, whole, some)
+      omega (arith, l, h, a, r, d, z, whole, some, few)
 
 -- what the code counted, and wrote from its own lists, as the definitions say it
 pub need_is : (b : Booted) (users behind : ℕ) → users ≡ length b.users.items → behind ≡ (length b.words.items + 1023) / 1024 → users * b.params.pages + behind ≡ rom_needed b
@@ -133,7 +135,7 @@ module _ (b : Booted) (rows : Rows) (us : List (Vec ℕ Global)) (ws : List ℕ)
       (subst (λ (vs : List ℕ). retold ≡ option_map (written (pages_of_users b.params.pages us vs) (rom_needed b)) told) words
       (subst (λ m. retold ≡ option_map (written (pages_of_users b.params.pages us ws) m) told) need w))
 
-  pub calls_so : remade.calls ≡ calls_made (pages_of_users b.params.pages us ws).live n made → RomLoadCalls b rows made remade
+  pub calls_so : remade.calls ≡ calls_made (pages_of_users b.params.pages us ws).live n made → remade.calls ≡ calls_made (rom_pages (system_of b rows)).live (rom_needed b) made
   calls_so w =
       subst (λ (vs : List (Vec ℕ Global)). remade.calls ≡ calls_made (pages_of_users b.params.pages vs b.words.items).live (rom_needed b) made) users
       (subst (λ (vs : List ℕ). remade.calls ≡ calls_made (pages_of_users b.params.pages us vs).live (rom_needed b) made) words

@@ -1,4 +1,5 @@
 -- What is saved of a boot is what a file that is taken up may hold.
+-- It serves `saved_boots_are_of_runs` alone.
 use Rattle.std.proofs.Common.{◌≡◌, ℕ, zero, suc, ◌+◌, ◌-◌, ◌*◌, ◌<◌, ◌≤◌, Bool, true, false, not, length, replicate, refl, ap, ◌∙◌, ⊎_elim, arith, length-append, lt-ltb, le-ltb}
 use Rattle.std.specs.Prelude.{is_some, ◌&&◌, ◌||◌, nat_lt, nat_le, Option}
 use Rattle.std.proofs.lemmas.Bool.{cases_lt}

@@ -1,4 +1,5 @@
 -- A machine that is taken up has the memory of its map.
+-- It serves `resumed_machine` alone.
 use Rattle.std.proofs.Common.{◌≡◌, ◌*◌, ℕ, length, ap, ◌∙◌, arith}
 use Rattle.std.proofs.lemmas.List.{length-replicate}
 use Rattle.schedule_file.specs.Rows.{Rows}

@@ -1,4 +1,5 @@
 -- A boot that is to be saved, by what its load and its run come to.
+-- It serves `run_to_save` alone.
 use Rattle.std.proofs.Common.{◌≡◌, ◌≢◌, ℕ, ◌+◌, ◌≤◌, Option, Some, None, List, Ok, Err, arith, refl, ap, subst}
 use Rattle.std.specs.Prelude.{IsSome}
 use Rattle.cvm_outside.specs.Causes.{Rose}

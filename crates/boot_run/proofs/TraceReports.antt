@@ -1,4 +1,5 @@
 -- A call of `report` of a trace, by what it printed.
+-- It serves `Run::put_report` alone.
 use Rattle.std.proofs.Common.{◌≡◌, ℕ, ◌+◌, ◌≤◌, false, Bool, Option, Some, None, List, ◌++◌, length, take, Ok, Err, sym, ap, ◌∙◌, subst, append_assoc, arith}
 use Rattle.std.specs.Prelude.{is_some, IsTrue}
 use Rattle.std.proofs.lemmas.List.{length-map}

@@ -1,4 +1,5 @@
 -- No step changes how many words memory has.
+-- It serves `saved_boots_are_of_runs` alone.
 use Rattle.std.proofs.Common.{◌≡◌, ℕ, zero, suc, ◌/◌, ◌&&◌, Option, Some, None, true, false, not, cond, slice_index, slice_set, refl, ◌∙◌}
 use Rattle.std.specs.Prelude.{◌==◌, nat_lt, length, drop, ◌++◌, ◌∷◌, []}
 use Rattle.std.proofs.lemmas.Bool.{cond_both}

@@ -1,6 +1,6 @@
 -- The users' pages at the start: which numbers are pages, and what words they have.
 use Rattle.std.proofs.Common.{◌≡◌, ℕ, zero, suc, ◌+◌, ◌*◌, ◌/◌, ◌%◌, ◌-◌, ◌<◌, ◌≤◌, true, false, List, [], ◌∷◌, ◌++◌, map, length, get_or, replicate, refl, sym, ap, ◌∙◌, ⊎_elim, arith, length-append, lt-ltb, le-ltb}
-use Rattle.std.specs.Prelude.{nat_lt, Result, Ok, Err, OnOk, OnErr}
+use Rattle.std.specs.Prelude.{nat_lt, Result, Ok, Err, OnOk}
 use Rattle.std.proofs.Math.Nat.{div-lt_iff_lt-mul}
 use Rattle.std.proofs.lemmas.Bool.{cases_lt, cond-true}
 use Rattle.std.proofs.lemmas.List.{get_or-map, length-replicate, get_or_past, length-map}
@@ -72,10 +72,6 @@ module _ (per : ℕ) (users : List (List ℕ)) (behind : List ℕ) (q : ℕ) (lt
 pub on_ok : {T E P Q : Type 0} (r : Result T E) → (P → Q) → OnOk r P → OnOk r Q
 on_ok (Ok v) f h = f h
 on_ok (Err e) f h = tt
-
-pub on_err : {T E P : Type 0} (r : Result T E) → P → OnErr r P
-on_err (Ok v) h = tt
-on_err (Err e) h = h
 
 module _ {A : Type 0} (f : A → List ℕ) (users : List A) where
   -- the user of a number that is below all pages

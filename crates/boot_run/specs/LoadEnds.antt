@@ -10,15 +10,11 @@ use Rattle.schedule_file.specs.Rows.{Rows}
 use Rattle.mips_machine.specs.Machine.{Held}
 use Rattle.cvm_model.specs.declared.row.Next.{Next}
 use Rattle.layer_contract.specs.declared.boot.Boot.{Boot as Booted}
-use Rattle.layer_contract.specs.Follows.{loaded}
 use Rattle.boot_turns.specs.declared.answers.View.{View}
 use Rattle.boot_turns.specs.declared.answers.View.TheVariants.{Boot, Trace}
 use Rattle.boot_turns.specs.declared.answers.RunFault.{RunFault}
 use Rattle.boot_turns.specs.declared.tracer.Tracer.{Tracer}
 use Rattle.boot_turns.specs.Completes.{seen}
-use Rattle.boot_turns.specs.Rom.{rom_loaded}
-use Rattle.boot_run.specs.Loading.{system_of, TornAmong}
-use Rattle.boot_run.specs.LoadedPages.{user_pages, rom_pages, calls_made}
 use Rattle.boot_run.specs.declared.load.LoadFault.{LoadFault}
 use Rattle.boot_run.specs.declared.load.LoadFault.TheVariants.{NoSuchUser, SmallDisk, Memory, Disk}
 use Rattle.boot_run.specs.RunEnds.{SeesUser}
@@ -42,26 +38,6 @@ LoadFails b view need count before now (NoSuchUser u users) = (view ≡ Trace u)
 LoadFails b view need count before now (SmallDisk wanted have) = SeesUser view (length b.users.items) × (wanted ≡ need) × (have ≡ count) × (have < need)
 LoadFails b view need count before now Memory = HasDiskRoom b view need count
 LoadFails b view need count before now Disk = HasDiskRoom b view need count × Rose before now
-
--- what a load of what is booted does to the disk, by what tells its sectors and its counts, and the disk before and after
-module _ {D : Type 0} (sectors : D → Option (List (List ℕ))) (count : D → Tally) where
-  -- it failed: of the loaded machine
-  abbrev pub LoadTorn : Booted → Rows → (disk redisk : D) → Type 0
-  LoadTorn b rows disk redisk = TornAmong (pages_needed b) (λ ss. (loaded (system_of b rows) ss).device.sectors) (sectors disk) (sectors redisk)
-      (user_pages (system_of b rows)).live (count disk) (count redisk)
-
-  -- and of a machine with a boot ROM of these words
-  abbrev pub RomTorn : Booted → Rows → (rom : List ℕ) → (disk redisk : D) → Type 0
-  RomTorn b rows rom disk redisk = TornAmong (rom_needed b) (λ ss. (rom_loaded (system_of b rows) rom ss).device.sectors) (sectors disk) (sectors redisk)
-      (rom_pages (system_of b rows)).live (count disk) (count redisk)
-
--- so often it was called by a load that is done: once for each page that words reach into
-abbrev pub LoadCalls : Booted → Rows → (made remade : Tally) → Type 0
-LoadCalls b rows made remade = remade.calls ≡ calls_made (user_pages (system_of b rows)).live (pages_needed b) made
-
--- and by that of a machine with a boot ROM
-abbrev pub RomLoadCalls : Booted → Rows → (made remade : Tally) → Type 0
-RomLoadCalls b rows made remade = remade.calls ≡ calls_made (rom_pages (system_of b rows)).live (rom_needed b) made
 
 -- what is kept of a trace before the first step
 abbrev pub first_tracer : View → Option Tracer
@@ -118,16 +94,23 @@ names_sector count Idle = true
 names_sector count (Reading left sector) = nat_lt sector count
 names_sector count (Writing left sector) = nat_lt sector count
 
--- WHAT EVERY CALL SAYS THAT LOADS A RUN AND MAKES IT, beside how that ends; by the disk's size, its sectors and its counts of faults and calls. Why it
--- isn't loaded, and then nothing is printed and, unless the disk failed in the load, nothing changes; where it did, `Stopped` tells what that leaves; the
--- size of a disk stays, and sectors that are told stay told.
+-- WHAT EVERY CALL THAT LOADS A RUN LEAVES OF THE DISK, by its size, its sectors and its counts of faults and calls, and by the disk before and after: why
+-- no run is loaded, where none is, and then nothing changes, unless the disk failed in the load; where it did, `Stopped` tells what that leaves; and the
+-- size of the disk stays
+module _ {D : Type 0} (size : D → ℕ) (sectors : D → Option (List (List ℕ))) (broke called : D → ℕ) where
+  pub record LoadLeaves {A : Type 0} (b : Booted) (view : View) (need : ℕ) (Stopped : (told retold : Option (List (List ℕ))) → (made remade : Tally) → Type 0)
+      (disk redisk : D) (result : Result A LoadFault) : Type 0 where
+    pub refused : IfErr result (LoadFails b view need (size disk) (broke disk) (broke redisk))
+    pub stopped : result ≡ Err Disk → Stopped (sectors disk) (sectors redisk) (tally broke called disk) (tally broke called redisk)
+    pub still : result ≢ Err Disk → OnErr result (redisk ≡ disk)
+    pub same_size : size redisk ≡ size disk
+
+-- WHAT EVERY CALL SAYS THAT LOADS A RUN AND MAKES IT, beside how that ends: what it leaves of the disk, and that sectors that are told stay told; where no
+-- run is loaded nothing is printed
 module _ {D O : Type 0} (size : D → ℕ) (sectors : D → Option (List (List ℕ))) (broke called : D → ℕ) where
   pub record LoadsRun {A : Type 0} (b : Booted) (view : View) (need : ℕ) (Stopped : (told retold : Option (List (List ℕ))) → (made remade : Tally) → Type 0)
       (disk : D) (out : O) (redisk : D) (reout : O) (result : Result A LoadFault) : Type 0 where
-    pub refused : IfErr result (LoadFails b view need (size disk) (broke disk) (broke redisk))
-    pub stopped : result ≡ Err Disk → Stopped (sectors disk) (sectors redisk) (tally broke called disk) (tally broke called redisk)
+    pub leaves : LoadLeaves size sectors broke called b view need Stopped disk redisk result
     pub loaded : IfOk result (λ _. HasDiskRoom b view need (size disk))
     pub unprinted : IfErr result (λ _. reout ≡ out)
-    pub still : result ≢ Err Disk → OnErr result (redisk ≡ disk)
-    pub same_size : size redisk ≡ size disk
     pub told : IsSome (sectors disk) → IsSome (sectors redisk)

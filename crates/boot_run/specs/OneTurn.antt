@@ -18,6 +18,23 @@ pub record CanMake {L : Type 0} (most : ℕ) (run : Kept L) (count budget : ℕ)
   pub disk : count ≡ run.count
   pub steps : run.machine.time + budget < 2 ^ 64
 
+-- a run that kept no fault, over a disk of so many sectors, which are as many as it was loaded with
+pub record CanClose {L : Type 0} (run : Kept L) (count : ℕ) : Type 0 where
+  pub disk : count ≡ run.count
+  pub fine : run.fault ≡ None
+
+-- and from which so many steps stay countable in 64 bits
+pub record CanRun {L : Type 0} (steps : ℕ) (run : Kept L) (count : ℕ) : Type 0 where
+  pub disk : count ≡ run.count
+  pub fine : run.fault ≡ None
+  pub time : run.machine.time + steps < 2 ^ 64
+
+-- what a call leaves that goes on with a run or ends it: how large the disk is, and that each object is blamed only where its count of faults rose; by
+-- what blames the disk and the sink, the disk's size, both counts, and the objects before and after
+pub record RunLeaves {D O : Type 0} (OfDisk OfSink : Type 0) (size broke : D → ℕ) (cut : O → ℕ) (disk : D) (out : O) (redisk : D) (reout : O) : Type 0 where
+  pub same_size : size redisk ≡ size disk
+  pub blame : Blames OfDisk OfSink broke disk redisk cut out reout
+
 -- by the disk's size, its sectors and its count of faults, and the sink's text and its count
 module _ {D O : Type 0} (size : D → ℕ) (sectors : D → Option (List (List ℕ))) (broke : D → ℕ) (text : O → Option (List ℕ)) (cut : O → ℕ) where
   -- beside what the turns come to, where a run that kept no fault and hasn't ended makes turns, so many at most, with a disk, a budget and a sink, before

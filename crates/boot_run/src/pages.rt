@@ -1,10 +1,7 @@
 // The users' pages, written to their sectors, and the linked words, written into memory.
-ghost use Rattle.std.specs.Prelude.{◌≡◌, ℕ, ◌+◌, ◌*◌, ◌<◌, ◌≤◌, ◌^◌, length, nat_lt, slice_index, true, OnOk, OnErr};
-ghost use Rattle.std.specs.Option.{option_map};
-ghost use Rattle.cvm_outside.specs.Causes.{Counts};
-ghost use Rattle.cvm_outside.specs.Numbering.{tally};
-ghost use Rattle.boot_run.specs.Loading.{pages_of_users, with_page, written, with_words, StaysBut, TornAmong};
-ghost use Rattle.boot_run.specs.LoadedPages.{calls_made, with_call};
+ghost use Rattle.std.specs.Prelude.{◌≡◌, ℕ, ◌+◌, ◌<◌, ◌≤◌, ◌^◌, length, slice_index};
+ghost use Rattle.boot_run.specs.Loading.{pages_of_users, with_words};
+ghost use Rattle.boot_run.specs.Writes.{HavePages, IsSource, WritesPage, WritesPages};
 
 use cvm_outside::{DiskFault, Sectors};
 use mips_machine::Machine;
@@ -32,10 +29,8 @@ fn page_words(words: &[u32], first: usize) -> [u32; 1024]
 // The words of which the sector of a number gets 1,024, and the number of the first one: those of the user whose page it is, and behind all users'
 // pages further words.
 fn page_source<'a>(users: &'a [Vec<u32>], per: u32, behind: &'a [u32], q: u32) -> (&'a [u32], usize)
-    requires some { 1 ≤ per }
-    requires few { length users.now * per < 2 ^ 32 }
-    ensures live { (pages_of_users per users.now behind.now).live q ≡ nat_lt result.1 (length result.0.now) }
-    ensures words { (i : ℕ) → (pages_of_users per users.now behind.now).word q i ≡ slice_index result.0.now (result.1 + i) }
+    requires { HavePages per (length users.now) }
+    ensures { IsSource (pages_of_users per users.now behind.now) q result.0.now result.1 }
 {
     let pages = users.len() as u32 * per;
     if q < pages {
@@ -59,15 +54,9 @@ fn write_page<D: Sectors>(
     q: u32,
     disk: &mut D,
 ) -> Result<(), DiskFault>
-    requires some { 1 ≤ per }
-    requires few { length users.now * per < 2 ^ 32 }
+    requires pages { HavePages per (length users.now) }
     requires inside { q < D.size disk.old }
-    ensures ok { OnOk result (D.sectors disk.new ≡ option_map (λ ss. with_page (pages_of_users per users.now behind.now) ss q) (D.sectors disk.old)) }
-    ensures torn { OnErr result (StaysBut q (D.sectors disk.old) (D.sectors disk.new)) }
-    ensures page { OnErr result ((pages_of_users per users.now behind.now).live q ≡ true) }
-    ensures size { D.size disk.new ≡ D.size disk.old }
-    ensures count { Counts (D.faults disk.old) (D.faults disk.new) result }
-    ensures calls { D.calls disk.new ≡ with_call (pages_of_users per users.now behind.now).live (D.faults disk.old) (D.calls disk.old) q }
+    ensures { WritesPage D.size D.sectors D.faults D.calls (pages_of_users per users.now behind.now) q disk.old disk.new result }
 {
     let (words, first) = page_source(users, per, behind, q);
     if first < words.len() {
@@ -89,15 +78,9 @@ pub(crate) fn write_pages<D: Sectors>(
     most: u32,
     disk: &mut D,
 ) -> Result<(), DiskFault>
-    requires some { 1 ≤ per }
-    requires few { length users.now * per < 2 ^ 32 }
+    requires pages { HavePages per (length users.now) }
     requires room { most ≤ D.size disk.old }
-    ensures ok { OnOk result (D.sectors disk.new ≡ option_map (written (pages_of_users per users.now behind.now) most) (D.sectors disk.old)) }
-    ensures torn { OnErr result (TornAmong most (written (pages_of_users per users.now behind.now) most) (D.sectors disk.old) (D.sectors disk.new)
-        (pages_of_users per users.now behind.now).live (tally D.faults D.calls disk.old) (tally D.faults D.calls disk.new)) }
-    ensures calls { OnOk result (D.calls disk.new ≡ calls_made (pages_of_users per users.now behind.now).live most (tally D.faults D.calls disk.old)) }
-    ensures size { D.size disk.new ≡ D.size disk.old }
-    ensures count { Counts (D.faults disk.old) (D.faults disk.new) result }
+    ensures { WritesPages D.size D.sectors D.faults D.calls (pages_of_users per users.now behind.now) most disk.old disk.new result }
 {
     for q in 0..most {
         write_page(users, per, behind, q, disk)?;

@@ -1,12 +1,11 @@
 // The end and the report of a run, printed from its machine.
-ghost use Rattle.std.specs.Prelude.{◌≡◌, ◌++◌, length, Err};
-ghost use Rattle.cvm_outside.specs.Numbering.{tally};
+ghost use Rattle.std.specs.Prelude.{◌≡◌, ◌++◌, length};
 ghost use Rattle.cvm_model.specs.Text.{steps_row as steps_text};
 ghost use Rattle.boot_report.specs.Globals.{AreInside, GlobalsStand};
 ghost use Rattle.boot_report.specs.Texts.{end_row};
 ghost use Rattle.boot_run.specs.Report.{kernel_rows, runs_now, ForClosing, ForTraceClosing, StepsStand};
-ghost use Rattle.boot_report.specs.Leaves.{Asks, PrintsAll, Puts, Reads};
-ghost use Rattle.boot_report.specs.Stand.{BlocksStand, PagesStand, UserStands};
+ghost use Rattle.boot_report.specs.Leaves.{Puts, Reports};
+ghost use Rattle.boot_report.specs.Stand.{CanReadUser, CanReadUsers};
 
 use crate::places::Places;
 use boot_report::journal_text::steps_row;
@@ -56,12 +55,10 @@ pub(crate) fn put_closing<D: Sectors, O: Sink>(
     out: &mut O,
 ) -> Result<(), ReportFault>
     requires many { length places.now.offsets.items ≡ length decls.now }
-    requires users { BlocksStand places.now.map (length machine.old.hardware.memory) }
-    requires pages { PagesStand places.now.map (length machine.old.hardware.memory) (D.size disk.old) }
+    requires users { CanReadUsers places.now.map (length machine.old.hardware.memory) (D.size disk.old) }
     requires inside { AreInside places.now.map places.now.offsets.items }
-    ensures put { ForClosing (D.sectors disk.old) machine.old halted current places.now decls.now (PrintsAll (O.text out.old) (O.text out.new)) result }
-    ensures leaves { Reads machine.old machine.new D.sectors D.size D.faults disk.old disk.new O.faults out.old out.new result }
-    ensures asks { Asks (result ≡ Err ReportFault.Disk) (tally D.faults D.calls disk.old) (tally D.faults D.calls disk.new) }
+    ensures { Reports (ForClosing (D.sectors disk.old) machine.old halted current places.now decls.now)
+        machine.old machine.new D.sectors D.size D.faults D.calls disk.old disk.new O.text O.faults out.old out.new result }
 {
     put_kernel(machine, places, decls, halted, out)?;
     let running = runs_now(halted, current);
@@ -91,12 +88,10 @@ pub(crate) fn put_trace_closing<D: Sectors, O: Sink>(
     disk: &mut D,
     out: &mut O,
 ) -> Result<(), ReportFault>
-    requires user { UserStands map.now tracer.user (length machine.old.hardware.memory) }
-    requires pages { PagesStand map.now (length machine.old.hardware.memory) (D.size disk.old) }
-    ensures put { ForTraceClosing (D.sectors disk.old) machine.old halted current map.now tracer (PrintsAll (O.text out.old) (O.text out.new)) result }
+    requires { CanReadUser map.now tracer.user (length machine.old.hardware.memory) (D.size disk.old) }
+    ensures report { Reports (ForTraceClosing (D.sectors disk.old) machine.old halted current map.now tracer)
+        machine.old machine.new D.sectors D.size D.faults D.calls disk.old disk.new O.text O.faults out.old out.new result }
     ensures rows { StepsStand (D.sectors disk.old) machine.old halted current map.now tracer (O.text out.old) (O.text out.new) result }
-    ensures leaves { Reads machine.old machine.new D.sectors D.size D.faults disk.old disk.new O.faults out.old out.new result }
-    ensures asks { Asks (result ≡ Err ReportFault.Disk) (tally D.faults D.calls disk.old) (tally D.faults D.calls disk.new) }
 {
     put_last(tracer.steps, halted, out)?;
     let running = runs_now(halted, current);

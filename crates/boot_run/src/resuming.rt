@@ -1,11 +1,11 @@
 // A run that was taken up from saved words goes on as the run that was saved.
-ghost use Rattle.std.specs.Prelude.{◌≡◌, ℕ, ◌+◌, ◌-◌, ◌<◌, ◌≤◌, ◌^◌, None, List, [], length, slice_index, IfOk, IsSome};
+ghost use Rattle.std.specs.Prelude.{◌≡◌, ℕ, ◌+◌, ◌-◌, ◌<◌, ◌≤◌, ◌^◌, List, [], length, slice_index, IfOk, IsSome};
 ghost use Rattle.cvm_outside.specs.Numbering.{tally};
-ghost use Rattle.boot_report.specs.Blames.{Blames};
 ghost use Rattle.layer_map.specs.Map.{memory_words};
 ghost use Rattle.mips_machine.specs.Machine.{state_of};
 ghost use Rattle.mips_machine.specs.Saved.{saved, AreSaved, CanBeSaved};
 ghost use Rattle.layer_contract.specs.Boots.{BootFollows};
+ghost use Rattle.boot_run.specs.OneTurn.{CanClose, RunLeaves};
 ghost use Rattle.boot_run.specs.LoadEnds.{pages_needed};
 ghost use Rattle.boot_run.specs.SavedFiles.{SavedBootsAreOfRuns};
 ghost use Rattle.boot_run.specs.Saving.{AreBoots, IsResumed, Joins, RunsOn};
@@ -95,14 +95,12 @@ pub fn run_on<L: Layer + Drop, D: Sectors, O: Sink>(
     disk: &mut D,
     out: &mut O,
 ) -> RunEnd
-    requires disk { D.size disk.old ≡ run.old.count }
-    requires fine { run.old.fault ≡ None }
+    requires can { CanClose run.old (D.size disk.old) }
     requires done { run.old.turns ≤ turns }
-    ensures size { D.size disk.new ≡ D.size disk.old }
     ensures joins { Joins D.size D.sectors (tally D.faults D.calls) O.text turns steps run.old disk.old out.old disk.new out.new result }
     ensures any { RunsOn D.size D.sectors (tally D.faults D.calls) O.text turns steps run.old disk.old disk.new result }
     ensures told { IsResumed run.old → IsSome (D.sectors disk.old) → IsSome (D.sectors disk.new) }
-    ensures blame { Blames (result ≡ RunEnd.DiskFault) (result ≡ RunEnd.SinkFault) D.faults disk.old disk.new O.faults out.old out.new }
+    ensures leaves { RunLeaves (result ≡ RunEnd.DiskFault) (result ≡ RunEnd.SinkFault) D.size D.faults O.faults disk.old out.old disk.new out.new }
 {
     machines_run();
     a_new_machine_is_steady();

@@ -1,6 +1,6 @@
 // A loaded run.
 ghost use Rattle.std.specs.Prelude.{◌≡◌, ◌≢◌, ◌∷◌, ◌+◌, ◌<◌, ◌≤◌, ◌^◌};
-ghost use Rattle.std.specs.Prelude.{false, true, [], length, slice_index, IfOk, IfErr, IsSome, OnOk, OnErr, Err, Ok, Some, None};
+ghost use Rattle.std.specs.Prelude.{false, true, [], length, slice_index, IfOk, IsSome, OnErr, Err, Ok, Some, None};
 ghost use Rattle.std.specs.Result.{result_err};
 ghost use Rattle.cvm_outside.specs.Numbering.{tally};
 ghost use Rattle.layer_map.specs.Map.{memory_words};
@@ -8,16 +8,14 @@ ghost use Rattle.mips_machine.specs.Saved.{AreSaved};
 ghost use Rattle.cvm_model.specs.Cvm.{map_of};
 ghost use Rattle.layer_contract.specs.Boots.{boot_of, BootFollows};
 ghost use Rattle.boot_report.specs.Blames.{Blames};
-ghost use Rattle.layer_contract.specs.Follows.{loaded};
-ghost use Rattle.boot_turns.specs.Rom.{rom_loaded};
-ghost use Rattle.boot_run.specs.Loading.{system_of};
-ghost use Rattle.boot_run.specs.LoadEnds.{pages_needed, rom_needed, IsFresh, StandsFrom, LoadCalls, LoadFails, LoadTorn, RomLoadCalls, RomTorn};
+ghost use Rattle.boot_run.specs.LoadEnds.{LoadLeaves, pages_needed, rom_needed};
+ghost use Rattle.boot_run.specs.Loaded.{IsLoaded, LoadTorn, boot_load, rom_load};
 ghost use Rattle.boot_report.specs.Leaves.{Asks, OnlyViews, Puts};
 ghost use Rattle.boot_run.specs.Calls.{MakesTurns, Proceeds, ProceedsAnyhow, Reports};
 ghost use Rattle.boot_run.specs.OneTurn.{CanMake, TurnsMake, ReportLeaves, TurnsSay, as_turns};
 ghost use Rattle.boot_run.specs.Saving.{saved_run, AreBoots, IsTakenUp};
 ghost use Rattle.boot_run.specs.Shown.{has_faulted};
-ghost use Rattle.boot_run.specs.TurnCalls.{rows_of, IsCalled, StandsReady};
+ghost use Rattle.boot_run.specs.TurnCalls.{rows_of, IsCalled};
 ghost use Rattle.boot_run.specs.TurnParts.{rows_before, rows_after, Views};
 ghost use Rattle.cvm_model.specs.declared.row.Row.{Row as OneRow};
 
@@ -104,16 +102,10 @@ impl<L: Layer + Drop> Run<L> {
         disk: &mut D,
     ) -> Result<Run<L>, LoadFault>
         requires { BootFollows (L.image layer) (L.sizes layer) (L.map layer) boot }
-        ensures fresh { IfOk result (λ r. IsFresh layer boot view schedule (pages_needed boot) (D.size disk.old) r) }
-        ensures memory { IfOk result (λ r. length r.machine.hardware.memory ≡ memory_words (map_of (boot_of boot))) }
-        ensures stands { IfOk result (StandsFrom (loaded (system_of boot schedule)) (D.sectors disk.old) (D.sectors disk.new)) }
-        ensures ready { IfOk result (StandsReady (system_of boot schedule) (loaded (system_of boot schedule)) (D.sectors disk.old) (D.sectors disk.new)) }
-        ensures fault { IfErr result (LoadFails boot view (pages_needed boot) (D.size disk.old) (D.faults disk.old) (D.faults disk.new)) }
-        ensures torn { result ≡ Err LoadFault.Disk → LoadTorn D.sectors (tally D.faults D.calls) boot schedule disk.old disk.new }
-        ensures calls { OnOk result (LoadCalls boot schedule (tally D.faults D.calls disk.old) (tally D.faults D.calls disk.new)) }
-        ensures still { result ≢ Err LoadFault.Disk → OnErr result (disk.new ≡ disk.old) }
-        ensures size { D.size disk.new ≡ D.size disk.old }
-        ensures same { result ≢ Err LoadFault.Disk → D.faults disk.new ≡ D.faults disk.old }
+        ensures loaded { IfOk result
+            (IsLoaded D.size D.sectors D.faults D.calls layer boot view schedule (boot_load boot schedule) disk.old disk.new) }
+        ensures leaves { LoadLeaves D.size D.sectors D.faults D.calls boot view (pages_needed boot) (LoadTorn (boot_load boot schedule))
+            disk.old disk.new result }
     {
         let users = boot.users.len() as u32;
         check_view(view, users)?;
@@ -159,16 +151,10 @@ impl<L: Layer + Drop> Run<L> {
     ) -> Result<Run<L>, LoadFault>
         requires follows { BootFollows (L.image layer) (L.sizes layer) (L.map layer) boot }
         requires few { length rom.now.items ≤ 1024 }
-        ensures fresh { IfOk result (λ r. IsFresh layer boot view schedule (rom_needed boot) (D.size disk.old) r) }
-        ensures stands { IfOk result (StandsFrom (rom_loaded (system_of boot schedule) rom.now.items) (D.sectors disk.old) (D.sectors disk.new)) }
-        ensures ready { IfOk result
-            (StandsReady (system_of boot schedule) (rom_loaded (system_of boot schedule) rom.now.items) (D.sectors disk.old) (D.sectors disk.new)) }
-        ensures fault { IfErr result (LoadFails boot view (rom_needed boot) (D.size disk.old) (D.faults disk.old) (D.faults disk.new)) }
-        ensures torn { result ≡ Err LoadFault.Disk → RomTorn D.sectors (tally D.faults D.calls) boot schedule rom.now.items disk.old disk.new }
-        ensures calls { OnOk result (RomLoadCalls boot schedule (tally D.faults D.calls disk.old) (tally D.faults D.calls disk.new)) }
-        ensures still { result ≢ Err LoadFault.Disk → OnErr result (disk.new ≡ disk.old) }
-        ensures size { D.size disk.new ≡ D.size disk.old }
-        ensures same { result ≢ Err LoadFault.Disk → D.faults disk.new ≡ D.faults disk.old }
+        ensures loaded { IfOk result
+            (IsLoaded D.size D.sectors D.faults D.calls layer boot view schedule (rom_load boot schedule rom.now.items) disk.old disk.new) }
+        ensures leaves { LoadLeaves D.size D.sectors D.faults D.calls boot view (rom_needed boot) (LoadTorn (rom_load boot schedule rom.now.items))
+            disk.old disk.new result }
     {
         let users = boot.users.len() as u32;
         check_view(view, users)?;

@@ -1,11 +1,12 @@
 // A boot that is to be saved: it stops where the wanted turns are complete, or ends as a boot does.
-ghost use Rattle.std.specs.Prelude.{◌≡◌, ◌+◌, ◌<◌, ◌≤◌, ◌^◌, length, IfOk, Err, None};
+ghost use Rattle.std.specs.Prelude.{◌≡◌, ◌≤◌, length, IfOk, Err, None};
 ghost use Rattle.layer_map.specs.Map.{memory_words};
 ghost use Rattle.cvm_model.specs.Cvm.{map_of};
 ghost use Rattle.layer_contract.specs.Boots.{boot_of, BootFollows};
 ghost use Rattle.cvm_outside.specs.Numbering.{tally};
 ghost use Rattle.boot_report.specs.Blames.{Blames};
 ghost use Rattle.boot_report.specs.Leaves.{Asks};
+ghost use Rattle.boot_run.specs.OneTurn.{CanClose, CanRun, RunLeaves};
 ghost use Rattle.boot_run.specs.LoadEnds.{LoadsRun, pages_needed};
 ghost use Rattle.boot_run.specs.Whole.{WholeStopped};
 ghost use Rattle.boot_run.specs.Saving.{end_of_stop, IsSaveDiskFault, IsSaveSinkFault, RunsToSave, RunStops, StopsOrCloses};
@@ -13,7 +14,7 @@ ghost use Rattle.boot_run.specs.Saving.{end_of_stop, IsSaveDiskFault, IsSaveSink
 use crate::load::LoadFault;
 use crate::run::Run;
 use crate::whole::{RunEnd, close, end_at, go, premises_hold};
-use boot_turns::{RunFault, View, journal_rows_follow, machines_run, traces_grow};
+use boot_turns::{View, journal_rows_follow, machines_run, traces_grow};
 use cvm_outside::{Sectors, Sink};
 use layer_contract::{Boot, Layer};
 use mips_table::runs::turns_are_counted;
@@ -35,12 +36,11 @@ fn stop<L: Layer + Drop, D: Sectors, O: Sink>(
     disk: &mut D,
     out: &mut O,
 ) -> SaveEnd
-    requires disk { D.size disk.old ≡ run.old.count }
-    requires fine { run.old.fault ≡ None }
-    ensures size { D.size disk.new ≡ D.size disk.old }
+    requires can { CanClose run.old (D.size disk.old) }
     ensures ends { StopsOrCloses D.size D.sectors (tally D.faults D.calls) O.text run.old disk.old out.old run.new disk.new out.new result }
     ensures asks { Asks (end_of_stop result ≡ RunEnd.DiskFault) (tally D.faults D.calls disk.old) (tally D.faults D.calls disk.new) }
-    ensures blame { Blames (end_of_stop result ≡ RunEnd.DiskFault) (end_of_stop result ≡ RunEnd.SinkFault) D.faults disk.old disk.new O.faults out.old out.new }
+    ensures leaves { RunLeaves (end_of_stop result ≡ RunEnd.DiskFault) (end_of_stop result ≡ RunEnd.SinkFault)
+        D.size D.faults O.faults disk.old out.old disk.new out.new }
 {
     let over = run.ended().is_some();
     if over {
@@ -57,14 +57,12 @@ fn run_to_stop<L: Layer + Drop, D: Sectors, O: Sink>(
     disk: &mut D,
     out: &mut O,
 ) -> SaveEnd
-    requires disk { D.size disk.old ≡ run.old.count }
-    requires steps { run.old.machine.time + steps < 2 ^ 64 }
-    requires fine { run.old.fault ≡ None }
-    ensures size { D.size disk.new ≡ D.size disk.old }
+    requires can { CanRun steps run.old (D.size disk.old) }
     ensures ends { RunStops D.size D.sectors (tally D.faults D.calls) O.text turns steps run.old disk.old out.old run.new disk.new out.new result }
     ensures goes_on { result ≡ SaveEnd.Stopped → run.new.ended ≡ None }
     ensures memory { result ≡ SaveEnd.Stopped → length run.new.machine.hardware.memory ≡ length run.old.machine.hardware.memory }
-    ensures blame { Blames (end_of_stop result ≡ RunEnd.DiskFault) (end_of_stop result ≡ RunEnd.SinkFault) D.faults disk.old disk.new O.faults out.old out.new }
+    ensures leaves { RunLeaves (end_of_stop result ≡ RunEnd.DiskFault) (end_of_stop result ≡ RunEnd.SinkFault)
+        D.size D.faults O.faults disk.old out.old disk.new out.new }
 {
     machines_run();
     traces_grow();

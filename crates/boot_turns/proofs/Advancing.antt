@@ -1,4 +1,5 @@
 -- The loop to the end of a turn, in a run from a start.
+-- It serves `loops_advance` alone.
 use Rattle.std.proofs.Common.{◌≡◌, ⊎_elim, None, ℕ, zero, suc, ◌+◌, ◌-◌, ◌<◌, ◌≤◌, Bool, true, false, Option, Some, Result, Ok, Err, refl, sym, ap, ◌∙◌, subst, subst₂, arith, eq-eqb, slice_index}
 use Rattle.std.specs.Prelude.{◌==◌, not, bit_or}
 use Rattle.std.proofs.lemmas.Bool.{cases_lt}

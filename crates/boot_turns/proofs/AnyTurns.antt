@@ -1,5 +1,6 @@
 -- What a loop that steps a machine to the end of turns comes to in any run: turns are counted by their beginnings, which come only where the machine
 -- rests, but for a reset that is latched at the first step.
+-- It serves `loops_make_turns` alone.
 use Rattle.std.proofs.Common.{◌≡◌, ⊎_elim, None, ℕ, zero, suc, ◌+◌, ◌-◌, ◌<◌, ◌≤◌, ◌||◌, ◌&&◌, Bool, true, false, not, Option, Some, Result, Ok, Err, refl, sym, ap, ap₂, ◌∙◌, subst, subst₂, arith, eq-eqb, slice_index}
 use Rattle.std.specs.Prelude.{MatchResult}
 use Rattle.std.proofs.lemmas.Bool.{cases_lt, cond_both, cond-true}

@@ -1,8 +1,10 @@
 -- The calls of a disk along a run: what keeps up with two runs, one after the other, keeps up with both, where the first met no fault.
 use Rattle.std.proofs.Common.{◌≡◌, ℕ, ◌+◌, Option, Some, Result, Err, sym, ap, ◌∙◌, subst, refl, arith}
+use Rattle.cvm_outside.specs.Causes.{Rose}
 use Rattle.cvm_outside.specs.Numbering.{Tally}
 use Rattle.mips_machine.specs.Machine.{Held}
 use Rattle.sector_disk.specs.Ports.{Ports, called, CallsKeepUp, CallsWith}
+use Rattle.boot_report.specs.Blames.{Blames}
 use Rattle.boot_report.proofs.Leaves.{called_behind}
 use Rattle.boot_turns.specs.declared.answers.RunFault.{RunFault}
 use Rattle.boot_turns.specs.declared.answers.RunFault.TheVariants.{Disk, Sink}
@@ -69,3 +71,22 @@ sink_alone r f is at_sink e = cc
 
 pub disk_alone : {T : Type 0} (r : Result T RunFault) (f : RunFault) → r ≡ Err f → f ≡ Disk → r ≡ Err Sink → ⊥
 disk_alone r f is at_disk e = cc
+
+-- a fault of the disk behind what met none, and one of the sink
+pub disk_blamed : {T D O : Type 0} (r : Result T RunFault) (f : RunFault) → r ≡ Err f → f ≡ Disk → (broke : D → ℕ) (disk mid redisk : D) (cut : O → ℕ) (out reout : O) →
+    broke mid ≡ broke disk → Rose (broke mid) (broke redisk) → cut reout ≡ cut out → Blames (r ≡ Err Disk) (r ≡ Err Sink) broke disk redisk cut out reout
+disk_blamed r f is at_disk broke disk mid redisk cut out reout before rose same = record {
+  disk_rose = λ _. subst (λ (n : ℕ). Rose n (broke redisk)) before rose;
+  disk_same = λ no. absurd (no (is ∙ ap (λ g. Err g) at_disk));
+  sink_rose = λ e. absurd (disk_alone r f is at_disk e);
+  sink_same = λ _. same;
+}
+
+pub sink_blamed : {T D O : Type 0} (r : Result T RunFault) (f : RunFault) → r ≡ Err f → f ≡ Sink → (broke : D → ℕ) (disk redisk : D) (cut : O → ℕ) (out mid reout : O) →
+    cut mid ≡ cut out → Rose (cut mid) (cut reout) → broke redisk ≡ broke disk → Blames (r ≡ Err Disk) (r ≡ Err Sink) broke disk redisk cut out reout
+sink_blamed r f is at_sink broke disk redisk cut out mid reout before rose same = record {
+  disk_rose = λ e. absurd (sink_alone r f is at_sink e);
+  disk_same = λ _. same;
+  sink_rose = λ _. subst (λ (n : ℕ). Rose n (cut reout)) before rose;
+  sink_same = λ no. absurd (no (is ∙ ap (λ g. Err g) at_sink));
+}

@@ -1,4 +1,5 @@
 -- The calls that a dispatch ends, on the run of the machine.
+-- It serves `traces_grow` alone.
 use Rattle.std.proofs.Common.{◌≡◌, ◌≢◌, ℕ, zero, suc, ◌+◌, ◌-◌, ◌<◌, ◌≤◌, true, Option, Some, None, List, refl, sym, ap, ◌∙◌, subst, ⊎_elim, arith, eq-eqb, ne_eqb}
 use Rattle.std.specs.Prelude.{◌==◌, ℤ, [], ◌∷◌, length, slice_get, slice_index}
 use Rattle.std.proofs.lemmas.Bool.{cases_lt, cond-true, cond-false}

@@ -1,4 +1,5 @@
 -- The entries of a primitive that has returned, by its arguments and its answer as words.
+-- It serves `traces_grow` alone.
 use Rattle.std.proofs.Common.{◌≡◌, ℕ, zero, suc, ◌+◌, ◌-◌, ◌*◌, ◌/◌, ◌%◌, ◌^◌, ◌<◌, ◌≤◌, ◌&&◌, Bool, true, false, cond, List, [], ◌∷◌, ◌++◌, length, take, drop, refl, sym, ap, ap₂, ◌∙◌, subst, ⊎_elim, arith, eqb-true, append-nil}
 use Rattle.std.specs.Prelude.{◌==◌, ℤ, pos, negsuc, nat_abs, slice_index, slice_index_or, slice_set}
 use Rattle.std.specs.Int.{cast_unsigned, w32}

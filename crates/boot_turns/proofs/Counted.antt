@@ -1,4 +1,5 @@
 -- An untrapped step that keeps user mode is counted where a trace is printed, and has no rows.
+-- It serves `step_traced` alone.
 use Rattle.std.proofs.Common.{◌≡◌, ℕ, zero, suc, ◌+◌, ◌≤◌, ◌&&◌, Bool, true, false, Option, Some, None, Ok, List, [], ◌∷◌, slice_index, refl, sym, ap, ap₂, ◌∙◌, subst, arith}
 use Rattle.std.specs.Prelude.{◌==◌, not, if◌then◌else◌, nat_lt, IfSome}
 use Rattle.std.specs.Option.{option_map}

@@ -1,4 +1,5 @@
 -- Journals with more units, and how what is shown of a user goes on: over the CVM run alone.
+-- It serves `traces_grow` alone.
 use Rattle.std.proofs.Common.{◌≡◌, ◌≢◌, ℕ, zero, suc, ◌+◌, ◌<◌, ◌≤◌, Bool, true, false, cond, min, Option, Some, None, List, [], ◌∷◌, ◌++◌, length, take, refl, sym, ap, ap₂, ◌∙◌, arith, append-nil, lt-ltb, le-ltb, ltb-true}
 use Rattle.std.specs.Prelude.{◌==◌, nat_lt, bit_or, pos, ℤ, slice_get}
 use Rattle.std.proofs.lemmas.Bool.{cond-true, cond-false}

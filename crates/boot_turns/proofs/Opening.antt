@@ -1,5 +1,5 @@
 -- One more step of the loop to the end of a turn.
-use Rattle.std.proofs.Common.{◌≡◌, ℕ, suc, ◌+◌, ◌<◌, ◌≤◌, inl, inr, Result, Err, ◌||◌, not, Bool, true, false, Option, Some, None, List, refl, sym, ap, ◌∙◌, subst, subst₂, ⊎_elim, arith}
+use Rattle.std.proofs.Common.{◌≡◌, ℕ, suc, ◌+◌, ◌<◌, ◌≤◌, inl, inr, ◌||◌, not, Bool, true, false, Option, Some, None, List, refl, sym, ap, ◌∙◌, subst, subst₂, ⊎_elim, arith}
 use Rattle.std.specs.Prelude.{IfSome, is_some, slice_index}
 use Rattle.std.specs.Option.{option_map}
 use Rattle.std.proofs.lemmas.Bool.{cases_lt}
@@ -8,9 +8,8 @@ use Rattle.mips_table.specs.Machine.{State, MODE, run, step}
 use Rattle.mips_table.specs.Turns.{begins, rests, in_user}
 use Rattle.mips_machine.specs.Machine.{Held, state_of}
 use Rattle.mips_machine.specs.Steps.{outside_of}
-use Rattle.boot_turns.specs.Completes.{seen, note, shown, noted, is_at_rest, Open, Progress, Skips, PortsStepped, StepRan, StepTorn, StepFails, DiskLeaves, CompleteErr, Passes}
+use Rattle.boot_turns.specs.Completes.{seen, note, shown, noted, is_at_rest, Open, Progress, Skips, PortsStepped, StepRan, StepTorn, StepFails, StepFaults, DiskLeaves, CompleteErr, Passes}
 use Rattle.boot_turns.specs.declared.completion.Begun.{Begun}
-use Rattle.boot_turns.specs.declared.completion.Stepped.{Stepped}
 use Rattle.boot_turns.specs.declared.answers.RunFault.{RunFault}
 use Rattle.boot_turns.specs.declared.answers.RunFault.TheVariants.{StepLimit, Disk, Sink}
 use Rattle.boot_turns.proofs.Events.{step_torn, step_ports, told_as_some}
@@ -83,10 +82,6 @@ one_step x y s t u told retold old new b out began same le is p ran bg note_is =
     let there : seen retold new ≡ Some (run x s (suc u)) = seen_more x _ _ _ ran2 is in
     (there, subst (Opened x s t (suc u)) (sym note_is) (opened_more x s t u b began (shown new) le p bg2 (seen_note retold new _ there)))
 
--- the answer of a step that failed, or whose rows did
-abbrev failing : RunFault → Result Stepped RunFault
-failing f = Err f
-
 -- what a fault of the disk leaves of the step at u
 fails_leave : (count : ℕ) (x : Outside) (s : State) (u : ℕ) (told retold : Option (List (List ℕ))) (old new : Held) → outside_of old.rows count ≡ x → seen told old ≡ Some (run x s u) →
     (traced : Bool) → StepFails count old new told retold traced → DiskLeaves x s u traced (seen retold new)
@@ -98,12 +93,12 @@ fails_leave count x s u told retold old new same is true h = ⊎_elim
 
 -- the step at u failed, or its rows
 pub step_stops : (count : ℕ) (x : Outside) (s : State) (t u before after : ℕ) (told retold : Option (List (List ℕ))) (old new : Held) (traced : Bool) (b : Option Begun) (f : RunFault) → outside_of old.rows count ≡ x → t ≤ u → after + (u + 1) ≡ before + t →
-    seen told old ≡ Some (run x s u) → Progress x s t u b → (run x s u).off ≡ None → (failing f ≡ Err StepLimit → ⊥) → (failing f ≡ Err Disk → StepFails count old new told retold traced) → ((failing f ≡ Err Disk → ⊥) → StepRan count old new told retold) →
+    seen told old ≡ Some (run x s u) → Progress x s t u b → (run x s u).off ≡ None → StepFaults count old new told retold traced f →
     CompleteErr x traced (seen retold new) before after s t f
-step_stops count x s t u before after told retold old new traced b StepLimit same le spent is p on limit torn ran = absurd (limit refl)
-step_stops count x s t u before after told retold old new traced b Disk same le spent is p on limit torn ran = (u, le, spent, (b, p), fails_leave count x s u told retold old new same is traced (torn refl), on)
-step_stops count x s t u before after told retold old new traced b Sink same le spent is p on limit torn ran =
-    let ran_x : seen retold new ≡ option_map (step x) (seen told old) = subst (λ (z : Outside). seen retold new ≡ option_map (step z) (seen told old)) same (ran (λ e. cc)) in
+step_stops count x s t u before after told retold old new traced b StepLimit same le spent is p on fault = absurd fault
+step_stops count x s t u before after told retold old new traced b Disk same le spent is p on fault = (u, le, spent, (b, p), fails_leave count x s u told retold old new same is traced fault, on)
+step_stops count x s t u before after told retold old new traced b Sink same le spent is p on fault =
+    let ran_x : seen retold new ≡ option_map (step x) (seen told old) = subst (λ (z : Outside). seen retold new ≡ option_map (step z) (seen told old)) same fault in
     (u, le, spent, (b, p), seen_more x (seen told old) (seen retold new) (run x s u) ran_x is, on)
 
 -- a turn that is passed: the step at u, after n of them, began it and kept user mode

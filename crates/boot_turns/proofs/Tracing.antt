@@ -1,4 +1,5 @@
 -- The trace of every run from a start grows by the entries of its steps.
+-- It serves `traces_grow` alone.
 use Rattle.c0_meaning.specs.State.{State as C0}
 use Rattle.layer_contract.specs.Starts.{StartsGoOn}
 use Rattle.layer_contract.specs.Users.{UserStepsLinked}

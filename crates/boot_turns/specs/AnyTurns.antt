@@ -15,7 +15,7 @@ abbrev pub Came : Outside → State → (k t : ℕ) → Option State → (budget
 Came x s k t now budget left = (at : ℕ) × ComesTo x s k at × (now ≡ Some (run x s at)) × (left + at ≡ budget + t)
 
 -- or it was broken off before k turns were complete: the budget was spent; or the disk failed in step number `at`, of those from t on, or where a user
--- is traced behind it; or the sink failed after `at` steps
+-- is traced behind it; or the sink failed after `at` steps, t at least
 abbrev pub BrokeOff : Outside → State → (traced : Bool) → (k t : ℕ) → Option State → (budget left : ℕ) → RunFault → Type 0
 BrokeOff x s traced k t now budget left StepLimit = (left ≡ 0) × NoSooner x s k (suc (t + budget)) × (now ≡ Some (run x s (t + budget)))
 BrokeOff x s traced k t now budget left Disk = (at : ℕ) × (t ≤ at) × NoSooner x s k (suc at) × DiskLeaves x s at traced now × (left + suc at ≡ budget + t)

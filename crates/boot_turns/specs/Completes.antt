@@ -92,6 +92,18 @@ abbrev pub KeptUser : Held → Stepped → Type 0
 KeptUser held Kept = (slice_index held.hardware.special MODE ≡ 1) × (held.hardware.off ≡ None)
 KeptUser held other = Unit {0}
 
+-- over a disk of so many sectors the machine made one step, which was this for the turns
+pub record StepDone (count : ℕ) (old new : Held) (told retold : Option (List (List ℕ))) (stepped : Stepped) : Type 0 where
+  pub ran : StepRan count old new told retold
+  pub began : StepBegan count old told (turn_began stepped)
+  pub kept : KeptUser new stepped
+
+-- or there was this fault in the step, or where a user is traced in its rows: the sink fails in rows alone, whose step is done, and no budget is looked at
+abbrev pub StepFaults : (count : ℕ) → (old new : Held) → (told retold : Option (List (List ℕ))) → (traced : Bool) → RunFault → Type 0
+StepFaults count old new told retold traced StepLimit = ⊥
+StepFaults count old new told retold traced Disk = StepFails count old new told retold traced
+StepFaults count old new told retold traced Sink = StepRan count old new told retold
+
 -- what a state shows after the step that begins a turn: the mode, the cause, what it concerns, and the current user's word
 abbrev pub note : State → Begun
 note s = record {

@@ -120,7 +120,7 @@ pub record RowBroken (x : Outside) (y : System) (s : State) (now : List (List �
   pub printed : Prefix (rows_text past.rows) (rows_text after.rows) text
 
 -- which rows of a trace were put after `at` steps, as `part` stood and `whole` was to stand: its first one, before any step; those of the last of these
--- steps, of which there are some; or that of a kernel's fault
+-- steps, which has some; or that of a kernel's fault
 abbrev pub ArePut : Outside → System → State → (u at : ℕ) → (part whole : List ℕ) → Type 0
 ArePut x y s u at part whole = ((at ≡ 0) × (part ≡ []) × Printed x y s (Trace u) 0 whole)
     ⊎ (((t : ℕ) × (at ≡ suc t) × Printed x y s (Trace u) t part × Printed x y s (Trace u) at whole × (part ≢ whole))
@@ -176,7 +176,8 @@ SinkBroken x y s held old now (Trace u) turns steps calls text =
 -- HOW A LOADED RUN ENDS. `calls n z` says that a disk's calls, up to the first that failed, fit the state z: one for each transfer up to it, and n for
 -- rows. Where the disk failed in a step they fit the state behind that step, so over a disk with no fault before rows which come a turn late don't pass
 -- for those of an earlier call; and where it failed in the report, they fit the end of the run, with one at least for the report. Where the sink failed
--- they fit the step after which its rows were put, so rows that were held back over a transfer don't pass, either.
+-- they fit the step after which its rows were put, or the end of the run, with any number for the report: so over a disk with no fault before rows that
+-- were held back over a transfer don't pass, either, but for those of a copy, over as many as fewer of its words were read.
 abbrev pub RunEndsFrom : Outside → System → State → (held : ℕ) → (old now : List (List ℕ)) → View → (turns steps : ℕ) → (calls : ℕ → State → Type 0) →
     List ℕ → Ending → Type 0
 RunEndsFrom x y s held old now v turns steps calls text DiskFault = Beyond held old now

@@ -21,3 +21,4 @@ pub mod Sooner
 pub mod GoesOn
 pub mod RomStarts
 pub mod Ahead
+pub mod StepRows

@@ -1,14 +1,11 @@
 // The rows of one step of a trace, and what is kept after it.
-ghost use Rattle.std.specs.Prelude.{◌≡◌, ◌+◌, ◌*◌, ◌<◌, ◌≤◌, ◌-◌, ◌^◌, [], length, true, false, None, Err};
-ghost use Rattle.cvm_outside.specs.Numbering.{tally};
+ghost use Rattle.std.specs.Prelude.{◌≡◌, ◌<◌, ◌-◌, ◌^◌, [], length, Some};
 ghost use Rattle.mips_machine.specs.Machine.{state_of};
 ghost use Rattle.boot_turns.specs.Completes.{shown};
-ghost use Rattle.boot_turns.specs.Entries.{HasRows};
 ghost use Rattle.boot_turns.specs.Returns.{notes_on, returned};
-ghost use Rattle.boot_turns.specs.Copies.{CallFails, FollowFails};
-ghost use Rattle.boot_turns.specs.Steps.{KeepsTracer, RowsAsk, RowsLeave};
-ghost use Rattle.boot_turns.specs.Tracing.{CanTrace, counted, EndCut, EndedKeeps, FollowCut, ForEnded, ForFollowed, FollowedKeeps};
-ghost use Rattle.boot_report.specs.Leaves.{PrintsAll};
+ghost use Rattle.boot_turns.specs.StepRows.{EndPrints, FollowPrints};
+ghost use Rattle.boot_turns.specs.Steps.{CanFollow, CountsStep, EndLeaves, FollowLeaves};
+ghost use Rattle.boot_turns.specs.Tracing.{CanTrace};
 
 use crate::answers::RunFault;
 use crate::completion::Begun;
@@ -72,14 +69,9 @@ impl Tracer {
     ) -> Result<(), RunFault>
         requires copy { call.now.primitive ≡ VM_COPY }
         requires can { CanTrace map.now (length machine.old.hardware.memory) machine.old.time (D.size disk.old) self.old }
-        ensures put { ForEnded (D.sectors disk.old) machine.old map.now self.old call.now answer (PrintsAll (O.text out.old) (O.text out.new)) result }
-        ensures steps { EndedKeeps (D.sectors disk.old) machine.old map.now self.old self.new call.now answer result }
-        ensures fails { result ≡ Err RunFault.Disk → CallFails (D.sectors disk.old) machine.old map.now self.old self.new call.now answer
-            (O.text out.old) (O.text out.new) }
-        ensures cut { result ≡ Err RunFault.Sink → EndCut (D.sectors disk.old) machine.old map.now self.old self.new call.now answer }
-        ensures keeps { KeepsTracer self.old self.new }
-        ensures read { RowsLeave machine.old machine.new D.sectors D.size D.faults disk.old disk.new O.faults out.old out.new result }
-        ensures asks { RowsAsk self.old self.new (tally D.faults D.calls disk.old) (tally D.faults D.calls disk.new) }
+        ensures prints { EndPrints (D.sectors disk.old) machine.old map.now self.old self.new call.now answer (O.text out.old) (O.text out.new) result }
+        ensures leaves { EndLeaves machine.old machine.new self.old self.new D.sectors D.size D.faults D.calls disk.old disk.new
+            O.faults out.old out.new result }
     {
         let [_, _, user, address, count] = call.arguments;
         let most = 1024 * map.params().pages;
@@ -105,14 +97,9 @@ impl Tracer {
         out: &mut O,
     ) -> Result<(), RunFault>
         requires can { CanTrace map.now (length machine.old.hardware.memory) machine.old.time (D.size disk.old) self.old }
-        ensures put { ForEnded (D.sectors disk.old) machine.old map.now self.old call.now answer (PrintsAll (O.text out.old) (O.text out.new)) result }
-        ensures steps { EndedKeeps (D.sectors disk.old) machine.old map.now self.old self.new call.now answer result }
-        ensures fails { result ≡ Err RunFault.Disk → CallFails (D.sectors disk.old) machine.old map.now self.old self.new call.now answer
-            (O.text out.old) (O.text out.new) }
-        ensures cut { result ≡ Err RunFault.Sink → EndCut (D.sectors disk.old) machine.old map.now self.old self.new call.now answer }
-        ensures keeps { KeepsTracer self.old self.new }
-        ensures read { RowsLeave machine.old machine.new D.sectors D.size D.faults disk.old disk.new O.faults out.old out.new result }
-        ensures asks { RowsAsk self.old self.new (tally D.faults D.calls disk.old) (tally D.faults D.calls disk.new) }
+        ensures prints { EndPrints (D.sectors disk.old) machine.old map.now self.old self.new call.now answer (O.text out.old) (O.text out.new) result }
+        ensures leaves { EndLeaves machine.old machine.new self.old self.new D.sectors D.size D.faults D.calls disk.old disk.new
+            O.faults out.old out.new result }
     {
         if call.primitive == VM_COPY {
             return self.end_copy(machine, map, call, answer, disk, out);
@@ -124,9 +111,7 @@ impl Tracer {
     // Counts a step under this current user that kept user mode, where no primitive is under way. The answer is whether none is.
     pub(crate) fn count(&mut self, current: u32) -> bool
         requires few { self.old.steps < 2 ^ 64 - 1 }
-        ensures free { result ≡ true → self.old.call ≡ None }
-        ensures counted { result ≡ true → self.new ≡ counted current self.old }
-        ensures same { result ≡ false → self.new ≡ self.old }
+        ensures { CountsStep current (Some self.old) (Some self.new) result }
     {
         if self.call.is_some() {
             return false;
@@ -152,20 +137,10 @@ impl Tracer {
         disk: &mut D,
         out: &mut O,
     ) -> Result<(), RunFault>
-        requires can { CanTrace map.now (length machine.old.hardware.memory) machine.old.time (D.size disk.old) self.old }
-        requires few { self.old.steps < machine.old.time }
-        requires counted { self.old.reads + 4294967296 ≤ 4294967296 * machine.old.time }
-        requires room { 1024 < length machine.old.hardware.memory }
-        ensures put { ForFollowed (D.sectors disk.old) machine.old map.now self.old current began (PrintsAll (O.text out.old) (O.text out.new)) result }
-        ensures kept { FollowedKeeps (D.sectors disk.old) machine.old map.now self.old self.new current began result }
-        ensures puts { result ≡ Err RunFault.Sink → HasRows (state_of machine.old []) self.old.call began }
-        ensures fails { result ≡ Err RunFault.Disk → FollowFails (D.sectors disk.old) machine.old map.now self.old self.new began
-            (O.text out.old) (O.text out.new) }
-        ensures cut { result ≡ Err RunFault.Sink → FollowCut (D.sectors disk.old) machine.old map.now self.old self.new current began }
-        ensures can { CanTrace map.now (length machine.new.hardware.memory) machine.new.time (D.size disk.new) self.new }
-        ensures user { self.new.user ≡ self.old.user }
-        ensures read { RowsLeave machine.old machine.new D.sectors D.size D.faults disk.old disk.new O.faults out.old out.new result }
-        ensures asks { RowsAsk self.old self.new (tally D.faults D.calls disk.old) (tally D.faults D.calls disk.new) }
+        requires can { CanFollow map.now machine.old self.old (D.size disk.old) }
+        ensures prints { FollowPrints (D.sectors disk.old) machine.old map.now self.old self.new current began (O.text out.old) (O.text out.new) result }
+        ensures leaves { FollowLeaves map.now machine.old machine.new self.old self.new D.sectors D.size D.faults D.calls disk.old disk.new
+            O.faults out.old out.new result }
     {
         if began {
             if current == self.user {

@@ -1,15 +1,13 @@
 // What a trace keeps between two steps, and the rows that it prints.
-ghost use Rattle.std.specs.Prelude.{◌≡◌, ◌≢◌, ◌*◌, ◌/◌, ◌≤◌, length, Err, ◌+◌, ◌-◌, ◌<◌, ◌^◌, ◌++◌, [], OnOk, OnErr, true};
-ghost use Rattle.cvm_outside.specs.Numbering.{tally};
+ghost use Rattle.std.specs.Prelude.{◌≡◌, ◌*◌, ◌/◌, ◌≤◌, length, ◌+◌, ◌-◌, ◌<◌, ◌^◌, ◌++◌, [], OnOk, OnErr, true};
 ghost use Rattle.mips_machine.specs.Machine.{state_of};
 ghost use Rattle.cvm_model.specs.Text.{steps_row as steps_text};
 ghost use Rattle.boot_turns.specs.Entries.{turn_begins, call_ends, IsNoCopy};
 ghost use Rattle.boot_turns.specs.Returns.{noted_at};
-ghost use Rattle.boot_turns.specs.Copies.{copied_kept, CopyCut, CopyFails, ForCopied};
-ghost use Rattle.boot_turns.specs.JournalText.{steps_after};
-ghost use Rattle.boot_turns.specs.Steps.{KeepsTracer, RowsAsk, RowsLeave};
-ghost use Rattle.boot_turns.specs.Tracing.{CanTrace, begun_rows, ended_rows};
-ghost use Rattle.boot_report.specs.Leaves.{PrintsAll, Puts};
+ghost use Rattle.boot_turns.specs.StepRows.{CopyPrints, PutsEntries};
+ghost use Rattle.boot_turns.specs.Steps.{EndLeaves, KeepsReads};
+ghost use Rattle.boot_turns.specs.Tracing.{CanTrace};
+ghost use Rattle.boot_report.specs.Leaves.{Puts};
 
 use crate::answers::RunFault;
 use crate::completion::Begun;
@@ -91,10 +89,8 @@ impl Tracer {
         out: &mut O,
     ) -> Result<(), SinkFault>
         requires few { self.old.steps < 2 ^ 64 - 1 }
-        ensures put { Puts O.text O.faults out.old out.new (begun_rows self.old current begun.now) result }
-        ensures steps { OnOk result (self.new ≡ record self.old { steps = steps_after self.old.steps (turn_begins self.old.user current begun.now) }) }
+        ensures prints { PutsEntries O.text O.faults out.old out.new self.old self.new (turn_begins self.old.user current begun.now) result }
         ensures puts { OnErr result (begun.now.dispatched ≡ true) }
-        ensures some { OnErr result (begun_rows self.old current begun.now ≢ []) }
         ensures user { self.new.user ≡ self.old.user }
         ensures reads { self.new.reads ≡ self.old.reads }
         ensures few { self.new.steps ≤ self.old.steps + 1 }
@@ -120,8 +116,7 @@ impl Tracer {
     fn put<O: Sink>(&mut self, row: &[u8], out: &mut O) -> Result<(), SinkFault>
         ensures put { Puts O.text O.faults out.old out.new (steps_text self.old.steps ++ row.now) result }
         ensures steps { OnOk result (self.new ≡ record self.old { steps = 0 }) }
-        ensures keeps { KeepsTracer self.old self.new }
-        ensures reads { self.new.reads ≡ self.old.reads }
+        ensures keeps { KeepsReads self.old self.new }
     {
         put_after(self.steps, row, out)?;
         self.steps = 0;
@@ -141,11 +136,8 @@ impl Tracer {
         out: &mut O,
     ) -> Result<(), SinkFault>
         requires no_copy { IsNoCopy call.now }
-        ensures put { Puts O.text O.faults out.old out.new (ended_rows self.old call.now answer []) result }
-        ensures some { OnErr result (ended_rows self.old call.now answer [] ≢ []) }
-        ensures steps { OnOk result (self.new ≡ record self.old { steps = steps_after self.old.steps (call_ends self.old.user call.now answer []) }) }
-        ensures keeps { KeepsTracer self.old self.new }
-        ensures reads { self.new.reads ≡ self.old.reads }
+        ensures prints { PutsEntries O.text O.faults out.old out.new self.old self.new (call_ends self.old.user call.now answer []) result }
+        ensures keeps { KeepsReads self.old self.new }
     {
         let [user, second, third, _, _] = call.arguments;
         if answer != 1 || user != self.user {
@@ -179,14 +171,9 @@ impl Tracer {
     ) -> Result<(), RunFault>
         requires can { CanTrace map.now (length machine.old.hardware.memory) machine.old.time (D.size disk.old) self.old }
         requires inside { address / 4 + count ≤ 1024 * map.now.params.pages }
-        ensures put { ForCopied (D.sectors disk.old) machine.old map.now self.old address count (PrintsAll (O.text out.old) (O.text out.new)) result }
-        ensures kept { OnOk result (self.new ≡ copied_kept map.now (state_of machine.old []) self.old address count) }
-        ensures keeps { KeepsTracer self.old self.new }
-        ensures read { RowsLeave machine.old machine.new D.sectors D.size D.faults disk.old disk.new O.faults out.old out.new result }
-        ensures asks { RowsAsk self.old self.new (tally D.faults D.calls disk.old) (tally D.faults D.calls disk.new) }
-        ensures fails { result ≡ Err RunFault.Disk → CopyFails (D.sectors disk.old) machine.old map.now self.old self.new address count
-            (O.text out.old) (O.text out.new) }
-        ensures cut { result ≡ Err RunFault.Sink → CopyCut machine.old map.now self.old self.new address count }
+        ensures prints { CopyPrints (D.sectors disk.old) machine.old map.now self.old self.new address count (O.text out.old) (O.text out.new) result }
+        ensures leaves { EndLeaves machine.old machine.new self.old self.new D.sectors D.size D.faults D.calls disk.old disk.new
+            O.faults out.old out.new result }
     {
         // so the words that are read can be counted in as many bits
         prove!(self.reads <= 4294967296 * u128::from(machine.steps()));

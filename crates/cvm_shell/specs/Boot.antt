@@ -100,7 +100,7 @@ CallsOf session s rows sectors old new =
 
 -- by any ending of a run whose load was done: where the disk failed, in the step or the report that it names, with the text up to there. Its calls up to
 -- the first that failed fit that step, and of a trace one more for each word of its rows so far that was read; or the end of the run, with one more at
--- least for the report
+-- least for the report. Where the sink failed they fit the step after which its rows were put, or the end of the run
 abbrev pub EndsLoaded : Session → ImageSystem → Rows → (old new : Host) → (before after : List (List ℕ)) → (text : List ℕ) → Ending → Type 0
 EndsLoaded session s rows old new before after text e =
     RunEndsFrom (around rows old) (booted s rows) (first_state session s rows before) (sectors_needed session s rows) before after

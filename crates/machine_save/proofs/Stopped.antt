@@ -121,24 +121,23 @@ one_fault f g e = cc
 module _ {D O : Type 0} (size : D → ℕ) (sectors : D → Option (List (List ℕ))) (broke called : D → ℕ) (b : Booted) (view : View) (need : ℕ) (Before : (told retold : Option (List (List ℕ))) → (made remade : Tally) → Type 0) (disk : D) (out : O) (redisk : D) (reout : O) where
   pub refused_loads : {A B : Type 0} (f : LoadFault) → LoadsRun size sectors broke called {A = A} b view need Before disk out redisk reout (Err f) → LoadsRun size sectors broke called {A = B} b view need Before disk out redisk reout (Err f)
   refused_loads {A} {B} f w = record {
-    refused = w.refused;
-    stopped = λ e. w.stopped (ap (λ (g : LoadFault). Err g) (one_fault {A = B} f Disk e));
+    leaves = record {
+      refused = w.leaves.refused;
+      stopped = λ e. w.leaves.stopped (ap (λ (g : LoadFault). Err g) (one_fault {A = B} f Disk e));
+      still = λ ne. w.leaves.still (λ q. ne (ap (λ (g : LoadFault). Err g) (one_fault {A = A} f Disk q)));
+      same_size = w.leaves.same_size;
+    };
     loaded = tt;
     unprinted = w.unprinted;
-    still = λ ne. w.still (λ q. ne (ap (λ (g : LoadFault). Err g) (one_fault {A = A} f Disk q)));
-    same_size = w.same_size;
     told = w.told;
   }
 
   -- whatever is printed behind the run's own
   pub ran_loads : {A B : Type 0} (a : A) (other : B) (last : O) → LoadsRun size sectors broke called b view need Before disk out redisk reout (Ok a) → LoadsRun size sectors broke called b view need Before disk out redisk last (Ok other)
   ran_loads a other last w = record {
-    refused = tt;
-    stopped = λ e. absurd (cc);
+    leaves = record { refused = tt; stopped = λ e. absurd (cc); still = λ ne. tt; same_size = w.leaves.same_size };
     loaded = w.loaded;
     unprinted = tt;
-    still = λ ne. tt;
-    same_size = w.same_size;
     told = w.told;
   }
 

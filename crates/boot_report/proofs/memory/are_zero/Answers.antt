@@ -18,10 +18,10 @@ loop-i-preserved c =
     }
 
 pub returns : goal.returns
-returns c = record {
-  zero = λ e i l.
+returns c = (
+  (λ e i l.
       let none : c.loop-i.seen ≡ 0 = eqb-true c.loop-i.seen 0 e in
       let most = c.loop-i.invariant.most i (omega (arith, l, c.loop-i-test.false)) in
-      omega (arith, none, most);
-  other = λ h. eq-eqb c.loop-i.seen 0 (c.loop-i.invariant.zero (λ k l. let le = c.loop-i.auto.i-end in h k (omega (arith, l, le))));
-}
+      omega (arith, none, most)),
+  (λ h. eq-eqb c.loop-i.seen 0 (c.loop-i.invariant.zero (λ k l. let le = c.loop-i.auto.i-end in h k (omega (arith, l, le))))),
+)

@@ -11,7 +11,7 @@ pub returns-then-are_zero : goal.returns-then-are_zero
 returns-then-are_zero g c =
     done g.O.Sink.text g.O.Sink.faults c.args.out.now c.args.out.now c.args.out.now _ _
     (put_empty (λ i. memory_row (c.args.first + i) (slice_index c.args.words.now i)) 64 (g.O.Sink.text c.args.out.now)
-    (λ i l. let inside : i < length c.args.words.now = omega (arith, l, c.requires.whole) in ap (memory_row (c.args.first + i)) (c.are_zero.ensures.zero c.if-are_zero.true i inside)))
+    (λ i l. let inside : i < length c.args.words.now = omega (arith, l, c.requires.whole) in ap (memory_row (c.args.first + i)) (c.are_zero.ensures.0 c.if-are_zero.true i inside)))
     refl
 
 pub loop-i-init : goal.loop-i-init

@@ -1,4 +1,4 @@
-use Rattle.std.proofs.Common.{◌≡◌, ◌-◌, ◌+◌, ◌∙◌, ap, min, arith}
+use Rattle.std.proofs.Common.{◌≡◌, ◌-◌, ◌+◌, ◌∙◌, ap, min, arith, rules}
 use Rattle.std.specs.Prelude.{slice_index}
 use Rattle.std.proofs.lemmas.Result.{err_from_is_err_and}
 use Rattle.std.proofs.Math.Nat.{mul-le-mul_left}
@@ -19,29 +19,35 @@ overflow_mul-user g c =
     let few = c.requires.user.few in
     record { fits = omega (arith, le, most, few) }
 
-pub returns-in_err-put_processor-clause-put : goal.returns-in_err-put_processor-clause-put
-returns-in_err-put_processor-clause-put g c = λ ss e f.
-    let most : c.params-most.result.pages ≡ c.args.map.now.params.pages = ap (λ (p : Params). p.pages) c.params-most.ensures.value in
-    let pages : c.min-pages.result ≡ pages_in c.args.map.now c.args.machine.now.hardware.memory c.args.user =
-    c.min-pages.ensures ∙ ap (λ w. min w c.params-most.result.pages) c.block_word.ensures ∙ ap (λ n. min (slice_index c.args.machine.now.hardware.memory (block_at c.args.user + 32)) n) most in
-    let h = err_from_is_err_and c.from_residual.result c.from_residual.ensures.1 in
-    broken _ _ _ c.from_residual.result h.0 h.1
-    (head_part c.args.map.now c.args.machine.now (paged_of c.args.map.now (state_of c.args.machine.now ss)) c.args.user c.min-pages.result c.params-most.result.pages c.args.runs (g.O.Sink.text c.args.out.now) (g.O.Sink.text c.put_processor.new.out) (g.O.Sink.text c.put_processor.new.out) pages most
-    c.in_err-put_processor.ensures.err)
+pub returns-in_err-put_processor : goal.returns-in_err-put_processor
+returns-in_err-put_processor g c = record {
+  put = λ ss e f.
+      let most : c.params-most.result.pages ≡ c.args.map.now.params.pages = ap (λ (p : Params). p.pages) c.params-most.ensures.value in
+      let pages : c.min-pages.result ≡ pages_in c.args.map.now c.args.machine.now.hardware.memory c.args.user =
+      c.min-pages.ensures ∙ ap (λ w. min w c.params-most.result.pages) c.block_word.ensures ∙ ap (λ n. min (slice_index c.args.machine.now.hardware.memory (block_at c.args.user + 32)) n) most in
+      let h = err_from_is_err_and c.from_residual.result c.from_residual.ensures.1 in
+      broken _ _ _ c.from_residual.result h.0 h.1
+      (head_part c.args.map.now c.args.machine.now (paged_of c.args.map.now (state_of c.args.machine.now ss)) c.args.user c.min-pages.result c.params-most.result.pages c.args.runs (g.O.Sink.text c.args.out.now) (g.O.Sink.text c.put_processor.new.out) (g.O.Sink.text c.put_processor.new.out) pages most
+      c.in_err-put_processor.ensures.err);
+  leaves = search rules;
+}
 
-pub returns-clause-put : goal.returns-clause-put
-returns-clause-put g c = λ ss e f.
-    let most : c.params-most.result.pages ≡ c.args.map.now.params.pages = ap (λ (p : Params). p.pages) c.params-most.ensures.value in
-    let pages : c.min-pages.result ≡ pages_in c.args.map.now c.args.machine.now.hardware.memory c.args.user =
-    c.min-pages.ensures ∙ ap (λ w. min w c.params-most.result.pages) c.block_word.ensures ∙ ap (λ n. min (slice_index c.args.machine.now.hardware.memory (block_at c.args.user + 32)) n) most in
-    let told = c.put_memory.ensures.put ss e f in
-    record {
-      ok = on_ok c.put_memory.result
-          (one_user c.args.map.now c.args.machine.now (paged_of c.args.map.now (state_of c.args.machine.now ss)) c.args.user c.min-pages.result c.params-most.result.pages c.args.runs (g.O.Sink.text c.args.out.now) (g.O.Sink.text c.put_processor.new.out) (g.O.Sink.text c.put_memory.new.out) pages most
-          c.in_ok-put_processor.ensures.ok)
-          told.ok;
-      err = on_err c.put_memory.result
-          (memory_part c.args.map.now c.args.machine.now (paged_of c.args.map.now (state_of c.args.machine.now ss)) c.args.user c.min-pages.result c.params-most.result.pages c.args.runs (g.O.Sink.text c.args.out.now) (g.O.Sink.text c.put_processor.new.out) (g.O.Sink.text c.put_memory.new.out) pages most
-          c.in_ok-put_processor.ensures.ok)
-          told.err;
-    }
+pub returns : goal.returns
+returns g c = record {
+  put = λ ss e f.
+      let most : c.params-most.result.pages ≡ c.args.map.now.params.pages = ap (λ (p : Params). p.pages) c.params-most.ensures.value in
+      let pages : c.min-pages.result ≡ pages_in c.args.map.now c.args.machine.now.hardware.memory c.args.user =
+      c.min-pages.ensures ∙ ap (λ w. min w c.params-most.result.pages) c.block_word.ensures ∙ ap (λ n. min (slice_index c.args.machine.now.hardware.memory (block_at c.args.user + 32)) n) most in
+      let told = c.put_memory.ensures.put ss e f in
+      record {
+        ok = on_ok c.put_memory.result
+            (one_user c.args.map.now c.args.machine.now (paged_of c.args.map.now (state_of c.args.machine.now ss)) c.args.user c.min-pages.result c.params-most.result.pages c.args.runs (g.O.Sink.text c.args.out.now) (g.O.Sink.text c.put_processor.new.out) (g.O.Sink.text c.put_memory.new.out) pages most
+            c.in_ok-put_processor.ensures.ok)
+            told.ok;
+        err = on_err c.put_memory.result
+            (memory_part c.args.map.now c.args.machine.now (paged_of c.args.map.now (state_of c.args.machine.now ss)) c.args.user c.min-pages.result c.params-most.result.pages c.args.runs (g.O.Sink.text c.args.out.now) (g.O.Sink.text c.put_processor.new.out) (g.O.Sink.text c.put_memory.new.out) pages most
+            c.in_ok-put_processor.ensures.ok)
+            told.err;
+      };
+  leaves = search rules;
+}

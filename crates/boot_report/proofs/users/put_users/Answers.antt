@@ -1,4 +1,4 @@
-use Rattle.std.proofs.Common.{◌≡◌, ◌+◌, ◌<◌, Err, refl, sym, ap, ◌∙◌, subst, arith}
+use Rattle.std.proofs.Common.{◌≡◌, ◌+◌, ◌<◌, Err, refl, sym, ap, ◌∙◌, subst, arith, rules}
 use Rattle.std.specs.Prelude.{◌==◌}
 use Rattle.std.specs.Io.KnownBytes.{append_known}
 use Rattle.std.proofs.lemmas.Result.{err_from_is_err_and}
@@ -21,22 +21,30 @@ loop-i-init g c = record {
   text = λ ss e f. put_none (λ i. user_rows c.args.map.now (paged_of c.args.map.now (state_of c.args.machine.now ss)) (i + 1) (pages_in c.args.map.now c.args.machine.now.hardware.memory (i + 1)) (cpu_of c.args.machine.now (i + 1 == c.args.running) (i + 1))) (g.O.Sink.text c.args.out.now);
 }
 
-pub returns-in_err-put_user_rows-clause-put : goal.returns-in_err-put_user_rows-clause-put
-returns-in_err-put_user_rows-clause-put g c = λ ss e f.
-    let most : c.users-i-end.result ≡ c.args.map.now.users = c.users-i-end.ensures.value in
-    let lt : c.loop-i.i < c.args.map.now.users = subst (λ n. c.loop-i.i < n) most c.loop-i-test.true in
+pub returns-in_err-put_user_rows : goal.returns-in_err-put_user_rows
+returns-in_err-put_user_rows g c =
     let h = err_from_is_err_and c.from_residual.result c.from_residual.ensures.1 in
-    broken _ _ _ c.from_residual.result h.0 h.1
-    (put_part (λ i. user_rows c.args.map.now (paged_of c.args.map.now (state_of c.args.machine.now ss)) (i + 1) (pages_in c.args.map.now c.args.machine.now.hardware.memory (i + 1)) (cpu_of c.args.machine.now (i + 1 == c.args.running) (i + 1)))
-    c.loop-i.i c.args.map.now.users _ _ _ lt (c.loop-i.invariant.text ss e f)
-    (subst (AppendsPart (g.O.Sink.text c.loop-i.out) (g.O.Sink.text c.put_user_rows.new.out)) (same_user c.args.map.now c.args.machine.now c.loop-i.machine ss (c.loop-i.i + 1) (c.loop-i.i + 1 == c.args.running) c.loop-i.invariant.view.same)
-    (c.in_err-put_user_rows.ensures.put ss (c.loop-i.invariant.view.sectors ∙ e) (fits_before c.args.map.now c.args.machine.now c.loop-i.machine ss c.loop-i.invariant.view.same f)).err))
+    record {
+      put = λ ss e f.
+          let most : c.users-i-end.result ≡ c.args.map.now.users = c.users-i-end.ensures.value in
+          let lt : c.loop-i.i < c.args.map.now.users = subst (λ n. c.loop-i.i < n) most c.loop-i-test.true in
+          broken _ _ _ c.from_residual.result h.0 h.1
+          (put_part (λ i. user_rows c.args.map.now (paged_of c.args.map.now (state_of c.args.machine.now ss)) (i + 1) (pages_in c.args.map.now c.args.machine.now.hardware.memory (i + 1)) (cpu_of c.args.machine.now (i + 1 == c.args.running) (i + 1)))
+          c.loop-i.i c.args.map.now.users _ _ _ lt (c.loop-i.invariant.text ss e f)
+          (subst (AppendsPart (g.O.Sink.text c.loop-i.out) (g.O.Sink.text c.put_user_rows.new.out)) (same_user c.args.map.now c.args.machine.now c.loop-i.machine ss (c.loop-i.i + 1) (c.loop-i.i + 1 == c.args.running) c.loop-i.invariant.view.same)
+          (c.in_err-put_user_rows.ensures.put ss (c.loop-i.invariant.view.sectors ∙ e) (fits_before c.args.map.now c.args.machine.now c.loop-i.machine ss c.loop-i.invariant.view.same f)).err));
+      leaves = record {
+        view = views_twice g.D.Sectors.sectors g.D.Sectors.size c.args.machine.now c.loop-i.machine c.put_user_rows.new.machine c.args.disk.now c.loop-i.disk c.put_user_rows.new.disk c.loop-i.invariant.view c.in_err-put_user_rows.ensures.leaves.view;
+        blame = search rules;
+        asks = asks_twice ⊥ _ (tally g.D.Sectors.faults g.D.Sectors.calls c.args.disk.now) (tally g.D.Sectors.faults g.D.Sectors.calls c.loop-i.disk) (tally g.D.Sectors.faults g.D.Sectors.calls c.put_user_rows.new.disk) c.loop-i.invariant.disk_faults c.loop-i.invariant.asks (asks_as _ _ _ _ (λ e. ap Err (sym h.2) ∙ sym h.1 ∙ e) c.in_err-put_user_rows.ensures.leaves.asks);
+      };
+    }
 
 pub loop-i-preserved : goal.loop-i-preserved
 loop-i-preserved g c = record {
   view = views_twice g.D.Sectors.sectors g.D.Sectors.size c.args.machine.now c.loop-i.machine c.put_user_rows.new.machine c.args.disk.now c.loop-i.disk c.put_user_rows.new.disk c.loop-i.invariant.view c.in_ok-put_user_rows.ensures.leaves.view;
   disk_faults = c.in_ok-put_user_rows.ensures.leaves.blame.disk_same (λ h. absurd (cc)) ∙ c.loop-i.invariant.disk_faults;
-  asks = asks_as _ ⊥ _ _ (λ h. absurd h) (asks_twice ⊥ _ (tally g.D.Sectors.faults g.D.Sectors.calls c.args.disk.now) (tally g.D.Sectors.faults g.D.Sectors.calls c.loop-i.disk) (tally g.D.Sectors.faults g.D.Sectors.calls c.put_user_rows.new.disk) c.loop-i.invariant.disk_faults c.loop-i.invariant.asks c.in_ok-put_user_rows.ensures.asks);
+  asks = asks_as _ ⊥ _ _ (λ h. absurd h) (asks_twice ⊥ _ (tally g.D.Sectors.faults g.D.Sectors.calls c.args.disk.now) (tally g.D.Sectors.faults g.D.Sectors.calls c.loop-i.disk) (tally g.D.Sectors.faults g.D.Sectors.calls c.put_user_rows.new.disk) c.loop-i.invariant.disk_faults c.loop-i.invariant.asks c.in_ok-put_user_rows.ensures.leaves.asks);
   faults = c.in_ok-put_user_rows.ensures.leaves.blame.sink_same (λ h. absurd (cc)) ∙ c.loop-i.invariant.faults;
   text = λ ss e f.
       put_more (λ i. user_rows c.args.map.now (paged_of c.args.map.now (state_of c.args.machine.now ss)) (i + 1) (pages_in c.args.map.now c.args.machine.now.hardware.memory (i + 1)) (cpu_of c.args.machine.now (i + 1 == c.args.running) (i + 1)))
@@ -45,13 +53,11 @@ loop-i-preserved g c = record {
       ∙ ap (append_known (g.O.Sink.text c.loop-i.out)) (same_user c.args.map.now c.args.machine.now c.loop-i.machine ss (c.loop-i.i + 1) (c.loop-i.i + 1 == c.args.running) c.loop-i.invariant.view.same));
 }
 
-pub returns-clause-put : goal.returns-clause-put
-returns-clause-put g c = λ ss e f.
-    let most : c.users-i-end.result ≡ c.args.map.now.users = c.users-i-end.ensures.value in
-    let all : c.loop-i.i ≡ c.args.map.now.users = omega (arith, most) in
-    printed _ _ _ _ (c.loop-i.invariant.text ss e f ∙ ap (λ n. append_known (g.O.Sink.text c.args.out.now) (users_rows c.args.map.now c.args.machine.now (paged_of c.args.map.now (state_of c.args.machine.now ss)) c.args.running n)) all)
-
-pub returns-in_err-put_user_rows-clause-asks : goal.returns-in_err-put_user_rows-clause-asks
-returns-in_err-put_user_rows-clause-asks g c =
-    asks_twice ⊥ _ (tally g.D.Sectors.faults g.D.Sectors.calls c.args.disk.now) (tally g.D.Sectors.faults g.D.Sectors.calls c.loop-i.disk) (tally g.D.Sectors.faults g.D.Sectors.calls c.put_user_rows.new.disk) c.loop-i.invariant.disk_faults c.loop-i.invariant.asks
-    (let h = err_from_is_err_and c.from_residual.result c.from_residual.ensures.1 in asks_as _ _ _ _ (λ e. ap Err (sym h.2) ∙ sym h.1 ∙ e) c.in_err-put_user_rows.ensures.asks)
+pub returns : goal.returns
+returns g c = record {
+  put = λ ss e f.
+      let most : c.users-i-end.result ≡ c.args.map.now.users = c.users-i-end.ensures.value in
+      let all : c.loop-i.i ≡ c.args.map.now.users = omega (arith, most) in
+      printed _ _ _ _ (c.loop-i.invariant.text ss e f ∙ ap (λ n. append_known (g.O.Sink.text c.args.out.now) (users_rows c.args.map.now c.args.machine.now (paged_of c.args.map.now (state_of c.args.machine.now ss)) c.args.running n)) all);
+  leaves = search rules;
+}

@@ -10,8 +10,8 @@ use Rattle.boot_run.proofs.saving.run_to_stop.Goals as goal
 pub returns-in-Ok-clause-ends : goal.returns-in-Ok-clause-ends
 returns-in-Ok-clause-ends g c =
     stopped c.machines_run.ensures c.traces_grow.ensures c.journal_rows_follow.ensures c.turns_are_counted.ensures g.D.Sectors.size g.D.Sectors.sectors (tally g.D.Sectors.faults g.D.Sectors.calls) g.O.Sink.text c.args.run.now c.go.new.run c.stop.new.run
-    c.args.disk.now c.go.new.disk c.stop.new.disk c.args.out.now c.go.new.out c.stop.new.out c.args.turns c.args.steps c.go.new.budget c.in-Ok.ensures.kept c.in-Ok.ensures.size c.in-Ok.ensures.ends
-    c.in-Ok.ensures.calls (c.in-Ok.ensures.blame.disk_same (λ h. absurd (cc))) c.stop.result c.stop.ensures.asks c.stop.ensures.ends
+    c.args.disk.now c.go.new.disk c.stop.new.disk c.args.out.now c.go.new.out c.stop.new.out c.args.turns c.args.steps c.go.new.budget c.in-Ok.ensures.kept c.in-Ok.ensures.leaves.same_size c.in-Ok.ensures.ends
+    c.in-Ok.ensures.calls (c.in-Ok.ensures.leaves.blame.disk_same (λ h. absurd (cc))) c.stop.result c.stop.ensures.asks c.stop.ensures.ends
 
 pub returns-in-Ok-clause-goes_on : goal.returns-in-Ok-clause-goes_on
 returns-in-Ok-clause-goes_on g c =

@@ -13,7 +13,7 @@ pub returns-in-Ok-clause-ends : goal.returns-in-Ok-clause-ends
 returns-in-Ok-clause-ends g c = λ budget.
     let other : has_faulted c.args.run.now.ended ≡ false = ap has_faulted (sym c.ended.ensures) ∙ sym c.has_faulted.ensures ∙ c.if-has_faulted.false in
     closes_done (g.D.Sectors.size c.args.disk.now) c.args.run.now (g.D.Sectors.sectors c.args.disk.now) budget (g.O.Sink.text c.args.out.now)
-    c.report.new.self (g.D.Sectors.sectors c.report.new.disk) (g.O.Sink.text c.report.new.out) other (c.in-Ok.ensures.ends c.requires.fine)
+    c.report.new.self (g.D.Sectors.sectors c.report.new.disk) (g.O.Sink.text c.report.new.out) other (c.in-Ok.ensures.ends c.requires.can.fine)
 
 pub returns-in-Err-clause-ends : goal.returns-in-Err-clause-ends
 returns-in-Err-clause-ends g c = λ budget.
@@ -21,7 +21,7 @@ returns-in-Err-clause-ends g c = λ budget.
     subst (λ (e : RunEnd). CloseRuns (g.D.Sectors.size c.args.disk.now) c.args.run.now (around c.args.run.now (g.D.Sectors.sectors c.args.disk.now) budget (g.O.Sink.text c.args.out.now))
     (around c.report.new.self (g.D.Sectors.sectors c.report.new.disk) budget (g.O.Sink.text c.report.new.out)) e) (sym c.end_at.ensures)
     (closes_failed (g.D.Sectors.size c.args.disk.now) c.args.run.now (g.D.Sectors.sectors c.args.disk.now) budget (g.O.Sink.text c.args.out.now)
-    c.report.new.self (g.D.Sectors.sectors c.report.new.disk) (g.O.Sink.text c.report.new.out) other c.in-Err.fault (c.in-Err.ensures.ends c.requires.fine))
+    c.report.new.self (g.D.Sectors.sectors c.report.new.disk) (g.O.Sink.text c.report.new.out) other c.in-Err.fault (c.in-Err.ensures.ends c.requires.can.fine))
 
 pub returns-in-Err-clause-faulted : goal.returns-in-Err-clause-faulted
 returns-in-Err-clause-faulted g c =

@@ -11,7 +11,7 @@ use Rattle.boot_run.proofs.whole.go.Goals as goal
 pub loop-left-init : goal.loop-left-init
 loop-left-init g c = record {
   kept = record { layer_is = refl; boot_is = refl; view_is = refl; rows_are = refl; count_is = refl; memory = refl };
-  fault = c.requires.fine;
+  fault = c.requires.can.fine;
   size = refl;
   time = refl;
   disk = refl;

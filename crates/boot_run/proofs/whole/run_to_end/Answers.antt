@@ -12,7 +12,7 @@ pub returns-in-Ok-clause-ends : goal.returns-in-Ok-clause-ends
 returns-in-Ok-clause-ends g c =
     to_close c.machines_run.ensures c.traces_grow.ensures c.journal_rows_follow.ensures c.turns_are_counted.ensures (g.D.Sectors.size c.args.disk.now) c.args.run.now c.args.turns c.args.steps (g.D.Sectors.sectors c.args.disk.now) (g.O.Sink.text c.args.out.now)
     (g.D.Sectors.size c.go.new.disk) c.go.new.run c.close.new.run (g.D.Sectors.sectors c.go.new.disk) (g.D.Sectors.sectors c.close.new.disk) c.go.new.budget (g.O.Sink.text c.go.new.out) (g.O.Sink.text c.close.new.out) (tally g.D.Sectors.faults g.D.Sectors.calls c.args.disk.now) (tally g.D.Sectors.faults g.D.Sectors.calls c.go.new.disk) (tally g.D.Sectors.faults g.D.Sectors.calls c.close.new.disk) c.close.result
-    c.in-Ok.ensures.kept c.in-Ok.ensures.size c.in-Ok.ensures.calls (c.in-Ok.ensures.blame.disk_same (λ h. absurd (cc))) c.close.ensures.asks c.in-Ok.ensures.ends (c.close.ensures.ends c.go.new.budget)
+    c.in-Ok.ensures.kept c.in-Ok.ensures.leaves.same_size c.in-Ok.ensures.calls (c.in-Ok.ensures.leaves.blame.disk_same (λ h. absurd (cc))) c.close.ensures.asks c.in-Ok.ensures.ends (c.close.ensures.ends c.go.new.budget)
 
 pub returns-in-Err-clause-ends : goal.returns-in-Err-clause-ends
 returns-in-Err-clause-ends g c =

@@ -1,6 +1,6 @@
 use Rattle.std.proofs.lemmas.Result.{err_from_is_err_and}
 use Rattle.std.specs.Prelude.{is_some, not, IsSome, IfSome, length}
-use Rattle.std.proofs.Common.{ℕ, ◌+◌, ◌-◌, ◌≤◌, Bool, true, false, Option, Some, Result, Ok, Err, suc, ◌≡◌, ◌<◌, inl, inr, None, List, refl, sym, ap, ap₂, ◌∙◌, subst, ⊎_elim, arith}
+use Rattle.std.proofs.Common.{ℕ, ◌+◌, ◌-◌, ◌≤◌, Bool, true, false, Option, Some, Result, Ok, Err, suc, ◌≡◌, ◌<◌, inl, inr, None, List, refl, sym, ap, ap₂, ◌∙◌, subst, ⊎_elim, arith, rules}
 use Rattle.std.specs.Option.{option_map}
 use Rattle.std.proofs.lemmas.Bool.{cases_lt}
 use Rattle.mips_table.specs.Device.{Outside}
@@ -10,13 +10,13 @@ use Rattle.mips_machine.specs.Steps.{outside_of}
 use Rattle.boot_turns.specs.declared.completion.Stepped.{Stepped}
 use Rattle.boot_turns.specs.declared.completion.Stepped.TheVariants.{Kept}
 use Rattle.boot_turns.specs.declared.answers.RunFault.{RunFault}
-use Rattle.boot_turns.specs.declared.answers.RunFault.TheVariants.{StepLimit, Disk, Sink}
+use Rattle.boot_turns.specs.declared.answers.RunFault.TheVariants.{Disk, Sink}
 use Rattle.boot_turns.specs.declared.tracer.Tracer.{Tracer}
 use Rattle.boot_turns.proofs.Events.{told_as_some}
 use Rattle.boot_turns.proofs.Stepping.{off_rests}
 use Rattle.boot_turns.specs.declared.completion.Begun.{Begun}
 use Rattle.mips_table.specs.Turns.{rests}
-use Rattle.boot_turns.specs.Completes.{seen, Skips, StepFails, Open, Progress, turn_began, KeptUser, StepBegan}
+use Rattle.boot_turns.specs.Completes.{seen, Skips, StepFaults, Open, Progress, turn_began, KeptUser, StepBegan}
 use Rattle.boot_turns.specs.Tracing.{Tracing, CanTrace, tracer_at, tracing}
 use Rattle.layer_map.specs.Map.{Map}
 use Rattle.cvm_outside.specs.Numbering.{tally}
@@ -53,14 +53,9 @@ same_some None (Some k) e = absurd (cc)
 same_some (Some k) None e = absurd (cc)
 same_some (Some k) (Some l) e = refl
 
--- an answer is no fault, and the sink's fault is not the disk's
+-- an answer is no fault
 is_done : (stepped : Stepped) (f : RunFault) → ◌≡◌ {A = Result Stepped RunFault} (Ok stepped) (Err f) → ⊥
 is_done stepped f e = cc
-
-at_sink : (f : RunFault) → f ≡ Sink → ◌≡◌ {A = Result Stepped RunFault} (Err f) (Err Disk) → ⊥
-at_sink StepLimit h e = cc
-at_sink Disk h e = absurd (let k : ◌≡◌ {A = RunFault} Disk Sink = h in cc)
-at_sink Sink h e = cc
 
 -- the machine is on where it was found so, and was before
 here_on : (told : Option (List (List ℕ))) (held : Held) (v : State) → seen told held ≡ Some v → held.hardware.off ≡ None → v.off ≡ None
@@ -80,14 +75,14 @@ tracked g c =
     (tracing c.args.tracer.now (g.O.Sink.text c.args.out.now) c.args.budget.now) (tracing c.loop-begun.tracer (g.O.Sink.text c.loop-begun.out) c.loop-begun.budget)
     c.loop-begun.invariant.tracks (outside_of c.loop-begun.machine.rows (g.D.Sectors.size c.loop-begun.disk)) (ap₂ outside_of c.loop-begun.invariant.rows c.loop-begun.invariant.size)
     (tracing c.step_traced.new.tracer (g.O.Sink.text c.step_traced.new.out) (c.loop-begun.budget - 1)) (omega (arith, p))
-    c.step_traced.new.machine (g.D.Sectors.sectors c.step_traced.new.disk) c.in_ok-stepped.stepped c.in_ok-stepped.ensures.traced (c.in_ok-stepped.ensures.ran (is_done c.in_ok-stepped.stepped Disk))
+    c.step_traced.new.machine (g.D.Sectors.sectors c.step_traced.new.disk) c.in_ok-stepped.stepped c.in_ok-stepped.ensures.traced c.in_ok-stepped.ensures.ends.ran
 
 -- the disk was called once for each command through the step
 calls_kept : (g : Over) (c : In_ok-stepped g) → StepCalls c.args.machine.now c.step_traced.new.machine c.args.tracer.now c.step_traced.new.tracer (tally g.D.Sectors.faults g.D.Sectors.calls c.args.disk.now) (tally g.D.Sectors.faults g.D.Sectors.calls c.step_traced.new.disk)
 calls_kept g c =
     steps_join c.args.machine.now c.loop-begun.machine c.step_traced.new.machine c.args.tracer.now c.loop-begun.tracer c.step_traced.new.tracer
     (tally g.D.Sectors.faults g.D.Sectors.calls c.args.disk.now) (tally g.D.Sectors.faults g.D.Sectors.calls c.loop-begun.disk) (tally g.D.Sectors.faults g.D.Sectors.calls c.step_traced.new.disk)
-    c.loop-begun.invariant.faults c.loop-begun.invariant.calls c.in_ok-stepped.ensures.calls
+    c.loop-begun.invariant.faults c.loop-begun.invariant.calls c.in_ok-stepped.ensures.leaves.calls
 
 -- the step is the next of a run, and what is noted then says how far the turn is
 opened : (g : Over) (c : After-note g) (s : State) (t u : ℕ) → t ≤ u →
@@ -97,16 +92,16 @@ opened : (g : Over) (c : After-note g) (s : State) (t u : ℕ) → t ≤ u →
     × Opened (outside_of c.args.machine.now.rows (g.D.Sectors.size c.args.disk.now)) s t (suc u) c.note.new.begun
 opened g c s t u le is so_far =
     let began : StepBegan (g.D.Sectors.size c.loop-begun.disk) c.loop-begun.machine (g.D.Sectors.sectors c.loop-begun.disk) c.began.result =
-    subst (λ (b : Bool). StepBegan (g.D.Sectors.size c.loop-begun.disk) c.loop-begun.machine (g.D.Sectors.sectors c.loop-begun.disk) b) (sym c.began.ensures) c.in_ok-stepped.ensures.began in
+    subst (λ (b : Bool). StepBegan (g.D.Sectors.size c.loop-begun.disk) c.loop-begun.machine (g.D.Sectors.sectors c.loop-begun.disk) b) (sym c.began.ensures) c.in_ok-stepped.ensures.ends.began in
     one_step (outside_of c.args.machine.now.rows (g.D.Sectors.size c.args.disk.now)) (outside_of c.loop-begun.machine.rows (g.D.Sectors.size c.loop-begun.disk)) s t u
     (g.D.Sectors.sectors c.loop-begun.disk) (g.D.Sectors.sectors c.step_traced.new.disk) c.loop-begun.machine c.step_traced.new.machine c.loop-begun.begun c.note.new.begun c.began.result
-    (ap₂ outside_of c.loop-begun.invariant.rows c.loop-begun.invariant.size) le is so_far (c.in_ok-stepped.ensures.ran (is_done c.in_ok-stepped.stepped Disk)) began c.note.ensures
+    (ap₂ outside_of c.loop-begun.invariant.rows c.loop-begun.invariant.size) le is so_far c.in_ok-stepped.ensures.ends.ran began c.note.ensures
 
 pub loop-begun-init : goal.loop-begun-init
 loop-begun-init g c = record {
   rows = refl;
   memory = refl;
-  sector = c.requires.sector;
+  sector = c.requires.can.sector;
   size = refl;
   faults = refl;
   time = refl;
@@ -114,7 +109,7 @@ loop-begun-init g c = record {
   limit = let e = c.requires.some in omega (arith, e);
   fresh = λ l. refl;
   ran = λ s t h. (t, omega arith, refl, h, λ j a b. absurd (omega (arith, a, b)), λ j l. absurd (omega (arith, l)), λ l. omega arith, λ j a b. absurd (omega (arith, a, b)));
-  can = c.requires.can;
+  can = c.requires.can.trace;
   user = refl;
   untraced = λ e. (e, refl);
   calls = steps_stay c.args.machine.now c.args.tracer.now (tally g.D.Sectors.faults g.D.Sectors.calls c.args.disk.now);
@@ -201,9 +196,9 @@ returns-in_err-stepped-clause-ends g c = λ s t h.
       small,
       i.5,
       rw (w.1, w.2) (step_stops (g.D.Sectors.size c.loop-begun.disk) x s (t + n) i.0 (c.args.budget.now - n) (c.loop-begun.budget - 1) (g.D.Sectors.sectors c.loop-begun.disk) (g.D.Sectors.sectors c.step_traced.new.disk)
-          c.loop-begun.machine c.step_traced.new.machine (is_some c.args.tracer.now) c.loop-begun.begun c.in_err-stepped.field-0.0 same i.1 spent i.3 i.4 (here_on (g.D.Sectors.sectors c.loop-begun.disk) c.loop-begun.machine (run x s i.0) i.3 (off_none _ _ _ c.off.ensures c.is_none.ensures c.loop-begun-test.true)) c.in_err-stepped.ensures.no_limit
-          (λ e. subst (StepFails (g.D.Sectors.size c.loop-begun.disk) c.loop-begun.machine c.step_traced.new.machine (g.D.Sectors.sectors c.loop-begun.disk) (g.D.Sectors.sectors c.step_traced.new.disk))
-          (same_some c.loop-begun.tracer c.args.tracer.now c.loop-begun.invariant.user) (c.in_err-stepped.ensures.torn e)) c.in_err-stepped.ensures.ran),
+          c.loop-begun.machine c.step_traced.new.machine (is_some c.args.tracer.now) c.loop-begun.begun c.in_err-stepped.field-0.0 same i.1 spent i.3 i.4 (here_on (g.D.Sectors.sectors c.loop-begun.disk) c.loop-begun.machine (run x s i.0) i.3 (off_none _ _ _ c.off.ensures c.is_none.ensures c.loop-begun-test.true))
+          (subst (λ (b : Bool). StepFaults (g.D.Sectors.size c.loop-begun.disk) c.loop-begun.machine c.step_traced.new.machine (g.D.Sectors.sectors c.loop-begun.disk) (g.D.Sectors.sectors c.step_traced.new.disk) b c.in_err-stepped.field-0.0)
+          (same_some c.loop-begun.tracer c.args.tracer.now c.loop-begun.invariant.user) c.in_err-stepped.ensures.ends)),
     )
 
 pub returns-in_err-stepped-clause-traced : goal.returns-in_err-stepped-clause-traced
@@ -215,7 +210,8 @@ returns-in_err-stepped-clause-traced g c =
     (tracing c.args.tracer.now (g.O.Sink.text c.args.out.now) c.args.budget.now) (tracing c.loop-begun.tracer (g.O.Sink.text c.loop-begun.out) c.loop-begun.budget)
     c.loop-begun.invariant.tracks (outside_of c.loop-begun.machine.rows (g.D.Sectors.size c.loop-begun.disk)) same
     (tracing c.step_traced.new.tracer (g.O.Sink.text c.step_traced.new.out) (c.loop-begun.budget - 1)) (omega (arith, p))
-    c.step_traced.new.machine (g.D.Sectors.sectors c.step_traced.new.disk) c.in_err-stepped.field-0.0 c.in_err-stepped.ensures.traced (λ e. c.in_err-stepped.ensures.ran (at_sink c.in_err-stepped.field-0.0 e)))
+    c.step_traced.new.machine (g.D.Sectors.sectors c.step_traced.new.disk) c.in_err-stepped.field-0.0 c.in_err-stepped.ensures.traced
+    (λ e. subst (StepFaults (g.D.Sectors.size c.loop-begun.disk) c.loop-begun.machine c.step_traced.new.machine (g.D.Sectors.sectors c.loop-begun.disk) (g.D.Sectors.sectors c.step_traced.new.disk) (is_some c.loop-begun.tracer)) e c.in_err-stepped.ensures.ends))
 
 pub returns-in-Some-clause-ends : goal.returns-in-Some-clause-ends
 returns-in-Some-clause-ends g c = λ s t h.
@@ -241,22 +237,31 @@ returns-in-Some-clause-traced g c =
     tracks_whole (g.D.Sectors.size c.args.disk.now) c.args.map.now c.args.machine.now c.step_traced.new.machine (g.D.Sectors.sectors c.args.disk.now) (g.D.Sectors.sectors c.step_traced.new.disk) _ _
     (tracked g (goal.at.returns-in-Some-clause-traced g c).In_ok-stepped) c.step_traced.new.machine (g.D.Sectors.sectors c.step_traced.new.disk) (c.loop-begun.skipped, c.in-Some.b)
 
-pub returns-in-Some-clause-calls : goal.returns-in-Some-clause-calls
-returns-in-Some-clause-calls g c = calls_kept g (goal.at.returns-in-Some-clause-calls g c).In_ok-stepped
+pub returns-in-Some-clause-leaves : goal.returns-in-Some-clause-leaves
+returns-in-Some-clause-leaves g c = record {
+  stays = search rules;
+  trace = search rules;
+  blame = search rules;
+  calls = calls_kept g (goal.at.returns-in-Some-clause-leaves g c).In_ok-stepped;
+}
 
-pub returns-in_err-stepped-clause-calls : goal.returns-in_err-stepped-clause-calls
-returns-in_err-stepped-clause-calls g c =
-    steps_join c.args.machine.now c.loop-begun.machine c.step_traced.new.machine c.args.tracer.now c.loop-begun.tracer c.step_traced.new.tracer
-    (tally g.D.Sectors.faults g.D.Sectors.calls c.args.disk.now) (tally g.D.Sectors.faults g.D.Sectors.calls c.loop-begun.disk) (tally g.D.Sectors.faults g.D.Sectors.calls c.step_traced.new.disk)
-    c.loop-begun.invariant.faults c.loop-begun.invariant.calls c.in_err-stepped.ensures.calls
+pub returns-in_err-stepped-clause-leaves : goal.returns-in_err-stepped-clause-leaves
+returns-in_err-stepped-clause-leaves g c = record {
+  stays = search rules;
+  trace = search rules;
+  blame = search rules;
+  calls = steps_join c.args.machine.now c.loop-begun.machine c.step_traced.new.machine c.args.tracer.now c.loop-begun.tracer c.step_traced.new.tracer
+      (tally g.D.Sectors.faults g.D.Sectors.calls c.args.disk.now) (tally g.D.Sectors.faults g.D.Sectors.calls c.loop-begun.disk) (tally g.D.Sectors.faults g.D.Sectors.calls c.step_traced.new.disk)
+      c.loop-begun.invariant.faults c.loop-begun.invariant.calls c.in_err-stepped.ensures.leaves.calls;
+}
 
 pub loop-begun-preserved : goal.loop-begun-preserved
 loop-begun-preserved g c = record {
-  rows = c.in_ok-stepped.ensures.stays.rows ∙ c.loop-begun.invariant.rows;
-  memory = c.in_ok-stepped.ensures.stays.memory ∙ c.loop-begun.invariant.memory;
-  sector = c.in_ok-stepped.ensures.stays.sector;
-  size = c.in_ok-stepped.ensures.stays.size ∙ c.loop-begun.invariant.size;
-  faults = c.in_ok-stepped.ensures.blame.disk_same (is_done c.in_ok-stepped.stepped Disk) ∙ c.loop-begun.invariant.faults;
+  rows = c.in_ok-stepped.ensures.leaves.stays.rows ∙ c.loop-begun.invariant.rows;
+  memory = c.in_ok-stepped.ensures.leaves.stays.memory ∙ c.loop-begun.invariant.memory;
+  sector = c.in_ok-stepped.ensures.leaves.stays.sector;
+  size = c.in_ok-stepped.ensures.leaves.stays.size ∙ c.loop-begun.invariant.size;
+  faults = c.in_ok-stepped.ensures.leaves.blame.disk_same (is_done c.in_ok-stepped.stepped Disk) ∙ c.loop-begun.invariant.faults;
   time = let a = c.in_ok-stepped.ensures.time in let b = c.loop-begun.invariant.time in let p = c.if-budget-eq0.false in omega (arith, a, b, p);
   few = c.loop-begun.invariant.few;
   limit = let e = c.loop-begun.invariant.limit in omega (arith, e);
@@ -271,11 +276,11 @@ loop-begun-preserved g c = record {
       let p = c.if-budget-eq0.false in
       let o : Progress x s (t + n) (suc i.0) None = subst (Opened x s (t + n) (suc i.0)) c.in_default-begun.is r.1 in
       (suc i.0, omega (arith, le), omega (arith, b, p), r.0, subst (Progress x s (t + n) (suc i.0)) (sym c.in_default-begun.is) o, i.5, λ l. absurd (omega (arith, l)), was_on x s t i.0 (here_on (g.D.Sectors.sectors c.loop-begun.disk) c.loop-begun.machine (run x s i.0) i.3 (off_none _ _ _ c.off.ensures c.is_none.ensures c.loop-begun-test.true)) i.7);
-  can = c.in_ok-stepped.ensures.trace.can;
-  user = c.in_ok-stepped.ensures.trace.user ∙ c.loop-begun.invariant.user;
-  untraced = λ e. let i = c.loop-begun.invariant.untraced e in let n = c.in_ok-stepped.ensures.trace.untraced i.0 in (n.0, n.1 ∙ i.1);
+  can = c.in_ok-stepped.ensures.leaves.trace.can;
+  user = c.in_ok-stepped.ensures.leaves.trace.user ∙ c.loop-begun.invariant.user;
+  untraced = λ e. let i = c.loop-begun.invariant.untraced e in let n = c.in_ok-stepped.ensures.leaves.trace.untraced i.0 in (n.0, n.1 ∙ i.1);
   calls = calls_kept g (goal.at.loop-begun-preserved g c).In_ok-stepped;
-  sink_faults = c.in_ok-stepped.ensures.blame.sink_same (is_done c.in_ok-stepped.stepped Sink) ∙ c.loop-begun.invariant.sink_faults;
+  sink_faults = c.in_ok-stepped.ensures.leaves.blame.sink_same (is_done c.in_ok-stepped.stepped Sink) ∙ c.loop-begun.invariant.sink_faults;
   tracks = tracked g (goal.at.loop-begun-preserved g c).In_ok-stepped;
 }
 
@@ -324,11 +329,11 @@ loop-begun-preserved-then-skipped-limit g c =
     let less = c.if-skipped-limit.true in
     let p = c.if-budget-eq0.false in
     let rest = c.pass-skipped.ensures.passes.rest in record {
-      rows = ap (λ (h : Held). h.rows) rest ∙ c.in_ok-stepped.ensures.stays.rows ∙ c.loop-begun.invariant.rows;
-      memory = c.pass-skipped.ensures.memory ∙ c.in_ok-stepped.ensures.stays.memory ∙ c.loop-begun.invariant.memory;
-      sector = subst (λ (h : Held). NamesSector (g.D.Sectors.size c.step_traced.new.disk) h.hardware.ports.pending) (sym rest) c.in_ok-stepped.ensures.stays.sector;
-      size = c.in_ok-stepped.ensures.stays.size ∙ c.loop-begun.invariant.size;
-      faults = c.in_ok-stepped.ensures.blame.disk_same (is_done c.in_ok-stepped.stepped Disk) ∙ c.loop-begun.invariant.faults;
+      rows = ap (λ (h : Held). h.rows) rest ∙ c.in_ok-stepped.ensures.leaves.stays.rows ∙ c.loop-begun.invariant.rows;
+      memory = c.pass-skipped.ensures.memory ∙ c.in_ok-stepped.ensures.leaves.stays.memory ∙ c.loop-begun.invariant.memory;
+      sector = subst (λ (h : Held). NamesSector (g.D.Sectors.size c.step_traced.new.disk) h.hardware.ports.pending) (sym rest) c.in_ok-stepped.ensures.leaves.stays.sector;
+      size = c.in_ok-stepped.ensures.leaves.stays.size ∙ c.loop-begun.invariant.size;
+      faults = c.in_ok-stepped.ensures.leaves.blame.disk_same (is_done c.in_ok-stepped.stepped Disk) ∙ c.loop-begun.invariant.faults;
       time = let a = c.in_ok-stepped.ensures.time in let b = c.loop-begun.invariant.time in let d = ap (λ (h : Held). h.time) rest in omega (arith, a, b, p, d, spent);
       few = let e = c.loop-begun.invariant.limit in omega (arith, e, less, few);
       limit = c.loop-begun.invariant.limit;
@@ -340,14 +345,14 @@ loop-begun-preserved-then-skipped-limit g c =
           let same : y ≡ x = ap₂ outside_of c.loop-begun.invariant.rows c.loop-begun.invariant.size in
           let n : ℕ = c.loop-begun.skipped in
           let m : ℕ = c.pass-skipped.result in
-          let kept : KeptUser c.step_traced.new.machine Kept = subst (KeptUser c.step_traced.new.machine) c.in-Kept.is c.in_ok-stepped.ensures.kept in
+          let kept : KeptUser c.step_traced.new.machine Kept = subst (KeptUser c.step_traced.new.machine) c.in-Kept.is c.in_ok-stepped.ensures.ends.kept in
           let began : StepBegan (g.D.Sectors.size c.loop-begun.disk) c.loop-begun.machine (g.D.Sectors.sectors c.loop-begun.disk) true =
-          subst (λ (z : Stepped). StepBegan (g.D.Sectors.size c.loop-begun.disk) c.loop-begun.machine (g.D.Sectors.sectors c.loop-begun.disk) (turn_began z)) c.in-Kept.is c.in_ok-stepped.ensures.began in
+          subst (λ (z : Stepped). StepBegan (g.D.Sectors.size c.loop-begun.disk) c.loop-begun.machine (g.D.Sectors.sectors c.loop-begun.disk) (turn_began z)) c.in-Kept.is c.in_ok-stepped.ensures.ends.began in
           let at : i.0 ≡ t + n = i.6 less in
           let r = skips_more x y s t n (n + 1) i.0 (g.D.Sectors.sectors c.loop-begun.disk) (g.D.Sectors.sectors c.step_traced.new.disk) c.loop-begun.machine c.step_traced.new.machine
-          same at refl i.5 i.3 (c.in_ok-stepped.ensures.ran (is_done c.in_ok-stepped.stepped Disk)) began kept.0 kept.1 in
+          same at refl i.5 i.3 c.in_ok-stepped.ensures.ends.ran began kept.0 kept.1 in
           let next : suc i.0 ≡ t + (n + 1) = omega (arith, at) in
-          let mid : outside_of c.step_traced.new.machine.rows (g.D.Sectors.size c.args.disk.now) ≡ x = ap (λ rows. outside_of rows (g.D.Sectors.size c.args.disk.now)) (c.in_ok-stepped.ensures.stays.rows ∙ c.loop-begun.invariant.rows) in
+          let mid : outside_of c.step_traced.new.machine.rows (g.D.Sectors.size c.args.disk.now) ≡ x = ap (λ rows. outside_of rows (g.D.Sectors.size c.args.disk.now)) (c.in_ok-stepped.ensures.leaves.stays.rows ∙ c.loop-begun.invariant.rows) in
           let q = skips_passed x s t (n + 1) m (suc i.0) (g.D.Sectors.sectors c.step_traced.new.disk) c.step_traced.new.machine c.pass-skipped.new.machine (g.D.Sectors.size c.args.disk.now) mid next r.1 r.0 kept.0 c.pass-skipped.ensures.passes in
           let b = i.2 in
           let far : suc i.0 + m ≡ t + (n + 1 + m) = omega (arith, next) in
@@ -355,15 +360,15 @@ loop-begun-preserved-then-skipped-limit g c =
           let on : (run x s t).off ≡ None = was_on x s t i.0 (here_on (g.D.Sectors.sectors c.loop-begun.disk) c.loop-begun.machine (run x s i.0) i.3 (off_none _ _ _ c.off.ensures c.is_none.ensures c.loop-begun-test.true)) i.7 t (omega arith) (omega (arith, at)) in
           (suc i.0 + m, omega (arith, far), omega (arith, b, p, spent), q.0, subst (Progress x s (t + (n + 1 + m)) (suc i.0 + m)) (sym (c.loop-begun.invariant.fresh less)) none, q.1, λ l. far, on_passed x s t (suc i.0 + m) (n + 1 + m) far q.1 on);
       can = can_pass c.args.map.now (length c.step_traced.new.machine.hardware.memory) c.step_traced.new.machine.time (length c.pass-skipped.new.machine.hardware.memory) c.pass-skipped.new.machine.time (g.D.Sectors.size c.step_traced.new.disk) c.pass-skipped.result
-          c.step_traced.new.tracer c.pass-skipped.ensures.memory (ap (λ (h : Held). h.time) rest) c.in_ok-stepped.ensures.trace.can;
-      user = c.in_ok-stepped.ensures.trace.user ∙ c.loop-begun.invariant.user;
-      untraced = λ e. let i = c.loop-begun.invariant.untraced e in let n = c.in_ok-stepped.ensures.trace.untraced i.0 in (n.0, n.1 ∙ i.1);
+          c.step_traced.new.tracer c.pass-skipped.ensures.memory (ap (λ (h : Held). h.time) rest) c.in_ok-stepped.ensures.leaves.trace.can;
+      user = c.in_ok-stepped.ensures.leaves.trace.user ∙ c.loop-begun.invariant.user;
+      untraced = λ e. let i = c.loop-begun.invariant.untraced e in let n = c.in_ok-stepped.ensures.leaves.trace.untraced i.0 in (n.0, n.1 ∙ i.1);
       calls = steps_ports c.args.machine.now c.step_traced.new.machine c.pass-skipped.new.machine c.args.tracer.now c.step_traced.new.tracer (tally g.D.Sectors.faults g.D.Sectors.calls c.args.disk.now) (tally g.D.Sectors.faults g.D.Sectors.calls c.step_traced.new.disk) (ap (λ (h : Held). h.hardware.ports) rest)
           (calls_kept g (goal.at.loop-begun-preserved-then-skipped-limit g c).In_ok-stepped);
-      sink_faults = c.in_ok-stepped.ensures.blame.sink_same (is_done c.in_ok-stepped.stepped Sink) ∙ c.loop-begun.invariant.sink_faults;
+      sink_faults = c.in_ok-stepped.ensures.leaves.blame.sink_same (is_done c.in_ok-stepped.stepped Sink) ∙ c.loop-begun.invariant.sink_faults;
       tracks = tracks_passed (outside_of c.args.machine.now.rows (g.D.Sectors.size c.args.disk.now)) c.args.map.now (seen (g.D.Sectors.sectors c.args.disk.now) c.args.machine.now)
           (tracing c.args.tracer.now (g.O.Sink.text c.args.out.now) c.args.budget.now) (g.D.Sectors.sectors c.step_traced.new.disk) c.step_traced.new.machine c.pass-skipped.new.machine c.step_traced.new.tracer c.args.tracer.now (g.O.Sink.text c.step_traced.new.out)
-          (c.loop-begun.budget - 1) c.pass-skipped.new.budget c.pass-skipped.result (c.in_ok-stepped.ensures.trace.user ∙ c.loop-begun.invariant.user) refl c.pass-skipped.ensures.traced spent
+          (c.loop-begun.budget - 1) c.pass-skipped.new.budget c.pass-skipped.result (c.in_ok-stepped.ensures.leaves.trace.user ∙ c.loop-begun.invariant.user) refl c.pass-skipped.ensures.traced spent
           (tracked g (goal.at.loop-begun-preserved-then-skipped-limit g c).In_ok-stepped);
     }
 
@@ -379,11 +384,11 @@ loop-begun-preserved-then-not-at_rest g c =
     let p = c.if-budget-eq0.false in
     let m : ℕ = c.pass.result in
     let rest = c.pass.ensures.passes.rest in record {
-      rows = ap (λ (h : Held). h.rows) rest ∙ c.in_ok-stepped.ensures.stays.rows ∙ c.loop-begun.invariant.rows;
-      memory = c.pass.ensures.memory ∙ c.in_ok-stepped.ensures.stays.memory ∙ c.loop-begun.invariant.memory;
-      sector = subst (λ (h : Held). NamesSector (g.D.Sectors.size c.step_traced.new.disk) h.hardware.ports.pending) (sym rest) c.in_ok-stepped.ensures.stays.sector;
-      size = c.in_ok-stepped.ensures.stays.size ∙ c.loop-begun.invariant.size;
-      faults = c.in_ok-stepped.ensures.blame.disk_same (is_done c.in_ok-stepped.stepped Disk) ∙ c.loop-begun.invariant.faults;
+      rows = ap (λ (h : Held). h.rows) rest ∙ c.in_ok-stepped.ensures.leaves.stays.rows ∙ c.loop-begun.invariant.rows;
+      memory = c.pass.ensures.memory ∙ c.in_ok-stepped.ensures.leaves.stays.memory ∙ c.loop-begun.invariant.memory;
+      sector = subst (λ (h : Held). NamesSector (g.D.Sectors.size c.step_traced.new.disk) h.hardware.ports.pending) (sym rest) c.in_ok-stepped.ensures.leaves.stays.sector;
+      size = c.in_ok-stepped.ensures.leaves.stays.size ∙ c.loop-begun.invariant.size;
+      faults = c.in_ok-stepped.ensures.leaves.blame.disk_same (is_done c.in_ok-stepped.stepped Disk) ∙ c.loop-begun.invariant.faults;
       time = let a = c.in_ok-stepped.ensures.time in let b = c.loop-begun.invariant.time in let d = ap (λ (h : Held). h.time) rest in omega (arith, a, b, p, d, less);
       few = c.loop-begun.invariant.few;
       limit = let e = c.loop-begun.invariant.limit in omega (arith, e);
@@ -397,21 +402,21 @@ loop-begun-preserved-then-not-at_rest g c =
           let r = opened g (goal.at.loop-begun-preserved-then-not-at_rest g c).After-note s (t + n) i.0 i.1 i.3 i.4 in
           let busy = sym c.at_rest.ensures ∙ c.if-not-at_rest.true in
           let far = goes_on x s (t + n) (suc i.0) c.note.new.begun r.1 (sym (seen_rests (g.D.Sectors.sectors c.step_traced.new.disk) c.step_traced.new.machine _ r.0) ∙ busy) in
-          let mid : outside_of c.step_traced.new.machine.rows (g.D.Sectors.size c.args.disk.now) ≡ x = ap (λ rows. outside_of rows (g.D.Sectors.size c.args.disk.now)) (c.in_ok-stepped.ensures.stays.rows ∙ c.loop-begun.invariant.rows) in
+          let mid : outside_of c.step_traced.new.machine.rows (g.D.Sectors.size c.args.disk.now) ≡ x = ap (λ rows. outside_of rows (g.D.Sectors.size c.args.disk.now)) (c.in_ok-stepped.ensures.leaves.stays.rows ∙ c.loop-begun.invariant.rows) in
           let q = progress_passed x s (t + n) (suc i.0) m c.note.new.begun (g.D.Sectors.sectors c.step_traced.new.disk) c.step_traced.new.machine c.pass.new.machine (g.D.Sectors.size c.args.disk.now) mid r.0 busy far
           c.pass.ensures.passes in
           let on = was_on x s t i.0 (here_on (g.D.Sectors.sectors c.loop-begun.disk) c.loop-begun.machine (run x s i.0) i.3 (off_none _ _ _ c.off.ensures c.is_none.ensures c.loop-begun-test.true)) i.7 in
           (suc i.0 + m, omega (arith, le), omega (arith, b, p, less), q.0, q.1, i.5, λ l. absurd (omega (arith, l)), λ j from to. ⊎_elim (λ (lt : j < suc i.0). on j from lt) (λ (ge : suc i.0 ≤ j). q.2 j ge to) (cases_lt j (suc i.0)));
       can = can_pass c.args.map.now (length c.step_traced.new.machine.hardware.memory) c.step_traced.new.machine.time (length c.pass.new.machine.hardware.memory) c.pass.new.machine.time (g.D.Sectors.size c.step_traced.new.disk) m
-          c.step_traced.new.tracer c.pass.ensures.memory (ap (λ (h : Held). h.time) rest) c.in_ok-stepped.ensures.trace.can;
-      user = c.in_ok-stepped.ensures.trace.user ∙ c.loop-begun.invariant.user;
-      untraced = λ e. let i = c.loop-begun.invariant.untraced e in let n = c.in_ok-stepped.ensures.trace.untraced i.0 in (n.0, n.1 ∙ i.1);
+          c.step_traced.new.tracer c.pass.ensures.memory (ap (λ (h : Held). h.time) rest) c.in_ok-stepped.ensures.leaves.trace.can;
+      user = c.in_ok-stepped.ensures.leaves.trace.user ∙ c.loop-begun.invariant.user;
+      untraced = λ e. let i = c.loop-begun.invariant.untraced e in let n = c.in_ok-stepped.ensures.leaves.trace.untraced i.0 in (n.0, n.1 ∙ i.1);
       calls = steps_ports c.args.machine.now c.step_traced.new.machine c.pass.new.machine c.args.tracer.now c.step_traced.new.tracer (tally g.D.Sectors.faults g.D.Sectors.calls c.args.disk.now) (tally g.D.Sectors.faults g.D.Sectors.calls c.step_traced.new.disk) (ap (λ (h : Held). h.hardware.ports) rest)
           (calls_kept g (goal.at.loop-begun-preserved-then-not-at_rest g c).In_ok-stepped);
-      sink_faults = c.in_ok-stepped.ensures.blame.sink_same (is_done c.in_ok-stepped.stepped Sink) ∙ c.loop-begun.invariant.sink_faults;
+      sink_faults = c.in_ok-stepped.ensures.leaves.blame.sink_same (is_done c.in_ok-stepped.stepped Sink) ∙ c.loop-begun.invariant.sink_faults;
       tracks = tracks_passed (outside_of c.args.machine.now.rows (g.D.Sectors.size c.args.disk.now)) c.args.map.now (seen (g.D.Sectors.sectors c.args.disk.now) c.args.machine.now)
           (tracing c.args.tracer.now (g.O.Sink.text c.args.out.now) c.args.budget.now) (g.D.Sectors.sectors c.step_traced.new.disk) c.step_traced.new.machine c.pass.new.machine c.step_traced.new.tracer c.args.tracer.now (g.O.Sink.text c.step_traced.new.out)
-          (c.loop-begun.budget - 1) c.pass.new.budget m (c.in_ok-stepped.ensures.trace.user ∙ c.loop-begun.invariant.user) refl
+          (c.loop-begun.budget - 1) c.pass.new.budget m (c.in_ok-stepped.ensures.leaves.trace.user ∙ c.loop-begun.invariant.user) refl
           c.pass.ensures.traced less
           (tracked g (goal.at.loop-begun-preserved-then-not-at_rest g c).In_ok-stepped);
     }

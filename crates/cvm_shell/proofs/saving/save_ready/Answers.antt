@@ -14,11 +14,11 @@ returns-clause-is g c = record {
   others = c.save_run.ensures.others;
   unput = unput_files c.save_run.result _ _ (λ e n. ap (λ x. g.S.Shelf.file x n) e) c.save_run.ensures.unput;
   told = c.save_run.ensures.loads.told;
-  refused = c.save_run.ensures.loads.refused;
+  refused = c.save_run.ensures.loads.leaves.refused;
   loaded = c.save_run.ensures.loads.loaded;
-  size = c.save_run.ensures.loads.same_size;
+  size = c.save_run.ensures.loads.leaves.same_size;
   rose = c.save_run.ensures.blame.disk_rose;
-  stopped = c.save_run.ensures.loads.stopped;
+  stopped = c.save_run.ensures.loads.leaves.stopped;
 }
 
 pub returns-clause-unput : goal.returns-clause-unput

@@ -14,10 +14,10 @@ returns-in_err-rom-clause-answers g c = λ before after.
 
 pub returns-clause-answers : goal.returns-clause-answers
 returns-clause-answers g c = λ before after.
-    rom_answers c.args.ready c.args.session _ _ _ c.requires.start c.run_rom.ensures.ends c.run_rom.ensures.goes_on c.run_rom.ensures.loads.stopped (record {
+    rom_answers c.args.ready c.args.session _ _ _ c.requires.start c.run_rom.ensures.ends c.run_rom.ensures.goes_on c.run_rom.ensures.loads.leaves.stopped (record {
       told = c.run_rom.ensures.loads.told;
-      refused = c.run_rom.ensures.loads.refused;
+      refused = c.run_rom.ensures.loads.leaves.refused;
       loaded = c.run_rom.ensures.loads.loaded;
-      size = c.run_rom.ensures.loads.same_size;
+      size = c.run_rom.ensures.loads.leaves.same_size;
       rose = c.run_rom.ensures.blame.disk_rose;
     })

@@ -57,8 +57,8 @@ returns-clause-told g c =
 
 pub returns-clause-blame : goal.returns-clause-blame
 returns-clause-blame g c = record {
-  disk_rose = λ h. subst (λ d. Rose (g.D.Sectors.faults d) (g.D.Sectors.faults c.run_on.new.disk)) c.resume.ensures.same (c.run_on.ensures.blame.disk_rose (is_end c.run_on.result DiskFault h));
-  disk_same = λ none. c.run_on.ensures.blame.disk_same (is_no_end c.run_on.result DiskFault none) ∙ ap g.D.Sectors.faults c.resume.ensures.same;
-  sink_rose = λ h. c.run_on.ensures.blame.sink_rose (is_end c.run_on.result SinkFault h);
-  sink_same = λ none. c.run_on.ensures.blame.sink_same (is_no_end c.run_on.result SinkFault none);
+  disk_rose = λ h. subst (λ d. Rose (g.D.Sectors.faults d) (g.D.Sectors.faults c.run_on.new.disk)) c.resume.ensures.same (c.run_on.ensures.leaves.blame.disk_rose (is_end c.run_on.result DiskFault h));
+  disk_same = λ none. c.run_on.ensures.leaves.blame.disk_same (is_no_end c.run_on.result DiskFault none) ∙ ap g.D.Sectors.faults c.resume.ensures.same;
+  sink_rose = λ h. c.run_on.ensures.leaves.blame.sink_rose (is_end c.run_on.result SinkFault h);
+  sink_same = λ none. c.run_on.ensures.leaves.blame.sink_same (is_no_end c.run_on.result SinkFault none);
 }

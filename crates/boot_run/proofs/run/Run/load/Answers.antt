@@ -6,14 +6,14 @@ use Rattle.layer_map.specs.Map.{Map, MapInRange, memory_words}
 use Rattle.boot_run.specs.Loading.{pages_of_users, written, system_of}
 use Rattle.mips_machine.specs.Machine.{Held}
 use Rattle.layer_contract.specs.Follows.{loaded}
-use Rattle.boot_run.specs.LoadEnds.{names_sector}
+use Rattle.boot_run.specs.LoadEnds.{names_sector, pages_needed}
 use Rattle.boot_run.specs.RunEnds.{SeesUser}
-use Rattle.boot_run.proofs.Readiness.{first_fits, loaded_ready}
+use Rattle.boot_run.proofs.Readiness.{first_fits, fresh_run, loaded_ready}
 use Rattle.boot_run.proofs.Loads.{loaded_long, loaded_whole, stands_loaded, torn_loaded, user_calls, user_torn}
 use Rattle.boot_run.proofs.run.Run.load.Goals as goal
 
-pub returns-in-Ok-clause-stands : goal.returns-in-Ok-clause-stands
-returns-in-Ok-clause-stands g c =
+pub returns-in-Ok-clause-loaded : goal.returns-in-Ok-clause-loaded
+returns-in-Ok-clause-loaded g c =
     let some : 1 ≤ c.args.boot.params.pages = subst (λ (m : Map). 1 ≤ m.params.pages) c.requires.made.same_map c.requires.made.range.params.a_page in
     let users : c.len-users.result ≡ length c.args.boot.users.items = c.len-users.ensures ∙ sym c.as_slice.ensures.len ∙ ap (λ (us : List (Vec ℕ Global)). length us) c.as_slice.ensures.value in
     let few : length c.args.boot.users.items * c.args.boot.params.pages ≤ g.D.Sectors.size c.args.disk.now =
@@ -21,34 +21,34 @@ returns-in-Ok-clause-stands g c =
     let sectors = subst (λ (us : List (Vec ℕ Global)). g.D.Sectors.sectors c.write_pages.new.disk ≡ option_map (written (pages_of_users c.args.boot.params.pages us []) (length c.args.boot.users.items * c.args.boot.params.pages)) (g.D.Sectors.sectors c.args.disk.now))
     c.as_slice.ensures.value
     (subst (λ n. g.D.Sectors.sectors c.write_pages.new.disk ≡ option_map (written (pages_of_users c.args.boot.params.pages c.as_slice.result.now []) (n * c.args.boot.params.pages)) (g.D.Sectors.sectors c.args.disk.now)) users c.in-Ok.ensures.ok) in
-    stands_loaded c.args.boot c.args.schedule c.in_ok-machine.machine (g.D.Sectors.sectors c.args.disk.now) (g.D.Sectors.sectors c.write_pages.new.disk) (g.D.Sectors.size c.args.disk.now) some
-    c.in_ok-machine.ensures sectors (g.met.D.Sectors.sized c.args.disk.now) few
+    let stands = stands_loaded c.args.boot c.args.schedule c.in_ok-machine.machine (g.D.Sectors.sectors c.args.disk.now) (g.D.Sectors.sectors c.write_pages.new.disk) (g.D.Sectors.size c.args.disk.now) some
+    c.in_ok-machine.ensures sectors (g.met.D.Sectors.sized c.args.disk.now) few in record {
+      fresh = fresh_run c.args.layer c.args.boot c.args.view c.args.schedule c.count-have.result (pages_needed c.args.boot) (g.D.Sectors.size c.args.disk.now) c.len-users.result c.in_ok-machine.machine c.first_tracer.result
+          c.count-have.ensures (ap (λ (m : Held). m.rows) c.in_ok-machine.ensures) (ap (λ (m : Held). m.time) c.in_ok-machine.ensures) c.first_tracer.ensures c.in_ok-check_view.ensures.ok users few;
+      memory = loaded_whole c.args.boot c.args.schedule c.in_ok-machine.machine c.in_ok-machine.ensures;
+      stands = stands;
+      ready = λ x old budget text e.
+          loaded_ready x (system_of c.args.boot c.args.schedule) (loaded (system_of c.args.boot c.args.schedule) old) c.args.view c.first_tracer.result c.first_tracer.ensures budget text c.in_ok-machine.machine (g.D.Sectors.sectors c.write_pages.new.disk)
+          (stands ∙ ap (option_map (loaded (system_of c.args.boot c.args.schedule))) e) (ap (λ (m : Held). m.time) c.in_ok-machine.ensures);
+      unfailed = c.in-Ok.ensures.count.same;
+      calls = user_calls c.args.boot c.args.schedule c.as_slice.result.now c.len-users.result (g.D.Sectors.sectors c.args.disk.now) (g.D.Sectors.sectors c.write_pages.new.disk) (tally g.D.Sectors.faults g.D.Sectors.calls c.args.disk.now) (tally g.D.Sectors.faults g.D.Sectors.calls c.write_pages.new.disk)
+          c.as_slice.ensures.value users c.in-Ok.ensures.calls;
+    }
 
-pub returns-in-Ok-clause-memory : goal.returns-in-Ok-clause-memory
-returns-in-Ok-clause-memory g c = loaded_whole c.args.boot c.args.schedule c.in_ok-machine.machine c.in_ok-machine.ensures
-
-pub returns-in-Ok-clause-calls : goal.returns-in-Ok-clause-calls
-returns-in-Ok-clause-calls g c =
-    let users : c.len-users.result ≡ length c.args.boot.users.items = c.len-users.ensures ∙ sym c.as_slice.ensures.len ∙ ap (λ (us : List (Vec ℕ Global)). length us) c.as_slice.ensures.value in
-    user_calls c.args.boot c.args.schedule c.as_slice.result.now c.len-users.result (g.D.Sectors.sectors c.args.disk.now) (g.D.Sectors.sectors c.write_pages.new.disk) (tally g.D.Sectors.faults g.D.Sectors.calls c.args.disk.now) (tally g.D.Sectors.faults g.D.Sectors.calls c.write_pages.new.disk)
-    c.as_slice.ensures.value users c.in-Ok.ensures.calls
-
-pub returns-in-Ok-clause-ready : goal.returns-in-Ok-clause-ready
-returns-in-Ok-clause-ready g c = λ x old budget text e.
-    loaded_ready x (system_of c.args.boot c.args.schedule) (loaded (system_of c.args.boot c.args.schedule) old) c.args.view c.first_tracer.result c.first_tracer.ensures budget text c.in_ok-machine.machine (g.D.Sectors.sectors c.write_pages.new.disk)
-    (returns-in-Ok-clause-stands g c ∙ ap (option_map (loaded (system_of c.args.boot c.args.schedule))) e)
-    (ap (λ (m : Held). m.time) c.in_ok-machine.ensures)
-
-pub returns-in-Err-clause-torn : goal.returns-in-Err-clause-torn
-returns-in-Err-clause-torn g c = λ h.
+pub returns-in-Err-clause-leaves : goal.returns-in-Err-clause-leaves
+returns-in-Err-clause-leaves g c =
     let some : 1 ≤ c.args.boot.params.pages = subst (λ (m : Map). 1 ≤ m.params.pages) c.requires.made.same_map c.requires.made.range.params.a_page in
     let users : c.len-users.result ≡ length c.args.boot.users.items = c.len-users.ensures ∙ sym c.as_slice.ensures.len ∙ ap (λ (us : List (Vec ℕ Global)). length us) c.as_slice.ensures.value in
     let few : length c.args.boot.users.items * c.args.boot.params.pages ≤ g.D.Sectors.size c.args.disk.now =
-    subst (λ n. n * c.args.boot.params.pages ≤ g.D.Sectors.size c.args.disk.now) users (subst (λ n. c.len-users.result * c.args.boot.params.pages ≤ n) c.count-have.ensures c.if-have-need.false) in
-    torn_loaded c.args.boot c.args.schedule (g.D.Sectors.sectors c.args.disk.now) (g.D.Sectors.sectors c.write_pages.new.disk) (tally g.D.Sectors.faults g.D.Sectors.calls c.args.disk.now) (tally g.D.Sectors.faults g.D.Sectors.calls c.write_pages.new.disk) (g.D.Sectors.size c.args.disk.now) some
-    (user_torn c.args.boot c.args.schedule c.as_slice.result.now c.len-users.result (g.D.Sectors.sectors c.args.disk.now) (g.D.Sectors.sectors c.write_pages.new.disk) (tally g.D.Sectors.faults g.D.Sectors.calls c.args.disk.now) (tally g.D.Sectors.faults g.D.Sectors.calls c.write_pages.new.disk)
-    c.as_slice.ensures.value users c.in-Err.ensures.torn)
-    (g.met.D.Sectors.sized c.args.disk.now) few
+    subst (λ n. n * c.args.boot.params.pages ≤ g.D.Sectors.size c.args.disk.now) users (subst (λ n. c.len-users.result * c.args.boot.params.pages ≤ n) c.count-have.ensures c.if-have-need.false) in record {
+      refused = (record { user = subst (λ n. SeesUser c.args.view n) users c.in_ok-check_view.ensures.ok; room = few }, c.in-Err.ensures.count.rose);
+      stopped = λ h. torn_loaded c.args.boot c.args.schedule (g.D.Sectors.sectors c.args.disk.now) (g.D.Sectors.sectors c.write_pages.new.disk) (tally g.D.Sectors.faults g.D.Sectors.calls c.args.disk.now) (tally g.D.Sectors.faults g.D.Sectors.calls c.write_pages.new.disk) (g.D.Sectors.size c.args.disk.now) some
+          (user_torn c.args.boot c.args.schedule c.as_slice.result.now c.len-users.result (g.D.Sectors.sectors c.args.disk.now) (g.D.Sectors.sectors c.write_pages.new.disk) (tally g.D.Sectors.faults g.D.Sectors.calls c.args.disk.now) (tally g.D.Sectors.faults g.D.Sectors.calls c.write_pages.new.disk)
+          c.as_slice.ensures.value users c.in-Err.ensures.torn)
+          (g.met.D.Sectors.sized c.args.disk.now) few;
+      still = λ ne. absurd (ne refl);
+      same_size = c.write_pages.ensures.same_size;
+    }
 
 pub invariant_of-result : goal.invariant_of-result
 invariant_of-result g c =

@@ -22,22 +22,22 @@ pub returns-in-Ok-clause-ends : goal.returns-in-Ok-clause-ends
 returns-in-Ok-clause-ends g c =
     now_traced c.args.self.now _ c.self.view_is (g.D.Sectors.size c.args.disk.now) (g.D.Sectors.sectors c.args.disk.now) (g.D.Sectors.sectors c.put_trace_closing.new.disk) (g.O.Sink.text c.args.out.now) (g.O.Sink.text c.put_trace_closing.new.out)
     c.in-Some.tracer c.in-Some.is refl c.requires.goes_on c.traces_grow.ensures c.journal_rows_follow.ensures c.the_user_rows_tell.ensures
-    c.self.inside.places.map c.self.inside.places.offsets.items c.self.invariant.2 c.self.invariant.3 c.put_trace_closing.new.machine c.put_trace_closing.ensures.leaves.view.same c.put_trace_closing.ensures.leaves.view.sectors
-    c.is_some-halted.result c.is_some-halted.ensures (λ ss e f. (c.in-Ok.ensures.put ss e f).ok)
+    c.self.inside.places.map c.self.inside.places.offsets.items c.self.invariant.2 c.self.invariant.3 c.put_trace_closing.new.machine c.put_trace_closing.ensures.report.leaves.view.same c.put_trace_closing.ensures.report.leaves.view.sectors
+    c.is_some-halted.result c.is_some-halted.ensures (λ ss e f. (c.in-Ok.ensures.report.put ss e f).ok)
 
 pub returns-in-Err-Disk-clause-ends : goal.returns-in-Err-Disk-clause-ends
 returns-in-Err-Disk-clause-ends g c =
     now_unread c.args.self.now _ c.self.view_is (g.D.Sectors.size c.args.disk.now) (g.D.Sectors.sectors c.args.disk.now) (g.D.Sectors.sectors c.put_trace_closing.new.disk) (g.O.Sink.text c.args.out.now) (g.O.Sink.text c.put_trace_closing.new.out)
     c.in-Some.tracer c.in-Some.is refl c.requires.goes_on c.traces_grow.ensures c.journal_rows_follow.ensures c.the_user_rows_tell.ensures
-    c.self.inside.places.map c.self.inside.places.offsets.items c.self.invariant.2 c.self.invariant.3 c.put_trace_closing.new.machine c.put_trace_closing.ensures.leaves.view.same c.put_trace_closing.ensures.leaves.view.sectors
+    c.self.inside.places.map c.self.inside.places.offsets.items c.self.invariant.2 c.self.invariant.3 c.put_trace_closing.new.machine c.put_trace_closing.ensures.report.leaves.view.same c.put_trace_closing.ensures.report.leaves.view.sectors
     c.is_some-halted.result c.is_some-halted.ensures (λ ss e f. c.in-Err-Disk.ensures.rows ss e f (ap (λ h. Err h) c.in-Err-Disk.field-0-is))
 
 pub returns-in-Err-Sink-clause-ends : goal.returns-in-Err-Sink-clause-ends
 returns-in-Err-Sink-clause-ends g c =
     now_unwritten c.args.self.now _ c.self.view_is (g.D.Sectors.size c.args.disk.now) (g.D.Sectors.sectors c.args.disk.now) (g.D.Sectors.sectors c.put_trace_closing.new.disk) (g.O.Sink.text c.args.out.now) (g.O.Sink.text c.put_trace_closing.new.out)
     c.in-Some.tracer c.in-Some.is refl c.requires.goes_on c.traces_grow.ensures c.journal_rows_follow.ensures c.the_user_rows_tell.ensures
-    c.self.inside.places.map c.self.inside.places.offsets.items c.self.invariant.2 c.self.invariant.3 c.put_trace_closing.new.machine c.put_trace_closing.ensures.leaves.view.same c.put_trace_closing.ensures.leaves.view.sectors
-    c.is_some-halted.result c.is_some-halted.ensures (λ ss e f. (c.in-Err-Sink.ensures.put ss e f).err)
+    c.self.inside.places.map c.self.inside.places.offsets.items c.self.invariant.2 c.self.invariant.3 c.put_trace_closing.new.machine c.put_trace_closing.ensures.report.leaves.view.same c.put_trace_closing.ensures.report.leaves.view.sectors
+    c.is_some-halted.result c.is_some-halted.ensures (λ ss e f. (c.in-Err-Sink.ensures.report.put ss e f).err)
 
 -- of a boot
 pub returns-in-Ok-put_closing-clause-ends : goal.returns-in-Ok-put_closing-clause-ends

@@ -1,5 +1,5 @@
 -- What a step adds is what its branch prints: a turn of the user, a turn of another, a primitive that returned, or nothing.
-use Rattle.std.proofs.Common.{◌≡◌, ◌≢◌, ℕ, List, [], Bool, true, false, Option, Some, Err, slice_index, refl, sym, ap, ap₂, ◌∙◌, subst, arith}
+use Rattle.std.proofs.Common.{◌≡◌, ◌≢◌, ℕ, List, [], Bool, true, false, Option, Some, Err, slice_index, refl, sym, ap, ap₂, ◌∙◌, subst, arith, rules}
 use Rattle.std.specs.Prelude.{IsSome}
 use Rattle.std.specs.Io.KnownBytes.{append_known}
 use Rattle.cvm_outside.proofs.Parts.{append_known-nil}
@@ -22,14 +22,6 @@ use Rattle.boot_turns.proofs.Reading.{asks_nothing, asks_same}
 use Rattle.boot_turns.proofs.Followed.{own_turn, other_turn, none_returned, begun_reads, free_reads, returned_reads, call_seen, rows_some, rows_put, kept_then, call_some, call_put, call_begun, call_kept}
 use Rattle.boot_turns.proofs.tracer.Tracer.follow.Goals.{then-began+then-current-self+else-prove+in_ok-begin, then-began+else-current-self, else-began+in-Some+in_ok-end, else-began+in_default}
 use Rattle.boot_turns.proofs.tracer.Tracer.follow.Goals as goal
-
-pub returns-in_err-end-clause-put : goal.returns-in_err-end-clause-put
-returns-in_err-end-clause-put g c = λ ss words e told.
-    let s : State = state_of c.args.machine.now ss in
-    let h = err_from_is_err_and c.from_residual-in_err-end.result c.from_residual-in_err-end.ensures.1 in
-    broken _ _ _ c.from_residual-in_err-end.result h.0 h.1
-    (call_begun s c.args.self.now c.args.current c.args.began words c.args.map.now c.returned_call.result c.in-Some.call c.reg.result c.if-began.false c.returned_call.ensures c.in-Some.is c.reg.ensures told
-    (g.O.Sink.text c.args.out.now) (g.O.Sink.text c.end.new.out) (λ t p. (c.in_err-end.ensures.put ss words e t p).err))
 
 -- where the rows of a primitive that returned couldn't be read, so it is of the step
 call_fails : (told : Option (List (List ℕ))) (a : Held) (m : Map) (kept new : Tracer) (began : Bool) (o : Option Entered) (e : Entered) (answer : ℕ) (text retext : Option (List ℕ)) → began ≡ false → o ≡ returned (state_of a []) kept.call → o ≡ Some e →
@@ -63,52 +55,35 @@ call_cut told a m kept new current began o e answer none is some reads cut = rec
   read = let r = returned_reads (state_of a []) kept current began [] m o e answer none is some reads in let most = cut.read in omega (arith, r, most);
 }
 
-pub returns-in_err-begin-clause-cut : goal.returns-in_err-begin-clause-cut
-returns-in_err-begin-clause-cut g c = λ e.
-    begin_cut (g.D.Sectors.sectors c.args.disk.now) c.args.machine.now c.args.map.now c.args.self.now c.begin.new.self c.args.current c.args.began c.begun_now.result c.if-began.true c.begun_now.ensures c.in_err-begin.ensures.some c.in_err-begin.ensures.reads
+pub returns-in_err-begin-clause-prints : goal.returns-in_err-begin-clause-prints
+returns-in_err-begin-clause-prints g c = record {
+  put = search rules;
+  keeps = search rules;
+  fails = search rules;
+  some = λ e. rows_begun c.args.machine.now c.args.self.now.call c.begun_now.result c.args.began c.if-began.true c.begun_now.ensures c.in_err-begin.ensures.puts;
+  cut = λ e.
+      begin_cut (g.D.Sectors.sectors c.args.disk.now) c.args.machine.now c.args.map.now c.args.self.now c.begin.new.self c.args.current c.args.began c.begun_now.result c.if-began.true c.begun_now.ensures c.in_err-begin.ensures.prints.some c.in_err-begin.ensures.reads;
+}
 
-pub returns-in_err-end-clause-cut : goal.returns-in_err-end-clause-cut
-returns-in_err-end-clause-cut g c = λ e.
-    let w = err_from_is_err_and c.from_residual-in_err-end.result c.from_residual-in_err-end.ensures.1 in
-    call_cut (g.D.Sectors.sectors c.args.disk.now) c.args.machine.now c.args.map.now c.args.self.now c.end.new.self c.args.current c.args.began c.returned_call.result c.in-Some.call c.reg.result
-    c.if-began.false c.returned_call.ensures c.in-Some.is c.reg.ensures (c.in_err-end.ensures.cut (sym (ap (λ f. Err f) w.2) ∙ sym w.1 ∙ e))
-
-pub returns-in_err-begin-clause-puts : goal.returns-in_err-begin-clause-puts
-returns-in_err-begin-clause-puts g c = λ e. rows_begun c.args.machine.now c.args.self.now.call c.begun_now.result c.args.began c.if-began.true c.begun_now.ensures c.in_err-begin.ensures.puts
-
-pub returns-in_err-end-clause-puts : goal.returns-in_err-end-clause-puts
-returns-in_err-end-clause-puts g c = λ e. returned_rows c.args.machine.now c.args.self.now.call c.returned_call.result c.in-Some.call c.args.began c.if-began.false c.returned_call.ensures c.in-Some.is
-
-pub returns-in_err-end-clause-fails : goal.returns-in_err-end-clause-fails
-returns-in_err-end-clause-fails g c = λ e.
-    let w = err_from_is_err_and c.from_residual-in_err-end.result c.from_residual-in_err-end.ensures.1 in
-    call_fails (g.D.Sectors.sectors c.args.disk.now) c.args.machine.now c.args.map.now c.args.self.now c.end.new.self c.args.began c.returned_call.result c.in-Some.call c.reg.result (g.O.Sink.text c.args.out.now) (g.O.Sink.text c.end.new.out)
-    c.if-began.false c.returned_call.ensures c.in-Some.is c.reg.ensures (c.in_err-end.ensures.fails (sym (ap (λ f. Err f) w.2) ∙ sym w.1 ∙ e))
-
-pub returns-clause-put : goal.returns-clause-put
-returns-clause-put g c = λ ss words e told.
-    let s : State = state_of c.args.machine.now ss in
-    let kept = c.args.self.now in
-    let all : g.O.Sink.text c.if-began.out ≡ append_known (g.O.Sink.text c.args.out.now) (followed_rows s kept c.args.current c.args.began words) = elim c.if-began.branch [
-      | then-began+then-current-self+else-prove+in_ok-begin w ↦ (
-          let is = own_turn s kept c.args.current c.args.began words w.begun_now.result w.if-began.true w.begun_now.ensures in
-          ap g.O.Sink.text w.out-is
-          ∙ rows_put s kept c.args.current c.args.began words (turn_begins kept.user c.args.current w.begun_now.result) is (g.O.Sink.text c.args.out.now) (g.O.Sink.text w.begin.new.out) w.in_ok-begin.ensures.put.ok
-          )
-      | then-began+else-current-self w ↦ (
-          let is = other_turn s kept c.args.current c.args.began words w.if-began.true w.if-current-self.false in
-          ap g.O.Sink.text w.out-is ∙ rows_put s kept c.args.current c.args.began words [] is (g.O.Sink.text c.args.out.now) (g.O.Sink.text c.args.out.now) (sym (append_known-nil _))
-          )
-      | else-began+in-Some+in_ok-end w ↦
-          ap g.O.Sink.text w.out-is
-          ∙ call_put s kept c.args.current c.args.began words c.args.map.now w.returned_call.result w.in-Some.call w.reg.result w.if-began.false w.returned_call.ensures w.in-Some.is w.reg.ensures told
-          (g.O.Sink.text c.args.out.now) (g.O.Sink.text w.end.new.out) (λ t p. (w.in_ok-end.ensures.put ss words e t p).ok)
-      | else-began+in_default w ↦ (
-          let is = none_returned s kept c.args.current c.args.began words w.returned_call.result w.if-began.false w.returned_call.ensures w.in_default.is in
-          ap g.O.Sink.text w.out-is ∙ rows_put s kept c.args.current c.args.began words [] is (g.O.Sink.text c.args.out.now) (g.O.Sink.text c.args.out.now) (sym (append_known-nil _))
-          )
-    ] in
-    printed _ _ _ _ all
+pub returns-in_err-end-clause-prints : goal.returns-in_err-end-clause-prints
+returns-in_err-end-clause-prints g c = record {
+  put = λ ss words e told.
+      let s : State = state_of c.args.machine.now ss in
+      let h = err_from_is_err_and c.from_residual-in_err-end.result c.from_residual-in_err-end.ensures.1 in
+      broken _ _ _ c.from_residual-in_err-end.result h.0 h.1
+      (call_begun s c.args.self.now c.args.current c.args.began words c.args.map.now c.returned_call.result c.in-Some.call c.reg.result c.if-began.false c.returned_call.ensures c.in-Some.is c.reg.ensures told
+      (g.O.Sink.text c.args.out.now) (g.O.Sink.text c.end.new.out) (λ t p. (c.in_err-end.ensures.prints.put ss words e t p).err));
+  keeps = search rules;
+  fails = λ e.
+      let w = err_from_is_err_and c.from_residual-in_err-end.result c.from_residual-in_err-end.ensures.1 in
+      call_fails (g.D.Sectors.sectors c.args.disk.now) c.args.machine.now c.args.map.now c.args.self.now c.end.new.self c.args.began c.returned_call.result c.in-Some.call c.reg.result (g.O.Sink.text c.args.out.now) (g.O.Sink.text c.end.new.out)
+      c.if-began.false c.returned_call.ensures c.in-Some.is c.reg.ensures (c.in_err-end.ensures.prints.fails (sym (ap (λ f. Err f) w.2) ∙ sym w.1 ∙ e));
+  some = λ e. returned_rows c.args.machine.now c.args.self.now.call c.returned_call.result c.in-Some.call c.args.began c.if-began.false c.returned_call.ensures c.in-Some.is;
+  cut = λ e.
+      let w = err_from_is_err_and c.from_residual-in_err-end.result c.from_residual-in_err-end.ensures.1 in
+      call_cut (g.D.Sectors.sectors c.args.disk.now) c.args.machine.now c.args.map.now c.args.self.now c.end.new.self c.args.current c.args.began c.returned_call.result c.in-Some.call c.reg.result
+      c.if-began.false c.returned_call.ensures c.in-Some.is c.reg.ensures (c.in_err-end.ensures.prints.cut (sym (ap (λ f. Err f) w.2) ∙ sym w.1 ∙ e));
+}
 
 -- the note is made by the machine as it was, and by the note before
 noted_then : (a b : Held) (ss : List (List ℕ)) (c d : Option Entered) → SameButViewed a b → d ≡ c → notes_on (state_of b []) d ≡ notes_on (state_of a ss) c
@@ -117,53 +92,99 @@ noted_then a b ss c d same e = ap₂ (λ (h : Held) (c : Option Entered). notes_
 noted_there : (a b : Held) (ss : List (List ℕ)) (c d : Option Entered) → b ≡ a → d ≡ c → notes_on (state_of b []) d ≡ notes_on (state_of a ss) c
 noted_there a b ss c d same e = ap₂ (λ (h : Held) (c : Option Entered). notes_on (state_of h []) c) same e
 
-pub returns-clause-kept : goal.returns-clause-kept
-returns-clause-kept g c = λ ss words e told.
-    let s : State = state_of c.args.machine.now ss in
-    let kept = c.args.self.now in
-    let next = notes_on (state_of c.if-began.machine []) c.if-began.self.call in
-    c.note_call.ensures ∙ elim c.if-began.branch [
-      | then-began+then-current-self+else-prove+in_ok-begin w ↦ (
-          let is = own_turn s kept c.args.current c.args.began words w.begun_now.result w.if-began.true w.begun_now.ensures in
-          let mid = w.self-is ∙ w.in_ok-begin.ensures.steps in
-          kept_then s kept c.args.current c.args.began words (turn_begins kept.user c.args.current w.begun_now.result) is c.args.map.now c.if-began.self next (begun_reads s kept c.args.current c.args.began words c.args.map.now w.if-began.true) mid
-          (noted_there c.args.machine.now c.if-began.machine ss kept.call c.if-began.self.call w.machine-is (ap (λ (t : Tracer). t.call) mid))
-          )
-      | then-began+else-current-self w ↦ (
-          let is = other_turn s kept c.args.current c.args.began words w.if-began.true w.if-current-self.false in
-          kept_then s kept c.args.current c.args.began words [] is c.args.map.now c.if-began.self next (begun_reads s kept c.args.current c.args.began words c.args.map.now w.if-began.true) w.self-is
-          (noted_there c.args.machine.now c.if-began.machine ss kept.call c.if-began.self.call w.machine-is (ap (λ (t : Tracer). t.call) w.self-is))
-          )
-      | else-began+in-Some+in_ok-end w ↦
-          call_kept s kept c.args.current c.args.began words c.args.map.now w.returned_call.result w.in-Some.call w.reg.result w.if-began.false w.returned_call.ensures w.in-Some.is w.reg.ensures told
-          (state_of c.args.machine.now []) c.if-began.self next (call_seen c.args.map.now c.args.machine.now ss kept.user w.reg.result w.in-Some.call) (λ t p. w.self-is ∙ w.in_ok-end.ensures.steps ss words e t p)
-          (λ h. noted_then c.args.machine.now c.if-began.machine ss kept.call c.if-began.self.call (subst (SameButViewed c.args.machine.now) (sym w.machine-is) w.in_ok-end.ensures.read.view.same) h)
-      | else-began+in_default w ↦ (
-          let is = none_returned s kept c.args.current c.args.began words w.returned_call.result w.if-began.false w.returned_call.ensures w.in_default.is in
-          kept_then s kept c.args.current c.args.began words [] is c.args.map.now c.if-began.self next (free_reads s kept c.args.current c.args.began words c.args.map.now w.returned_call.result w.if-began.false w.returned_call.ensures w.in_default.is) w.self-is
-          (noted_there c.args.machine.now c.if-began.machine ss kept.call c.if-began.self.call w.machine-is (ap (λ (t : Tracer). t.call) w.self-is))
-          )
-    ]
+pub returns-clause-prints : goal.returns-clause-prints
+returns-clause-prints g c = record {
+  put = λ ss words e told.
+      let s : State = state_of c.args.machine.now ss in
+      let kept = c.args.self.now in
+      let all : g.O.Sink.text c.if-began.out ≡ append_known (g.O.Sink.text c.args.out.now) (followed_rows s kept c.args.current c.args.began words) = elim c.if-began.branch [
+        | then-began+then-current-self+else-prove+in_ok-begin w ↦ (
+            let is = own_turn s kept c.args.current c.args.began words w.begun_now.result w.if-began.true w.begun_now.ensures in
+            ap g.O.Sink.text w.out-is
+            ∙ rows_put s kept c.args.current c.args.began words (turn_begins kept.user c.args.current w.begun_now.result) is (g.O.Sink.text c.args.out.now) (g.O.Sink.text w.begin.new.out) w.in_ok-begin.ensures.prints.put.ok
+            )
+        | then-began+else-current-self w ↦ (
+            let is = other_turn s kept c.args.current c.args.began words w.if-began.true w.if-current-self.false in
+            ap g.O.Sink.text w.out-is ∙ rows_put s kept c.args.current c.args.began words [] is (g.O.Sink.text c.args.out.now) (g.O.Sink.text c.args.out.now) (sym (append_known-nil _))
+            )
+        | else-began+in-Some+in_ok-end w ↦
+            ap g.O.Sink.text w.out-is
+            ∙ call_put s kept c.args.current c.args.began words c.args.map.now w.returned_call.result w.in-Some.call w.reg.result w.if-began.false w.returned_call.ensures w.in-Some.is w.reg.ensures told
+            (g.O.Sink.text c.args.out.now) (g.O.Sink.text w.end.new.out) (λ t p. (w.in_ok-end.ensures.prints.put ss words e t p).ok)
+        | else-began+in_default w ↦ (
+            let is = none_returned s kept c.args.current c.args.began words w.returned_call.result w.if-began.false w.returned_call.ensures w.in_default.is in
+            ap g.O.Sink.text w.out-is ∙ rows_put s kept c.args.current c.args.began words [] is (g.O.Sink.text c.args.out.now) (g.O.Sink.text c.args.out.now) (sym (append_known-nil _))
+            )
+      ] in
+      printed _ _ _ _ all;
+  keeps = λ ss words e told.
+      let s : State = state_of c.args.machine.now ss in
+      let kept = c.args.self.now in
+      let next = notes_on (state_of c.if-began.machine []) c.if-began.self.call in
+      c.note_call.ensures ∙ elim c.if-began.branch [
+        | then-began+then-current-self+else-prove+in_ok-begin w ↦ (
+            let is = own_turn s kept c.args.current c.args.began words w.begun_now.result w.if-began.true w.begun_now.ensures in
+            let mid = w.self-is ∙ w.in_ok-begin.ensures.prints.steps in
+            kept_then s kept c.args.current c.args.began words (turn_begins kept.user c.args.current w.begun_now.result) is c.args.map.now c.if-began.self next (begun_reads s kept c.args.current c.args.began words c.args.map.now w.if-began.true) mid
+            (noted_there c.args.machine.now c.if-began.machine ss kept.call c.if-began.self.call w.machine-is (ap (λ (t : Tracer). t.call) mid))
+            )
+        | then-began+else-current-self w ↦ (
+            let is = other_turn s kept c.args.current c.args.began words w.if-began.true w.if-current-self.false in
+            kept_then s kept c.args.current c.args.began words [] is c.args.map.now c.if-began.self next (begun_reads s kept c.args.current c.args.began words c.args.map.now w.if-began.true) w.self-is
+            (noted_there c.args.machine.now c.if-began.machine ss kept.call c.if-began.self.call w.machine-is (ap (λ (t : Tracer). t.call) w.self-is))
+            )
+        | else-began+in-Some+in_ok-end w ↦
+            call_kept s kept c.args.current c.args.began words c.args.map.now w.returned_call.result w.in-Some.call w.reg.result w.if-began.false w.returned_call.ensures w.in-Some.is w.reg.ensures told
+            (state_of c.args.machine.now []) c.if-began.self next (call_seen c.args.map.now c.args.machine.now ss kept.user w.reg.result w.in-Some.call) (λ t p. w.self-is ∙ w.in_ok-end.ensures.prints.keeps ss words e t p)
+            (λ h. noted_then c.args.machine.now c.if-began.machine ss kept.call c.if-began.self.call (subst (SameButViewed c.args.machine.now) (sym w.machine-is) w.in_ok-end.ensures.leaves.rows.view.same) h)
+        | else-began+in_default w ↦ (
+            let is = none_returned s kept c.args.current c.args.began words w.returned_call.result w.if-began.false w.returned_call.ensures w.in_default.is in
+            kept_then s kept c.args.current c.args.began words [] is c.args.map.now c.if-began.self next (free_reads s kept c.args.current c.args.began words c.args.map.now w.returned_call.result w.if-began.false w.returned_call.ensures w.in_default.is) w.self-is
+            (noted_there c.args.machine.now c.if-began.machine ss kept.call c.if-began.self.call w.machine-is (ap (λ (t : Tracer). t.call) w.self-is))
+            )
+      ];
+  fails = search rules;
+  some = search rules;
+  cut = search rules;
+}
 
-pub returns-in_err-begin-clause-asks : goal.returns-in_err-begin-clause-asks
-returns-in_err-begin-clause-asks g c =
+pub returns-in_err-begin-clause-leaves : goal.returns-in_err-begin-clause-leaves
+returns-in_err-begin-clause-leaves g c =
     let n = tally g.D.Sectors.faults g.D.Sectors.calls c.args.disk.now in
-    asks_nothing c.args.self.now c.begin.new.self n n c.in_err-begin.ensures.reads refl
+    record {
+      user = search rules;
+      can = search rules;
+      rows = record {
+        view = search rules;
+        blame = search rules;
+        no_limit = search rules;
+        asks = asks_nothing c.args.self.now c.begin.new.self n n c.in_err-begin.ensures.reads refl;
+      };
+    }
 
-pub returns-clause-asks : goal.returns-clause-asks
-returns-clause-asks g c =
+pub returns-clause-leaves : goal.returns-clause-leaves
+returns-clause-leaves g c =
     let old = c.args.self.now in
     let before = tally g.D.Sectors.faults g.D.Sectors.calls c.args.disk.now in
     let after = tally g.D.Sectors.faults g.D.Sectors.calls c.if-began.disk in
     let noted : c.note_call.new.self.reads ≡ c.if-began.self.reads = ap (λ (t : Tracer). t.reads) c.note_call.ensures in
-    elim c.if-began.branch [
-      | then-began+then-current-self+else-prove+in_ok-begin w ↦
-          asks_nothing old c.note_call.new.self before after (noted ∙ ap (λ (t : Tracer). t.reads) w.self-is ∙ w.in_ok-begin.ensures.reads) (ap (tally g.D.Sectors.faults g.D.Sectors.calls) w.disk-is)
-      | then-began+else-current-self w ↦
-          asks_nothing old c.note_call.new.self before after (noted ∙ ap (λ (t : Tracer). t.reads) w.self-is) (ap (tally g.D.Sectors.faults g.D.Sectors.calls) w.disk-is)
-      | else-began+in-Some+in_ok-end w ↦
-          asks_same old w.end.new.self c.note_call.new.self before (tally g.D.Sectors.faults g.D.Sectors.calls w.end.new.disk) after w.in_ok-end.ensures.asks
-          (noted ∙ ap (λ (t : Tracer). t.reads) w.self-is) (ap (tally g.D.Sectors.faults g.D.Sectors.calls) w.disk-is)
-      | else-began+in_default w ↦
-          asks_nothing old c.note_call.new.self before after (noted ∙ ap (λ (t : Tracer). t.reads) w.self-is) (ap (tally g.D.Sectors.faults g.D.Sectors.calls) w.disk-is)
-    ]
+    record {
+      user = search rules;
+      can = search rules;
+      rows = record {
+        view = search rules;
+        blame = search rules;
+        no_limit = search rules;
+        asks = elim c.if-began.branch [
+          | then-began+then-current-self+else-prove+in_ok-begin w ↦
+              asks_nothing old c.note_call.new.self before after (noted ∙ ap (λ (t : Tracer). t.reads) w.self-is ∙ w.in_ok-begin.ensures.reads) (ap (tally g.D.Sectors.faults g.D.Sectors.calls) w.disk-is)
+          | then-began+else-current-self w ↦
+              asks_nothing old c.note_call.new.self before after (noted ∙ ap (λ (t : Tracer). t.reads) w.self-is) (ap (tally g.D.Sectors.faults g.D.Sectors.calls) w.disk-is)
+          | else-began+in-Some+in_ok-end w ↦
+              asks_same old w.end.new.self c.note_call.new.self before (tally g.D.Sectors.faults g.D.Sectors.calls w.end.new.disk) after w.in_ok-end.ensures.leaves.rows.asks
+              (noted ∙ ap (λ (t : Tracer). t.reads) w.self-is) (ap (tally g.D.Sectors.faults g.D.Sectors.calls) w.disk-is)
+          | else-began+in_default w ↦
+              asks_nothing old c.note_call.new.self before after (noted ∙ ap (λ (t : Tracer). t.reads) w.self-is) (ap (tally g.D.Sectors.faults g.D.Sectors.calls) w.disk-is)
+        ];
+      };
+    }

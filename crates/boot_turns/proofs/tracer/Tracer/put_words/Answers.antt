@@ -1,4 +1,4 @@
-use Rattle.std.proofs.Common.{◌≡◌, ℕ, ◌+◌, ◌*◌, ◌/◌, ◌<◌, ◌≤◌, [], refl, sym, ap, ◌∙◌, arith}
+use Rattle.std.proofs.Common.{◌≡◌, ℕ, ◌+◌, ◌*◌, ◌/◌, ◌<◌, ◌≤◌, [], refl, sym, ap, ◌∙◌, arith, rules}
 use Rattle.std.specs.Io.KnownBytes.{append_known}
 use Rattle.std.proofs.lemmas.Result.{err_from_is_err_and}
 use Rattle.cvm_outside.specs.Numbering.{tally}
@@ -8,7 +8,7 @@ use Rattle.boot_report.specs.Resident.{word_reads}
 use Rattle.boot_report.proofs.Leaves.{broken, printed, views_twice}
 use Rattle.boot_turns.specs.declared.tracer.Tracer.{Tracer}
 use Rattle.boot_turns.specs.Copies.{copy_rows, copied_kept, steps_left}
-use Rattle.boot_turns.proofs.CallCounts.{sink_alone, disk_alone}
+use Rattle.boot_turns.proofs.CallCounts.{sink_alone, disk_alone, disk_blamed, sink_blamed}
 use Rattle.boot_turns.proofs.Reading.{few_read, none_read, read_then, fails_there, cut_there, keeps_word, keeps_all, calls_word, asks_word}
 use Rattle.boot_turns.proofs.Copying.{one_put, part_put, stop_put, none_put, put_tracer, fits_then, row_read}
 use Rattle.boot_turns.proofs.tracer.Tracer.put_words.Given.{Over}
@@ -48,28 +48,6 @@ loop-i-init g c = record {
   text = λ ss e f. none_put c.args.map.now (paged_of c.args.map.now (state_of c.args.machine.now ss)) c.args.self.now.user c.args.self.now.steps c.args.address (g.O.Sink.text c.args.out.now);
 }
 
-pub returns-in_err-word-clause-put : goal.returns-in_err-word-clause-put
-returns-in_err-word-clause-put g c = λ ss e f.
-    let le : c.loop-i.i ≤ c.args.count = omega arith in
-    let h = err_from_is_err_and c.from_residual.result c.from_residual.ensures.1 in
-    broken _ _ _ c.from_residual.result h.0 h.1
-    (stop_put c.args.map.now (paged_of c.args.map.now (state_of c.args.machine.now ss)) c.args.self.now.user c.args.self.now.steps c.args.address (g.O.Sink.text c.args.out.now) (g.O.Sink.text c.loop-i.out) c.loop-i.i c.args.count le (c.loop-i.invariant.text ss e f))
-
-pub returns-in_err-put-clause-put : goal.returns-in_err-put-clause-put
-returns-in_err-put-clause-put g c = λ ss e f.
-    let counts = word_counted g (goal.at.returns-in_err-put-clause-put g c).After-read_user_word in
-    let user : c.if-not-is_word_resident.self.user ≡ c.args.self.now.user = ap (λ (t : Tracer). t.user) counts ∙ c.loop-i.invariant.user in
-    let steps : c.if-not-is_word_resident.self.steps ≡ steps_left c.args.self.now.steps c.loop-i.i = ap (λ (t : Tracer). t.steps) counts ∙ c.loop-i.invariant.steps in
-    let lt : c.loop-i.i < c.args.count = omega arith in
-    let told = c.in_ok-word.ensures.shown ss (c.loop-i.invariant.view.sectors ∙ e) (fits_then c.args.map.now c.args.machine.now c.loop-i.machine ss c.loop-i.invariant.view.same f) in
-    let h = err_from_is_err_and c.from_residual-in_err-put.result c.from_residual-in_err-put.ensures.1 in
-    broken _ _ _ c.from_residual-in_err-put.result h.0 h.1
-    (part_put c.args.map.now (paged_of c.args.map.now (state_of c.args.machine.now ss)) c.args.self.now.user c.args.self.now.steps c.args.address (g.O.Sink.text c.args.out.now) (g.O.Sink.text c.loop-i.out) (g.O.Sink.text c.put.new.out)
-    c.loop-i.i c.as_bytes.result.now c.if-not-is_word_resident.self.steps (c.loop-i.invariant.text ss e f)
-    (row_read c.args.map.now c.args.machine.now c.loop-i.machine ss c.args.self.now.user c.if-not-is_word_resident.self.user (c.args.address / 4 + c.loop-i.i) (c.args.address + 4 * c.loop-i.i) c.in_ok-word.word c.as_bytes.result.now c.loop-i.invariant.view.same user told
-    (c.as_bytes.ensures.value ∙ c.as_str.ensures.value ∙ c.put_row.ensures))
-    steps c.args.count lt c.in_err-put.ensures.put.err)
-
 pub loop-i-preserved : goal.loop-i-preserved
 loop-i-preserved g c =
     let counts = word_counted g (goal.at.loop-i-preserved g c).After-read_user_word in
@@ -95,42 +73,86 @@ loop-i-preserved g c =
           steps c.in_ok-put.ensures.put.ok;
     }
 
-pub returns-clause-put : goal.returns-clause-put
-returns-clause-put g c = λ ss e f.
-    let all : c.loop-i.i ≡ c.args.count = omega arith in
-    printed _ _ _ _ (c.loop-i.invariant.text ss e f
-    ∙ ap (λ n. append_known (g.O.Sink.text c.args.out.now) (copy_rows c.args.map.now (paged_of c.args.map.now (state_of c.args.machine.now ss)) c.args.self.now.user c.args.self.now.steps c.args.address n)) all)
+pub returns-clause-prints : goal.returns-clause-prints
+returns-clause-prints g c = record {
+  put = λ ss e f.
+      let all : c.loop-i.i ≡ c.args.count = omega arith in
+      printed _ _ _ _ (c.loop-i.invariant.text ss e f
+      ∙ ap (λ n. append_known (g.O.Sink.text c.args.out.now) (copy_rows c.args.map.now (paged_of c.args.map.now (state_of c.args.machine.now ss)) c.args.self.now.user c.args.self.now.steps c.args.address n)) all);
+  keeps = let all : c.loop-i.i ≡ c.args.count = omega arith in c.loop-i.invariant.self ∙ ap (copied_kept c.args.map.now (state_of c.args.machine.now []) c.args.self.now c.args.address) all;
+  fails = search rules;
+  cut = search rules;
+}
 
-pub returns-clause-kept : goal.returns-clause-kept
-returns-clause-kept g c = let all : c.loop-i.i ≡ c.args.count = omega arith in c.loop-i.invariant.self ∙ ap (copied_kept c.args.map.now (state_of c.args.machine.now []) c.args.self.now c.args.address) all
+pub returns-clause-leaves : goal.returns-clause-leaves
+returns-clause-leaves g c =
+    let le : c.loop-i.i ≤ c.args.count = omega arith in record {
+      keeps = keeps_all c.args.map.now (state_of c.args.machine.now []) c.args.self.now c.loop-i.self c.args.address c.loop-i.i (omega (arith, c.ranges.count.fits, le)) c.loop-i.invariant.self;
+      rows = record {
+        view = search rules;
+        blame = search rules;
+        no_limit = search rules;
+        asks = search rules;
+      };
+    }
 
-pub returns-clause-keeps : goal.returns-clause-keeps
-returns-clause-keeps g c =
-    let le : c.loop-i.i ≤ c.args.count = omega arith in
-    keeps_all c.args.map.now (state_of c.args.machine.now []) c.args.self.now c.loop-i.self c.args.address c.loop-i.i (omega (arith, c.ranges.count.fits, le)) c.loop-i.invariant.self
+pub returns-in_err-word-clause-leaves : goal.returns-in_err-word-clause-leaves
+returns-in_err-word-clause-leaves g c = record {
+  keeps = keeps_word c.args.map.now c.args.machine.now c.loop-i.machine c.args.address c.args.self.now c.loop-i.self c.if-not-is_word_resident.self c.loop-i.i c.loop-i.invariant.view.same c.loop-i.invariant.self (word_counted g (goal.at.returns-in_err-word-clause-leaves g c).After-read_user_word) c.if-not-is_word_resident.self c.args.count c.loop-i-test.true c.ranges.count.fits refl (omega arith) refl;
+  rows = record {
+    view = search rules;
+    blame =
+        let h = err_from_is_err_and c.from_residual.result c.from_residual.ensures.1 in
+        disk_blamed _ h.0 h.1 h.2 g.D.Sectors.faults c.args.disk.now c.loop-i.disk c.read_user_word.new.disk g.O.Sink.faults c.args.out.now c.loop-i.out
+        c.loop-i.invariant.disk_faults c.in_err-word.ensures.count.rose c.loop-i.invariant.faults;
+    no_limit = search rules;
+    asks = asks_word c.args.map.now c.args.machine.now c.loop-i.machine c.args.address c.args.self.now c.loop-i.self c.if-not-is_word_resident.self c.loop-i.i c.loop-i.invariant.view.same c.loop-i.invariant.self (word_counted g (goal.at.returns-in_err-word-clause-leaves g c).After-read_user_word) _ (tally g.D.Sectors.faults g.D.Sectors.calls c.args.disk.now) (tally g.D.Sectors.faults g.D.Sectors.calls c.loop-i.disk) (tally g.D.Sectors.faults g.D.Sectors.calls c.read_user_word.new.disk) c.loop-i.invariant.disk_faults c.loop-i.invariant.calls c.in_err-word.ensures.asks c.if-not-is_word_resident.self refl;
+  };
+}
 
-pub returns-in_err-word-clause-fails : goal.returns-in_err-word-clause-fails
-returns-in_err-word-clause-fails g c = λ e. fails_there c.args.map.now c.args.machine.now c.loop-i.machine c.args.address c.args.self.now c.loop-i.self c.if-not-is_word_resident.self c.loop-i.i c.loop-i.invariant.view.same c.loop-i.invariant.self (word_counted g (goal.at.returns-in_err-word-clause-fails g c).After-read_user_word) (g.D.Sectors.sectors c.args.disk.now) c.args.count (g.O.Sink.text c.args.out.now) (g.O.Sink.text c.loop-i.out) c.loop-i-test.true (c.in_err-word.ensures.asks.some refl) c.loop-i.invariant.text
+pub returns-in_err-put-clause-leaves : goal.returns-in_err-put-clause-leaves
+returns-in_err-put-clause-leaves g c = record {
+  keeps = keeps_word c.args.map.now c.args.machine.now c.loop-i.machine c.args.address c.args.self.now c.loop-i.self c.if-not-is_word_resident.self c.loop-i.i c.loop-i.invariant.view.same c.loop-i.invariant.self (word_counted g (goal.at.returns-in_err-put-clause-leaves g c).After-read_user_word) c.put.new.self c.args.count c.loop-i-test.true c.ranges.count.fits c.in_err-put.ensures.keeps.user c.in_err-put.ensures.keeps.few c.in_err-put.ensures.keeps.reads;
+  rows = record {
+    view = search rules;
+    blame =
+        let h = err_from_is_err_and c.from_residual-in_err-put.result c.from_residual-in_err-put.ensures.1 in
+        sink_blamed _ h.0 h.1 h.2 g.D.Sectors.faults c.args.disk.now c.read_user_word.new.disk g.O.Sink.faults c.args.out.now c.loop-i.out c.put.new.out
+        c.loop-i.invariant.faults c.in_err-put.ensures.put.count.rose (c.in_ok-word.ensures.count.same ∙ c.loop-i.invariant.disk_faults);
+    no_limit = search rules;
+    asks = asks_word c.args.map.now c.args.machine.now c.loop-i.machine c.args.address c.args.self.now c.loop-i.self c.if-not-is_word_resident.self c.loop-i.i c.loop-i.invariant.view.same c.loop-i.invariant.self (word_counted g (goal.at.returns-in_err-put-clause-leaves g c).After-read_user_word) _ (tally g.D.Sectors.faults g.D.Sectors.calls c.args.disk.now) (tally g.D.Sectors.faults g.D.Sectors.calls c.loop-i.disk) (tally g.D.Sectors.faults g.D.Sectors.calls c.read_user_word.new.disk) c.loop-i.invariant.disk_faults c.loop-i.invariant.calls c.in_ok-word.ensures.asks c.put.new.self c.in_err-put.ensures.keeps.reads;
+  };
+}
 
-pub returns-in_err-word-clause-keeps : goal.returns-in_err-word-clause-keeps
-returns-in_err-word-clause-keeps g c = keeps_word c.args.map.now c.args.machine.now c.loop-i.machine c.args.address c.args.self.now c.loop-i.self c.if-not-is_word_resident.self c.loop-i.i c.loop-i.invariant.view.same c.loop-i.invariant.self (word_counted g (goal.at.returns-in_err-word-clause-keeps g c).After-read_user_word) c.if-not-is_word_resident.self c.args.count c.loop-i-test.true c.ranges.count.fits refl (omega arith) refl
+pub returns-in_err-word-clause-prints : goal.returns-in_err-word-clause-prints
+returns-in_err-word-clause-prints g c = record {
+  put = λ ss e f.
+      let le : c.loop-i.i ≤ c.args.count = omega arith in
+      let h = err_from_is_err_and c.from_residual.result c.from_residual.ensures.1 in
+      broken _ _ _ c.from_residual.result h.0 h.1
+      (stop_put c.args.map.now (paged_of c.args.map.now (state_of c.args.machine.now ss)) c.args.self.now.user c.args.self.now.steps c.args.address (g.O.Sink.text c.args.out.now) (g.O.Sink.text c.loop-i.out) c.loop-i.i c.args.count le (c.loop-i.invariant.text ss e f));
+  keeps = search rules;
+  fails = λ e. fails_there c.args.map.now c.args.machine.now c.loop-i.machine c.args.address c.args.self.now c.loop-i.self c.if-not-is_word_resident.self c.loop-i.i c.loop-i.invariant.view.same c.loop-i.invariant.self (word_counted g (goal.at.returns-in_err-word-clause-prints g c).After-read_user_word) (g.D.Sectors.sectors c.args.disk.now) c.args.count (g.O.Sink.text c.args.out.now) (g.O.Sink.text c.loop-i.out) c.loop-i-test.true (c.in_err-word.ensures.asks.some refl) c.loop-i.invariant.text;
+  cut = λ e. let h = err_from_is_err_and c.from_residual.result c.from_residual.ensures.1 in absurd (disk_alone _ h.0 h.1 h.2 e);
+}
 
-pub returns-in_err-word-clause-asks : goal.returns-in_err-word-clause-asks
-returns-in_err-word-clause-asks g c = asks_word c.args.map.now c.args.machine.now c.loop-i.machine c.args.address c.args.self.now c.loop-i.self c.if-not-is_word_resident.self c.loop-i.i c.loop-i.invariant.view.same c.loop-i.invariant.self (word_counted g (goal.at.returns-in_err-word-clause-asks g c).After-read_user_word) _ (tally g.D.Sectors.faults g.D.Sectors.calls c.args.disk.now) (tally g.D.Sectors.faults g.D.Sectors.calls c.loop-i.disk) (tally g.D.Sectors.faults g.D.Sectors.calls c.read_user_word.new.disk) c.loop-i.invariant.disk_faults c.loop-i.invariant.calls c.in_err-word.ensures.asks c.if-not-is_word_resident.self refl
-
-pub returns-in_err-put-clause-fails : goal.returns-in_err-put-clause-fails
-returns-in_err-put-clause-fails g c = λ e. let h = err_from_is_err_and c.from_residual-in_err-put.result c.from_residual-in_err-put.ensures.1 in absurd (sink_alone _ h.0 h.1 h.2 e)
-
-pub returns-in_err-put-clause-keeps : goal.returns-in_err-put-clause-keeps
-returns-in_err-put-clause-keeps g c =
-    keeps_word c.args.map.now c.args.machine.now c.loop-i.machine c.args.address c.args.self.now c.loop-i.self c.if-not-is_word_resident.self c.loop-i.i c.loop-i.invariant.view.same c.loop-i.invariant.self (word_counted g (goal.at.returns-in_err-put-clause-keeps g c).After-read_user_word) c.put.new.self c.args.count c.loop-i-test.true c.ranges.count.fits c.in_err-put.ensures.keeps.user c.in_err-put.ensures.keeps.few c.in_err-put.ensures.reads
-
-pub returns-in_err-put-clause-asks : goal.returns-in_err-put-clause-asks
-returns-in_err-put-clause-asks g c = asks_word c.args.map.now c.args.machine.now c.loop-i.machine c.args.address c.args.self.now c.loop-i.self c.if-not-is_word_resident.self c.loop-i.i c.loop-i.invariant.view.same c.loop-i.invariant.self (word_counted g (goal.at.returns-in_err-put-clause-asks g c).After-read_user_word) _ (tally g.D.Sectors.faults g.D.Sectors.calls c.args.disk.now) (tally g.D.Sectors.faults g.D.Sectors.calls c.loop-i.disk) (tally g.D.Sectors.faults g.D.Sectors.calls c.read_user_word.new.disk) c.loop-i.invariant.disk_faults c.loop-i.invariant.calls c.in_ok-word.ensures.asks c.put.new.self c.in_err-put.ensures.reads
-
-pub returns-in_err-word-clause-cut : goal.returns-in_err-word-clause-cut
-returns-in_err-word-clause-cut g c = λ e. let h = err_from_is_err_and c.from_residual.result c.from_residual.ensures.1 in absurd (disk_alone _ h.0 h.1 h.2 e)
-
-pub returns-in_err-put-clause-cut : goal.returns-in_err-put-clause-cut
-returns-in_err-put-clause-cut g c = λ e.
-    cut_there c.args.map.now c.args.machine.now c.loop-i.machine c.args.address c.args.self.now c.loop-i.self c.if-not-is_word_resident.self c.loop-i.i c.loop-i.invariant.view.same c.loop-i.invariant.self (word_counted g (goal.at.returns-in_err-put-clause-cut g c).After-read_user_word) c.put.new.self c.args.count c.loop-i-test.true c.in_err-put.ensures.reads
+pub returns-in_err-put-clause-prints : goal.returns-in_err-put-clause-prints
+returns-in_err-put-clause-prints g c = record {
+  put = λ ss e f.
+      let counts = word_counted g (goal.at.returns-in_err-put-clause-prints g c).After-read_user_word in
+      let user : c.if-not-is_word_resident.self.user ≡ c.args.self.now.user = ap (λ (t : Tracer). t.user) counts ∙ c.loop-i.invariant.user in
+      let steps : c.if-not-is_word_resident.self.steps ≡ steps_left c.args.self.now.steps c.loop-i.i = ap (λ (t : Tracer). t.steps) counts ∙ c.loop-i.invariant.steps in
+      let lt : c.loop-i.i < c.args.count = omega arith in
+      let told = c.in_ok-word.ensures.shown ss (c.loop-i.invariant.view.sectors ∙ e) (fits_then c.args.map.now c.args.machine.now c.loop-i.machine ss c.loop-i.invariant.view.same f) in
+      let h = err_from_is_err_and c.from_residual-in_err-put.result c.from_residual-in_err-put.ensures.1 in
+      broken _ _ _ c.from_residual-in_err-put.result h.0 h.1
+      (part_put c.args.map.now (paged_of c.args.map.now (state_of c.args.machine.now ss)) c.args.self.now.user c.args.self.now.steps c.args.address (g.O.Sink.text c.args.out.now) (g.O.Sink.text c.loop-i.out) (g.O.Sink.text c.put.new.out)
+      c.loop-i.i c.as_bytes.result.now c.if-not-is_word_resident.self.steps (c.loop-i.invariant.text ss e f)
+      (row_read c.args.map.now c.args.machine.now c.loop-i.machine ss c.args.self.now.user c.if-not-is_word_resident.self.user (c.args.address / 4 + c.loop-i.i) (c.args.address + 4 * c.loop-i.i) c.in_ok-word.word c.as_bytes.result.now c.loop-i.invariant.view.same user told
+      (c.as_bytes.ensures.value ∙ c.as_str.ensures.value ∙ c.put_row.ensures))
+      steps c.args.count lt c.in_err-put.ensures.put.err);
+  keeps = search rules;
+  fails = λ e. let h = err_from_is_err_and c.from_residual-in_err-put.result c.from_residual-in_err-put.ensures.1 in absurd (sink_alone _ h.0 h.1 h.2 e);
+  cut = λ e.
+      cut_there c.args.map.now c.args.machine.now c.loop-i.machine c.args.address c.args.self.now c.loop-i.self c.if-not-is_word_resident.self c.loop-i.i c.loop-i.invariant.view.same c.loop-i.invariant.self (word_counted g (goal.at.returns-in_err-put-clause-prints g c).After-read_user_word) c.put.new.self c.args.count c.loop-i-test.true c.in_err-put.ensures.keeps.reads;
+}
