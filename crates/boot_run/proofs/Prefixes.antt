@@ -125,7 +125,7 @@ module _ (follow : RowsFollow) (x : Outside) (y : System) (s0 : State) (delay bo
   clean j s =
       let d = m.defined (end_within x s0 turns steps) in
       let w = text_by (end_within x s0 turns steps) (is_end x s0 turns (end_within x s0 turns steps)) d.0 j d.1 s in
-      (ending x s0 turns steps d.0, w.0, record { past = d.0; cvm = d.1; sectors = refl; beyond = stays_beyond bound old s0.device.sectors _ first (m.beyond (end_within x s0 turns steps)); status = refl; text_is = w.1 })
+      (ending x s0 turns steps d.0, w.0, record { past = d.0; cvm = d.1; sectors = refl; beyond = stays_beyond bound old s0.device.sectors _ first (m.beyond (end_within x s0 turns steps)); status = refl; over = m.ends turns steps d.0 d.1; text_is = w.1 })
 
   module _ (counts : TurnLaws) (at : ℕ) (most : at ≤ steps) (goes : (j : ℕ) → j < at → is_end x s0 turns j ≡ false) (whole text : List ℕ) (p : Prefix [] whole text) where
     -- a part was printed of the text at a step
@@ -158,6 +158,7 @@ module _ (follow : RowsFollow) (x : Outside) (y : System) (s0 : State) (delay bo
             sectors = refl;
             beyond = stays_beyond bound old s0.device.sectors _ first (m.beyond (end_within x s0 turns steps));
             status = refl;
+            over = m.ends turns steps c (subst (λ n. IsCvm y (lines_of x s0) (complete x s0 n) c) (sym here) cvm);
             text_is = subst (λ (b : Bool). TextAt x y s0 (Trace u) (end_within x s0 turns steps) (if b then ending_of c.status else headline.OutOfSteps) whole) (sym end_here)
                 (text_whole x y s0 (Trace u) (end_within x s0 turns steps) c.status whole w);
           },

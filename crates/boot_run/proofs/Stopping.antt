@@ -190,6 +190,7 @@ module _ (counts : TurnLaws) (x : Outside) (y : System) (s0 : State) (delay boun
           sectors = is ∙ there;
           beyond = subst (Beyond bound old) (sym is) (stays_beyond bound old s0.device.sectors _ first (m.beyond g.at));
           status = sym (by_end _ (ending_of g.past.status) (ap (is_end x s0 turns) end_is ∙ g.end.here) ∙ done_of g.past.status running);
+          over = m.ends turns steps g.past cvm;
           text_is = (
             g.past,
             cvm,

@@ -1,5 +1,5 @@
 -- What holds of every run from a start, gathered.
-use Rattle.mips_table.specs.Turns.{lines_of}
+use Rattle.mips_table.specs.Turns.{lines_of, TurnLaws}
 use Rattle.c0_meaning.specs.State.{State as C0}
 use Rattle.layer_contract.specs.Starts.{StartsGoOn}
 use Rattle.layer_contract.specs.Users.{UserStepsLinked}
@@ -9,10 +9,10 @@ use Rattle.boot_turns.proofs.Units.{one_cvm}
 use Rattle.boot_turns.proofs.Turning.{given}
 use Rattle.boot_turns.proofs.Growing.{rows_grow, user_stays}
 use Rattle.boot_turns.proofs.Joining.{finished, unfinished, shown}
-use Rattle.boot_turns.proofs.Whole.{forward, goes_on, two_faults, ahead, defined, beyond, torn}
+use Rattle.boot_turns.proofs.Whole.{forward, goes_on, two_faults, ahead, defined, is_over, beyond, torn}
 
-pub machines_run : StartsGoOn → UserStepsLinked → (Typed : C0 → Type 0) → MachinesRun Typed
-machines_run goes users Typed x y s late held f =
+pub machines_run : TurnLaws → StartsGoOn → UserStepsLinked → (Typed : C0 → Type 0) → MachinesRun Typed
+machines_run counts goes users Typed x y s late held f =
     let g = given goes users Typed x y s late held f in
     record {
       goes_on = goes_on x y s late held Typed g;
@@ -27,6 +27,7 @@ machines_run goes users Typed x y s late held f =
       beyond = beyond x y s late held Typed g;
       torn = torn x y s late held Typed g;
       few = complete_small x s;
+      ends = λ turns steps c is here. is_over x y s late held Typed g counts turns _ (counts.found x s turns steps here) c is;
       same = λ k c d. one_cvm y g.meaning (lines_of x s) k c d;
     }
 

@@ -1,25 +1,25 @@
 -- The whole run from a start, both ways: where the CVM run is defined the machine comes there, and the machine is never anywhere else.
-use Rattle.std.proofs.Common.{◌≡◌, ◌≢◌, ◌⊎◌, inl, inr, ℕ, zero, suc, ◌+◌, ◌-◌, ◌<◌, ◌≤◌, Bool, true, false, not, Option, Some, None, refl, sym, ap, ap₂, ◌∙◌, subst, ⊎_elim, arith, eq-eqb, ne_eqb, List}
+use Rattle.std.proofs.Common.{◌≡◌, ◌≢◌, ◌⊎◌, inl, inr, ℕ, zero, suc, ◌+◌, ◌-◌, ◌<◌, ◌≤◌, Bool, true, false, not, Option, Some, None, refl, sym, ap, ap₂, ◌∙◌, subst, ⊎_elim, arith, eq-eqb, eqb-true, ne_eqb, List}
 use Rattle.std.specs.Prelude.{◌==◌, ◌||◌, is_some}
-use Rattle.std.proofs.lemmas.Bool.{cases_lt}
+use Rattle.std.proofs.lemmas.Bool.{cases_lt, eqb-false}
 use Rattle.mips_table.specs.Device.{Outside, sector_of}
 use Rattle.mips_table.specs.Machine.{State, run}
-use Rattle.mips_table.specs.Turns.{begins, is_on, turn_of, complete, lines_of, is_end, IsEnd, faults_before}
+use Rattle.mips_table.specs.Turns.{begins, is_on, turn_of, complete, lines_of, is_end, IsEnd, faults_before, TurnLaws}
 use Rattle.c0_meaning.specs.State.{State as C0}
 use Rattle.cvm_model.specs.Kernel.{power_of}
 use Rattle.cvm_model.specs.Cvm.{System, Status, Running, Halted, Faulted, Cvm, turn_by, turn, cvm, IsCvm, first_cvm}
 use Rattle.layer_contract.specs.Layer.{Inside, Rests}
 use Rattle.layer_contract.specs.Starts.{Beyond}
 use Rattle.boot_turns.specs.Torn.{Torn}
-use Rattle.boot_turns.specs.TurnEnds.{Stood}
+use Rattle.boot_turns.specs.TurnEnds.{Stood, RestsAfter, IsOver}
 use Rattle.boot_turns.specs.Ahead.{Ahead}
 use Rattle.boot_turns.specs.RunMachines.{IsDefined, TwoFaults}
 use Rattle.boot_turns.specs.GoesOn.{GoesOnWithin}
-use Rattle.boot_turns.proofs.Stepping.{off_stays, off_rests, off_begins, off_handled, inside_handled}
-use Rattle.boot_turns.proofs.Counting.{turn_same, completes, faults_grow, faults_stay}
+use Rattle.boot_turns.proofs.Stepping.{off_stays, off_rests, off_begins, off_handled, inside_handled, inside_begins, both_left, on_of}
+use Rattle.boot_turns.proofs.Counting.{turn_same, turn_more, turn_grows, completes, faults_grow, faults_stay}
 use Rattle.boot_turns.proofs.Sectors.{torn_past}
 use Rattle.boot_turns.proofs.Units.{one_cvm, turn_more_units}
-use Rattle.boot_turns.proofs.Turning.{Given, Beginning, Keeps, Turns, Waits, turn_ahead}
+use Rattle.boot_turns.proofs.Turning.{Given, Beginning, Keeps, Turns, Waits, turn_ahead, on_back}
 
 -- after power off nothing changes
 pub record OffOn (x : Outside) (s : State) (k v u : ℕ) : Type 0 where
@@ -275,6 +275,106 @@ module _ (x : Outside) (y : System) (s : State) (late held : ℕ) (Typed : C0 �
   -- the CVM run is defined for the turns that are complete
   pub defined : IsDefined x y s
   defined t = let d = covered t in (d.past, subst (λ k. IsCvm y lines k d.past) (sym (d.between t d.from (omega arith))) d.stood.cvm)
+
+  -- a run that goes on at a step is on there
+  going_on : (count at t : ℕ) (c : Cvm) → Going count at t c → (run x s t).off ≡ None
+  going_on count at t c w = ⊎_elim
+      (λ (lt : w.beginning.start < t). (w.inside t lt (omega arith)).on)
+      (λ (ge : t ≤ w.beginning.start). on_back x s t w.beginning.start ge w.beginning.on)
+      (cases_lt w.beginning.start t)
+
+  none_off : (v : ℕ) (o : Option ℕ) → o ≡ Some v → o ≡ None → ⊥
+  none_off v o a b = cc
+
+  -- the first end is where the last turn was completed
+  end_covered : (k t : ℕ) → is_end x s k t ≡ true → (d : Covered t) → is_end x s k d.at ≡ true
+  end_covered k t here d = by (complete x s t == k) refl (run x s t).off refl
+    where
+      by : (b : Bool) → (complete x s t == k) ≡ b → (o : Option ℕ) → (run x s t).off ≡ o → is_end x s k d.at ≡ true
+      by true e o off =
+          let all : complete x s t ≡ k = eqb-true (complete x s t) k e in
+          end_at k d.at (d.between d.at (omega arith) d.from ∙ sym (d.between t d.from (omega arith)) ∙ all)
+      by false e None on = absurd (true_false (is_end x s k t) here (no_end k t (eqb-false (complete x s t) k e) on))
+      by false e (Some v) off = ⊎_elim
+          (λ (o : (v : ℕ) × OffOn x s d.count v d.at). end_off k d.at o.0 o.1.off)
+          (λ (w : Going d.count d.at t d.past). absurd (none_off v _ off (going_on d.count d.at t d.past w)))
+          d.then
+
+  -- there the machine stands
+  stood_end : (k t : ℕ) → IsEnd x s k t → (c : Cvm) × Stood x y s (complete x s t) t c
+  stood_end k t e =
+      let d = covered t in
+      let from : d.at ≤ t = d.from in
+      let here : d.at ≡ t = ⊎_elim
+      (λ (lt : d.at < t). absurd (true_false (is_end x s k d.at) (end_covered k t e.here d) (e.first d.at lt)))
+      (λ (ge : t ≤ d.at). omega (arith, from))
+      (cases_lt d.at t) in
+      (d.past, subst (λ n. Stood x y s n t d.past) (sym (d.between t d.from (omega arith))) (subst (λ at. Stood x y s d.count at d.past) here d.stood))
+
+  rests_on : (n t : ℕ) (c : Cvm) → RestsAfter x y s n t c → c.status ≡ Running → (run x s t).off ≡ None
+  rests_on zero t c e running = subst (λ i. (run x s i).off ≡ None) (sym e) g.started.on
+  rests_on (suc n) t c r running = on_of (run x s t) (both_left _ _ (subst (λ b. Rests b (run x s t)) running r.0))
+
+  -- a step completes at most one turn
+  same_turns : (a b : ℕ) → a ≤ b → ((i : ℕ) → a ≤ i → i < b → begins x (run x s i) ≡ false) → turn_of x s b ≡ turn_of x s a
+  same_turns a zero le none = let e : a ≡ 0 = omega arith in ap (turn_of x s) (sym e)
+  same_turns a (suc b) le none = ⊎_elim
+      (λ (lt : a < suc b). turn_same x s b (none b (omega arith) (omega arith)) ∙ same_turns a b (omega arith) (λ i l h. none i l (omega arith)))
+      (λ (ge : suc b ≤ a). let e : a ≡ suc b = omega arith in ap (turn_of x s) (sym e))
+      (cases_lt a (suc b))
+
+  begun_few : (count at j : ℕ) (c : Cvm) → Going count at j c → turn_of x s (suc j) ≤ suc count
+  begun_few count at j c w =
+      let b = w.beginning in
+      let turn : turn_of x s b.start ≡ count = b.turn in
+      ⊎_elim
+      (λ (lt : j < b.start). let g = turn_grows x s (suc j) b.start (omega arith) in omega (arith, g, turn))
+      (λ (ge : b.start ≤ j).
+      let m : turn_of x s (suc b.start) ≡ suc (turn_of x s b.start) = turn_more x s b.start b.begin_here in
+      let e : turn_of x s (suc j) ≡ turn_of x s (suc b.start) = same_turns (suc b.start) (suc j) (omega arith) (λ i l h. inside_begins x (run x s i) (w.inside i l (omega arith))) in
+      omega (arith, m, e, turn))
+      (cases_lt j b.start)
+
+  one_turn : TurnLaws → (j : ℕ) → complete x s (suc j) ≤ suc (complete x s j)
+  one_turn counts j =
+      let d = covered j in
+      let same : complete x s j ≡ d.count = d.between j d.from (omega arith) in
+      ⊎_elim
+      (λ (o : (v : ℕ) × OffOn x s d.count v d.at). let e = (off_on x s d.count o.0 d.at (suc j) (let f = d.from in omega (arith, f)) o.1).all in omega (arith, e, same))
+      (λ (w : Going d.count d.at j d.past). let few = begun_few d.count d.at j d.past w in let begun = counts.begun x s (suc j) in omega (arith, few, begun, same))
+      d.then
+
+  below : TurnLaws → (k j : ℕ) → ((i : ℕ) → i ≤ j → complete x s i ≢ k) → complete x s j < k
+  below counts k zero other = some k (other 0 (omega arith))
+    where
+      some : (k : ℕ) → 0 ≢ k → 0 < k
+      some zero h = absurd (h refl)
+      some (suc k) h = omega arith
+  below counts k (suc j) other =
+      let before = below counts k j (λ i le. other i (omega arith)) in
+      let one = one_turn counts j in
+      less (complete x s (suc j)) k (other (suc j) (omega arith)) (omega (arith, before, one))
+    where
+      less : (a k : ℕ) → a ≢ k → a ≤ k → a < k
+      less a k h le = ⊎_elim (λ (lt : a < k). lt) (λ (ge : k ≤ a). absurd (h (omega arith))) (cases_lt a k)
+
+  few_turns : TurnLaws → (k t : ℕ) → IsEnd x s k t → complete x s t ≤ k
+  few_turns counts k zero e = omega arith
+  few_turns counts k (suc t) e =
+      let lt = below counts k t (λ i le all. true_false (is_end x s k i) (end_at k i all) (e.first i (omega arith))) in
+      let one = one_turn counts t in omega (arith, lt, one)
+
+  -- so the run is over there
+  pub is_over : TurnLaws → (k t : ℕ) → IsEnd x s k t → (c : Cvm) → IsCvm y lines (complete x s t) c → IsOver x y s k t c
+  is_over counts k t e c is =
+      let w = stood_end k t e in
+      let same : w.0 ≡ c = one_cvm y g.meaning lines (complete x s t) w.0 c w.1.cvm is in
+      let rests : RestsAfter x y s (complete x s t) t c = subst (RestsAfter x y s (complete x s t) t) same w.1.rests in
+      record { few = few_turns counts k t e; over = by rests (complete x s t == k) refl; rests = rests }
+    where
+      by : RestsAfter x y s (complete x s t) t c → (b : Bool) → (complete x s t == k) ≡ b → (complete x s t ≡ k) ⊎ (c.status ≢ Running)
+      by rests true same = inl (eqb-true (complete x s t) k same)
+      by rests false other = inr (λ running. true_false (is_end x s k t) e.here (no_end k t (eqb-false (complete x s t) k other) (rests_on (complete x s t) t c rests running)))
 
   -- the sectors from `held` on are as at the start
   pub beyond : (t : ℕ) → Beyond held s.device.sectors (run x s t).device.sectors

@@ -1,5 +1,5 @@
 -- How a run from a start ends, what is printed of it and which sectors stand; and the headline of a boot, which is that of the loaded machine.
-use Rattle.std.specs.Prelude.{◌≡◌, ◌≢◌, ℕ, suc, ◌+◌, ◌-◌, ◌<◌, ◌≤◌, ◌⊎◌, false, if◌then◌else◌, Some, List, [], ◌∷◌, ◌++◌, length, take}
+use Rattle.std.specs.Prelude.{◌≡◌, ◌≢◌, ℕ, suc, ◌+◌, ◌-◌, ◌<◌, ◌≤◌, ◌⊎◌, true, false, if◌then◌else◌, Some, List, [], ◌∷◌, ◌++◌, length, take}
 use Rattle.mips_table.specs.Device.{Outside, sector_of}
 use Rattle.mips_table.specs.Machine.{State, run}
 use Rattle.mips_table.specs.Turns.{complete, lines_of, is_end, IsEnd, end_within}
@@ -14,7 +14,7 @@ use Rattle.boot_turns.specs.Returns.{CopyReturns, copy_reads, reads_before}
 use Rattle.boot_turns.specs.declared.answers.View.{View}
 use Rattle.boot_turns.specs.declared.answers.View.TheVariants.{Boot, Trace}
 use Rattle.boot_turns.specs.Trace.{Shown}
-use Rattle.boot_turns.specs.TurnEnds.{first_of, Printed, RowsAt, Whole, Prefix}
+use Rattle.boot_turns.specs.TurnEnds.{first_of, IsOver, Printed, RowsAt, Whole, Prefix}
 
 -- how a boot or a trace ends whose image is accepted
 pub data Ending : Type 0 where
@@ -40,7 +40,8 @@ TextAt x y s v t OutOfSteps text = Printed x y s v t text
 TextAt x y s v t other text = Whole x y s v t text
 
 -- with no failed call, over a disk that had the sectors `old` before the load, of which those from `held` on are none of the run's: sectors, ending
--- and text are those of the machine and of the CVM run at the headline's step
+-- and text are those of the machine and of the CVM run at the headline's step; where that is an end, all turns are complete or the CVM run is over, and
+-- the machine rests as its status says
 pub record RanFrom (x : Outside) (y : System) (s : State) (held : ℕ) (old now : List (List ℕ)) (v : View) (turns steps : ℕ) (e : Ending)
     (text : List ℕ) : Type 0 where
   pub past : Cvm
@@ -48,6 +49,7 @@ pub record RanFrom (x : Outside) (y : System) (s : State) (held : ℕ) (old now 
   pub sectors : now ≡ (run x s (end_within x s turns steps)).device.sectors
   pub beyond : Beyond held old now
   pub status : e ≡ ending x s turns steps past
+  pub over : is_end x s turns (end_within x s turns steps) ≡ true → IsOver x y s turns (end_within x s turns steps) past
   pub text_is : TextAt x y s v (end_within x s turns steps) e text
 
 -- how many words were read from the disk for the rows of the steps before number t: of a boot none
@@ -90,12 +92,13 @@ pub record StepBroken (x : Outside) (y : System) (s : State) (now : List (List �
   pub goes_on : (j : ℕ) → j ≤ at → is_end x s turns j ≡ false
   pub fails : FailsAt x y s now v at n text
 
--- the disk or the sink failed in the report, once such rows stood; the sectors are those of the machine
+-- the disk or the sink failed in the report of a run that had ended, once such rows stood; the sectors are those of the machine
 pub record EndBroken (x : Outside) (y : System) (s : State) (now : List (List ℕ)) (v : View) (turns steps : ℕ) (AreRows : List ℕ → Type 0) (text : List ℕ) :
     Type 0 where
   pub past : Cvm
   pub cvm : IsCvm y (lines_of x s) (complete x s (end_within x s turns steps)) past
   pub done : ending x s turns steps past ≡ Done
+  pub over : IsOver x y s turns (end_within x s turns steps) past
   pub sectors : now ≡ (run x s (end_within x s turns steps)).device.sectors
   pub rows : List ℕ
   pub are_rows : AreRows rows

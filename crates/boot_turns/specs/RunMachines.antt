@@ -1,8 +1,8 @@
 -- What holds of each run from a start, for whoever prints it.
-use Rattle.std.specs.Prelude.{◌≡◌, ℕ, suc, ◌+◌, ◌-◌, ◌<◌, ◌≤◌, false, bit_or, Option, None, List, [], ◌∷◌, ◌++◌}
+use Rattle.std.specs.Prelude.{◌≡◌, ℕ, suc, ◌+◌, ◌-◌, ◌<◌, ◌≤◌, true, false, bit_or, Option, None, List, [], ◌∷◌, ◌++◌}
 use Rattle.mips_table.specs.Device.{Outside}
 use Rattle.mips_table.specs.Machine.{State, run}
-use Rattle.mips_table.specs.Turns.{begins, complete, lines_of, faults_before}
+use Rattle.mips_table.specs.Turns.{begins, complete, lines_of, is_end, end_within, faults_before}
 use Rattle.c0_meaning.specs.State.{State as C0}
 use Rattle.cvm_model.specs.Kernel.{Core}
 use Rattle.cvm_model.specs.Cvm.{System, Running, Cvm, IsCvm, Begin, Steps, Traps, Interrupts, status_of, begin}
@@ -13,7 +13,7 @@ use Rattle.boot_turns.specs.declared.completion.Begun.{Begun}
 use Rattle.boot_turns.specs.Completes.{note, ShownAs, Progress, Completed}
 use Rattle.boot_turns.specs.Torn.{Torn}
 use Rattle.boot_turns.specs.Premises.{StartsFrom}
-use Rattle.boot_turns.specs.TurnEnds.{Stood}
+use Rattle.boot_turns.specs.TurnEnds.{Stood, IsOver}
 use Rattle.boot_turns.specs.Ahead.{Ahead}
 use Rattle.boot_turns.specs.GoesOn.{GoesOnWithin}
 
@@ -64,6 +64,11 @@ abbrev pub UserStays : Outside → System → State → Type 0
 UserStays x y s = (k : ℕ) (c after : Cvm) (at : Core) → IsCvm y (lines_of x s) k c → c.status ≡ Running → IsCvm y (lines_of x s) (suc k) after →
     begin k c.core (bit_or c.pending (lines_of x s k)) ≡ Steps at → after.core.current ≡ c.core.current
 
+-- where so many turns are complete or the machine is off for the first time, the run is over, and it rests as the CVM run says
+abbrev pub RunsEnd : Outside → System → State → Type 0
+RunsEnd x y s = (turns steps : ℕ) (c : Cvm) → IsCvm y (lines_of x s) (complete x s (end_within x s turns steps)) c →
+    is_end x s turns (end_within x s turns steps) ≡ true → IsOver x y s turns (end_within x s turns steps) c
+
 -- a run from a start from which the layer takes over after `late` steps, with the sectors below `held`
 pub record RunMachines (x : Outside) (y : System) (s : State) (late held : ℕ) : Type 0 where
   pub goes_on : GoesOnWithin x y s (late - 1)
@@ -79,6 +84,7 @@ pub record RunMachines (x : Outside) (y : System) (s : State) (late held : ℕ) 
   pub beyond : (t : ℕ) → Beyond held s.device.sectors (run x s t).device.sectors
   pub torn : (t : ℕ) (now : List (List ℕ)) → (run x s t).off ≡ None → Torn x (run x s t) now → Beyond held s.device.sectors now
   pub few : (t : ℕ) → complete x s t ≤ t
+  pub ends : RunsEnd x y s
   pub same : (k : ℕ) (c d : Cvm) → IsCvm y (lines_of x s) k c → IsCvm y (lines_of x s) k d → c ≡ d
 
 -- THE RUN FROM A START

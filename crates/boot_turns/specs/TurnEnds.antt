@@ -1,12 +1,12 @@
 -- Where a run from a start stands between turns, and the text that is printed at a step. `s` is the state of step 0.
-use Rattle.std.specs.Prelude.{◌≡◌, ℕ, zero, suc, List, ◌++◌, length, take}
+use Rattle.std.specs.Prelude.{◌≡◌, ◌≢◌, ◌⊎◌, ◌≤◌, ℕ, zero, suc, List, ◌++◌, length, take}
 use Rattle.mips_table.specs.Device.{Outside}
 use Rattle.mips_table.specs.Machine.{State, run}
 use Rattle.mips_table.specs.Turns.{turn_of, complete, gathered, lines_of}
 use Rattle.mips_table.specs.Flat.{Flat}
 use Rattle.cvm_model.specs.Kernel.{JournalEntry}
 use Rattle.cvm_model.specs.Primitives.{user_of}
-use Rattle.cvm_model.specs.Cvm.{System, Cvm, first_core, IsCvm}
+use Rattle.cvm_model.specs.Cvm.{System, Running, Cvm, first_core, IsCvm}
 use Rattle.cvm_model.specs.Text.{rows_text, boot_text, journal_rows, open_journal_rows, start_row, trace_text}
 use Rattle.cvm_model.specs.Stands.{StandsFor}
 use Rattle.layer_contract.specs.Layer.{Rests}
@@ -30,6 +30,13 @@ pub record Stood (x : Outside) (y : System) (s : State) (k t : ℕ) (c : Cvm) : 
   pub turn : turn_of x s t ≡ k
   pub all : complete x s t ≡ k
   pub rests : RestsAfter x y s k t c
+
+-- THE END of a run at step t: no more turns are complete than were asked for; all of them are, or the kernel has halted or faulted; and the machine rests as
+-- the status says, and stands for that state
+pub record IsOver (x : Outside) (y : System) (s : State) (turns t : ℕ) (c : Cvm) : Type 0 where
+  pub few : complete x s t ≤ turns
+  pub over : (complete x s t ≡ turns) ⊎ (c.status ≢ Running)
+  pub rests : RestsAfter x y s (complete x s t) t c
 
 -- THE TEXT at step t: the rows of the complete turns; or the start row and the rows of what is shown, but for a last row of steps
 abbrev pub Printed : Outside → System → State → View → ℕ → List ℕ → Type 0

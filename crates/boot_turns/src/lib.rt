@@ -26,13 +26,16 @@ use layer_contract::{
     starts_go_on, the_loaded_machine_resets, the_loaded_machine_starts, users_follow_linked,
 };
 use layer_map::memory_is_whole;
+use mips_table::runs::turns_are_counted;
 pub use rows::{a_line_at_each_step, machine_rows};
 
 /// A law: from any start, over a layer that meets its laws, the machine goes on where the CVM run is defined, within its bound and the steps by which
-/// the layer took over late; the run is defined for the turns that are complete; and at most two page faults are handled before a turn.
+/// the layer took over late; the run is defined for the turns that are complete; and at most two page faults are handled before a turn. Where it ends, it rests
+/// as the CVM run says.
 pub fn machines_run()
     ensures { (u : CUnit) → MachinesRun (IsTypedState u) }
 {
+    turns_are_counted();
     starts_go_on();
     users_follow_linked();
 }

@@ -1,6 +1,6 @@
 -- What a unit means doesn't depend on places in its source: each step of it is that of the unit without places.
 use Rattle.std.proofs.Common.{◌≡◌, ℕ, zero, suc, ◌+◌, List, [], ◌∷◌, map, length, Bool, true, false, nat_lt, Option, Some, None, refl, ap, ap₂, ◌∙◌}
-use Rattle.std.specs.Prelude.{ℤ, if◌then◌else◌, Ok, Err, ok_or, slice_get, position, option_map, unwrap_or, ◌&&◌, not, bytes_eq, codes}
+use Rattle.std.specs.Prelude.{ℤ, ◌==◌, if◌then◌else◌, Ok, Err, ok_or, slice_get, position, option_map, unwrap_or, ◌&&◌, not, bytes_eq, codes}
 use Rattle.std.specs.List.{prefix_len}
 use Rattle.c0_tree.specs.declared.tree.Kind.{Kind}
 use Rattle.c0_tree.specs.declared.tree.Kind.TheVariants.{Function, Primitive}
@@ -11,15 +11,18 @@ use Rattle.c0_meaning.specs.Ty as types
 use Rattle.c0_meaning.specs.Env.{Typed, Shape, typed_of, shape_of}
 use Rattle.c0_meaning.specs.Words.{words, all_words}
 use Rattle.c0_meaning.specs.Sound.{shapes}
-use Rattle.c0_meaning.specs.Limits.{frame, locals_of, is_asm, are_three_ints, is_dispatch}
+use Rattle.c0_meaning.specs.Limits.{frame, locals_of, is_asm, are_three_ints, is_dispatch, is_main, first_number}
 use Rattle.c0_meaning.specs.Operators.{on_unary, StackOut, faulted, stuck}
 use Rattle.c0_meaning.specs.Value.{heap, Value, at, Values, group, part, empty, parts, zero_of, zeros_of, followed_by}
 use Rattle.c0_meaning.specs.Value as value
-use Rattle.c0_meaning.specs.State.{State, Frame, stack_words, with_object, pushed}
+use Rattle.c0_meaning.specs.State.{State, Frame, first_state, stack_words, with_object, pushed}
 use Rattle.c0_meaning.specs.Evaluation.{Costed, costs, paying, ◌>>=◌, at_no_cost, loaded, field_of, pointed, indexed, both, truth, value_of, values_of, place_of}
 use Rattle.c0_meaning.specs.World.{Setting, Cost, units, total, plus, Configuration, with_state, beginning}
 use Rattle.c0_meaning.specs.Running.{Work, act_on, finish, again, leave, begin, Target, into, outward, Step, Go, Stop, push, then_go, store, deliver, enter, call_function, call_with, allocate, test_loop, act_statement, act}
-use Rattle.c0_meaning.specs.Execution.{Outcome, NotYet, then_run, run, run_within, dispatch}
+use Rattle.c0_meaning.specs.Execution.{Outcome, NotYet, then_run, run, run_within, call_first, dispatch}
+use Rattle.c0_tree.specs.declared.primitive.Program.TheVariants.{User}
+use Rattle.c0_meaning.specs.UserProgram.{trap, up_to, seen}
+use Rattle.c0_meaning.specs.ProgramLaws.{ProgramsIgnorePlaces}
 use Rattle.c0_meaning.specs.Bare.{bare_ty, bare_expr, bare_stmt, bare_stmts, bare_decl, bare_struct, bare_body, bare_function, bare, UnitsIgnorePlaces, DispatchesIgnorePlaces}
 
 mutual
@@ -247,9 +250,29 @@ module _ (W E : Type 0) (p : Setting W E) where
       ap (λ (o : Option ℕ). run_within bared n (begin (unwrap_or o 0) (part (value.int cause) (part (value.int edata) (part (value.int user) empty))) ∷ []) (beginning (record s { frames = [] }) world)) (position_bare p.unit.functions)
       ∙ run_bare (suc n) n (units 0) (begin (unwrap_or (position is_dispatch p.unit.functions) 0) (part (value.int cause) (part (value.int edata) (part (value.int user) empty))) ∷ []) _
 
+  -- so a call of any function
+  pub first_bare : (n number other : ℕ) (args : Values) (s : State) (world : W) → other ≡ number → call_first bared n other args s world ≡ call_first p n number args s world
+  first_bare n number other args s world e =
+      ap (λ k. run_within bared n (begin k args ∷ []) (beginning (record s { frames = [] }) world)) e ∙ run_bare (suc n) n (units 0) (begin number args ∷ []) _
+
 names_bare : (ds : List CDecl) → map (λ d. d.name.text) (map bare_decl ds) ≡ map (λ d. d.name.text) ds
 names_bare [] = refl
 names_bare (d ∷ ds) = ap (λ l. d.name.text ∷ l) (names_bare ds)
+
+is_main_bare : (f : CFunction) → is_main (bare_function f) ≡ is_main f
+is_main_bare f =
+    λ i. bytes_eq f.name.text (codes "main") && ((decls_bare f.params i == 0) && (same_ty (ty_bare f.answer i) int && not (asm_bare f.body i)))
+  where
+    decls_bare : (ds : List CDecl) → length (map bare_decl ds) ≡ length ds
+    decls_bare [] = refl
+    decls_bare (d ∷ ds) = ap suc (decls_bare ds)
+
+main_prefix_bare : (fs : List CFunction) → prefix_len (λ f. not (is_main f)) (map bare_function fs) ≡ prefix_len (λ f. not (is_main f)) fs
+main_prefix_bare [] = refl
+main_prefix_bare (f ∷ fs) = ap₂ (λ b n. if b then 1 + n else 0) (ap not (is_main_bare f)) (main_prefix_bare fs)
+
+main_bare : (fs : List CFunction) → position is_main (map bare_function fs) ≡ position is_main fs
+main_bare fs = ap₂ (λ k n. if nat_lt k n then Some k else None) (main_prefix_bare fs) (length_bare fs)
 
 pub units_ignore_places : UnitsIgnorePlaces
 units_ignore_places = record {
@@ -260,3 +283,10 @@ units_ignore_places = record {
 
 pub dispatches_ignore_places : (W E : Type 0) → DispatchesIgnorePlaces W E
 dispatches_ignore_places W E p n cause edata user s world = dispatch_bare W E p n cause edata user s world
+
+pub programs_ignore_places : ProgramsIgnorePlaces
+programs_ignore_places u answers n =
+    ap (λ o. up_to answers (seen o))
+    (ap (λ s. call_first (record { unit = bare u; heap = 1024; stack = 1024; meaning = trap }) n (first_number User (bare u)) empty s answers) (units_ignore_places.first u)
+    ∙ first_bare (List ℤ) ℤ (record { unit = u; heap = 1024; stack = 1024; meaning = trap }) n (first_number User u) (first_number User (bare u)) empty (first_state u) answers
+    (ap (λ o. unwrap_or o 0) (main_bare u.functions)))

@@ -119,7 +119,7 @@ module _ (W E : Type 0) (p : Setting W E) where
     then_go_onto cost c (costs n (Ok x)) f g h = h (plus cost (units n)) x
     then_go_onto cost c (costs n (Err x)) f g h = refl
 
-    push_onto : (s : CStmts) (w : List Work) → push s (w ++ r) ≡ push s w ++ r
+    pub push_onto : (s : CStmts) (w : List Work) → push s (w ++ r) ≡ push s w ++ r
     push_onto done w = refl
     push_onto (next s rest) w = refl
 

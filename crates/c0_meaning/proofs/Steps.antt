@@ -66,9 +66,9 @@ place_takes (binary p o a b) s = omega arith
 
 module _ (W E : Type 0) where
   -- the calls of a configuration stay as they are, and others may stand behind them
-  record Extends (b c : Configuration W E) : Type 0 where
-    more : List (List E)
-    is : c.calls ≡ b.calls ++ more
+  pub record Extends (b c : Configuration W E) : Type 0 where
+    pub more : List (List E)
+    pub is : c.calls ≡ b.calls ++ more
 
   self : (c : Configuration W E) → Extends c c
   self c = record { more = []; is = sym (append-nil c.calls) }
@@ -206,7 +206,7 @@ module _ (W E : Type 0) where
   extends_step p (Go k w d) l used c f h go = chosen (λ o. Extends c (stands_at o)) l (total (plus used k)) _ _ (self c) (λ inside. on c d _ (extends p c k d h.1) (go (plus used k) w d))
   extends_step p (Stop k x d) l used c f h go = chosen (λ o. Extends c (stands_at o)) l (total (plus used k)) _ _ (self c) (λ inside. extends p c k d h.1)
 
-  extends_run : (p : Setting W E) (s l : ℕ) (used : Cost) (w : List Work) (c : Configuration W E) → Extends c (stands_at (run p s l used w c))
+  pub extends_run : (p : Setting W E) (s l : ℕ) (used : Cost) (w : List Work) (c : Configuration W E) → Extends c (stands_at (run p s l used w c))
   extends_run p zero l used w c = self c
   extends_run p (suc s) l used [] c = self c
   extends_run p (suc s) l used (item ∷ w) c = extends_step p (act p item w c) l used c (run p s l) (acts p item w c) (λ k v d. extends_run p s l k v d)

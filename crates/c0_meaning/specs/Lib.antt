@@ -37,3 +37,5 @@ pub mod Form
 pub mod TypeAt
 pub mod Bare
 pub mod Reasoning
+pub mod ProgramLaws
+pub mod EntryLaws

@@ -1,13 +1,14 @@
 -- How properties of C0 code are proved: work that is done within some units, where a property holds then. proofs/Rules has the rules.
-use Rattle.std.specs.Prelude.{ℕ, zero, suc, ◌+◌, ◌≤◌, List, [], ◌∷◌, map}
+use Rattle.std.specs.Prelude.{◌≡◌, ℕ, zero, suc, ◌+◌, ◌≤◌, List, [], ◌∷◌, ◌++◌, map}
 use Rattle.c0_tree.specs.Tree.{CDecl}
 use Rattle.c0_meaning.specs.Env.{typed_of}
 use Rattle.c0_meaning.specs.Sound.{shapes}
 use Rattle.c0_meaning.specs.Value.{Values, group, followed_by, zeros_of}
 use Rattle.c0_meaning.specs.State.{pushed}
-use Rattle.c0_meaning.specs.World.{Setting, Cost, units, total, plus, Configuration, with_state}
+use Rattle.c0_meaning.specs.World.{Setting, Cost, units, total, plus, Configuration, journal, with_state}
 use Rattle.c0_meaning.specs.Running.{Work, Step, Go, Stop, act}
 use Rattle.c0_meaning.specs.Execution.{Outcome, Done, Failed, NotYet, run_within}
+use Rattle.c0_meaning.specs.RunLaws.{stands_at}
 
 -- a run is done, and a property holds of where it stands
 abbrev pub Comes : {W E : Type 0} → Outcome W E → (Configuration W E → Type 0) → Type 0
@@ -19,6 +20,16 @@ Comes (NotYet used c) Q = ⊥
 -- computes to the property itself.
 abbrev pub Ends : {W E : Type 0} → Setting W E → (n : ℕ) → List Work → Configuration W E → (Configuration W E → Type 0) → Type 0
 Ends p n work c Q = Comes (run_within p n work c) Q
+
+-- a list begins with these
+pub record Begins {E : Type 0} (es all : List E) : Type 0 where
+  pub more : List E
+  pub is : all ≡ es ++ more
+
+-- THESE ENTRIES ARE MADE within n units from here on: the journal begins with them then, with those that were made before, whether the run is over or goes
+-- on. For a program that serves for ever, whose entries are the arguments of its calls. proofs/Making has the rules.
+abbrev pub Makes : {W E : Type 0} → Setting W E → (n : ℕ) → List Work → Configuration W E → List E → Type 0
+Makes p n work c es = Begins es (journal (stands_at (run_within p n work c)))
 
 -- so many steps one after another, as one
 abbrev pub behind : {W E : Type 0} → Cost → Step W E → Step W E
@@ -38,6 +49,11 @@ steps p (suc m) (item ∷ w) c = after_step (act p item w c) (steps p m)
 abbrev pub LeadTo : {W E : Type 0} → Setting W E → (m j n : ℕ) → Step W E → (Configuration W E → Type 0) → Type 0
 LeadTo p m j n (Go k w d) Q = (total k + m ≤ j) × Ends p n w d Q
 LeadTo p m j n (Stop k f d) Q = ⊥
+
+-- or to work that makes these entries within n
+abbrev pub LeadToMade : {W E : Type 0} → Setting W E → (m j n : ℕ) → Step W E → List E → Type 0
+LeadToMade p m j n (Go k w d) es = (total k + m ≤ j) × Makes p n w d es
+LeadToMade p m j n (Stop k f d) es = ⊥
 
 -- where a function of this number and these locals begins, called with these arguments
 abbrev pub entering : {W E : Type 0} → Setting W E → ℕ → List CDecl → Values → Configuration W E → Configuration W E

@@ -1,12 +1,15 @@
 // What holds of the tree of every source.
 
-ghost use Rattle.std.specs.Prelude.{ℕ, ◌≡◌, ◌+◌, List, length, Result};
+ghost use Rattle.std.specs.Prelude.{ℕ, ◌≡◌, ◌≤◌, ◌+◌, true, List, length, Result};
+ghost use Rattle.c0_tree.specs.Plain.{is_plain};
 ghost use Rattle.c0_tree.specs.Tree.{CUnit};
 ghost use Rattle.c0_parser.specs.Answer.{IsAnswer};
 ghost use Rattle.c0_parser.specs.Faults.{Reads};
 ghost use Rattle.c0_parser.specs.Walk.{ReadByWalks};
 ghost use Rattle.c0_parser.specs.declared.fault.ReadFault.{ReadFault};
 ghost use Rattle.c0_parser.specs.Items.{CItem, IsMadeOf, structs_among, globals_among, functions_among, unit_with};
+
+use c0_tokens::tokens_are_few_and_small;
 
 /// A law: a source that has a tree is a row of items and its end, and its unit is made of these: its structs, globals and functions are those
 /// of the source, each in the order of the source. So no item vanishes, and none is added. The other way round, each row of items with the
@@ -26,3 +29,10 @@ pub fn sources_have_one_answer()
 pub fn sources_read_by_walks()
     ensures { ReadByWalks }
 {}
+
+/// A law: what a source reads as holds small numbers and short lists.
+pub fn readings_are_plain()
+    ensures { (source : List ℕ) (u : CUnit) → length source ≤ 1048576 → Reads source u → is_plain u ≡ true }
+{
+    tokens_are_few_and_small();
+}

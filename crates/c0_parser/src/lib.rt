@@ -12,5 +12,7 @@ mod statements;
 mod types;
 
 pub use fault::ReadFault;
-pub use laws::{sources_have_one_answer, sources_read_by_walks, unit_has_all_items};
+pub use laws::{
+    readings_are_plain, sources_have_one_answer, sources_read_by_walks, unit_has_all_items,
+};
 pub use source::parse;

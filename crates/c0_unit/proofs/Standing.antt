@@ -2,6 +2,9 @@
 use Rattle.std.specs.Prelude.{All, sum, slice_get, slice_index, Some}
 use Rattle.std.proofs.Common.{rules, Global, ◌≡◌, ℕ, zero, suc, ◌+◌, ◌*◌, ◌/◌, ◌^◌, ◌<◌, ◌≤◌, List, [], ◌∷◌, ◌++◌, length, refl, sym, ap, ◌∙◌, arith}
 use Rattle.std.proofs.lemmas.List.{length-map}
+use Rattle.std.proofs.lemmas.Bool.{and_parts, ltb-true}
+use Rattle.c0_tree.specs.Plain.{is_short}
+use denote.RawPtr.{null_ptr}
 use Rattle.std.proofs.lemmas.List.Elements.{All-append, All-cons, All-head, All-nil, All-tail}
 use Rattle.std.specs.declared.vec.Vec.{Vec}
 use Rattle.mips_table.specs.declared.inst.Inst.{Inst}
@@ -192,48 +195,54 @@ module _ (faultless : UnitsAreFaultless) (short : FunctionsAreShort) (table : Li
             behind = omega (arith, long);
           }
 
--- numbers as a vector, where another one stands
-vec_of : {X : Type 0} → Vec X Global → (xs : List ℕ) → length xs < 2 ^ 63 → Vec ℕ Global
-vec_of v xs h = record { ptr = v.ptr; len = length xs; cap = length xs; alloc = v.alloc; items = xs; ok = (refl, omega arith); small = h }
+-- numbers as a vector, wherever it stands
+vec_of : (xs : List ℕ) → length xs < 2 ^ 63 → Vec ℕ Global
+vec_of xs h = record { ptr = null_ptr; len = length xs; cap = length xs; alloc = record { memory = record { seal = tt } }; items = xs; ok = (refl, omega arith); small = h }
 
 starts_length : (at : ℕ) (ns : List ℕ) → length (starts_from at ns) ≡ length ns
 starts_length at [] = refl
 starts_length at (n ∷ ns) = let r = starts_length (at + n) ns in omega (arith, r)
 
 -- a unit's functions begin at as many addresses
+tree_starts : (u : CUnit) → length (function_starts u) ≡ length u.functions
+tree_starts u = starts_length functions_at (words_of u u.functions) ∙ length-map u.functions (λ f. length (function_code (scope u f) (links []) f))
+
 pub starts_are_many : (s : Source) → length (function_starts (unit_view s)) ≡ length s.functions.items
-starts_are_many s =
-    starts_length functions_at (words_of (unit_view s) (unit_view s).functions)
-    ∙ (length-map (unit_view s).functions (λ f. length (function_code (scope (unit_view s) f) (links []) f)) ∙ length-map s.functions.items function_view)
+starts_are_many s = tree_starts (unit_view s) ∙ length-map s.functions.items function_view
+
+-- a well-formed tree has few functions
+few_functions : (table : List CPrimitive) (u : CUnit) → IsWellFormed table u → length u.functions < 2 ^ 63
+few_functions table u well =
+    let globals = (and_parts (is_short u.structs) _ well.plain).1 in
+    let functions = (and_parts (is_short u.globals) _ globals).1 in
+    let few = ltb-true (length u.functions) (2 ^ 32) (and_parts (is_short u.functions) _ functions).0 in
+    omega (arith, few)
 
 -- the places of a checked unit
-pub unit_places : (faultless : UnitsAreFaultless) (short : FunctionsAreShort) (table : List CPrimitive) (s : Source) → IsWellFormed table (unit_view s) → (p : Places) × ArePlacesOf (unit_view s) p × ArePlaces p
+pub tree_places : (faultless : UnitsAreFaultless) (short : FunctionsAreShort) (table : List CPrimitive) (u : CUnit) → IsWellFormed table u → (p : Places) × ArePlacesOf u p × ArePlaces p
 unfolding vec_of
-unit_places faultless short table s well =
-    let u = unit_view s in
-    let few : length (function_starts (unit_view s)) < 2 ^ 63 =
-    let l = starts_are_many s in
-    omega (arith, l, s.functions.ok, s.functions.small) in
+tree_places faultless short table u well =
+    let few : length (function_starts u) < 2 ^ 63 = let l = tree_starts u in let most = few_functions table u well in omega (arith, l, most) in
     let places : Places = record {
-      globals = globals_start (unit_view s);
+      globals = globals_start u;
       faults = fault_exits;
       multiply = 4 * (routines_at + MULTIPLY);
       divide = 4 * (routines_at + DIVIDE);
       remainder = 4 * (routines_at + REMAINDER);
       new_object = 4 * (routines_at + NEW_OBJECT);
-      functions = vec_of s.functions (function_starts (unit_view s)) few;
-      primitives = vec_of s.functions primitive_entries (omega arith);
+      functions = vec_of (function_starts u) few;
+      primitives = vec_of primitive_entries (omega arith);
     } in (
       places,
       record { globals_at = refl; faults = refl; multiply = refl; divide = refl; remainder = refl; new_object = refl; functions = refl; primitives = refl },
       record {
-        globals = globals_placed faultless short table (unit_view s) well 0;
+        globals = globals_placed faultless short table u well 0;
         faults = all_each IsPlace fault_exits exits_placed;
         multiply = (refl, omega arith);
         divide = (refl, omega arith);
         remainder = (refl, omega arith);
         new_object = (refl, omega arith);
-        functions = starts_placed faultless short table (unit_view s) well 0;
+        functions = starts_placed faultless short table u well 0;
         primitives = all_each IsPlace primitive_entries entries_placed;
       },
     )

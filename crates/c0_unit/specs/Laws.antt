@@ -63,11 +63,17 @@ pub record UnitStands (u : CUnit) (first : ℕ) (p : Places) : Type 0 where
 abbrev pub UnitsStand : Type 0
 UnitsStand = (table : List CPrimitive) (u : CUnit) → IsWellFormed table u → (first : ℕ) (p : Places) → ArePlacesOf u p → UnitStands u first p
 
--- a law: each well-formed unit has its places
+-- a law: each well-formed tree has its places, whether it stands in memory or not; and so has each well-formed unit
+abbrev pub TreesHavePlaces : Type 0
+TreesHavePlaces = (table : List CPrimitive) (u : CUnit) → IsWellFormed table u → (p : Places) × ArePlacesOf u p × ArePlaces p
+
 abbrev pub UnitsHavePlaces : Type 0
 UnitsHavePlaces = (table : List CPrimitive) (s : Source) → IsWellFormed table (unit_view s) → (p : Places) × ArePlacesOf (unit_view s) p × ArePlaces p
 
 -- A LAW: the code of each checked user program runs on a flat machine as the program means
+abbrev pub TreesRunFlat : Type 0
+TreesRunFlat = (u : CUnit) → IsCheckedAs User u → RunsFlat u
+
 abbrev pub ProgramsRunFlat : Type 0
 ProgramsRunFlat = (s : Source) → IsCheckedAs User (unit_view s) → RunsFlat (unit_view s)
 

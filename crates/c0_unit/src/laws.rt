@@ -2,7 +2,7 @@
 
 ghost use Rattle.std.specs.Prelude.{ℤ, List};
 ghost use Rattle.c0_unit.specs.Flat.{Outer};
-ghost use Rattle.c0_unit.specs.Laws.{ProgramsRunFlat, UnitsAreShort, UnitsHavePlaces, UnitsStand};
+ghost use Rattle.c0_unit.specs.Laws.{ProgramsRunFlat, TreesHavePlaces, TreesRunFlat, UnitsAreShort, UnitsHavePlaces, UnitsStand};
 
 use c0_expr_code::laws::areas_hold;
 use c0_meaning::laws::units_are_typed_or_faulty;
@@ -29,12 +29,19 @@ pub fn units_stand()
     functions_are_in_range();
 }
 
-/// A well-formed unit has its places.
-pub fn units_have_places()
-    ensures { UnitsHavePlaces }
+/// A well-formed tree has its places.
+pub fn trees_have_places()
+    ensures { TreesHavePlaces }
 {
     units_are_typed_or_faulty();
     functions_are_short();
+}
+
+/// So has a well-formed unit.
+pub fn units_have_places()
+    ensures { UnitsHavePlaces }
+{
+    trees_have_places();
 }
 
 /// The machine under a user program's code: nothing of it stands for the answers that are left.
@@ -54,7 +61,14 @@ impl Outside for FlatMachine {
 pub fn programs_run_flat()
     ensures { ProgramsRunFlat }
 {
-    units_have_places();
+    trees_run_flat();
+}
+
+/// So does that of a checked tree.
+pub fn trees_run_flat()
+    ensures { TreesRunFlat }
+{
+    trees_have_places();
     units_stand();
     areas_hold();
     first_states_are_typed();

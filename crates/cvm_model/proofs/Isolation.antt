@@ -26,7 +26,7 @@ some_same : {A : Type 0} (a b : A) → Some a ≡ Some b → a ≡ b
 some_same a b e = cc
 
 -- who is next leaves the users' machines as they are
-next_users : (n : Next) (c : Core) → (core_of n c).users ≡ c.users
+pub next_users : (n : Next) (c : Core) → (core_of n c).users ≡ c.users
 next_users (User u) c = refl
 next_users Halt c = refl
 next_users (Fault f) c = refl
@@ -36,7 +36,7 @@ abbrev pub IsOf : ℕ → ℕ → Type 0
 IsOf count u = (1 ≤ u) × (u ≤ count)
 
 -- an answer that lets the run go on names a user
-next_is_user : (count : ℕ) (a : ℤ) (c : Core) → status_of (next_of count a) ≡ Running → IsOf count (core_of (next_of count a) c).current
+pub next_is_user : (count : ℕ) (a : ℤ) (c : Core) → status_of (next_of count a) ≡ Running → IsOf count (core_of (next_of count a) c).current
 next_is_user count (pos zero) c e = absurd (cc)
 next_is_user count (pos (suc n)) c e = by (nat_lt n count) refl e
   where

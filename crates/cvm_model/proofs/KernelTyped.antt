@@ -29,10 +29,10 @@ use Rattle.cvm_model.specs.TypedKernel.{RowsAreCalled, UnitsAnswerInts, UnitsSta
 use Rattle.cvm_model.proofs.PrimitiveReplays.{and_left, and_right, place_is}
 
 -- a machine of at most 1,024 pages, and machines with few input words
-abbrev is_small : Flat → Bool
+abbrev pub is_small : Flat → Bool
 is_small f = nat_le (pages_of f) 1024
 
-abbrev are_small : Machines → Bool
+abbrev pub are_small : Machines → Bool
 are_small m = (nat_le m.most 1024 && nat_le (length m.console.input) input_room) && list_all is_small m.users
 
 set_all : (fs : List Flat) (i : ℕ) (f : Flat) → list_all is_small fs ≡ true → is_small f ≡ true → list_all is_small (slice_set fs i f) ≡ true
@@ -102,7 +102,7 @@ prim_small most c users o k h i = by (is_good most users c) refl
     by false e = record { users = h; input = i }
 
 -- THE ANSWERS
-abbrev scalar_of : Call → Scalar
+abbrev pub scalar_of : Call → Scalar
 scalar_of (VmSet u r v) = Boolean
 scalar_of (VmResize u p) = Boolean
 scalar_of (VmPut u a v) = Boolean
@@ -110,7 +110,7 @@ scalar_of (VmCopy u a v b n) = Boolean
 scalar_of (ConPut w) = Boolean
 scalar_of other = Int
 
-signed_fits : (n : ℕ) → FitsSigned w32 (signed n)
+pub signed_fits : (n : ℕ) → FitsSigned w32 (signed n)
 signed_fits n = by_test (nat_lt n (2 ^ 31)) refl
   where
     by_test : (b : Bool) → nat_lt n (2 ^ 31) ≡ b → FitsSigned w32 (signed n)
@@ -120,7 +120,7 @@ signed_fits n = by_test (nat_lt n (2 ^ 31)) refl
 minus_one : FitsSigned w32 (negsuc 0)
 minus_one = record { sfits = omega arith }
 
-small_fits : (n : ℕ) → n ≤ 4096 → FitsSigned w32 (pos n)
+pub small_fits : (n : ℕ) → n ≤ 4096 → FitsSigned w32 (pos n)
 small_fits n h = record { sfits = omega (arith, h) }
 
 refused_fits : (c : Call) → IsScalar (scalar_of c) (refused c)
@@ -174,12 +174,12 @@ ints (suc k) (part (at l) vs) h = absurd h.0
 ints (suc k) (part (group ws) vs) h = absurd h.0
 
 -- the call of a row of the table
-record Told (n : ℕ) (row : CPrimitive) (args : Values) : Type 0 where
-  call : Call
-  is : option_and_then (call_with n) (ints_of args) ≡ Some call
-  scalar : scalar_of call ≡ row.answer
-  number : primitive_number call ≡ n
-  arguments : ints_of args ≡ Some (arguments_of call)
+pub record Told (n : ℕ) (row : CPrimitive) (args : Values) : Type 0 where
+  pub call : Call
+  pub is : option_and_then (call_with n) (ints_of args) ≡ Some call
+  pub scalar : scalar_of call ≡ row.answer
+  pub number : primitive_number call ≡ n
+  pub arguments : ints_of args ≡ Some (arguments_of call)
 
 row_told : (n k : ℕ) (row : CPrimitive) (args : Values) → AllFit [] nowhere (replicate k ty.int) args →
     ((xs : List ℤ) → length xs ≡ k → (c : Call) × (call_with n xs ≡ Some c) × (scalar_of c ≡ row.answer) × (primitive_number c ≡ n) × (arguments_of c ≡ xs)) → Told n row args
@@ -226,7 +226,7 @@ five_ints (a ∷ b ∷ c ∷ d ∷ e ∷ f ∷ xs) h = absurd (omega (arith, h))
 found : (a row : CPrimitive) (n : ℕ) (args : Values) → ◌≡◌ {A = Option CPrimitive} (Some a) (Some row) → AreScalars row.args args → (AreScalars a.args args → Told n a args) → Told n row args
 found a row n args e h f = let q : a ≡ row = cc in subst (λ r. Told n r args) q (f (subst (λ r. AreScalars r.args args) (sym q) h))
 
-told : (n : ℕ) (row : CPrimitive) (args : Values) → slice_get kernel_primitives n ≡ Some row → AreScalars row.args args → Told n row args
+pub told : (n : ℕ) (row : CPrimitive) (args : Values) → slice_get kernel_primitives n ≡ Some row → AreScalars row.args args → Told n row args
 told zero row args e h = found _ row 0 args e h (λ h. row_told 0 2 _ args h (two_ints 0 Int VmGet (λ a b. refl) (λ a b. refl) (λ a b. refl) (λ a b. refl)))
 told (suc zero) row args e h = found _ row 1 args e h (λ h. row_told 1 3 _ args h (three_ints 1 Boolean VmSet (λ a b c. refl) (λ a b c. refl) (λ a b c. refl) (λ a b c. refl)))
 told (suc (suc zero)) row args e h = found _ row 2 args e h (λ h. row_told 2 1 _ args h (one_int 2 Int VmSize (λ a. refl) (λ a. refl) (λ a. refl) (λ a. refl)))
@@ -249,7 +249,7 @@ input_of m h = leb-true (length m.console.input) input_room (and_right _ _ (and_
 users_of : (m : Machines) → are_small m ≡ true → list_all is_small m.users ≡ true
 users_of m h = and_right _ _ h
 
-answers_fit : AnswersFit are_small kernel_primitives kernel_primitive
+pub answers_fit : AnswersFit are_small kernel_primitives kernel_primitive
 answers_fit = record {
   answer = λ n row args m e h r.
       let t : Told n row args = told n row args e h in
@@ -265,7 +265,7 @@ answers_fit = record {
 no_frames : (u : CUnit) (s : State) → IsTypedState u s → IsTypedState u (record s { frames = [] })
 no_frames u s t = (t.0, record { global_values = t.1.global_values; heap_values = t.1.heap_values; frames = All-nil (IsTypedFrame u (layout_of u t.0)) }, t.2)
 
-safe_typed : (u : CUnit) (c : Core) (o : c0_run.Outcome Machines Changes) → IsSafe are_small u o → IsTypedState u (outcome_of c o).after.c0
+pub safe_typed : (u : CUnit) (c : Core) (o : c0_run.Outcome Machines Changes) → IsSafe are_small u o → IsTypedState u (outcome_of c o).after.c0
 safe_typed u c (c0_run.Done k d) h = no_frames u d.state h.0
 safe_typed u c (c0_run.Failed k (faulted f) d) h = no_frames u d.state h.0
 safe_typed u c (c0_run.Failed k stuck d) h = absurd h

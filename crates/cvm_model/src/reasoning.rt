@@ -1,12 +1,16 @@
-// Laws for whoever proves a property of a kernel's runs. The rule for runs and the way from code to runs range over properties, which no
-// contract can: they are lemmas of the files proofs/Invariants and proofs/Kept.
+// Laws for whoever proves a property of a kernel's runs. The rules for runs and the way from code to runs range over properties, which no
+// contract can: they are lemmas of the files proofs/Systems, proofs/Invariants, proofs/Kept and proofs/KeptAll.
 
 ghost use Rattle.cvm_model.specs.Invariant.{RunsAreLawful};
+ghost use Rattle.cvm_model.specs.JournalWords.{JournalsHoldWords};
 ghost use Rattle.cvm_model.specs.PlacesIgnored.{MeaningsIgnorePlaces};
+ghost use Rattle.cvm_model.specs.Systems.{RunsAreChains};
 
 use crate::{KernelWorld, units_are_kernels, units_dont_matter};
 use c0_meaning::reasoning::{dispatches_ignore_places, units_ignore_places};
-use c0_meaning::run_laws::primitives_alone_change_the_world;
+use c0_meaning::run_laws::{
+    calls_are_safe, entries_pass, first_states_are_typed, primitives_alone_change_the_world,
+};
 
 /// A law: what a unit means as a kernel doesn't depend on places in its source.
 pub fn meanings_ignore_places()
@@ -23,4 +27,22 @@ pub fn runs_are_lawful()
     units_dont_matter();
     units_are_kernels();
     primitives_alone_change_the_world::<KernelWorld>();
+}
+
+/// A law: each run, whatever its kernel and its users are, is a chain of its dispatches: each begins where the one before it ended, but for untrapped
+/// steps of the user who was next, one for each turn between.
+pub fn runs_are_chains()
+    ensures { RunsAreChains }
+{
+    runs_are_lawful();
+}
+
+/// A law: what a kernel sets a user's register to is a word, in each run.
+pub fn journals_hold_words()
+    ensures { JournalsHoldWords }
+{
+    runs_are_lawful();
+    first_states_are_typed();
+    calls_are_safe::<KernelWorld>();
+    entries_pass::<KernelWorld>();
 }

@@ -35,3 +35,4 @@ mod Spellings
 mod StartAnswers
 mod Sufficient
 mod UserWords
+mod LinkedUsers

@@ -8,8 +8,7 @@ use Rattle.mips_table.specs.Machine.{State}
 use Rattle.mips_table.specs.Flat.{Flat}
 use Rattle.mips_table.specs.Turns.{turn_of, complete, lines_of, end_within}
 use Rattle.schedule_file.specs.Rows.{Rows}
-use Rattle.c0_tree.specs.declared.tree.Unit.{Unit as Source}
-use Rattle.c0_tree.specs.View.{unit_view}
+use Rattle.c0_tree.specs.Tree.{CUnit}
 use Rattle.cvm_model.specs.Kernel.{JournalEntry}
 use Rattle.cvm_model.specs.Primitives.{no_flat}
 use Rattle.cvm_model.specs.Cvm.{System, first_flat}
@@ -36,8 +35,8 @@ started f [] i d words e = absurd (cc)
 started f (w ∷ users) zero d words e = let same : w ≡ words = cc in ap f same
 started f (w ∷ users) (suc i) d words e = started f users i d words e
 
-starts : (program : Source) (s : ImageSystem) (rows : Rows) (u : ℕ) → HasProgram program s u → first_of (booted s rows) u ≡ first_flat (image_words (unit_view program))
-starts program s rows u has = started first_flat s.users (u - 1) no_flat (image_words (unit_view program)) has.words
+starts : (program : CUnit) (s : ImageSystem) (rows : Rows) (u : ℕ) → HasProgram program s u → first_of (booted s rows) u ≡ first_flat (image_words program)
+starts program s rows u has = started first_flat s.users (u - 1) no_flat (image_words program) has.words
 
 -- what is mapped was there
 there : (f : Flat → List ℕ) (o : Option Flat) (text : List ℕ) → option_map f o ≡ Some text → (last : Flat) × (o ≡ Some last)
@@ -45,8 +44,8 @@ there f None text e = absurd (cc)
 there f (Some last) text e = (last, refl)
 
 -- each journal of such a user that can be replayed is that of the program
-runs : ImagesRun → (program : Source) (s : ImageSystem) (rows : Rows) (u : ℕ) (j : List JournalEntry) (last : Flat) → HasProgram program s u → replay (first_of (booted s rows) u) j ≡ Some last
-    → (answered : IsAnswered j) → Follows (unit_view program) (first_flat (image_words (unit_view program))) answered.events
+runs : ImagesRun → (program : CUnit) (s : ImageSystem) (rows : Rows) (u : ℕ) (j : List JournalEntry) (last : Flat) → HasProgram program s u → replay (first_of (booted s rows) u) j ≡ Some last
+    → (answered : IsAnswered j) → Follows program (first_flat (image_words program)) answered.events
 runs law program s rows u j last has replayed answered = law program has.checked has.small j answered last (ap (λ f. replay f j) (sym (starts program s rows u has)) ∙ replayed)
 
 pub booted_programs : ImagesRun → BootedProgramsRun

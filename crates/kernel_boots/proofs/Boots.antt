@@ -1,15 +1,16 @@
 -- From a property of each state of a run to what a boot shows. No contract can carry it for any property, since it ranges over types: this file may be
 -- cited from other crates. To be used by `boots_of`: it needs the law on the kernel's runs, that its text means its tree, and the two laws of this crate.
-use Rattle.std.proofs.Common.{◌≡◌, ◌≤◌, ℕ, List, length, Bool, true, false, Option, sym, ◌∙◌, subst}
+use Rattle.std.proofs.Common.{◌≡◌, ◌≤◌, ℕ, List, length, Bool, true, false, Option, sym, ap, ◌∙◌, subst}
 use Rattle.std.specs.Prelude.{◌≢◌, if◌then◌else◌, Result, Ok}
 use Rattle.schedule_file.specs.Rows.{Rows}
 use Rattle.mips_table.specs.Device.{Outside as Surroundings, HasEightLines}
-use Rattle.mips_table.specs.Turns.{lines_of}
+use Rattle.mips_table.specs.Turns.{complete, end_within, lines_of}
 use Rattle.mips_table.specs.Machine.{State}
 use Rattle.boot_turns.specs.declared.answers.View.TheVariants.{Boot}
-use Rattle.boot_turns.specs.Headline.{Ending, Done, KernelFaulted, OutOfSteps, DiskFault, SinkFault, NoMemory, ending_of, TextAt, RanFrom}
+use Rattle.boot_turns.specs.Headline.{Ending, Done, KernelFaulted, OutOfSteps, DiskFault, SinkFault, NoMemory, ending_of, ending, TextAt, RanFrom}
 use Rattle.cvm_model.specs.Cvm.{System, Cvm, Status, Running, Halted, Faulted, IsCvm}
-use Rattle.cvm_model.specs.Invariant.{HasEight, IsSafe}
+use Rattle.cvm_model.specs.Invariant.{HasEight, IsSafe, RunsAreLawful}
+use Rattle.cvm_model.specs.Text.{rows_text, boot_text}
 use Rattle.c0_types.specs.Front.{IsUnitOf}
 use Rattle.real_layer.specs.Image.{layer_image}
 use Rattle.boot_image.specs.Parts.{Parts as Image}
@@ -23,12 +24,12 @@ use Rattle.cvm_shell.specs.declared.boot.Session.{Session}
 use Rattle.cvm_shell.specs.Host.{Host}
 use Rattle.cvm_shell.specs.Plan.{Accepts}
 use Rattle.cvm_shell.specs.Boot.{booted, around, first_state, sectors_needed, ended_as, AskFor, by_boot, by_trace, by_sample, Headline}
-use Rattle.kernel_boots.specs.Boots.{OfStates, AlwaysHas, TextOfState, Shows, BootsShow, HasSource, AsksSource, RunsItsSource, BootsOf}
+use Rattle.kernel_boots.specs.Boots.{OfStates, AlwaysHas, TextOfState, turns_made, StandsAt, SessionStands, BootStands, BootsStand, BootsShow, HasSource, AsksSource, RunsItsSource, BootsOf}
 use Rattle.kernel_boots.proofs.Room.{Roomy, room_of, roomy}
 use Rattle.kernel_boots.proofs.EightLines.{eight_of, few_of, turns_have_eight}
 
 -- A STATUS without a fault
-abbrev NoFault : Ending → Type 0
+abbrev pub NoFault : Ending → Type 0
 NoFault KernelFaulted = ⊥
 NoFault other = Unit {0}
 
@@ -37,7 +38,7 @@ no_fault_of Running h = tt
 no_fault_of Halted h = tt
 no_fault_of (Faulted f) h = h
 
-no_fault : (b : Bool) (s : Status) → IsSafe s → NoFault (if b then ending_of s else OutOfSteps)
+pub no_fault : (b : Bool) (s : Status) → IsSafe s → NoFault (if b then ending_of s else OutOfSteps)
 no_fault true s h = no_fault_of s h
 no_fault false s h = tt
 
@@ -53,78 +54,111 @@ other_status DiskFault h = tt
 other_status SinkFault h = tt
 other_status NoMemory h = tt
 
-no_status : (e : Ending) → NoFault e → ended_as e ≢ KernelFault
+pub no_status : (e : Ending) → NoFault e → ended_as e ≢ KernelFault
 no_status e h eq = subst OtherStatus eq (other_status e h)
 
--- WHAT WAS PRINTED is the text of a state
-module _ (P : OfStates) (x : Surroundings) (y : System) (always : AlwaysHas y P) (s : State) (eight : HasEight (lines_of x s)) (held : ℕ) (old now : List (List ℕ)) (turns steps : ℕ) where
-  has : (k : ℕ) (c : Cvm) → IsCvm y (lines_of x s) k c → P (lines_of x s) k c
-  has k c is = always (lines_of x s) eight k c is
+-- the text of a state by an ending
+abbrev IsTextOf : System → Ending → Cvm → List ℕ → Type 0
+IsTextOf y OutOfSteps c text = text ≡ rows_text c.rows
+IsTextOf y other c text = text ≡ boot_text y c
 
-  -- of a status by which a state has this text
-  shows_as : (status : ExitStatus) (k : ℕ) (c : Cvm) (text : List ℕ) → IsCvm y (lines_of x s) k c → TextOfState y status c text → Shows y P status text
-  shows_as status k c text is e = record { lines = lines_of x s; turns = k; state = c; is = is; has = has k c is; text_is = e }
+-- a run of a system comes to one state
+abbrev pub RunsAreOne : System → Type 0
+RunsAreOne y = (lines : ℕ → ℕ) (k : ℕ) (c d : Cvm) → IsCvm y lines k c → IsCvm y lines k d → c ≡ d
 
-  shows : (t : ℕ) (e : Ending) (text : List ℕ) → TextAt x y s Boot t e text → Shows y P (ended_as e) text
-  shows t OutOfSteps text (c, is, e) = shows_as (ended_as OutOfSteps) _ c text is e
-  shows t Done text (c, is, e) = shows_as (ended_as Done) _ c text is e
-  shows t KernelFaulted text (c, is, e) = shows_as (ended_as KernelFaulted) _ c text is e
-  shows t DiskFault text (c, is, e) = shows_as (ended_as DiskFault) _ c text is e
-  shows t SinkFault text (c, is, e) = shows_as (ended_as SinkFault) _ c text is e
-  shows t NoMemory text (c, is, e) = shows_as (ended_as NoMemory) _ c text is e
+-- WHAT WAS PRINTED is the text of the state where the run stands
+status_text : (y : System) (e : Ending) (c : Cvm) (text : List ℕ) → IsTextOf y e c text → TextOfState y (ended_as e) c text
+status_text y OutOfSteps c text h = h
+status_text y Done c text h = h
+status_text y KernelFaulted c text h = h
+status_text y DiskFault c text h = h
+status_text y SinkFault c text h = h
+status_text y NoMemory c text h = h
 
-  ran_shows : (e : Ending) (text : List ℕ) → RanFrom x y s held old now Boot turns steps e text → Shows y P (ended_as e) text
-  ran_shows e text h = shows _ e text h.text_is
+module _ (x : Surroundings) (y : System) (one : RunsAreOne y) (s : State) (held : ℕ) (old now : List (List ℕ)) (turns steps : ℕ) where
+  text_of : (t : ℕ) (e : Ending) (text : List ℕ) → TextAt x y s Boot t e text → (c : Cvm) × IsCvm y (lines_of x s) (complete x s t) c × IsTextOf y e c text
+  text_of t OutOfSteps text h = h
+  text_of t Done text h = h
+  text_of t KernelFaulted text h = h
+  text_of t DiskFault text h = h
+  text_of t SinkFault text h = h
+  text_of t NoMemory text h = h
 
-  ran_safe : (e : Ending) (text : List ℕ) → RanFrom x y s held old now Boot turns steps e text → ((lines : ℕ → ℕ) (k : ℕ) (c : Cvm) → P lines k c → IsSafe c.status) → NoFault e
-  ran_safe e text h safe = subst NoFault (sym h.status) (no_fault _ h.past.status (safe _ _ h.past (has _ h.past h.cvm)))
+  stands : (e : Ending) (text : List ℕ) → RanFrom x y s held old now Boot turns steps e text → StandsAt x y s turns steps (ended_as e) text
+  stands e text h =
+      let t = text_of (end_within x s turns steps) e text h.text_is in
+      let same : t.0 ≡ h.past = one (lines_of x s) (complete x s (end_within x s turns steps)) t.0 h.past t.1 h.cvm in
+      record {
+        state = h.past;
+        is = h.cvm;
+        status_is = ap ended_as h.status;
+        text_is = subst (λ (c : Cvm). TextOfState y (ended_as e) c text) same (status_text y e t.0 text t.2);
+        over = h.over;
+      }
 
--- the schedule that is asked for raises eight lines
-asked_eight : (words : List (List ℕ)) (file : List ℕ → Option (List ℕ)) (session : Session) (s : ImageSystem) (rows : Rows) → AskFor words file session s rows → (old : Host) → HasEightLines (around rows old)
-asked_eight words file session s rows (by_boot b is same files) old = eight_of files.schedule rows files.valid
-asked_eight words file session s rows (by_trace t is same files) old = eight_of files.schedule rows files.valid
-asked_eight words file session s rows (by_sample n is same parts) old = eight_of _ rows parts.valid
+-- of a kernel that a unit means a run comes to one state
+pub ones : RunsAreLawful → (s : ImageSystem) (rows : Rows) → RunsAreOne (booted s rows)
+ones laws s rows lines k c d = laws.same (booted s rows) lines k c d (laws.kernels s.unit s.params)
 
--- and has no more input words than there is room for
-asked_few : (words : List (List ℕ)) (file : List ℕ → Option (List ℕ)) (session : Session) (s : ImageSystem) (rows : Rows) → AskFor words file session s rows → length rows.inputs ≤ 4096
-asked_few words file session s rows (by_boot b is same files) = few_of files.schedule rows files.valid
-asked_few words file session s rows (by_trace t is same files) = few_of files.schedule rows files.valid
-asked_few words file session s rows (by_sample n is same parts) = few_of _ rows parts.valid
-
-pub boots_show : BootsShow
-boots_show P words status old new headlines session s rows before honest some view always =
+pub boots_stand : RunsAreLawful → BootsStand
+boots_stand laws words status old new headlines session s rows before honest some view =
     let h : Headline session s rows before old new status = headlines session s rows before honest some in
     let x = around rows old in
     let y = booted s rows in
     let first = first_state session s rows before in
     let held = sectors_needed session s rows in
-    let eight : HasEight (lines_of x first) = turns_have_eight x first (asked_eight words old.shelf.file session s rows honest.asked old) in
     let ran = subst (λ v. RanFrom x y first held before h.after v session.turns session.steps h.ending h.text) view h.ran in
     record {
-      printed = (h.text, h.printed, subst (λ (z : ExitStatus). Shows y P z h.text) (sym h.status_is) (ran_shows P x y always first eight held before h.after session.turns session.steps h.ending h.text ran));
-      no_fault = λ safe e. no_status h.ending (ran_safe P x y always first eight held before h.after session.turns session.steps h.ending h.text ran safe) (sym h.status_is ∙ e);
+      text = h.text;
+      printed = h.printed;
+      stands = subst (λ (z : ExitStatus). SessionStands session s rows before old z h.text) (sym h.status_is) (stands x y (ones laws s rows) first held before h.after session.turns session.steps h.ending h.text ran);
+      goes_on = h.goes_on;
+    }
+
+-- the schedule that is asked for raises eight lines
+pub asked_eight : (words : List (List ℕ)) (file : List ℕ → Option (List ℕ)) (session : Session) (s : ImageSystem) (rows : Rows) → AskFor words file session s rows → (old : Host) → HasEightLines (around rows old)
+asked_eight words file session s rows (by_boot b is same files) old = eight_of files.schedule rows files.valid
+asked_eight words file session s rows (by_trace t is same files) old = eight_of files.schedule rows files.valid
+asked_eight words file session s rows (by_sample n is same parts) old = eight_of _ rows parts.valid
+
+-- and has no more input words than there is room for
+pub asked_few : (words : List (List ℕ)) (file : List ℕ → Option (List ℕ)) (session : Session) (s : ImageSystem) (rows : Rows) → AskFor words file session s rows → length rows.inputs ≤ 4096
+asked_few words file session s rows (by_boot b is same files) = few_of files.schedule rows files.valid
+asked_few words file session s rows (by_trace t is same files) = few_of files.schedule rows files.valid
+asked_few words file session s rows (by_sample n is same parts) = few_of _ rows parts.valid
+
+pub boots_show : RunsAreLawful → BootsShow
+boots_show laws P words status old new headlines session s rows before honest some view always =
+    let b : BootStands session s rows before status old new = boots_stand laws words status old new headlines session s rows before honest some view in
+    let x = around rows old in
+    let first = first_state session s rows before in
+    let eight : HasEight (lines_of x first) = turns_have_eight x first (asked_eight words old.shelf.file session s rows honest.asked old) in
+    let has : P (lines_of x first) (turns_made x first session.turns session.steps) b.stands.state = always (lines_of x first) eight _ b.stands.state b.stands.is in
+    record {
+      printed = (b.text, b.printed, record { stands = b.stands; has = has });
+      no_fault = λ safe e. no_status (ending x first session.turns session.steps b.stands.state) (no_fault _ b.stands.state.status (safe _ _ b.stands.state has)) (sym b.stands.status_is ∙ e);
     }
 
 -- THE SOURCE of what is run
 same_image : (i j : Image) → ◌≡◌ {A = Result Image ImageFault} (Ok i) (Ok j) → i ≡ j
 same_image i j e = cc
 
-of_image : AcceptedAreOfImages → (source bytes : List ℕ) (s : ImageSystem) → Accepts layer_image (image_of bytes) (Ok s) → (h : HasSource source bytes) → IsOfImage h.0 s
+pub of_image : AcceptedAreOfImages → (source bytes : List ℕ) (s : ImageSystem) → Accepts layer_image (image_of bytes) (Ok s) → (h : HasSource source bytes) → IsOfImage h.0 s
 of_image law source bytes s accepted h =
     let a = subst (λ r. Accepts layer_image r (Ok s)) h.1 accepted in
     law layer_image h.0 a.0 s a.1 a.2
 
 -- the unit of what is run is that of its source, and it has room
-record IsRead (source : List ℕ) (s : ImageSystem) : Type 0 where
-  unit : IsUnitOf source s.unit
-  room : Roomy s
+pub record IsRead (source : List ℕ) (s : ImageSystem) : Type 0 where
+  pub unit : IsUnitOf source s.unit
+  pub room : Roomy s
 
 read_of_image : AcceptedAreOfImages → (source bytes : List ℕ) (s : ImageSystem) → Accepts layer_image (image_of bytes) (Ok s) → HasSource source bytes → IsRead source s
 read_of_image law source bytes s accepted h =
     let is : IsOfImage h.0 s = of_image law source bytes s accepted h in
     record { unit = subst (λ t. IsUnitOf t s.unit) h.2 is.unit; room = roomy h.0 s (room_of bytes h.0 h.1) is }
 
-asked_read : AcceptedAreOfImages → (source : List ℕ) (words : List (List ℕ)) (file : List ℕ → Option (List ℕ)) (session : Session) (s : ImageSystem) (rows : Rows)
+pub asked_read : AcceptedAreOfImages → (source : List ℕ) (words : List (List ℕ)) (file : List ℕ → Option (List ℕ)) (session : Session) (s : ImageSystem) (rows : Rows)
     → (a : AskFor words file session s rows) → AsksSource source a → IsRead source s
 asked_read law source words file session s rows (by_boot b is same files) h = read_of_image law source files.image s files.accepted h
 asked_read law source words file session s rows (by_trace t is same files) h = read_of_image law source files.image s files.accepted h
@@ -135,11 +169,11 @@ runs_its_source law source words session s rows before old new h a = (asked_read
 
 -- EACH BOOT OF A SOURCE shows a property that excludes faults, where the run of each system with that source's unit, with room for 64 words of stack and
 -- for its users, always has it
-pub boots_of : AcceptedAreOfImages → (source : List ℕ) (Is : ImageSystem → Type 0) (P : System → OfStates)
+pub boots_of : AcceptedAreOfImages → RunsAreLawful → (source : List ℕ) (Is : ImageSystem → Type 0) (P : System → OfStates)
     → ((s : ImageSystem) (rows : Rows) → IsUnitOf source s.unit → Roomy s → Is s → length rows.inputs ≤ 4096 → AlwaysHas (booted s rows) (P (booted s rows)))
     → ((y : System) (lines : ℕ → ℕ) (k : ℕ) (c : Cvm) → P y lines k c → IsSafe c.status) → BootsOf source Is P
-boots_of law source Is P always safe words status old new headlines session s rows before h some view asks is =
+boots_of law laws source Is P always safe words status old new headlines session s rows before h some view asks is =
     let read : IsRead source s = asked_read law source words old.shelf.file session s rows h.asked asks in
     let few : length rows.inputs ≤ 4096 = asked_few words old.shelf.file session s rows h.asked in
-    let shown = boots_show (P (booted s rows)) words status old new headlines session s rows before h some view (always s rows read.unit read.room is few) in
+    let shown = boots_show laws (P (booted s rows)) words status old new headlines session s rows before h some view (always s rows read.unit read.room is few) in
     (shown.no_fault (safe (booted s rows)), shown.printed)

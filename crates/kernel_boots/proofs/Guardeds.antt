@@ -1,7 +1,7 @@
 -- Each boot of the guarded kernel: no state of its run has a fault.
 use Rattle.std.proofs.Common.{◌≡◌, ◌≤◌, ℕ, zero, suc, length, Some, subst, arith}
 use Rattle.cvm_model.specs.Cvm.{System, Cvm, IsCvm, first_cvm}
-use Rattle.cvm_model.specs.Invariant.{HasEight, IsSafe}
+use Rattle.cvm_model.specs.Invariant.{HasEight, IsSafe, RunsAreLawful}
 use Rattle.kernel_linker.specs.Sources.{AcceptedAreOfImages}
 use Rattle.cvm_shell.specs.Boot.{booted}
 use Rattle.kernel_theorems.specs.Text.{Means}
@@ -17,7 +17,7 @@ safe : GuardedNeverFaults → (y : System) → RunsGuarded y → (lines : ℕ �
 safe law y r lines eight zero c is = at_start y c is.is
 safe law y r lines eight (suc k) c is = (law y r lines eight k).1 c is
 
-pub guarded_kernels_boot : AcceptedAreOfImages → GuardedNeverFaults → Means text guarded → GuardedKernelsBoot
-guarded_kernels_boot images law means = boots_of images text (λ s. 1 ≤ length s.users) (λ y lines k c. IsSafe c.status)
+pub guarded_kernels_boot : AcceptedAreOfImages → RunsAreLawful → GuardedNeverFaults → Means text guarded → GuardedKernelsBoot
+guarded_kernels_boot images laws law means = boots_of images laws text (λ s. 1 ≤ length s.users) (λ y lines k c. IsSafe c.status)
     (λ s rows unit roomy is few lines eight k c h. safe law (booted s rows) (record { meaning_is = means s.unit s.params unit; some = is; room = omega (arith, roomy.stack) }) lines eight k c h)
     (λ y lines k c h. h)

@@ -1,6 +1,7 @@
-mod EightLines
+pub mod EightLines
 pub mod Room
 pub mod Boots
+pub mod Systems
 mod RoundRobins
 mod Guardeds
 mod Mailboxes

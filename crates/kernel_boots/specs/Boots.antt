@@ -1,10 +1,15 @@
 -- What each boot of an image shows, where each state of the abstract run has a property: over the headline of `run` (cvm_shell/src/lib.rt) as it stands.
-use Rattle.std.specs.Prelude.{◌≡◌, ◌≢◌, ℕ, List, Option, Ok}
+use Rattle.std.specs.Prelude.{◌≡◌, ◌≢◌, true, ℕ, List, Option, Ok}
 use Rattle.std.specs.Io.KnownBytes.{append_known}
 use Rattle.schedule_file.specs.Rows.{Rows}
 use Rattle.boot_image.specs.Parts.{Parts as Image}
 use Rattle.boot_image.specs.Reading.{answer as image_of}
+use Rattle.mips_table.specs.Device.{Outside}
+use Rattle.mips_table.specs.Machine.{State}
+use Rattle.mips_table.specs.Turns.{complete, lines_of, is_end, end_within}
 use Rattle.boot_turns.specs.declared.answers.View.TheVariants.{Boot}
+use Rattle.boot_turns.specs.Headline.{ending}
+use Rattle.boot_turns.specs.TurnEnds.{IsOver}
 use Rattle.c0_types.specs.Front.{IsUnitOf}
 use Rattle.cvm_model.specs.Cvm.{System, Cvm, IsCvm}
 use Rattle.cvm_model.specs.Invariant.{HasEight, IsSafe}
@@ -14,7 +19,7 @@ use Rattle.cvm_shell.specs.declared.exit_status.ExitStatus.{ExitStatus}
 use Rattle.cvm_shell.specs.declared.exit_status.ExitStatus.TheVariants.{KernelFault, StepLimit, Memory}
 use Rattle.cvm_shell.specs.declared.boot.Session.{Session}
 use Rattle.cvm_shell.specs.Host.{Host}
-use Rattle.cvm_shell.specs.Boot.{booted, AskFor, by_boot, by_trace, by_sample, IsHonest}
+use Rattle.cvm_shell.specs.Boot.{booted, around, first_state, ended_as, SessionGoesOn, AskFor, by_boot, by_trace, by_sample, IsHonest}
 use Rattle.cvm_shell.specs.CommandEnds.{Headlines}
 
 -- a property of a state after so many turns with these lines
@@ -30,25 +35,54 @@ abbrev pub TextOfState : System → ExitStatus → Cvm → List ℕ → Type 0
 TextOfState y StepLimit c text = text ≡ rows_text c.rows
 TextOfState y other c text = text ≡ boot_text y c
 
--- a text is that of a state that has the property
-pub record Shows (y : System) (P : OfStates) (status : ExitStatus) (text : List ℕ) : Type 0 where
-  pub lines : ℕ → ℕ
-  pub turns : ℕ
+-- how many turns of a run from a state are complete at the headline's step
+abbrev pub turns_made : Outside → State → (turns steps : ℕ) → ℕ
+turns_made x s turns steps = complete x s (end_within x s turns steps)
+
+-- WHERE A RUN STANDS at the headline's step: at the state of its own turns, with the lines that its machine met. Status and text are by that state; and
+-- where the run ended, its turns are complete or it has halted or faulted, and the machine rests as the status says and stands for that state.
+pub record StandsAt (x : Outside) (y : System) (s : State) (turns steps : ℕ) (status : ExitStatus) (text : List ℕ) : Type 0 where
   pub state : Cvm
-  pub is : IsCvm y lines turns state
-  pub has : P lines turns state
+  pub is : IsCvm y (lines_of x s) (turns_made x s turns steps) state
+  pub status_is : status ≡ ended_as (ending x s turns steps state)
   pub text_is : TextOfState y status state text
+  pub over : is_end x s turns (end_within x s turns steps) ≡ true → IsOver x y s turns (end_within x s turns steps) state
+
+-- a text is that of the state where a run stands, which has the property
+pub record Shows (x : Outside) (y : System) (s : State) (turns steps : ℕ) (P : OfStates) (status : ExitStatus) (text : List ℕ) : Type 0 where
+  pub stands : StandsAt x y s turns steps status text
+  pub has : P (lines_of x s) (turns_made x s turns steps) stands.state
+
+-- the run of a session
+abbrev pub SessionStands : Session → ImageSystem → Rows → (before : List (List ℕ)) → Host → ExitStatus → List ℕ → Type 0
+SessionStands session s rows before old = StandsAt (around rows old) (booted s rows) (first_state session s rows before) session.turns session.steps
+
+abbrev pub SessionShows : Session → ImageSystem → Rows → (before : List (List ℕ)) → Host → OfStates → ExitStatus → List ℕ → Type 0
+SessionShows session s rows before old = Shows (around rows old) (booted s rows) (first_state session s rows before) session.turns session.steps
+
+-- A BOOT STANDS SO: what it printed is the text of the state where its run stands; and the machine comes to the end of every turn of that run, within its bound
+pub record BootStands (session : Session) (s : ImageSystem) (rows : Rows) (before : List (List ℕ)) (status : ExitStatus) (old new : Host) : Type 0 where
+  pub text : List ℕ
+  pub printed : new.sink.text ≡ append_known old.sink.text text
+  pub stands : SessionStands session s rows before old status text
+  pub goes_on : SessionGoesOn session old s rows before
+
+-- a law: EACH BOOT with no failed call shows the state of its own run
+abbrev pub BootsStand : Type 0
+BootsStand = (words : List (List ℕ)) (status : ExitStatus) (old new : Host) → Headlines (λ (o : Host). o) words status old new
+    → (session : Session) (s : ImageSystem) (rows : Rows) (before : List (List ℕ)) → IsHonest words session s rows before old new
+    → status ≢ Memory → session.view ≡ Boot → BootStands session s rows before status old new
 
 -- A BOOT SHOWS IT: what it printed is the text of such a state; and where the property excludes faults, its status is not that of a kernel's fault
-pub record BootShows (y : System) (P : OfStates) (old new : Host) (status : ExitStatus) : Type 0 where
-  pub printed : (text : List ℕ) × (new.sink.text ≡ append_known old.sink.text text) × Shows y P status text
+pub record BootShows (session : Session) (s : ImageSystem) (rows : Rows) (before : List (List ℕ)) (P : OfStates) (old new : Host) (status : ExitStatus) : Type 0 where
+  pub printed : (text : List ℕ) × (new.sink.text ≡ append_known old.sink.text text) × SessionShows session s rows before old P status text
   pub no_fault : ((lines : ℕ → ℕ) (k : ℕ) (c : Cvm) → P lines k c → IsSafe c.status) → status ≢ KernelFault
 
 -- THE COROLLARY, for any property of states: by the headline of `run` each boot with no failed call shows it, where the system's run always has it
 abbrev pub BootsShow : Type 1
 BootsShow = (P : OfStates) (words : List (List ℕ)) (status : ExitStatus) (old new : Host) → Headlines (λ (o : Host). o) words status old new
     → (session : Session) (s : ImageSystem) (rows : Rows) (before : List (List ℕ)) → IsHonest words session s rows before old new
-    → status ≢ Memory → session.view ≡ Boot → AlwaysHas (booted s rows) P → BootShows (booted s rows) P old new status
+    → status ≢ Memory → session.view ≡ Boot → AlwaysHas (booted s rows) P → BootShows session s rows before P old new status
 
 -- the bytes of an image that has this source
 abbrev pub HasSource : List ℕ → List ℕ → Type 0
@@ -67,12 +101,14 @@ RunsItsSource = (source : List ℕ) (words : List (List ℕ)) (session : Session
     → (h : IsHonest words session s rows before old new) → AsksSource source h.asked → IsUnitOf source s.unit
 
 -- what it printed is the text of a state that has the property, and its status is no kernel's fault
-abbrev pub ShowsOf : System → OfStates → (old new : Host) → ExitStatus → Type 0
-ShowsOf y P old new status = (status ≢ KernelFault) × ((text : List ℕ) × (new.sink.text ≡ append_known old.sink.text text) × Shows y P status text)
+abbrev pub ShowsOf : Session → ImageSystem → Rows → (before : List (List ℕ)) → OfStates → (old new : Host) → ExitStatus → Type 0
+ShowsOf session s rows before P old new status =
+    (status ≢ KernelFault) × ((text : List ℕ) × (new.sink.text ≡ append_known old.sink.text text) × SessionShows session s rows before old P status text)
 
 -- EACH BOOT of an image with this source: where a fact of its system is given (how many users it has), it shows a property that excludes faults. A boot is
 -- one by `boot`, `rom` or `sample` under the headline's premises, with a status other than 8.
 abbrev pub BootsOf : (source : List ℕ) → (ImageSystem → Type 0) → (System → OfStates) → Type 0
 BootsOf source Is P = (words : List (List ℕ)) (status : ExitStatus) (old new : Host) → Headlines (λ (o : Host). o) words status old new
     → (session : Session) (s : ImageSystem) (rows : Rows) (before : List (List ℕ)) → (h : IsHonest words session s rows before old new)
-    → status ≢ Memory → session.view ≡ Boot → AsksSource source h.asked → Is s → ShowsOf (booted s rows) (P (booted s rows)) old new status
+    → status ≢ Memory → session.view ≡ Boot → AsksSource source h.asked → Is s
+    → ShowsOf session s rows before (P (booted s rows)) old new status

@@ -2,11 +2,13 @@
 //! `boot`, `rom` or `sample` under the headline's premises (`IsHonest`: among them that no call fails), with another status than 8.
 #![tactic(auto)]
 
-ghost use Rattle.kernel_boots.specs.Boots.{RunsItsSource};
+ghost use Rattle.kernel_boots.specs.Boots.{BootsStand, RunsItsSource};
 ghost use Rattle.kernel_boots.specs.Guardeds.{GuardedKernelsBoot};
 ghost use Rattle.kernel_boots.specs.Mailboxes.{MailboxesBoot};
 ghost use Rattle.kernel_boots.specs.RoundRobins.{RoundRobinsBoot};
+ghost use Rattle.kernel_boots.specs.Systems.{BootsAreChains};
 
+use cvm_model::reasoning::{runs_are_chains, runs_are_lawful};
 use kernel_linker::laws::accepted_systems_are_of_their_images;
 use kernel_theorems::guarded::{guarded_never_faults, text_is_guarded};
 use kernel_theorems::mailbox::{messages_are_delivered, text_is_mailbox};
@@ -20,11 +22,28 @@ pub fn boots_run_their_source()
     accepted_systems_are_of_their_images();
 }
 
+/// A law: each boot with no failed call printed the text of the state of its own run at the step where it ended, its status is by that state, and the machine
+/// rests as that state says.
+pub fn boots_show_their_states()
+    ensures { BootsStand }
+{
+    runs_are_lawful();
+}
+
+/// A law: the state that a boot shows is reached by a chain of dispatches from the start, whose rows it printed, whatever its kernel and its users are.
+pub fn boots_are_chains()
+    ensures { BootsAreChains }
+{
+    runs_are_lawful();
+    runs_are_chains();
+}
+
 /// A law: each boot of an image with the round robin's text and three users prints its rows in order, and its status is no kernel's fault.
 pub fn round_robins_boot()
     ensures { RoundRobinsBoot }
 {
     accepted_systems_are_of_their_images();
+    runs_are_lawful();
     round_robin_is_fair();
     texts_mean_trees();
     text_is_round_robin();
@@ -35,6 +54,7 @@ pub fn guarded_kernels_boot()
     ensures { GuardedKernelsBoot }
 {
     accepted_systems_are_of_their_images();
+    runs_are_lawful();
     guarded_never_faults();
     texts_mean_trees();
     text_is_guarded();
@@ -46,6 +66,7 @@ pub fn mailboxes_boot()
     ensures { MailboxesBoot }
 {
     accepted_systems_are_of_their_images();
+    runs_are_lawful();
     messages_are_delivered();
     texts_mean_trees();
     text_is_mailbox();

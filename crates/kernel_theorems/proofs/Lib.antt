@@ -12,3 +12,4 @@ mod Mailboxes
 mod MailboxTexts
 mod Loggings
 mod LoggingTexts
+pub mod UserRuns

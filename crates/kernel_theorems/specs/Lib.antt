@@ -11,3 +11,4 @@ pub mod MailboxTree
 pub mod Mailbox
 pub mod LoggingTree
 pub mod Logging
+pub mod UserRuns

@@ -1,10 +1,11 @@
 //! Properties of kernels, proved of all their runs: each function is a law, and docs/VERIFYING.md goes through them line by line.
 #![tactic(auto)]
 
-ghost use Rattle.kernel_theorems.specs.Text.{TextsMeanTrees};
+ghost use Rattle.kernel_theorems.specs.Text.{ProgramTextsMeanTrees, TextsMeanTrees};
 
+use c0_meaning::program_laws::programs_ignore_places;
 use c0_parser::sources_read_by_walks;
-use c0_types::laws::sources_have_one_answer;
+use c0_types::laws::{programs_have_one_answer, sources_have_one_answer};
 use cvm_model::reasoning::meanings_ignore_places;
 
 pub mod guarded;
@@ -21,4 +22,13 @@ pub fn texts_mean_trees()
     sources_read_by_walks();
     sources_have_one_answer();
     meanings_ignore_places();
+}
+
+/// A law: so does a user program's text.
+pub fn program_texts_mean_trees()
+    ensures { ProgramTextsMeanTrees }
+{
+    sources_read_by_walks();
+    programs_have_one_answer();
+    programs_ignore_places();
 }

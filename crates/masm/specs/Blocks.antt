@@ -4,6 +4,10 @@ use Rattle.mips_table.specs.declared.inst.Inst.{Inst}
 use Rattle.mips_table.specs.declared.inst.Inst.TheVariants.{Beq}
 use Rattle.mips_table.specs.Encoding.{encoding}
 
+-- the 16 bits of a number that is taken off
+abbrev pub minus : ℕ → ℕ
+minus n = 65536 - n
+
 -- the body is run where the register isn't 0
 abbrev pub when_code : ℕ → List Inst → List Inst
 when_code r body = Beq r 0 (length body) ∷ body

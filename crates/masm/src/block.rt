@@ -14,6 +14,9 @@ pub struct Block<const CAP: usize> {
     words: ArrayVec<u32, CAP>,
 }
 
+/// Machine code of at most 512 words.
+pub type Code = Block<512>;
+
 impl<const CAP: usize> Model for Block<CAP> {
     ghost use Rattle.std.specs.Prelude.{List, ℕ, ◌≤◌, length};
 

@@ -4,10 +4,14 @@
 //! the list of its words.
 #![tactic(auto)]
 
+mod assembly;
 mod block;
 pub mod copying;
 pub mod laws;
 pub mod registers;
+pub mod roles;
 pub mod waiting;
 
-pub use block::Block;
+pub use assembly::extend;
+pub use block::{Block, Code};
+pub use mips_table::Inst;

@@ -6,7 +6,7 @@ ghost use Rattle.real_layer.specs.Image.{interrupt_code, filled, variables, bloc
 
 use crate::routines::lay_routines;
 use layer_map::Map;
-use masm::Block;
+use masm::Code;
 use std::alloc::{AllocError, Global};
 use trap_entry::handle_interrupts;
 
@@ -57,7 +57,7 @@ fn first_variables(map: &Map) -> [u32; 7]
 }
 
 // The handler of interrupts.
-fn interrupts(map: &Map) -> Block<338>
+fn interrupts(map: &Map) -> Code
     ensures { result ≡ each encoding (interrupt_code map.now) }
 {
     handle_interrupts(map)

@@ -31,6 +31,7 @@ pub fn semaphores_boot()
     ensures { SemaphoresBoot }
 {
     accepted_systems_are_of_their_images();
+    runs_are_lawful();
     property_holds();
     texts_mean_trees();
     text_is_tree();

@@ -2,9 +2,7 @@
 use Rattle.std.specs.Prelude.{◌≡◌, ℕ, ◌<◌, ◌≤◌, List, [], ◌∷◌, length, All}
 use Rattle.mips_table.specs.Fits.{IsWord}
 use Rattle.c0_tree.specs.declared.primitive.Program.TheVariants.{User}
-use Rattle.c0_tree.specs.declared.tree.Unit.{Unit as Source}
 use Rattle.c0_tree.specs.Tree.{CUnit}
-use Rattle.c0_tree.specs.View.{unit_view}
 use Rattle.c0_meaning.specs.Unit.{IsCheckedAs}
 use Rattle.layer_map.specs.Map.{tables_at}
 use Rattle.user_c0.specs.declared.fault.UserFault.{UserFault}
@@ -23,11 +21,11 @@ fault_fields Memory = []
 
 -- A LAW: an image has as many words as its parts take, which is whole pages
 abbrev pub ImagesAreWhole : Type 0
-ImagesAreWhole = (s : Source) → IsCheckedAs User (unit_view s) → length (image_words (unit_view s)) ≡ tables_at (map_of (unit_view s))
+ImagesAreWhole = (u : CUnit) → IsCheckedAs User u → length (image_words u) ≡ tables_at (map_of u)
 
 -- A LAW: where an image isn't too large, each of its words is below 2^32
 abbrev pub ImagesAreWords : Type 0
-ImagesAreWords = (s : Source) → IsCheckedAs User (unit_view s) → tables_at (map_of (unit_view s)) ≤ MAX_IMAGE → All IsWord (image_words (unit_view s))
+ImagesAreWords = (u : CUnit) → IsCheckedAs User u → tables_at (map_of u) ≤ MAX_IMAGE → All IsWord (image_words u)
 
 -- a program is refused for its size where its image has more words than an image may have, and these are its words
 abbrev pub IsFaultOf : CUnit → UserFault → Type 0

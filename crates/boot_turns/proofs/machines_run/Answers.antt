@@ -5,4 +5,4 @@ use Rattle.boot_turns.proofs.MachinesRun.{machines_run}
 use Rattle.boot_turns.proofs.machines_run.Goals as goal
 
 pub returns : goal.returns
-returns c = λ (u : CUnit). machines_run c.starts_go_on.ensures c.users_follow_linked.ensures (IsTypedState u)
+returns c = λ (u : CUnit). machines_run c.turns_are_counted.ensures c.starts_go_on.ensures c.users_follow_linked.ensures (IsTypedState u)

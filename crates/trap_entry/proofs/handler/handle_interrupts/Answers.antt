@@ -9,4 +9,4 @@ use Rattle.trap_entry.proofs.handler.handle_interrupts.Goals as goal
 
 pub returns : goal.returns
 returns c = words_are c.words_are_encodings.ensures front_code (work_code (places_of c.args.map.now) (page_code (places_of c.args.map.now)) ++ Eret ∷ []) kernel_code (J 0x4000) 8
-    _ _ _ _ _ _ _ _ c.front.ensures c.work.ensures c.kernel.ensures c.new-code.ensures c.then.ensures c.when.ensures c.then-2.ensures c.push.ensures
+    _ _ _ _ _ _ _ _ c.front.ensures c.handle_fault.ensures c.kernel.ensures c.block-new.ensures c.block-then.ensures c.block-when.ensures c.block-then-2.ensures c.block-push.ensures

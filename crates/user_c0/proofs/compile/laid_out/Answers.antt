@@ -28,7 +28,7 @@ returns-clause-runs c =
     c.in_ok-laid.ensures
     ∙ same_parts c.args.code.now (program_words (unit_view c.args.unit.now)) c.heap.result _ c.stack.result _ _ _ c.requires.code (c.heap.ensures ∙ ap (λ (m : Map). 4 * heap_at m) c.requires.map)
     (c.stack.ensures ∙ ap (λ (m : Map). 4 * stack_at m) c.requires.map) (omega (arith, tables)) in
-    let whole = c.images_are_whole.ensures c.args.unit.now c.unit-unit.ensures.checked in
+    let whole = c.images_are_whole.ensures (unit_view c.args.unit.now) c.unit-unit.ensures.checked in
     let most = c.requires.most in
     subst (λ (ws : List ℕ). RunsAsMeant (unit_view c.args.unit.now) (first_flat ws)) (sym words)
-    (c.images_run.ensures c.args.unit.now c.unit-unit.ensures.checked (omega (arith, whole, most)))
+    (c.images_run.ensures (unit_view c.args.unit.now) c.unit-unit.ensures.checked (omega (arith, whole, most)))

@@ -1,14 +1,13 @@
 -- The unit's instructions are in range, and the addresses of heap and stack are small.
 use Rattle.c0_tree.specs.declared.primitive.Program.TheVariants.{User}
 use Rattle.c0_tree.specs.Primitives.{user_primitives}
-use Rattle.c0_tree.specs.View.{unit_view}
 use Rattle.c0_meaning.specs.Limits.{first_number}
 use Rattle.user_c0.proofs.laws.images_are_words.Goals as goal
 use Rattle.user_c0.proofs.Holding.{fits}
 use Rattle.user_c0.proofs.ImageWords.{are_words}
 
 pub returns : goal.returns
-returns c = λ s checked small.
-    let places = c.units_have_places.ensures user_primitives s checked.well_formed in
-    let stands = c.units_stand.ensures user_primitives (unit_view s) checked.well_formed (first_number User (unit_view s)) places.0 places.1 in
-    are_words (unit_view s) (fits (unit_view s) places.0 stands) small stands.in_range
+returns c = λ u checked small.
+    let places = c.trees_have_places.ensures user_primitives u checked.well_formed in
+    let stands = c.units_stand.ensures user_primitives u checked.well_formed (first_number User u) places.0 places.1 in
+    are_words u (fits u places.0 stands) small stands.in_range

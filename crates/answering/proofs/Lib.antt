@@ -1,0 +1,3 @@
+mod Property
+mod Texts
+mod Answered

@@ -1,0 +1,20 @@
+-- What a user's own program does: its machine after untrapped steps, up to the step that traps. For theorems of whole systems, whose users are known.
+use Rattle.std.specs.Prelude.{◌≡◌, ◌<◌, ℕ, zero, suc}
+use Rattle.mips_table.specs.declared.cause.Cause.{Cause}
+use Rattle.mips_table.specs.Flat.{Flat, VStep, Next as Goes, Trap, vstep}
+use Rattle.cvm_model.specs.Invariant.{machine_after}
+
+-- the machine after n steps, which the last one of them may leave by a trap
+abbrev pub after : ℕ → Flat → Flat
+after zero f = f
+after (suc n) f = machine_after (vstep (after n f))
+
+abbrev pub IsGoes : VStep → Type 0
+IsGoes (Goes f) = Unit {0}
+IsGoes (Trap f cause edata) = ⊥
+
+-- the machine makes so many untrapped steps, and the one behind them traps by this cause
+pub record TrapsAfter (f : Flat) (steps : ℕ) (cause : Cause) : Type 0 where
+  pub goes : (t : ℕ) → t < steps → IsGoes (vstep (after t f))
+  pub edata : ℕ
+  pub traps : vstep (after steps f) ≡ Trap (after (suc steps) f) cause edata

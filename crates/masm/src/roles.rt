@@ -1,0 +1,102 @@
+//! What the layer keeps in registers and reads from special ones, by name.
+//!
+//! The temporaries of one block are T0 to T3. All others keep their meaning from block to block.
+
+/// Always 0.
+pub const ZERO: u32 = 0;
+
+/// A temporary.
+pub const T0: u32 = 8;
+
+/// A temporary.
+pub const T1: u32 = 9;
+
+/// A temporary.
+pub const T2: u32 = 10;
+
+/// A temporary.
+pub const T3: u32 = 11;
+
+/// The address of the words that are copied.
+pub const SOURCE: u32 = 1;
+
+/// Whether a frame has to be filled.
+pub const FILL: u32 = 12;
+
+/// Whether the page is to be stored to.
+pub const WRITE: u32 = 15;
+
+/// The page that is asked for: its number over all users.
+pub const PAGE: u32 = 16;
+
+/// The user frame at the hand: its number, from 0.
+pub const VICTIM: u32 = 17;
+
+/// The address of the frame at the hand.
+pub const VICTIM_AT: u32 = 18;
+
+/// The address of the count of the frame at the hand, before its list.
+pub const LIST: u32 = 19;
+
+/// The address of the page's entry.
+pub const ENTRY: u32 = 20;
+
+/// The frame that an entry names.
+pub const FRAME: u32 = 21;
+
+/// The address before the next slot of a list.
+pub const SLOT: u32 = 22;
+
+/// How many pages of a list are left.
+pub const LEFT: u32 = 23;
+
+/// Whether the entry is valid.
+pub const VALID: u32 = 24;
+
+/// Whether it isn't.
+pub const ABSENT: u32 = 25;
+
+/// The address of a user's control block.
+pub const BLOCK: u32 = 31;
+
+/// Special register: whether external interrupts are taken.
+pub const SR: u32 = 0;
+
+/// Special register: what SR becomes at an eret.
+pub const ESR: u32 = 1;
+
+/// Special register: the cause of the interrupt.
+pub const ECA: u32 = 2;
+
+/// Special register: the pc to which an eret goes.
+pub const EPC: u32 = 3;
+
+/// Special register: the address or the word that the interrupt concerns.
+pub const EDATA: u32 = 4;
+
+/// Special register: the address of the current user's page table.
+pub const PTO: u32 = 5;
+
+/// Special register: the number of pages of the current user.
+pub const PTL: u32 = 6;
+
+/// Special register: the mode.
+pub const MODE: u32 = 7;
+
+/// Special register: the mode to which an eret goes.
+pub const EMODE: u32 = 8;
+
+/// In an entry: it is valid.
+pub const IS_VALID: u32 = 2048;
+
+/// In an entry: its page is protected.
+pub const IS_PROTECTED: u32 = 1024;
+
+/// The address of the power port, as a store's offset from 0.
+pub const POWER: u32 = 0xf008;
+
+/// Cause of an interrupt: translation refuses the pc.
+pub const FETCH_FAULT: u32 = 3;
+
+/// Cause of an interrupt: translation refuses the address of a load or a store.
+pub const DATA_FAULT: u32 = 8;

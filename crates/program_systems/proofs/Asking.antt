@@ -1,0 +1,123 @@
+-- A program that asks, is answered, and ends: by its next call, and by its end behind the answer.
+use Rattle.std.specs.Prelude.{ℤ, pos, map}
+use Rattle.std.specs.Int.{w32, cast_unsigned}
+use Rattle.std.proofs.Common.{◌≡◌, ℕ, suc, ◌+◌, ◌^◌, ◌<◌, ◌≤◌, List, [], ◌∷◌, ◌++◌, length, Option, Some, refl, sym, ap, ◌∙◌, subst, arith}
+use Rattle.mips_table.specs.Device.{Outside}
+use Rattle.mips_table.specs.Machine.{State}
+use Rattle.mips_table.specs.Flat.{Flat}
+use Rattle.c0_tree.specs.Tree.{CUnit}
+use Rattle.c0_meaning.specs.RunLaws.{HasEnded}
+use Rattle.c0_meaning.specs.UserProgram.{Seen, prog, done}
+use Rattle.cvm_model.specs.Cvm.{System, first_flat}
+use Rattle.cvm_shell.specs.declared.exit_status.ExitStatus.{ExitStatus}
+use Rattle.cvm_shell.specs.Boot.{booted, around, first_state, steps_before}
+use Rattle.user_c0.specs.Image.{image_words}
+use Rattle.user_c0.specs.Events.{Event, step, call, other, replies, calls, others, untrapped, answer_of, answers}
+use Rattle.user_c0.specs.Program.{EndsBy, steps_of}
+use Rattle.user_c0.specs.Users.{HasCome, UsersGoOn, IntsAreTold}
+use Rattle.kernel_theorems.specs.UserRuns.{after}
+use Rattle.answering.specs.Property.{told}
+use Rattle.answering.specs.Boots.{AnswersShown, AnyUsersAnswered}
+use Rattle.program_systems.specs.Coming.{CallsNext, CallsCome, EndsNext, EndsCome}
+use Rattle.program_systems.specs.Answered.{BringsAndEnds, AskedAndEnded, ProgramsAskAndEnd, ProgramsAnsweredShown, AnyProgramsAnswered}
+use Rattle.program_systems.proofs.Programs.{fewer_turns}
+
+-- a call more
+replies_call : (es : List Event) (x : Option ℕ) → replies (es ++ call x ∷ []) ≡ replies es ++ x ∷ []
+replies_call [] x = refl
+replies_call (step ∷ es) x = replies_call es x
+replies_call (call r ∷ es) x = ap (λ rs. r ∷ rs) (replies_call es x)
+replies_call (other c d ∷ es) x = replies_call es x
+
+others_call : (es : List Event) (x : Option ℕ) → others es ≡ [] → others (es ++ call x ∷ []) ≡ []
+others_call [] x e = refl
+others_call (step ∷ es) x e = others_call es x e
+others_call (call r ∷ es) x e = others_call es x e
+others_call (other c d ∷ es) x e = absurd (cc)
+
+untrapped_call : (es : List Event) (x : Option ℕ) → untrapped (es ++ call x ∷ []) ≡ untrapped es
+untrapped_call [] x = refl
+untrapped_call (step ∷ es) x = ap suc (untrapped_call es x)
+untrapped_call (call r ∷ es) x = untrapped_call es x
+untrapped_call (other c d ∷ es) x = untrapped_call es x
+
+-- over a machine that stands for the first one, and a word that tells the answer
+module _ (ends : EndsCome) (u : CUnit) (n value answer : ℕ) (b : BringsAndEnds u n value answer) (f : Flat) (r : CallsNext u [] f n (pos value)) (word : ℕ) (small : word < 2 ^ 32) (tells : answer_of (Some word) ≡ pos answer) where
+  abbrev es : List Event
+  es = r.events ++ call (Some word) ∷ []
+
+  its_replies : replies es ≡ Some word ∷ []
+  its_replies = replies_call r.events (Some word) ∙ ap (λ rs. rs ++ Some word ∷ []) r.replies_are
+
+  its_answers : answers es ≡ pos answer ∷ []
+  its_answers = ap (map answer_of) its_replies ∙ ap (λ (z : ℤ). z ∷ []) tells
+
+  seen : prog u (answers es) n ≡ record { arguments = pos value ∷ []; ending = done }
+  seen = ap (λ given. prog u given n) its_answers ∙ b.ends
+
+  its_end : (g : Flat) → HasCome u es g → EndsNext u es g n
+  its_end g come = ends u es g n b.program come (others_call r.events (Some word) r.others_are) (subst (λ (p : Seen). HasEnded p.ending) (sym seen) tt)
+      (ap (λ (p : Seen). length p.arguments) seen ∙ sym (ap length its_replies))
+
+  by_end : (g : Flat) → HasCome u es g → (e : EndsNext u es g n) → e.traps.edata ≡ 76
+  by_end g come e = subst (λ (p : Seen). EndsBy p.ending e.traps.edata) seen e.ends
+
+  few : (g : Flat) (e : EndsNext u es g n) → r.steps + e.steps ≤ steps_of n
+  few g e =
+      let a = r.few in
+      let c = r.count in
+      let d = untrapped_call r.events (Some word) in
+      let k = e.few in
+      omega (arith, a, c, d, k)
+
+-- with the word that the kernel sets
+asked : EndsCome → IntsAreTold → (u : CUnit) (n value answer : ℕ) → BringsAndEnds u n value answer → answer < 2 ^ 31 → (f : Flat) → CallsNext u [] f n (pos value) → AskedAndEnded f (steps_of n) value answer
+asked ends ints u n value answer b less f r =
+    let t = ints (pos answer) (record { sfits = omega (arith, less) }) in
+    let word = cast_unsigned w32 (pos answer) in
+    let come : HasCome u (r.events ++ call (Some (cast_unsigned w32 (pos answer))) ∷ []) (told (after (suc r.steps) f) answer) = r.answered (cast_unsigned w32 (pos answer)) t.0 in
+    let e : EndsNext u (r.events ++ call (Some (cast_unsigned w32 (pos answer))) ∷ []) (told (after (suc r.steps) f) answer) n =
+    its_end ends u n value answer b f r (cast_unsigned w32 (pos answer)) t.0 t.1 (told (after (suc r.steps) f) answer) come in
+    record {
+      steps = r.steps;
+      rest = e.steps;
+      few = few ends u n value answer b f r (cast_unsigned w32 (pos answer)) t.0 t.1 (told (after (suc r.steps) f) answer) e;
+      runs = record {
+        asks = r.traps;
+        asks_by = r.edata_is;
+        value_is = r.argument;
+        ends = e.traps;
+        ends_by = by_end ends u n value answer b f r (cast_unsigned w32 (pos answer)) t.0 t.1 (told (after (suc r.steps) f) answer) come e;
+      };
+    }
+
+pub programs_ask_and_end : UsersGoOn → CallsCome → EndsCome → IntsAreTold → ProgramsAskAndEnd
+programs_ask_and_end go calls ends ints u n value answer b less =
+    asked ends ints u n value answer b less (first_flat (image_words u)) (calls u [] (first_flat (image_words u)) n (pos value) b.program (go.starts u) refl b.calls)
+
+-- WITH TURNS BY UNITS
+fewer : (a b c d n k raised : ℕ) → a + b ≤ n → c + d ≤ k → 5 + a + b + c + d + raised ≤ 5 + n + k + raised
+fewer a b c d n k raised la lb = omega (arith, la, lb)
+
+module _ (x : Outside) (y : System) (s : State) (late raised turns steps : ℕ) (one two : CUnit) (n k v w : ℕ) (first : AskedAndEnded (first_flat (image_words one)) (steps_of n) v v)
+    (second : AskedAndEnded (first_flat (image_words two)) (steps_of k) w (v + w)) (status : ExitStatus) (text : List ℕ)
+    (h : AnswersShown x y s late raised turns steps first.steps first.rest second.steps second.rest v w (first_flat (image_words one)) (first_flat (image_words two)) status text) where
+  shown : ProgramsAnsweredShown x y s late raised turns steps one two n k v w status text
+  shown = record {
+    first = first;
+    second = second;
+    shows = h;
+    halted = λ enough long.
+        let le = fewer first.steps first.rest second.steps second.rest (steps_of n) (steps_of k) raised first.few second.few in
+        h.halted (omega (arith, le, enough)) (fewer_turns y (5 + first.steps + first.rest + second.steps + second.rest + raised) (5 + steps_of n + steps_of k + raised) (5 + raised) 100 0 late steps le long);
+  }
+
+pub any_programs_answered : ProgramsAskAndEnd → AnyUsersAnswered → AnyProgramsAnswered
+any_programs_answered does law one two n k v w first second fits words status old new headlines session s rows before h some view system =
+    let c : AskedAndEnded (first_flat (image_words one)) (steps_of n) v v = does one n v v first (omega (arith, fits)) in
+    let d : AskedAndEnded (first_flat (image_words two)) (steps_of k) w (v + w) = does two k w (v + w) second fits in
+    let (text, printed, shows) = law (image_words one) (image_words two) c.steps c.rest d.steps d.rest v w c.runs d.runs fits words status old new headlines session s rows before h some view system in (
+      text,
+      printed,
+      shown (around rows old) (booted s rows) (first_state session s rows before) (steps_before session.start (booted s rows)) (length rows.lines) session.turns session.steps one two n k v w c d status text shows,
+    )

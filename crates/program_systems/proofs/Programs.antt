@@ -1,0 +1,57 @@
+-- What is known of any two users that call serves two programs, whose calls come within the steps of their units.
+use Rattle.std.specs.Prelude.{pos}
+use Rattle.std.proofs.Common.{ℕ, ◌+◌, ◌*◌, ◌≤◌, List, [], length, arith}
+use Rattle.std.proofs.lemmas.Nat.{mul-le}
+use Rattle.mips_table.specs.Device.{Outside}
+use Rattle.mips_table.specs.Machine.{State}
+use Rattle.c0_tree.specs.Tree.{CUnit}
+use Rattle.cvm_model.specs.Cvm.{System, first_flat, map_of, reset_steps, turn_steps, enter_steps, leave_steps, run_steps}
+use Rattle.run_bounds.specs.Steps.{steps_for}
+use Rattle.cvm_shell.specs.declared.exit_status.ExitStatus.{ExitStatus}
+use Rattle.cvm_shell.specs.Boot.{booted, around, first_state, steps_before}
+use Rattle.user_c0.specs.Image.{image_words}
+use Rattle.user_c0.specs.Program.{steps_of}
+use Rattle.summing.specs.Boots.{SumShown, AnyUsersSum}
+use Rattle.program_systems.specs.Coming.{ComesToCall, FirstCallsCome}
+use Rattle.program_systems.specs.Boots.{Brings, ProgramSumShown, AnyProgramsSum}
+
+-- more turns want more steps
+sums : (r d a b late steps : ℕ) → a ≤ b → r + b + d + late ≤ steps → r + a + d + late ≤ steps
+sums r d a b late steps le h = omega (arith, le, h)
+
+pub fewer_turns : (y : System) (j k d n p late steps : ℕ) → j ≤ k → steps_for y k d n p + late ≤ steps → steps_for y j d n p + late ≤ steps
+fewer_turns y j k d n p late steps le h =
+    sums (reset_steps (map_of y.boot)) (d * (enter_steps + leave_steps + run_steps (map_of y.boot) y.longest n p)) _ _ late steps
+    (mul-le j (turn_steps (map_of y.boot) y.longest) k (turn_steps (map_of y.boot) y.longest) le (omega arith)) h
+
+fewer : (a b n k raised : ℕ) → a ≤ n → b ≤ k → 3 + a + b + raised ≤ 3 + n + k + raised
+fewer a b n k raised la lb = omega (arith, la, lb)
+
+module _ (x : Outside) (y : System) (s : State) (late raised turns steps : ℕ) (one two : CUnit) (n k v w a b : ℕ) (la : a ≤ steps_of n) (lb : b ≤ steps_of k) (status : ExitStatus) (text : List ℕ)
+    (h : SumShown x y s late raised turns steps a b v w (first_flat (image_words one)) (first_flat (image_words two)) status text) where
+  shown : ProgramSumShown x y s late raised turns steps one two n k v w status text
+  shown = record {
+    first_steps = a;
+    second_steps = b;
+    few_first = la;
+    few_second = lb;
+    shows = h;
+    halted = λ enough long.
+        let le = fewer a b (steps_of n) (steps_of k) raised la lb in
+        h.halted (omega (arith, le, enough)) (fewer_turns y (3 + a + b + raised) (3 + steps_of n + steps_of k + raised) (3 + raised) 100 0 late steps le long);
+  }
+
+calls_after : (one : CUnit) (n v : ℕ) → FirstCallsCome → Brings one n v → ComesToCall (first_flat (image_words one)) (steps_of n) (pos v)
+calls_after one n v comes brings = comes one n (pos v) brings.program brings.calls
+
+pub any_programs_sum : FirstCallsCome → AnyUsersSum → AnyProgramsSum
+any_programs_sum comes law one two n k v w first second fits words status old new headlines session s rows before h some view system =
+    let c = calls_after one n v comes first in
+    let d = calls_after two k w comes second in
+    let (text, printed, shows) = law (image_words one) (image_words two) c.steps d.steps v w
+    (record { calls = c.traps; value_is = c.argument }) (record { calls = d.traps; value_is = d.argument }) fits words status old new headlines session s rows before h some view system in (
+      text,
+      printed,
+      shown (around rows old) (booted s rows) (first_state session s rows before) (steps_before session.start (booted s rows)) (length rows.lines) session.turns session.steps
+          one two n k v w c.steps d.steps c.few d.few status text shows,
+    )

@@ -1,0 +1,96 @@
+-- What each boot of a whole system prints whose users are compiled of C0 and go on with what they are answered, to their ends: the kernel of answering.
+use Rattle.std.specs.Prelude.{◌≡◌, ◌≢◌, ℕ, pos, ◌+◌, ◌*◌, ◌^◌, ◌≤◌, ◌<◌, List, [], ◌∷◌, ◌++◌, length, codes, Some, slice_get}
+use Rattle.std.specs.Io.KnownBytes.{append_known}
+use Rattle.schedule_file.specs.Rows.{Rows, longest}
+use Rattle.mips_table.specs.Device.{Outside}
+use Rattle.mips_table.specs.Machine.{State}
+use Rattle.mips_table.specs.Flat.{Flat}
+use Rattle.layer_map.specs.Map.{Map}
+use Rattle.c0_tree.specs.declared.primitive.Program.TheVariants.{User}
+use Rattle.c0_tree.specs.Tree.{CUnit}
+use Rattle.c0_meaning.specs.UserProgram.{prog, done}
+use Rattle.c0_types.specs.Front.{IsUnitAs}
+use Rattle.boot_turns.specs.declared.answers.View.TheVariants.{Boot}
+use Rattle.cvm_model.specs.Cvm.{System, Halted, first_flat}
+use Rattle.cvm_model.specs.Text.{rows_text, users_text}
+use Rattle.run_bounds.specs.Steps.{steps_for}
+use Rattle.kernel_linker.specs.Accept.{ImageSystem}
+use Rattle.user_c0.specs.Image.{image_words}
+use Rattle.user_c0.specs.Program.{steps_of}
+use Rattle.user_c0.specs.Users.{IsProgram}
+use Rattle.cvm_shell.specs.declared.exit_status.ExitStatus.{ExitStatus}
+use Rattle.cvm_shell.specs.declared.exit_status.ExitStatus.TheVariants.{Done, KernelFault, Memory}
+use Rattle.cvm_shell.specs.declared.boot.Session.{Session}
+use Rattle.cvm_shell.specs.Host.{Host}
+use Rattle.cvm_shell.specs.Boot.{booted, around, first_state, steps_before, IsHonest}
+use Rattle.cvm_shell.specs.CommandEnds.{Headlines}
+use Rattle.kernel_boots.specs.Boots.{AsksSource}
+use Rattle.kernel_boots.specs.Systems.{AsksSystem}
+use Rattle.answering.specs.Text.{text as kernel_text}
+use Rattle.answering.specs.Property.{AsksAndEnds}
+use Rattle.answering.specs.Boots.{report_of, ended, AnswersShown}
+use Rattle.program_systems.specs.AdderTexts.{text_ten, text_twenty}
+use Rattle.program_systems.specs.Boots.{IsLinkedOf}
+
+-- a program that brings a number by its first call, and ends behind it where it is answered so, both within n units
+pub record BringsAndEnds (u : CUnit) (n value answer : ℕ) : Type 0 where
+  pub program : IsProgram u
+  pub calls : slice_get (prog u [] n).arguments 0 ≡ Some (pos value)
+  pub ends : prog u (pos answer ∷ []) n ≡ record { arguments = pos value ∷ []; ending = done }
+
+-- a machine does so within so many steps
+pub record AskedAndEnded (f : Flat) (most value answer : ℕ) : Type 0 where
+  pub steps : ℕ
+  pub rest : ℕ
+  pub few : steps + rest ≤ most
+  pub runs : AsksAndEnds f steps rest value answer
+
+-- A LAW: the image of such a program asks with its number, goes on with the answer, and ends, within the steps of its units
+abbrev pub ProgramsAskAndEnd : Type 0
+ProgramsAskAndEnd = (u : CUnit) (n value answer : ℕ) → BringsAndEnds u n value answer → answer < 2 ^ 31 → AskedAndEnded (first_flat (image_words u)) (steps_of n) value answer
+
+-- WHAT A RUN SHOWS of two programs that bring v within n units and w within k, and end where they are answered by v and by the sum: each within the steps of
+-- its units; the run shows what it shows of such users, so its status is no kernel's fault; and with as many turns as these steps, the schedule's `line` rows
+-- and five, and the steps of the machine for them, it is done, has halted, and reports the sum
+pub record ProgramsAnsweredShown (x : Outside) (y : System) (s : State) (late raised turns steps : ℕ) (one two : CUnit) (n k v w : ℕ) (status : ExitStatus) (text : List ℕ) : Type 0 where
+  pub first : AskedAndEnded (first_flat (image_words one)) (steps_of n) v v
+  pub second : AskedAndEnded (first_flat (image_words two)) (steps_of k) w (v + w)
+  pub shows : AnswersShown x y s late raised turns steps first.steps first.rest second.steps second.rest v w (first_flat (image_words one)) (first_flat (image_words two)) status text
+  pub halted : 5 + steps_of n + steps_of k + raised ≤ turns → steps_for y (5 + steps_of n + steps_of k + raised) (5 + raised) 100 0 + late ≤ steps
+      → (status ≡ Done) × (shows.shown.stands.state.status ≡ Halted) × (length shows.shown.stands.state.rows ≤ 5 + raised)
+      × (text ≡ rows_text shows.shown.stands.state.rows ++ report_of (v + w) (ended first.steps first.rest v (first_flat (image_words one)) ∷ ended second.steps second.rest (v + w) (first_flat (image_words two)) ∷ []))
+
+-- EACH BOOT of an image with the kernel's text and the images of two such programs shows this, under every schedule
+abbrev pub AnyProgramsAnswered : Type 0
+AnyProgramsAnswered = (one two : CUnit) (n k v w : ℕ) → BringsAndEnds one n v v → BringsAndEnds two k w (v + w) → v + w < 2 ^ 31
+    → (words : List (List ℕ)) (status : ExitStatus) (old new : Host) → Headlines (λ (o : Host). o) words status old new
+    → (session : Session) (s : ImageSystem) (rows : Rows) (before : List (List ℕ)) → (h : IsHonest words session s rows before old new)
+    → status ≢ Memory → session.view ≡ Boot → AsksSystem kernel_text (image_words one ∷ image_words two ∷ []) h.asked
+    → (text : List ℕ) × (new.sink.text ≡ append_known old.sink.text text)
+    × ProgramsAnsweredShown (around rows old) (booted s rows) (first_state session s rows before) (steps_before session.start (booted s rows)) (length rows.lines) session.turns session.steps
+    one two n k v w status text
+
+-- THE TWO ADDERS, as in Boots, but answered and run to their ends: with 364,005 turns and L more for L `line` rows
+pub record AddersAnswered (x : Outside) (y : System) (s : State) (late raised turns steps : ℕ) (status : ExitStatus) (text : List ℕ) : Type 0 where
+  pub one : CUnit
+  pub two : CUnit
+  pub one_is : IsUnitAs User text_ten one
+  pub two_is : IsUnitAs User text_twenty two
+  pub shows : ProgramsAnsweredShown x y s late raised turns steps one two 200 400 55 210 status text
+  pub no_fault : status ≢ KernelFault
+  pub halted : 364005 + raised ≤ turns → steps_for y (364005 + raised) (5 + raised) 100 0 + late ≤ steps
+      → (status ≡ Done) × (length shows.shows.shown.stands.state.rows ≤ 5 + raised)
+      × (text ≡ rows_text shows.shows.shown.stands.state.rows ++ (codes "halted\nglobal total 265\n" ++ users_text 1 (ended shows.first.steps shows.first.rest 55 (first_flat (image_words one)) ∷ ended shows.second.steps shows.second.rest 265 (first_flat (image_words two)) ∷ [])))
+
+-- EACH BOOT of an image with the kernel's text whose users are compiled of the two texts, under every schedule
+abbrev pub CompiledAnswersBoot : Type 0
+CompiledAnswersBoot = (words : List (List ℕ)) (status : ExitStatus) (old new : Host) → Headlines (λ (o : Host). o) words status old new
+    → (session : Session) (s : ImageSystem) (rows : Rows) (before : List (List ℕ)) → (h : IsHonest words session s rows before old new)
+    → status ≢ Memory → session.view ≡ Boot → AsksSource kernel_text h.asked → (layer : Map → List ℕ → List ℕ) → IsLinkedOf layer text_ten text_twenty s
+    → (text : List ℕ) × (new.sink.text ≡ append_known old.sink.text text)
+    × AddersAnswered (around rows old) (booted s rows) (first_state session s rows before) (steps_before session.start (booted s rows)) (length rows.lines) session.turns session.steps status text
+
+-- THE STEPS in numbers: with 20 pages for each user, 48 frames and no busy times, so many for L `line` rows, before those of a ROM
+abbrev pub AnsweredStepsAreFew : Type 0
+AnsweredStepsAreFew = (s : ImageSystem) (rows : Rows) (raised : ℕ) → s.params.pages ≡ 20 → s.params.frames ≡ 48 → length s.users ≡ 2 → longest rows ≡ 0
+    → steps_for (booted s rows) (364005 + raised) (5 + raised) 100 0 ≡ 146534552437 + 464561 * raised

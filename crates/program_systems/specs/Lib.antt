@@ -1,0 +1,5 @@
+pub mod Coming
+pub mod Adders
+pub mod AdderTexts
+pub mod Boots
+pub mod Answered

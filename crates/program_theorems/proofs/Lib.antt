@@ -1,0 +1,3 @@
+mod Ordinary
+mod SummingTexts
+mod Summings

@@ -1,0 +1,4 @@
+pub mod Counts
+pub mod Lines
+pub mod Taken
+pub mod Steps

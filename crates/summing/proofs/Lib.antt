@@ -1,0 +1,6 @@
+mod Property
+mod Users
+mod SummingBoots
+mod Texts
+mod Reports
+mod StepCounts
