@@ -11,7 +11,8 @@ use Rattle.mips_table.specs.declared.inst.Inst.TheVariants.{Mfc0, Mtc0, Eret}
 use Rattle.mips_table.specs.Device.{Outside, POWER, port_write}
 use Rattle.mips_table.specs.Decoding.{decoding}
 use Rattle.mips_table.specs.Processor.{Move, Ran, Loaded, Stored, Trapped, Privileged, is_aligned, move}
-use Rattle.mips_table.specs.Machine.{State, SR, LOG, INPUT, LOG_ROOM, Coming, Interrupt, Done, in_system, located, after_read, after_read_at, port_written, written_at, access, privileged, moved, fetch, fetched, coming, cleared, come_to, latched, if_on, step, run}
+use Rattle.mips_table.specs.declared.special.TheConstants.{SR}
+use Rattle.mips_table.specs.Machine.{State, LOG, INPUT, LOG_ROOM, Coming, Interrupt, Done, in_system, located, after_read, after_read_at, port_written, written_at, access, privileged, moved, fetch, fetched, coming, cleared, come_to, latched, if_on, step, run}
 
 abbrev Kept : State → State → Type 0
 Kept s t = length t.memory ≡ length s.memory

@@ -4,7 +4,8 @@ use Rattle.std.proofs.Common.{◌≡◌, ⊎_elim, None, ℕ, zero, suc, ◌+◌
 use Rattle.std.specs.Prelude.{◌==◌, not, bit_or}
 use Rattle.std.proofs.lemmas.Bool.{cases_lt}
 use Rattle.mips_table.specs.Device.{Outside}
-use Rattle.mips_table.specs.Machine.{State, MODE, run}
+use Rattle.mips_table.specs.declared.special.TheConstants.{MODE}
+use Rattle.mips_table.specs.Machine.{State, run}
 use Rattle.mips_table.specs.Turns.{begins, complete, lines_of}
 use Rattle.c0_meaning.specs.State.{State as C0}
 use Rattle.cvm_model.specs.Kernel.{Core, power_of}

@@ -7,7 +7,8 @@ use Rattle.std.proofs.lemmas.Bool.{cases_lt, cond_both, cond-true}
 use Rattle.mips_table.specs.declared.cause.Cause.{Cause}
 use Rattle.mips_table.specs.declared.cause.Cause.TheVariants as causes
 use Rattle.mips_table.specs.Device.{Outside}
-use Rattle.mips_table.specs.Machine.{State, MODE, Coming, Interrupt, Done, interrupted, come_to, latched, ended, step, run}
+use Rattle.mips_table.specs.declared.special.TheConstants.{MODE}
+use Rattle.mips_table.specs.Machine.{State, Coming, Interrupt, Done, interrupted, come_to, latched, ended, step, run}
 use Rattle.mips_table.specs.Turns.{is_on, in_user, handled, begins, rests, turn_of, complete}
 use Rattle.mips_machine.specs.Steps.{outside_of}
 use Rattle.boot_turns.specs.AnyTurns.{Came, BrokeOff, LoopsMakeTurns}

@@ -7,7 +7,8 @@ use Rattle.std.specs.Io.KnownBytes.{append_known}
 use Rattle.std.proofs.lemmas.Bool.{cond-false}
 use Rattle.cvm_outside.proofs.Parts.{append_known-nil}
 use Rattle.mips_table.specs.Device.{Outside}
-use Rattle.mips_table.specs.Machine.{State, MODE, in_system, step}
+use Rattle.mips_table.specs.declared.special.TheConstants.{MODE}
+use Rattle.mips_table.specs.Machine.{State, in_system, step}
 use Rattle.mips_table.specs.Turns.{is_on, begins}
 use Rattle.mips_machine.specs.Machine.{Held, state_of}
 use Rattle.layer_map.specs.Map.{Map, current_at}

@@ -6,7 +6,8 @@ use Rattle.std.proofs.lemmas.Bool.{cond_both}
 use Rattle.mips_table.specs.declared.cause.Cause.{Cause}
 use Rattle.mips_table.specs.declared.cause.Cause.TheVariants as causes
 use Rattle.mips_table.specs.Device.{Device, Outside, Pending, Idle, Reading, Writing}
-use Rattle.mips_table.specs.Machine.{State, SR, MODE, PTL, ECA, EDATA, number_of, Coming, Interrupt, Done, coming, latched, come_to, ended, if_on, step}
+use Rattle.mips_table.specs.declared.special.TheConstants.{SR, MODE, PTL, ECA, EDATA}
+use Rattle.mips_table.specs.Machine.{State, number_of, Coming, Interrupt, Done, coming, latched, come_to, ended, if_on, step}
 use Rattle.mips_table.specs.Turns.{in_user, is_handled, handled, begins}
 use Rattle.sector_disk.specs.Ports.{Ports, ports_of, TransferFails}
 use Rattle.mips_machine.specs.declared.event.Event.{Event}

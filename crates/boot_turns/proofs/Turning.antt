@@ -11,7 +11,8 @@ use Rattle.mips_table.specs.Arith.{signed}
 use Rattle.mips_table.specs.Device.{Pending, Idle, Reading, Writing, Outside, LinesEnd, sector_of}
 use Rattle.mips_table.specs.Processor.{Cpu}
 use Rattle.mips_table.specs.Flat.{Flat, VStep, Next as Goes, Trap, vstep}
-use Rattle.mips_table.specs.Machine.{State, Interrupt, coming, latched, number_of, MODE, ECA, EDATA, run, step}
+use Rattle.mips_table.specs.declared.special.TheConstants.{MODE, ECA, EDATA}
+use Rattle.mips_table.specs.Machine.{State, Interrupt, coming, latched, number_of, run, step}
 use Rattle.mips_table.specs.Fits.{NamesSector}
 use Rattle.mips_table.specs.Turns.{begins, handled, rests, is_on, in_user, turn_of, complete, lines_of, faults_before}
 use Rattle.c0_meaning.specs.State.{State as C0}

@@ -4,7 +4,8 @@ use Rattle.std.specs.Prelude.{Bool, true, false, List, [], slice_index, Result, 
 use Rattle.std.specs.Option.{option_map}
 use Rattle.mips_table.specs.Device.{Outside}
 use Rattle.mips_table.specs.declared.cause.Cause.TheVariants.{Reset, FetchFault, DataFault}
-use Rattle.mips_table.specs.Machine.{State, MODE, ECA, EDATA, number_of, step, run}
+use Rattle.mips_table.specs.declared.special.TheConstants.{MODE, ECA, EDATA}
+use Rattle.mips_table.specs.Machine.{State, number_of, step, run}
 use Rattle.mips_table.specs.Turns.{begins, rests}
 use Rattle.sector_disk.specs.Ports.{ports_of}
 use Rattle.mips_machine.specs.Machine.{Held, state_of}

@@ -1,7 +1,7 @@
 -- "The machine stands for this CVM state", in six parts.
 use Rattle.std.specs.Prelude.{◌≡◌, ℕ, ◌+◌, ◌*◌, ◌<◌, ◌≤◌, Bool, true, false, ◌&&◌, ◌||◌, ◌==◌, nat_lt, nat_le, List, [], ◌∷◌, length, take, drop, slice_index, bit_or, All}
 use Rattle.mips_table.specs.Device.{Idle, Outside}
-use Rattle.mips_table.specs.Machine.{SR, PTO, PTL}
+use Rattle.mips_table.specs.declared.special.TheConstants.{SR, PTO, PTL}
 use Rattle.mips_table.specs.Fits.{IsWord}
 use Rattle.mips_table.specs.Processor.{Cpu}
 use Rattle.mips_table.specs.Flat.{Flat}

@@ -10,7 +10,8 @@ use Rattle.mips_table.specs.declared.effect.Effect.{Effect}
 use Rattle.mips_table.specs.declared.effect.Effect.TheVariants.{Set, Wide, Load, Store, Overflow, Call, System}
 use Rattle.mips_table.specs.Decoding.{decoding}
 use Rattle.mips_table.specs.Device.{Outside}
-use Rattle.mips_table.specs.Machine.{SR, PTL, number_of, in_system}
+use Rattle.mips_table.specs.declared.special.TheConstants.{SR, PTL}
+use Rattle.mips_table.specs.Machine.{number_of, in_system}
 use Rattle.mips_table.specs.Processor.{Cpu, Access, Move, Ran, Loaded, Stored, Trapped, Privileged, is_aligned, advanced, accessed, performed, executed, effect_on, move}
 use Rattle.mips_table.specs.Machine.{State, Coming, Interrupt, located, read_at, access, fetch, fetched, privileged, moved, latched, coming}
 use Rattle.mips_table.specs.Turns.{is_handled, handled}

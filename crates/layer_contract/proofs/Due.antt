@@ -10,7 +10,8 @@ use Rattle.mips_table.specs.declared.cause.Cause.TheVariants as causes
 use Rattle.mips_table.specs.Decoding.{decoding}
 use Rattle.mips_table.specs.Device.{Device, Pending, Idle, Reading, Writing, Outside, BUFFER, SECTOR, COMMAND, POWER, is_busy, is_buffer, begun, port_write, settled}
 use Rattle.mips_table.specs.Processor.{Move, Ran, Loaded, Stored, Trapped, Privileged, is_aligned, move}
-use Rattle.mips_table.specs.Machine.{SR, LOG, INPUT, LOG_ROOM, State, Coming, Interrupt, in_system, located, access, fetch, after_read_at, port_written, written_at, privileged, moved, fetched, cleared, come_to, coming, latched, ended, if_on, step}
+use Rattle.mips_table.specs.declared.special.TheConstants.{SR}
+use Rattle.mips_table.specs.Machine.{LOG, INPUT, LOG_ROOM, State, Coming, Interrupt, in_system, located, access, fetch, after_read_at, port_written, written_at, privileged, moved, fetched, cleared, come_to, coming, latched, ended, if_on, step}
 use Rattle.layer_contract.specs.Layer.{due, NoneIsDue}
 
 -- the command under way is as before, or one more is numbered

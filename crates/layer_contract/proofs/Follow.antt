@@ -11,7 +11,8 @@ use Rattle.mips_table.specs.Decoding.{decoding}
 use Rattle.mips_table.specs.Effect.{next}
 use Rattle.mips_table.specs.Processor.{is_aligned, went_on, advanced, effect_on}
 use Rattle.mips_table.specs.Device.{Outside, settled, counted}
-use Rattle.mips_table.specs.Machine.{PTL, number_of, in_system}
+use Rattle.mips_table.specs.declared.special.TheConstants.{PTL}
+use Rattle.mips_table.specs.Machine.{number_of, in_system}
 use Rattle.mips_table.specs.Processor.{Cpu}
 use Rattle.mips_table.specs.Processor.{Access, Move, Ran, Loaded, Stored, Trapped, Privileged, accessed, performed, executed, move, with_loaded}
 use Rattle.mips_table.specs.Flat.{Flat, VStep, Next as Goes, Trap, flat_access, answered}

@@ -10,7 +10,8 @@ use Rattle.mips_table.specs.declared.effect.Effect.{Effect}
 use Rattle.mips_table.specs.declared.effect.Effect.TheVariants.{Set, Wide, Load, Store, Overflow, Call, System}
 use Rattle.mips_table.specs.Decoding.{decoding}
 use Rattle.mips_table.specs.Device.{Outside}
-use Rattle.mips_table.specs.Machine.{SR, number_of, in_system}
+use Rattle.mips_table.specs.declared.special.TheConstants.{SR}
+use Rattle.mips_table.specs.Machine.{number_of, in_system}
 use Rattle.mips_table.specs.Processor.{Cpu, Access, Move, Ran, Loaded, Stored, Trapped, Privileged, is_aligned, accessed, performed, executed, effect_on, move}
 use Rattle.mips_table.specs.Machine.{State, Coming, Interrupt, Done, located, after_read_at, access, fetch, fetched, privileged, moved, latched, coming}
 use Rattle.cvm_model.specs.Kernel.{Core}

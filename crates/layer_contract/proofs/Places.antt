@@ -2,7 +2,8 @@
 use Rattle.std.proofs.Common.{◌≡◌, ℕ, ◌+◌, ◌-◌, ◌*◌, ◌/◌, ◌%◌, ◌^◌, ◌<◌, ◌≤◌, ◌&&◌, Some, None, Bool, true, false, nat_lt, List, length, slice_index, refl, ap, ◌∙◌, sym, arith, lt-ltb, ltb-true, ne_eqb, eq-eqb, eqb-true}
 use Rattle.std.proofs.lemmas.Bool.{le-ltb, ltb-false, eqb-false}
 use Rattle.mips_table.specs.Device.{Outside}
-use Rattle.mips_table.specs.Machine.{PTO, PTL, MODE, in_system, entry_address, is_valid, is_protected, translated}
+use Rattle.mips_table.specs.declared.special.TheConstants.{PTO, PTL, MODE}
+use Rattle.mips_table.specs.Machine.{in_system, entry_address, is_valid, is_protected, translated}
 use Rattle.mips_table.specs.Machine.{State, located}
 use Rattle.layer_map.specs.Map.{Map, MapInRange, layer_words, code_at, globals_at, heap_at, stack_at, tables_at, frame_table_at, zero_frame_at, memory_words}
 use Rattle.page_model.specs.Paging.{Valid, Protected, Names, Passes}

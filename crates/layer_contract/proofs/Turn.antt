@@ -5,7 +5,7 @@ use Rattle.std.proofs.lemmas.Bool.{cond-true, cond-false}
 use Rattle.mips_table.specs.declared.cause.Cause.{Cause}
 use Rattle.mips_table.specs.declared.cause.Cause.TheVariants as causes
 use Rattle.mips_table.specs.Device.{Device, Idle, Outside, settled, counted, sector_of}
-use Rattle.mips_table.specs.Machine.{SR}
+use Rattle.mips_table.specs.declared.special.TheConstants.{SR}
 use Rattle.mips_table.specs.Processor.{Cpu}
 use Rattle.mips_table.specs.Processor.{move}
 use Rattle.mips_table.specs.Flat.{Flat, VStep, Next as Goes, Trap, flat_access, answered, vstep}

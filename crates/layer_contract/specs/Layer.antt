@@ -8,7 +8,8 @@ use Rattle.mips_table.specs.declared.cause.Cause.TheVariants.{FetchFault, DataFa
 use Rattle.mips_table.specs.Decoding.{decoding}
 use Rattle.mips_table.specs.Arith.{signed}
 use Rattle.mips_table.specs.Device.{Pending, Idle, Outside, sector_of}
-use Rattle.mips_table.specs.Machine.{SR, MODE, number_of}
+use Rattle.mips_table.specs.declared.special.TheConstants.{SR, MODE}
+use Rattle.mips_table.specs.Machine.{number_of}
 use Rattle.mips_table.specs.Machine.{State, zero_cpu, Coming, Interrupt, latched, coming, come_to, run, step, located, read_at}
 use Rattle.mips_table.specs.Turns.{handled}
 use Rattle.mips_table.specs.Fits.{NamesSector, Fits}

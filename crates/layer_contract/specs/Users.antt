@@ -7,7 +7,8 @@ use Rattle.mips_table.specs.Decoding.{decoding}
 use Rattle.mips_table.specs.Processor.{effect_on}
 use Rattle.mips_table.specs.declared.cause.Cause.{Cause}
 use Rattle.mips_table.specs.Device.{Outside}
-use Rattle.mips_table.specs.Machine.{PTL, number_of}
+use Rattle.mips_table.specs.declared.special.TheConstants.{PTL}
+use Rattle.mips_table.specs.Machine.{number_of}
 use Rattle.mips_table.specs.Flat.{Flat, Next, vstep}
 use Rattle.mips_table.specs.Machine.{State, Interrupt, latched, coming, step}
 use Rattle.mips_table.specs.Turns.{handled}

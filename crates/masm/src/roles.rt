@@ -1,4 +1,4 @@
-//! What the layer keeps in registers and reads from special ones, by name.
+//! What the layer keeps in registers, by name.
 //!
 //! The temporaries of one block are T0 to T3. All others keep their meaning from block to block.
 
@@ -58,39 +58,6 @@ pub const ABSENT: u32 = 25;
 
 /// The address of a user's control block.
 pub const BLOCK: u32 = 31;
-
-/// Special register: whether external interrupts are taken.
-pub const SR: u32 = 0;
-
-/// Special register: what SR becomes at an eret.
-pub const ESR: u32 = 1;
-
-/// Special register: the cause of the interrupt.
-pub const ECA: u32 = 2;
-
-/// Special register: the pc to which an eret goes.
-pub const EPC: u32 = 3;
-
-/// Special register: the address or the word that the interrupt concerns.
-pub const EDATA: u32 = 4;
-
-/// Special register: the address of the current user's page table.
-pub const PTO: u32 = 5;
-
-/// Special register: the number of pages of the current user.
-pub const PTL: u32 = 6;
-
-/// Special register: the mode.
-pub const MODE: u32 = 7;
-
-/// Special register: the mode to which an eret goes.
-pub const EMODE: u32 = 8;
-
-/// In an entry: it is valid.
-pub const IS_VALID: u32 = 2048;
-
-/// In an entry: its page is protected.
-pub const IS_PROTECTED: u32 = 1024;
 
 /// The address of the power port, as a store's offset from 0.
 pub const POWER: u32 = 0xf008;

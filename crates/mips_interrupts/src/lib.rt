@@ -12,23 +12,23 @@ ghost use Rattle.mips_table.specs.Machine.{number_of as number_in, taken, left};
 use mips_table::Cause;
 
 /// The number of sr: 1 says that external interrupts are taken.
-pub const SR: usize = 0;
+pub const SR: usize = mips_table::SR as usize;
 /// The number of esr: sr before the interrupt.
-pub const ESR: usize = 1;
+pub const ESR: usize = mips_table::ESR as usize;
 /// The number of eca: the cause.
-pub const ECA: usize = 2;
+pub const ECA: usize = mips_table::ECA as usize;
 /// The number of epc: where to go on after the interrupt.
-pub const EPC: usize = 3;
+pub const EPC: usize = mips_table::EPC as usize;
 /// The number of edata: what the cause concerns.
-pub const EDATA: usize = 4;
+pub const EDATA: usize = mips_table::EDATA as usize;
 /// The number of pto: the physical address of the page table, in bytes.
-pub const PTO: usize = 5;
+pub const PTO: usize = mips_table::PTO as usize;
 /// The number of ptl: how many pages the page table has.
-pub const PTL: usize = 6;
+pub const PTL: usize = mips_table::PTL as usize;
 /// The number of mode: 0 in system mode, and 1 in user mode.
-pub const MODE: usize = 7;
+pub const MODE: usize = mips_table::MODE as usize;
 /// The number of emode: mode before the interrupt.
-pub const EMODE: usize = 8;
+pub const EMODE: usize = mips_table::EMODE as usize;
 
 /// The nine special registers, by their numbers.
 #[derive(Clone, Copy, Debug, PartialEq, Eq)]

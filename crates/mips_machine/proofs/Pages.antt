@@ -4,7 +4,8 @@ use Rattle.std.proofs.Common.{◌≡◌, ◌≢◌, ℕ, ◌+◌, ◌*◌, ◌/�
 use Rattle.std.specs.Prelude.{nat_lt, if◌then◌else◌, not, ◌&&◌, slice_index}
 use Rattle.std.proofs.lemmas.Bool.{ltb-true, cond-true}
 use Rattle.mips_table.specs.Processor.{is_aligned}
-use Rattle.mips_table.specs.Machine.{State, PTO, PTL, in_system, entry_address, is_valid, is_protected, located}
+use Rattle.mips_table.specs.declared.special.TheConstants.{PTO, PTL}
+use Rattle.mips_table.specs.Machine.{State, in_system, entry_address, is_valid, is_protected, located}
 use Rattle.mips_machine.specs.declared.board.Page.{Page}
 use Rattle.mips_machine.specs.Board.{Board, around}
 use Rattle.mips_machine.specs.Stretch.{in_memory, place, Serves}

@@ -12,7 +12,8 @@ use Rattle.mips_table.specs.Encoding.{encoding}
 use Rattle.mips_table.specs.Decoding.{decoding}
 use Rattle.mips_table.specs.Processor.{Cpu, Move, Ran, Loaded, Stored, Trapped, Privileged, is_aligned, advanced, accessed, move}
 use Rattle.mips_table.specs.Device.{Outside, POWER}
-use Rattle.mips_table.specs.Machine.{SR, MODE, EPC, INPUT, State, in_system, located, port_written, written_at, after_read_at, access, left, Coming, Interrupt, Done, privileged, moved, fetch, fetched, coming, cleared, interrupted, come_to, latched, ended, if_on, step, run}
+use Rattle.mips_table.specs.declared.special.TheConstants.{SR, MODE, EPC}
+use Rattle.mips_table.specs.Machine.{INPUT, State, in_system, located, port_written, written_at, after_read_at, access, left, Coming, Interrupt, Done, privileged, moved, fetch, fetched, coming, cleared, interrupted, come_to, latched, ended, if_on, step, run}
 use Rattle.mips_table.specs.Fits.{Fits}
 use Rattle.mips_table.specs.Code.{Program, on_machine, Sound}
 use Rattle.mips_table.specs.Simulation.{Quiet, Holds}

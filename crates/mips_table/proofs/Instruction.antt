@@ -13,7 +13,8 @@ use Rattle.mips_table.specs.Decoding.{decoding}
 use Rattle.mips_table.specs.Effect.{next}
 use Rattle.mips_table.specs.Processor.{Move, Loaded, Stored, Trapped, went_on, with_loaded, advanced, accessed, performed, effect_on, executed, move}
 use Rattle.mips_table.specs.Device.{Device, Reading, Writing, Outside, BUFFER, SECTOR, COMMAND, POWER, is_busy, is_buffer, begun, port_write}
-use Rattle.mips_table.specs.Machine.{SR, MODE, PTO, PTL, LOG, LEFT, INPUT, LOG_ROOM, State, entry_address, translated, located, port_word, read, after_read, read_at, after_read_at, port_written, written, written_at, access, flagged, Coming, Interrupt, Done, privileged, moved, fetch, fetched, coming}
+use Rattle.mips_table.specs.declared.special.TheConstants.{SR, MODE, PTO, PTL}
+use Rattle.mips_table.specs.Machine.{LOG, LEFT, INPUT, LOG_ROOM, State, entry_address, translated, located, port_word, read, after_read, read_at, after_read_at, port_written, written, written_at, access, flagged, Coming, Interrupt, Done, privileged, moved, fetch, fetched, coming}
 use Rattle.mips_table.specs.Fits.{EffectFits}
 use Rattle.mips_table.specs.Code.{put, Contents, reg, with_reg, Behind, World, Program, on_machine, Sound, Configuration, settle, commanded, port_loaded, word_loaded, after_load, logged, after_store, privileged as does_privileged, acted, PrivilegedMay, EffectMay}
 use Rattle.mips_table.specs.Simulation.{space, contents_of, behind_of, Quiet, Holds}

@@ -7,7 +7,8 @@ use Rattle.mips_table.specs.Encoding.{encoding}
 use Rattle.mips_table.specs.Effect.{effect_of}
 use Rattle.mips_table.specs.Processor.{performed, effect_on}
 use Rattle.mips_table.specs.Device.{Device, Outside, sector_of}
-use Rattle.mips_table.specs.Machine.{SR, MODE, State, access, Coming, moved, coming, come_to, latched, ended, if_on, step, run}
+use Rattle.mips_table.specs.declared.special.TheConstants.{SR, MODE}
+use Rattle.mips_table.specs.Machine.{State, access, Coming, moved, coming, come_to, latched, ended, if_on, step, run}
 use Rattle.mips_table.specs.Fits.{EffectFits, NamesSector, Fits}
 use Rattle.mips_table.specs.Code.{Program, on_machine, Sound, Configuration, settle, acted, EffectMay, effect_at, act, May, MayAt, act_at, code_step, code_run, MayRun}
 use Rattle.mips_table.specs.Simulation.{configuration_of, Quiet, Holds, Serves, raised, Along, Instructs, Simulates}

@@ -16,7 +16,8 @@ use Rattle.mips_table.specs.Encoding.{InRange, encoding}
 use Rattle.mips_table.specs.Decoding.{decoding}
 use Rattle.mips_table.specs.Processor.{Cpu, Access, Move, Ran, Loaded, Stored, Trapped, Privileged, write, went_on, with_loaded, advanced, is_aligned, accessed, performed, effect_on, executed, move}
 use Rattle.mips_table.specs.Device.{Device, Pending, Idle, Reading, Writing, Outside, BUFFER, SECTOR, COMMAND, POWER, is_busy, is_buffer, port_read, begun, port_write, settled}
-use Rattle.mips_table.specs.Machine.{SR, ESR, EPC, PTO, PTL, MODE, EMODE, LOG, LEFT, INPUT, LOG_ROOM, State, number_of, in_system, located, port_word, read, after_read, read_at, after_read_at, port_written, written, written_at, access, is_flag, flagged, taken, Coming, Interrupt, Done, privileged, moved, fetch, fetched, coming, cleared, come_to, latched, ended, if_on, step, run}
+use Rattle.mips_table.specs.declared.special.TheConstants.{SR, ESR, EPC, PTO, PTL, MODE, EMODE}
+use Rattle.mips_table.specs.Machine.{LOG, LEFT, INPUT, LOG_ROOM, State, number_of, in_system, located, port_word, read, after_read, read_at, after_read_at, port_written, written, written_at, access, is_flag, flagged, taken, Coming, Interrupt, Done, privileged, moved, fetch, fetched, coming, cleared, come_to, latched, ended, if_on, step, run}
 use Rattle.mips_table.specs.Fits.{IsWord, EffectFits, MoveFits, KeepsWords, IsPage, NamesSector, DeviceFits, AreRegisters, AreSpecial, CpuFits, ConsoleFits, Fits}
 use Rattle.mips_table.proofs.Round.{encoding-decoding}
 use Rattle.mips_table.proofs.Effects.{bounded}

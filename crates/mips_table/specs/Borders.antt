@@ -9,7 +9,8 @@ use Rattle.mips_table.specs.Encoding.{encoding}
 use Rattle.mips_table.specs.Processor.{advanced}
 use Rattle.mips_table.specs.Flat.{Flat, Trap, vstep}
 use Rattle.mips_table.specs.Device.{Outside, POWER}
-use Rattle.mips_table.specs.Machine.{EPC, State, left, Interrupt, coming, latched, interrupted, ended, step}
+use Rattle.mips_table.specs.declared.special.TheConstants.{EPC}
+use Rattle.mips_table.specs.Machine.{State, left, Interrupt, coming, latched, interrupted, ended, step}
 use Rattle.mips_table.specs.Fits.{Fits}
 use Rattle.mips_table.specs.Code.{Program, on_machine, on_flat, Sound}
 use Rattle.mips_table.specs.Simulation.{Quiet, Holds, FlatFits}

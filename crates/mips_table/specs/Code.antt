@@ -8,7 +8,8 @@ use Rattle.mips_table.specs.declared.effect.Effect.TheVariants.{Set, Wide, Load,
 use Rattle.mips_table.specs.Encoding.{InRange, encoding}
 use Rattle.mips_table.specs.Effect.{effect_of}
 use Rattle.mips_table.specs.Device.{Pending, Idle, Reading, Writing, Outside, BUFFER, SECTOR, COMMAND, POWER, is_busy, is_buffer}
-use Rattle.mips_table.specs.Machine.{SR, MODE, LOG, LEFT, INPUT, log_has_room, flagged}
+use Rattle.mips_table.specs.declared.special.TheConstants.{SR, MODE}
+use Rattle.mips_table.specs.Machine.{LOG, LEFT, INPUT, log_has_room, flagged}
 
 -- a function that has the value v at a from now on
 abbrev pub put : (ℕ → ℕ) → ℕ → ℕ → ℕ → ℕ

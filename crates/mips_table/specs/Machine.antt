@@ -1,5 +1,6 @@
 -- The physical machine: one step of it, with the lines and the busy times that the outside gives, and its run.
 use Rattle.std.specs.Prelude.{ℕ, zero, suc, ◌+◌, ◌*◌, ◌/◌, ◌%◌, ◌^◌, Bool, true, false, not, ◌&&◌, ◌||◌, ◌==◌, nat_lt, if◌then◌else◌, List, [], ◌∷◌, ◌++◌, length, drop, replicate, slice_index, slice_set, bit_or, Option, Some, None, is_some}
+use Rattle.mips_table.specs.declared.special.TheConstants.{SR, ESR, EPC, PTO, PTL, MODE, EMODE}
 use Rattle.mips_table.specs.declared.inst.Inst.{Inst}
 use Rattle.mips_table.specs.declared.inst.Inst.TheVariants.{Mfc0, Mtc0, Eret}
 use Rattle.mips_table.specs.declared.cause.Cause.{Cause}
@@ -8,42 +9,6 @@ use Rattle.mips_table.specs.Decoding.{decoding}
 use Rattle.mips_table.specs.Effect.{next}
 use Rattle.mips_table.specs.Processor.{Cpu, Access, Move, Ran, Loaded, Stored, Trapped, Privileged, went_on, with_loaded, advanced, is_aligned, move}
 use Rattle.mips_table.specs.Device.{Device, Idle, Outside, POWER, port_read, port_write, counted}
-
--- The special registers, by the numbers that mfc0 and mtc0 name: sr 1 says that external interrupts are taken.
-abbrev pub SR : ℕ
-SR = 0
-
--- sr before the interrupt
-abbrev pub ESR : ℕ
-ESR = 1
-
--- the cause of the interrupt
-abbrev pub ECA : ℕ
-ECA = 2
-
--- where to go on after the interrupt
-abbrev pub EPC : ℕ
-EPC = 3
-
--- what the cause concerns
-abbrev pub EDATA : ℕ
-EDATA = 4
-
--- the physical address of the page table
-abbrev pub PTO : ℕ
-PTO = 5
-
--- the number of pages
-abbrev pub PTL : ℕ
-PTL = 6
-
--- 0 in system mode, and 1 in user mode
-abbrev pub MODE : ℕ
-MODE = 7
-
--- mode before the interrupt
-abbrev pub EMODE : ℕ
-EMODE = 8
 
 -- The ports of the console, by word number: a write to the log appends, and a read gives its length; at fffff00c.
 abbrev pub LOG : ℕ

@@ -4,7 +4,8 @@ use Rattle.mips_table.specs.declared.inst.Inst.{Inst}
 use Rattle.mips_table.specs.Flat.{Flat, VStep, Next, Trap, vstep}
 use Rattle.mips_table.specs.Device.{Device, Idle, Outside, BUFFER, SECTOR, is_buffer, sector_of}
 use Rattle.mips_table.specs.Processor.{Cpu}
-use Rattle.mips_table.specs.Machine.{SR, MODE, State, Done, coming, latched, run}
+use Rattle.mips_table.specs.declared.special.TheConstants.{SR, MODE}
+use Rattle.mips_table.specs.Machine.{State, Done, coming, latched, run}
 use Rattle.mips_table.specs.Fits.{IsWord, CpuFits, NamesSector, Fits}
 use Rattle.mips_table.specs.Code.{Contents, Behind, World, Program, on_machine, on_flat, Sound, Configuration, at_with, code_run, Steps}
 

@@ -13,6 +13,7 @@ pub mod fields;
 pub mod inst;
 mod instruction_rows;
 pub mod runs;
+pub mod special;
 pub mod table;
 
 pub use cause::Cause;
@@ -20,4 +21,5 @@ pub use decoding::decode;
 pub use effect::{Effect, effect_of};
 pub use encoding::encode;
 pub use inst::Inst;
+pub use special::{ECA, EDATA, EMODE, EPC, ESR, IS_PROTECTED, IS_VALID, MODE, PTL, PTO, SR};
 pub use table::{Row, Table, mips32, mnemonic_of};

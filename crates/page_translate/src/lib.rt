@@ -11,13 +11,10 @@
 ghost use Rattle.std.specs.Prelude.{◌≡◌, ◌+◌, ◌*◌, ◌/◌, ◌%◌, IfSome};
 ghost use Rattle.mips_table.specs.Machine.{entry_address as address_of_entry, translated, is_valid as is_valid_entry, is_protected as is_protected_entry};
 
+use mips_table::{IS_PROTECTED, IS_VALID};
+
 /// The size of a page, in bytes.
 pub const PAGE_BYTES: u32 = 4096;
-
-// The bits of an entry that say that it is valid, and that its page is protected.
-const VALID: u32 = 2048;
-
-const PROTECTED: u32 = 1024;
 
 /// The address of the page table's entry for the page of `address`, where the
 /// table stands at the physical address `pto`. Sums are modulo 2^32. The entry
@@ -50,14 +47,14 @@ pub fn translate(address: u32, pto: u32, ptl: u32, store: bool, entry: u32) -> O
 fn is_valid(entry: u32) -> bool
     ensures { result ≡ is_valid_entry entry }
 {
-    entry / VALID % 2 == 1
+    entry / IS_VALID % 2 == 1
 }
 
 // Whether an entry's page is protected from stores.
 fn is_protected(entry: u32) -> bool
     ensures { result ≡ is_protected_entry entry }
 {
-    entry / PROTECTED % 2 == 1
+    entry / IS_PROTECTED % 2 == 1
 }
 
 // The page's physical address, with the place in the page.

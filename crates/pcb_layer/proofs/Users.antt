@@ -1,6 +1,6 @@
 -- The current user's registers, epc, hi and lo go to its control block, and come from it.
 use Rattle.std.proofs.Common.{◌≡◌, ◌≢◌, ℕ, ◌+◌, ◌-◌, ◌*◌, ◌<◌, ◌≤◌, ◌⊎◌, [], ◌∷◌, ◌++◌, None, refl, sym, ap, ◌∙◌, ⊎_elim, inl, inr, arith}
-use Rattle.mips_table.specs.Machine.{EPC}
+use Rattle.mips_table.specs.declared.special.TheConstants.{EPC}
 use Rattle.mips_table.specs.Code.{put, with_reg, with_wide, Contents, World, Sound}
 use Rattle.layer_map.specs.Map.{current_at, block_at}
 use Rattle.masm.specs.Says.{Gives, Widens, Reads, Writes, Asks}

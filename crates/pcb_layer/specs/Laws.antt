@@ -1,7 +1,7 @@
 -- The laws of saving and restoring a user, each of a run of one block from one state, with its steps.
 use Rattle.std.specs.Prelude.{◌≡◌, ◌≢◌, ℕ, ◌+◌, ◌<◌, ◌≤◌, ◌⊎◌, true, ◌++◌, None}
 use Rattle.mips_table.specs.Device.{Idle}
-use Rattle.mips_table.specs.Machine.{EPC}
+use Rattle.mips_table.specs.declared.special.TheConstants.{EPC}
 use Rattle.mips_table.specs.Code.{Contents, Behind, World}
 use Rattle.layer_map.specs.Map.{current_at, block_at}
 use Rattle.masm.specs.Laws.{From}

@@ -5,7 +5,8 @@ use Rattle.mips_table.specs.declared.inst.Inst.TheVariants.{Sw, Eret}
 use Rattle.mips_table.specs.Arith.{sum, extended}
 use Rattle.mips_table.specs.Processor.{advanced}
 use Rattle.mips_table.specs.Device.{Device, Idle, POWER, Outside, sector_of, settled, counted}
-use Rattle.mips_table.specs.Machine.{EPC, State, left, latched, ended, step, run}
+use Rattle.mips_table.specs.declared.special.TheConstants.{EPC}
+use Rattle.mips_table.specs.Machine.{State, left, latched, ended, step, run}
 use Rattle.mips_table.specs.Fits.{NamesSector, Fits, StaysFitting}
 use Rattle.mips_table.specs.Code.{Configuration}
 use Rattle.mips_table.specs.Simulation.{space, behind_of}

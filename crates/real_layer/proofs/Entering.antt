@@ -5,7 +5,8 @@ use Rattle.mips_table.specs.declared.inst.Inst.{Inst}
 use Rattle.mips_table.specs.Arith.{signed}
 use Rattle.mips_table.specs.Processor.{Cpu}
 use Rattle.mips_table.specs.Device.{Outside}
-use Rattle.mips_table.specs.Machine.{ECA, EDATA, State, run}
+use Rattle.mips_table.specs.declared.special.TheConstants.{ECA, EDATA}
+use Rattle.mips_table.specs.Machine.{State, run}
 use Rattle.mips_table.specs.Code.{Behind, World, Sound, Configuration, at_with, Reaches}
 use Rattle.mips_table.specs.Simulation.{configuration_of}
 use Rattle.layer_map.specs.Map.{Map, layer_words, current_at}

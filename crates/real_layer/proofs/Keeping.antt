@@ -10,7 +10,8 @@ use Rattle.mips_table.specs.Arith.{signed}
 use Rattle.mips_table.specs.Processor.{Cpu}
 use Rattle.mips_table.specs.Flat.{Flat}
 use Rattle.mips_table.specs.Device.{Device, Outside}
-use Rattle.mips_table.specs.Machine.{ECA, EPC, EDATA, PTL, number_of, State, Interrupt, latched, coming, step, run}
+use Rattle.mips_table.specs.declared.special.TheConstants.{ECA, EPC, EDATA, PTL}
+use Rattle.mips_table.specs.Machine.{number_of, State, Interrupt, latched, coming, step, run}
 use Rattle.mips_table.specs.Turns.{is_on, in_user, is_handled, handled}
 use Rattle.mips_table.specs.Fits.{IsWord}
 use Rattle.mips_table.specs.Code.{Behind, World, Sound, Configuration, at_with, Reaches}

@@ -13,7 +13,8 @@ use Rattle.mips_table.specs.declared.inst.Inst.TheVariants.{Eret}
 use Rattle.mips_table.specs.Arith.{signed}
 use Rattle.mips_table.specs.Processor.{Cpu}
 use Rattle.mips_table.specs.Device.{Idle, Outside}
-use Rattle.mips_table.specs.Machine.{SR, ESR, EPC, PTO, PTL, MODE, EMODE, State, left, step, run}
+use Rattle.mips_table.specs.declared.special.TheConstants.{SR, ESR, EPC, PTO, PTL, MODE, EMODE}
+use Rattle.mips_table.specs.Machine.{State, left, step, run}
 use Rattle.mips_table.specs.Fits.{IsWord, CpuFits}
 use Rattle.mips_table.specs.Code.{Behind, World, Sound, Configuration, at_with}
 use Rattle.mips_table.specs.Borders.{EretLeaves, PowerEnds}

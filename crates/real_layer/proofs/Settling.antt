@@ -10,7 +10,8 @@ use Rattle.mips_table.specs.declared.cause.Cause.TheVariants as causes
 use Rattle.mips_table.specs.Decoding.{decoding}
 use Rattle.mips_table.specs.Processor.{Cpu}
 use Rattle.mips_table.specs.Device.{Device, Outside}
-use Rattle.mips_table.specs.Machine.{SR, ESR, ECA, EPC, EDATA, PTO, PTL, MODE, EMODE, number_of, State, Interrupt, latched, coming, left, located, read_at, step, run}
+use Rattle.mips_table.specs.declared.special.TheConstants.{SR, ESR, ECA, EPC, EDATA, PTO, PTL, MODE, EMODE}
+use Rattle.mips_table.specs.Machine.{number_of, State, Interrupt, latched, coming, left, located, read_at, step, run}
 use Rattle.mips_table.specs.Turns.{handled}
 use Rattle.mips_table.specs.Fits.{IsWord}
 use Rattle.mips_table.specs.Code.{Behind, World, Sound, Configuration, at_with, CodeAt, Reaches}

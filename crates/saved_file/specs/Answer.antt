@@ -4,7 +4,8 @@ use Rattle.std.specs.List.{flat_map, AllByRecursion}
 use Rattle.cvm_words.specs.Bytes.{word, words_of}
 use Rattle.mips_table.specs.Device.{Outside}
 use Rattle.mips_table.specs.Fits.{Fits}
-use Rattle.mips_table.specs.Machine.{State, MODE}
+use Rattle.mips_table.specs.declared.special.TheConstants.{MODE}
+use Rattle.mips_table.specs.Machine.{State}
 use Rattle.mips_table.specs.Steady.{Steady}
 use Rattle.mips_machine.specs.Saved.{saved, CanBeSaved}
 use Rattle.saved_file.specs.Resumable.{Wanted, CanBeResumed, is_left_out, size_at}

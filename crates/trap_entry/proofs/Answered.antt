@@ -5,7 +5,7 @@ use Rattle.mips_table.specs.declared.inst.Inst.{Inst}
 use Rattle.mips_table.specs.declared.inst.Inst.TheVariants.{Addiu, Sltiu, Sw, Eret}
 use Rattle.mips_table.specs.Arith.{extended, flag}
 use Rattle.mips_table.specs.Device.{Idle}
-use Rattle.mips_table.specs.Machine.{ESR, PTO, PTL, EMODE}
+use Rattle.mips_table.specs.declared.special.TheConstants.{ESR, PTO, PTL, EMODE}
 use Rattle.mips_table.specs.Code.{put, Contents, Behind, World, Sound, CodeAt}
 use Rattle.layer_map.specs.Map.{current_at, block_at}
 use Rattle.masm.specs.Blocks.{when_code}

@@ -3,7 +3,7 @@ use Rattle.std.proofs.Common.{◌≡◌, ℕ, ◌/◌, ◌^◌, ◌<◌, ◌⊎�
 use Rattle.std.proofs.lemmas.Bool.{cases_eq, cases_lt, cond-true, cond-false}
 use Rattle.mips_table.specs.Arith.{sum, flag}
 use Rattle.mips_table.specs.Device.{Idle}
-use Rattle.mips_table.specs.Machine.{ECA, EDATA, PTL}
+use Rattle.mips_table.specs.declared.special.TheConstants.{ECA, EDATA, PTL}
 use Rattle.mips_table.specs.Code.{Contents, Behind, World, Sound}
 use Rattle.masm.specs.Says.{Gives, Asks}
 use Rattle.masm.specs.Laws.{From}

@@ -3,7 +3,7 @@ use Rattle.std.proofs.Common.{◌≡◌, ◌≢◌, ℕ, ◌+◌, ◌^◌, ◌<�
 use Rattle.mips_table.specs.declared.inst.Inst.{Inst}
 use Rattle.mips_table.specs.declared.inst.Inst.TheVariants.{Mfc0, J, Eret}
 use Rattle.mips_table.specs.Device.{Idle}
-use Rattle.mips_table.specs.Machine.{ECA, EPC, EDATA, PTL}
+use Rattle.mips_table.specs.declared.special.TheConstants.{ECA, EPC, EDATA, PTL}
 use Rattle.mips_table.specs.Code.{Contents, with_reg, Behind, World, Sound, CodeAt}
 use Rattle.layer_map.specs.Map.{current_at}
 use Rattle.masm.specs.Blocks.{when_code}

@@ -3,7 +3,7 @@ use Rattle.std.specs.Prelude.{◌≡◌, ◌≢◌, ℕ, ◌+◌, ◌-◌, ◌*�
 use Rattle.mips_table.specs.declared.inst.Inst.{Inst}
 use Rattle.mips_table.specs.declared.inst.Inst.TheVariants.{Sw, Eret}
 use Rattle.mips_table.specs.Device.{Idle, BUFFER}
-use Rattle.mips_table.specs.Machine.{ESR, ECA, EPC, EDATA, PTO, PTL, EMODE}
+use Rattle.mips_table.specs.declared.special.TheConstants.{ESR, ECA, EPC, EDATA, PTO, PTL, EMODE}
 use Rattle.mips_table.specs.Code.{Contents, Behind, World, at_with, CodeAt, Reaches}
 use Rattle.layer_map.specs.Map.{current_at, hand_at, block_at}
 use Rattle.masm.specs.Frames.{Besides}

@@ -7,9 +7,9 @@ ghost use Rattle.trap_entry.specs.Code.{switch_code, go_code, leave_code, exit_c
 
 use frame_table::constant;
 use layer_map::{ANSWER, BLOCK_SIZE, CURRENT, Map};
-use masm::roles::{BLOCK, EMODE, ESR, POWER, PTL, PTO, T0, T1, T2, ZERO};
+use masm::roles::{BLOCK, POWER, T0, T1, T2, ZERO};
 use masm::{Code, block, code};
-use mips_table::Inst;
+use mips_table::{EMODE, ESR, Inst, PTL, PTO};
 use pcb_layer::{find_block, resume_user};
 
 // The user in register 2 becomes the current one, and 9 becomes the offset of its page table.

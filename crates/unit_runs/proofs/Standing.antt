@@ -3,7 +3,8 @@ use Rattle.std.specs.Prelude.{slice_index, All, ◌&&◌, ◌==◌}
 use Rattle.std.proofs.Common.{◌≡◌, ℕ, ◌+◌, ◌-◌, ◌*◌, ◌<◌, ◌≤◌, Bool, true, false, length, refl, sym, ap, ◌∙◌, arith, true≢false}
 use Rattle.mips_table.specs.Device.{Idle, Outside}
 use Rattle.mips_table.specs.Code.{Contents, Behind}
-use Rattle.mips_table.specs.Machine.{State, MODE}
+use Rattle.mips_table.specs.declared.special.TheConstants.{MODE}
+use Rattle.mips_table.specs.Machine.{State}
 use Rattle.mips_table.specs.Turns.{is_on}
 use Rattle.mips_table.specs.Simulation.{space, contents_of, behind_of, Quiet}
 use Rattle.layer_map.specs.Map.{layer_words, hand_at, current_at, heap_used_at, block_at, globals_at, heap_at, tables_at, memory_words}

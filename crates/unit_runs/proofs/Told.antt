@@ -7,7 +7,8 @@ use Rattle.mips_table.specs.Arith.{signed}
 use Rattle.mips_table.specs.Device.{Outside}
 use Rattle.mips_table.specs.Fits.{StaysFitting}
 use Rattle.mips_table.specs.Code.{on_machine, Sound, CodeAt}
-use Rattle.mips_table.specs.Machine.{MODE, State, run}
+use Rattle.mips_table.specs.declared.special.TheConstants.{MODE}
+use Rattle.mips_table.specs.Machine.{State, run}
 use Rattle.mips_table.specs.Turns.{is_on, in_user}
 use Rattle.mips_table.specs.Simulation.{MachineSimulates}
 use Rattle.masm.specs.declared.registers.Places.{Places}

@@ -1,7 +1,8 @@
 -- The page of an address that was found serves.
 use Rattle.std.proofs.Common.{◌≡◌, ◌*◌, ◌/◌, length, take, ap, ◌∙◌, sym, subst, arith, slice_index}
 use Rattle.std.proofs.lemmas.List.{length-take-le}
-use Rattle.mips_table.specs.Machine.{PTO, entry_address}
+use Rattle.mips_table.specs.declared.special.TheConstants.{PTO}
+use Rattle.mips_table.specs.Machine.{entry_address}
 use Rattle.mips_machine.specs.Board.{Board, around}
 use Rattle.mips_machine.specs.Stretch.{Serves}
 use Rattle.mips_machine.proofs.Pages.{found_serves}

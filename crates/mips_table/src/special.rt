@@ -1,0 +1,34 @@
+// The special registers, by the numbers that mfc0 and mtc0 name, and the bits of a page table's entry.
+
+/// 1 says that external interrupts are taken.
+pub const SR: u32 = 0;
+
+/// SR before the interrupt: what SR becomes at an eret.
+pub const ESR: u32 = 1;
+
+/// The cause of the interrupt.
+pub const ECA: u32 = 2;
+
+/// The pc before the interrupt: where an eret goes.
+pub const EPC: u32 = 3;
+
+/// The address or the word that the interrupt concerns.
+pub const EDATA: u32 = 4;
+
+/// The physical address of the current user's page table.
+pub const PTO: u32 = 5;
+
+/// The number of pages of the current user.
+pub const PTL: u32 = 6;
+
+/// The mode: 0 is system mode, 1 is user mode.
+pub const MODE: u32 = 7;
+
+/// The mode before the interrupt: what MODE becomes at an eret.
+pub const EMODE: u32 = 8;
+
+/// In an entry, bit 11: it is valid.
+pub const IS_VALID: u32 = 2048;
+
+/// In an entry, bit 10: its page is protected, so no store goes there.
+pub const IS_PROTECTED: u32 = 1024;
