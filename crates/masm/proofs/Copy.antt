@@ -32,13 +32,13 @@ module _ (w : World) (f : Sound w) (straight : StraightRuns w) where
             (λ ne. put_other c.memory _ _ _ (omega arith) ∙ m.done.words k (omega arith))
             (cases_eq k a.made);
         others = λ k o. put_other c.memory _ _ k (⊎_elim (λ h. omega arith) (λ h. omega arith) o) ∙ m.done.others k (⊎_elim (λ h. inl h) (λ h. inr (omega arith)) o);
-        regs = λ r n1 n8 n9 n10. four c.regs 1 _ 8 _ 9 _ 10 _ r n1 n8 n9 n10 ∙ m.done.regs r n1 n8 n9 n10;
+        regs = λ r n1 n2 n3 n4. four c.regs 4 _ 1 _ 2 _ 3 _ r n4 n1 n2 n3 ∙ m.done.regs r n1 n2 n3 n4;
         hi = m.done.hi;
         lo = m.done.lo;
         special = m.done.special;
       }
 
-  turn : (a : Copying) → Does w copy_turn 5 (λ c d. MidCopy w a c d × (reg c.regs 10 ≢ 0)) (MidCopy w (onward a))
+  turn : (a : Copying) → Does w copy_turn 5 (λ c d. MidCopy w a c d × (reg c.regs 3 ≢ 0)) (MidCopy w (onward a))
   unfolding turn_says
   turn a = record {
     by = λ k c d at p.
@@ -57,7 +57,7 @@ module _ (w : World) (f : Sound w) (straight : StraightRuns w) where
   }
 
   module _ (runs : RunsCompose) where
-    pays : Pays w [] 10 copy_turn Copying (MidCopy w) (MidCopy w) (CopyEnds w) 0 (λ a. 5) (λ a. 7 * (a.n - a.made)) onward
+    pays : Pays w [] 3 copy_turn Copying (MidCopy w) (MidCopy w) (CopyEnds w) 0 (λ a. 5) (λ a. 7 * (a.n - a.made)) onward
     pays = record {
       idle_before = λ a c d m. ap (λ d. d.pending) m.same ∙ m.may.idle;
       idle_tested = λ a c d m. ap (λ d. d.pending) m.same ∙ m.may.idle;
@@ -75,7 +75,7 @@ module _ (w : World) (f : Sound w) (straight : StraightRuns w) where
       source = may.source ∙ omega arith;
       target = may.target ∙ omega arith;
       count = may.count ∙ omega arith;
-      done = record { words = λ k lt. absurd (omega arith); others = λ k o. refl; regs = λ r n1 n8 n9 n10. refl; hi = refl; lo = refl; special = refl };
+      done = record { words = λ k lt. absurd (omega arith); others = λ k o. refl; regs = λ r n1 n2 n3 n4. refl; hi = refl; lo = refl; special = refl };
       same = refl;
     }
 
@@ -83,7 +83,7 @@ module _ (w : World) (f : Sound w) (straight : StraightRuns w) where
     copy_runs loop x y n c0 d0 may = record {
       by = λ k c d at e.
           let a : Copying = record { x = x; y = y; n = n; from = c0; behind = d0; made = 0 } in
-          let all = loop [] 10 copy_turn (omega arith) 0 (λ a. 5) (λ a. 7 * (a.n - a.made)) onward pays a in
+          let all = loop [] 3 copy_turn (omega arith) 0 (λ a. 5) (λ a. 7 * (a.n - a.made)) onward pays a in
           let begun = subst (λ c. MidCopy w a c d) (sym e.0) (subst (λ d. MidCopy w a c0 d) (sym e.1) (start x y n c0 d0 may)) in
           let r = all.by k c d at begun in
           (r.0, r.1, r.2, runs.later w (7 * (n - 0) + 0 + 1) (7 * n + 1) _ _ (omega arith) r.3);

@@ -1,12 +1,16 @@
 -- Blocks of code: a body under a condition, and a loop, as instructions and as words.
-use Rattle.std.specs.Prelude.{ℕ, ◌+◌, ◌-◌, List, [], ◌∷◌, ◌++◌, length}
+use Rattle.std.specs.Prelude.{ℕ, ◌+◌, ◌-◌, ◌/◌, ◌%◌, List, [], ◌∷◌, ◌++◌, length}
 use Rattle.mips_table.specs.declared.inst.Inst.{Inst}
-use Rattle.mips_table.specs.declared.inst.Inst.TheVariants.{Beq}
+use Rattle.mips_table.specs.declared.inst.Inst.TheVariants.{Beq, Ori, Lui}
 use Rattle.mips_table.specs.Encoding.{encoding}
 
 -- the 16 bits of a number that is taken off
 abbrev pub minus : ℕ → ℕ
 minus n = 65536 - n
+
+-- a number in a register
+abbrev pub load_immediate_code : (r v : ℕ) → List Inst
+load_immediate_code r v = Lui r (v / 65536) ∷ Ori r r (v % 65536) ∷ []
 
 -- the body is run where the register isn't 0
 abbrev pub when_code : ℕ → List Inst → List Inst

@@ -1,16 +1,17 @@
 -- A loop that waits for the disk: it reads the status until that is 0.
 use Rattle.std.specs.Prelude.{◌≡◌, ◌≢◌, ℕ, ◌+◌, ◌*◌, ◌<◌, ◌==◌, if◌then◌else◌, true, List, [], ◌∷◌, None}
 use Rattle.mips_table.specs.declared.inst.Inst.{Inst}
-use Rattle.mips_table.specs.declared.inst.Inst.TheVariants.{Lw}
 use Rattle.mips_table.specs.declared.effect.Effect.TheVariants.{Store}
 use Rattle.mips_table.specs.Device.{Pending, Idle, Reading, Writing, COMMAND, SECTOR}
 use Rattle.mips_table.specs.Code.{Contents, Behind, World, effect_at, filled, buffer_of}
 use Rattle.masm.specs.Blocks.{loop_code}
 use Rattle.masm.specs.Laws.{From}
+use Rattle.masm.specs.declared.roles.TheConstants.{STATUS}
+use Rattle.masm.specs.declared.waiting.TheConstants.{READ_STATUS}
 
--- the status, at fffff004, is read into register 1, as long as it isn't 0
+-- the status is read into STATUS, as long as it isn't 0
 abbrev pub wait_code : List Inst
-wait_code = loop_code (Lw 1 0 0xf004 ∷ []) 1 []
+wait_code = loop_code READ_STATUS STATUS []
 
 -- the steps of the wait: five more than those that end before the transfer of the command under way, and two where none is
 abbrev pub wait_steps : Pending → ℕ
@@ -30,11 +31,11 @@ behind_after Idle m d = d
 behind_after (Reading steps sector) m d = record d { pending = Idle }
 behind_after (Writing steps sector) m d = record d { sectors = λ k. if k == sector then buffer_of m else d.sectors k; pending = Idle }
 
--- the words are these, register 1 is 0, and all else that the code sees is as it was
+-- the words are these, STATUS is 0, and all else that the code sees is as it was
 pub record Waited (m : ℕ → ℕ) (c c' : Contents) : Type 0 where
   pub words : c'.memory ≡ m
-  pub status : c'.regs 1 ≡ 0
-  pub regs : (r : ℕ) → r ≢ 1 → c'.regs r ≡ c.regs r
+  pub status : c'.regs STATUS ≡ 0
+  pub regs : (r : ℕ) → r ≢ STATUS → c'.regs r ≡ c.regs r
   pub hi : c'.hi ≡ c.hi
   pub lo : c'.lo ≡ c.lo
   pub special : c'.special ≡ c.special

@@ -3,47 +3,39 @@
 ghost use Rattle.std.specs.Prelude.{◌≡◌, map};
 ghost use Rattle.mips_table.specs.Encoding.{encoding};
 ghost use Rattle.mips_table.specs.Code.{World, Sound};
-ghost use Rattle.masm.specs.Copy.{copy_code, CopyRuns, Copying, MidCopy, CopyEnds};
+ghost use Rattle.masm.specs.Copy.{copy_turn, copy_code, CopyRuns, Copying, MidCopy, CopyEnds};
 
-use crate::block::Block;
+use crate::block::Code;
 use crate::laws::{Turns, a_loop_pays, runs_compose, straight_code_runs};
+use crate::roles::{SOURCE, TARGET, WORD, WORDS};
+use crate::{block, code};
 use mips_table::Inst;
 
-/// Code that copies words of memory from the address in register 8 to the one in register 9, as many as register 10 says.
-/// Registers 1, 8, 9 and 10 change.
-pub fn copy_words() -> Block<7>
+/// One word is copied, and the addresses and the count go on.
+const COPY_TURN: [Inst; 5] = code! {
+    lw WORD, 0(SOURCE);
+    sw WORD, 0(TARGET);
+    addiu SOURCE, SOURCE, 4;
+    addiu TARGET, TARGET, 4;
+    addiu WORDS, WORDS, -1;
+};
+
+// It is, as a block.
+fn copy_word() -> Code
+    ensures { result ≡ map encoding copy_turn }
+{
+    block! {
+        code COPY_TURN;
+    }
+}
+
+/// Code that copies words of memory from the address in SOURCE to the one in TARGET, as many as WORDS says. These and WORD change.
+pub fn copy_words() -> Code
     ensures { result ≡ map encoding copy_code }
 {
-    let mut turn = Block::<5>::new();
-    turn.push(Inst::Lw {
-        rt: 1,
-        rs: 8,
-        imm: 0,
-    });
-    turn.push(Inst::Sw {
-        rt: 1,
-        rs: 9,
-        imm: 0,
-    });
-    turn.push(Inst::Addiu {
-        rt: 8,
-        rs: 8,
-        imm: 4,
-    });
-    turn.push(Inst::Addiu {
-        rt: 9,
-        rs: 9,
-        imm: 4,
-    });
-    turn.push(Inst::Addiu {
-        rt: 10,
-        rs: 10,
-        imm: 65535,
-    });
-    let test = Block::<0>::new();
-    let mut code = Block::<7>::new();
-    code.loop_while(&test, 10, &turn);
-    code
+    block! {
+        while WORDS, copy_word();
+    }
 }
 
 // The turns of the loop that copies.

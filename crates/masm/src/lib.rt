@@ -4,6 +4,7 @@
 //! the list of its words.
 #![tactic(auto)]
 
+pub mod addresses;
 mod assembly;
 mod block;
 pub mod copying;
@@ -12,6 +13,6 @@ pub mod registers;
 pub mod roles;
 pub mod waiting;
 
-pub use assembly::extend;
+pub use assembly::{extend, load_immediate};
 pub use block::{Block, Code};
 pub use mips_table::Inst;

@@ -20,13 +20,28 @@ pub const T3: u32 = 11;
 /// The address of the words that are copied.
 pub const SOURCE: u32 = 1;
 
+/// The address to which they are copied.
+pub const TARGET: u32 = 2;
+
+/// How many words are left to copy; in a swap, how many turns of eight words.
+pub const WORDS: u32 = 3;
+
+/// The word that is copied.
+pub const WORD: u32 = 4;
+
+/// The disk's status, while a command is waited for: not 0 as long as it is under way.
+pub const STATUS: u32 = 1;
+
+/// The command that is given to the disk.
+pub const ORDER: u32 = 5;
+
 /// Whether a frame has to be filled.
 pub const FILL: u32 = 12;
 
 /// Whether the page is to be stored to.
-pub const WRITE: u32 = 15;
+pub const FOR_STORE: u32 = 15;
 
-/// The page that is asked for: its number over all users.
+/// The page that is asked for: its number over all users, which is that of its sector.
 pub const PAGE: u32 = 16;
 
 /// The user frame at the hand: its number, from 0.
@@ -44,6 +59,9 @@ pub const ENTRY: u32 = 20;
 /// The frame that an entry names.
 pub const FRAME: u32 = 21;
 
+/// The page that the frame at the hand is written back for: its number over all users, which is that of its sector.
+pub const OUT_PAGE: u32 = 21;
+
 /// The address before the next slot of a list.
 pub const SLOT: u32 = 22;
 
@@ -58,9 +76,6 @@ pub const ABSENT: u32 = 25;
 
 /// The address of a user's control block.
 pub const BLOCK: u32 = 31;
-
-/// The address of the power port, as a store's offset from 0.
-pub const POWER: u32 = 0xf008;
 
 /// Cause of an interrupt: translation refuses the pc.
 pub const FETCH_FAULT: u32 = 3;

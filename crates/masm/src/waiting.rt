@@ -5,23 +5,33 @@ ghost use Rattle.mips_table.specs.Encoding.{encoding};
 ghost use Rattle.mips_table.specs.Code.{World, Sound};
 ghost use Rattle.masm.specs.Wait.{wait_code, WaitRuns, TransfersRun};
 
-use crate::block::Block;
+use crate::addresses::COMMAND;
+use crate::block::{Block, Code};
 use crate::laws::{a_loop_turns, runs_compose, straight_code_runs};
+use crate::roles::{STATUS, ZERO};
+use crate::{block, code};
 use mips_table::Inst;
 
-/// Code that reads the disk's status until no command is under way. Register 1 changes.
-pub fn wait_for_disk() -> Block<3>
+/// The disk's status.
+const READ_STATUS: [Inst; 1] = code! {
+    lw STATUS, COMMAND(ZERO);
+};
+
+// It is, as a block.
+fn read_status() -> Block<1>
+    ensures { result ≡ map encoding READ_STATUS }
+{
+    block! {
+        code READ_STATUS;
+    }
+}
+
+/// Code that reads the disk's status until no command is under way. STATUS changes.
+pub fn wait_for_disk() -> Code
     ensures { result ≡ map encoding wait_code }
 {
-    let mut test = Block::<1>::new();
-    test.push(Inst::Lw {
-        rt: 1,
-        rs: 0,
-        imm: 0xf004,
-    });
-    let body = Block::<0>::new();
-    let mut code = Block::<3>::new();
-    code.loop_while(&test, 1, &body);
+    let mut code = Code::new();
+    code.loop_while(&read_status(), STATUS, &Block::<0>::new());
     code
 }
 

@@ -6,7 +6,8 @@ use Rattle.layer_map.specs.declared.entries.TheConstants.{ANSWER}
 use Rattle.layer_map.specs.declared.places.TheConstants.{CURRENT}
 use Rattle.masm.specs.Blocks.{minus, when_code}
 use Rattle.mips_table.specs.declared.special.TheConstants.{PTO}
-use Rattle.masm.specs.declared.roles.TheConstants.{T0, T1, T2, ZERO, POWER}
+use Rattle.masm.specs.declared.addresses.TheConstants.{POWER}
+use Rattle.masm.specs.declared.roles.TheConstants.{T0, T1, T2, ZERO}
 use Rattle.page_model.specs.Places.{Places}
 use Rattle.pcb_layer.specs.Code.{save_code, restore_code, block_code, keep_code, resume_code}
 use Rattle.frame_table.specs.Code.{const_code}

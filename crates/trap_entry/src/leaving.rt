@@ -7,7 +7,8 @@ ghost use Rattle.trap_entry.specs.Code.{switch_code, go_code, leave_code, exit_c
 
 use frame_table::constant;
 use layer_map::{ANSWER, BLOCK_SIZE, CURRENT, Map};
-use masm::roles::{BLOCK, POWER, T0, T1, T2, ZERO};
+use masm::addresses::POWER;
+use masm::roles::{BLOCK, T0, T1, T2, ZERO};
 use masm::{Code, block, code};
 use mips_table::{EMODE, ESR, Inst, PTL, PTO};
 use pcb_layer::{find_block, resume_user};
