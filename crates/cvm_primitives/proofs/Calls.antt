@@ -19,7 +19,7 @@ use Rattle.cvm_primitives.specs.View.{start, Held, WordGood, CopyArgs, ResizeGoo
 use Rattle.std.proofs.lemmas.List.Elements.{All-get_or}
 use Rattle.mips_table.specs.declared.inst.Inst.{Inst}
 use Rattle.mips_table.specs.Fits.{IsWord}
-use Rattle.page_fault.specs.Code.{page_code}
+use Rattle.page_fault.specs.Code.{handle_page_code}
 use Rattle.cvm_model.specs.Kernel.{Put, Size}
 use Rattle.cvm_model.specs.Primitives.{VmCopy as MakeCopy, changed, is_place, is_within, pieces as pieces_at, with_word as with_byte, with_words, resized as resized_flat, puts, overlap}
 use Rattle.cvm_primitives.specs.Copy.{Apart, pieces, with_word, copied, resized}
@@ -226,7 +226,7 @@ module _ (w : World) (f : Sound w) (r : RoutineLaws w) (p : Places) (b most : �
   word_good n z u eu y = ap (λ u. is_place (user_of users u) y n) eu
 
   -- VM_WORD
-  pub words : VmWord → Answers w (vm_word_code p (length users) most (page_code p)) (word_call c) p b most users c d
+  pub words : VmWord → Answers w (vm_word_code p (length users) most (handle_page_code p)) (word_call c) p b most users c d
   words law =
       let few = e.few in let k = law w p b (length users) most sizes_of (pages_by most users) c d entered in
       ⊎_elim
@@ -264,7 +264,7 @@ module _ (w : World) (f : Sound w) (r : RoutineLaws w) (p : Places) (b most : �
       refl (ap (λ z. z ∷ []) (sym r2))
 
   -- VM_PUT
-  pub stores : VmPut → Answers w (vm_put_code p (length users) most (page_code p)) (put_call c) p b most users c d
+  pub stores : VmPut → Answers w (vm_put_code p (length users) most (handle_page_code p)) (put_call c) p b most users c d
   stores law =
       let few = e.few in let k = law w p b (length users) most sizes_of (pages_by most users) c d entered in
       ⊎_elim
@@ -272,9 +272,9 @@ module _ (w : World) (f : Sound w) (r : RoutineLaws w) (p : Places) (b most : �
       (λ a. let u0 = u.0 in let u1 = u.1 in let a1 = a.1 in
       let good : WordGood (length users) sizes_of (c.regs 20) (c.regs 21) = (u.0, u.1, a.0, omega arith) in
       granting _ (put_call c) (ap₂ (λ x y. x && y) u.2 (word_good 1 (signed (c.regs 20)) (c.regs 20) u.3 (signed (c.regs 21)) ∙ a.2))
-      (subst (λ u. From w (vm_put_code p (length users) most (page_code p)) (call_steps p b (put_given u (nat_abs (signed (c.regs 21))) (cast_unsigned w32 (signed (c.regs 22))))) c d (CallLeft p most users (put_given u (nat_abs (signed (c.regs 21))) (cast_unsigned w32 (signed (c.regs 22)))) c d)) (sym u.3)
-      (subst (λ a. From w (vm_put_code p (length users) most (page_code p)) (call_steps p b (put_given (c.regs 20) a (cast_unsigned w32 (signed (c.regs 22))))) c d (CallLeft p most users (put_given (c.regs 20) a (cast_unsigned w32 (signed (c.regs 22)))) c d)) (sym a.3)
-      (subst (λ x. From w (vm_put_code p (length users) most (page_code p)) (call_steps p b (put_given (c.regs 20) (c.regs 21) x)) c d (CallLeft p most users (put_given (c.regs 20) (c.regs 21) x) c d)) (sym (as_word (c.regs 22) (e.regs 22)))
+      (subst (λ u. From w (vm_put_code p (length users) most (handle_page_code p)) (call_steps p b (put_given u (nat_abs (signed (c.regs 21))) (cast_unsigned w32 (signed (c.regs 22))))) c d (CallLeft p most users (put_given u (nat_abs (signed (c.regs 21))) (cast_unsigned w32 (signed (c.regs 22)))) c d)) (sym u.3)
+      (subst (λ a. From w (vm_put_code p (length users) most (handle_page_code p)) (call_steps p b (put_given (c.regs 20) a (cast_unsigned w32 (signed (c.regs 22))))) c d (CallLeft p most users (put_given (c.regs 20) a (cast_unsigned w32 (signed (c.regs 22)))) c d)) (sym a.3)
+      (subst (λ x. From w (vm_put_code p (length users) most (handle_page_code p)) (call_steps p b (put_given (c.regs 20) (c.regs 21) x)) c d (CallLeft p most users (put_given (c.regs 20) (c.regs 21) x) c d)) (sym (as_word (c.regs 22) (e.regs 22)))
       (from_later w r _ (600 * 2 + page_steps p.layout.pages b) _ c d _ _ (omega arith) (λ c1 d1 h. put_left (c.regs 20) (c.regs 21) (c.regs 22) good c1 d1 h.0 h.1) (k.good good))))))
       (λ a. refusing _ (put_call c) 0 (ap₂ (λ x y. x && y) u.2 (word_good 1 (signed (c.regs 20)) (c.regs 20) u.3 (signed (c.regs 21)) ∙ a.1)) refl (k.bad (λ g. let g3 = g.3 in a.0 g.2 (omega arith))))
       (place_is (user_of users (c.regs 20)) (c.regs 21) 1 (small_user (c.regs 20) (u.0, u.1)) (e.regs 21)))
@@ -416,10 +416,10 @@ module _ (w : World) (f : Sound w) (r : RoutineLaws w) (p : Places) (b most : �
 
   -- vm_copy's code comes to this
   abbrev Is : Given → Type 0
-  Is g = From w (vm_copy_code p (length users) most (page_code p)) (call_steps p b g) c d (CallLeft p most users g c d)
+  Is g = From w (vm_copy_code p (length users) most (handle_page_code p)) (call_steps p b g) c d (CallLeft p most users g c d)
 
   -- VM_COPY
-  pub copies : VmCopy → Answers w (vm_copy_code p (length users) most (page_code p)) (copy_call c) p b most users c d
+  pub copies : VmCopy → Answers w (vm_copy_code p (length users) most (handle_page_code p)) (copy_call c) p b most users c d
   copies law =
       let k = law w p b (length users) most sizes_of (pages_by most users) c d entered in
       ⊎_elim

@@ -10,7 +10,7 @@ use Rattle.masm.specs.Laws.{From}
 use Rattle.page_model.specs.Paging.{PagesStand}
 use Rattle.page_model.specs.Places.{Places, frames_end, view}
 use Rattle.frame_table.specs.View.{Sited, Ported}
-use Rattle.page_fault.specs.Code.{page_code}
+use Rattle.page_fault.specs.Code.{handle_page_code}
 use Rattle.cvm_model.specs.Kernel.{flat}
 use Rattle.cvm_model.specs.Primitives.{Call, VmWord, VmPut, VmCopy, VmResize, Given, user_of, pages_of, is_good, prim}
 use Rattle.cvm_model.specs.Paged.{pages_by}
@@ -83,9 +83,9 @@ Grown p most users c c' = is_good most users (resize_call c) ≡ true →
 
 -- vm_word, vm_put, vm_copy and vm_resize, the last with what its new pages name
 pub record CallsAnswer (w : World) (p : Places) (b most : ℕ) (users : List Flat) (c : Contents) (d : Behind) : Type 0 where
-  pub word : Answers w (vm_word_code p (length users) most (page_code p)) (word_call c) p b most users c d
-  pub put : Answers w (vm_put_code p (length users) most (page_code p)) (put_call c) p b most users c d
-  pub copy : Answers w (vm_copy_code p (length users) most (page_code p)) (copy_call c) p b most users c d
+  pub word : Answers w (vm_word_code p (length users) most (handle_page_code p)) (word_call c) p b most users c d
+  pub put : Answers w (vm_put_code p (length users) most (handle_page_code p)) (put_call c) p b most users c d
+  pub copy : Answers w (vm_copy_code p (length users) most (handle_page_code p)) (copy_call c) p b most users c d
   pub resize : From w (vm_resize_code p (length users) most) (call_steps p b (given most users d (resize_call c))) c d
       (λ c' d'. CallLeft p most users (given most users d (resize_call c)) c d c' d' × Grown p most users c c')
 

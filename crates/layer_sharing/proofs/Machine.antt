@@ -15,7 +15,7 @@ use Rattle.layer_map.specs.Map.{Map, layer_words, block_at, tables_at, memory_wo
 use Rattle.page_model.specs.Laws.{AlikesStand}
 use Rattle.page_model.specs.Paging.{IsUserFrame, Names, Pages, PagesStand, counted, naming}
 use Rattle.page_model.specs.Places.{Places, layout_of, places_of, view}
-use Rattle.page_fault.specs.Code.{page_code}
+use Rattle.page_fault.specs.Code.{handle_page_code}
 use Rattle.page_fault.specs.Asked.{MapsAreSited}
 use Rattle.cvm_model.specs.Kernel.{Core}
 use Rattle.cvm_model.specs.Primitives.{VmCopy, user_of, pages_of, is_within, is_place, is_good, overlap}
@@ -208,7 +208,7 @@ module _ (m : Map) (sizes code : List ℕ) (made : IsMade m sizes code) where
     per = m.params.pages
 
     abbrev body : List Inst
-    body = vm_copy_code (places_of m) (length users) per (page_code (places_of m))
+    body = vm_copy_code (places_of m) (length users) per (handle_page_code (places_of m))
 
     sh : Shown y c (words_of s) (behind s)
     sh = shown z.tools.alikes x y s Running c made.range st (not_user s i)
@@ -346,7 +346,7 @@ module _ (m : Map) (sizes code : List ℕ) (made : IsMade m sizes code) where
     by_registers : GoodCopy (length users) size_of (contents s) → EndsWhole p q n → s.cpu.pc ≡ 4 * (2048 + 6) → InCode m (slice_index s.cpu.regs 31) → (back : ℕ) → (run x s back).cpu.pc ≡ slice_index s.cpu.regs 31
         → ((j : ℕ) → j < back → (run x s j).cpu.pc ≢ slice_index s.cpu.regs 31) → LastPage x m c p q n s back
     by_registers good ends pc in_code back home apart =
-        let r : Routed m sizes code made 6 (returning body) x s = routed m sizes code made z.tools 6 (returning body) x s c (omega arith) ((listed m).copy ∙ ap (λ n. returning (vm_copy_code (places_of m) n per (page_code (places_of m)))) (sym count)) st i pc in
+        let r : Routed m sizes code made 6 (returning body) x s = routed m sizes code made z.tools 6 (returning body) x s c (omega arith) ((listed m).copy ∙ ap (λ n. returning (vm_copy_code (places_of m) n per (handle_page_code (places_of m)))) (sym count)) st i pc in
         let four = in_code.whole in let from = in_code.from in let some = ends.0 in
         let source = range_below (places_of m) (length users) per size_of (pages_by per users) (contents s) (slice_index s.cpu.regs 20) (slice_index s.cpu.regs 21) n users_in good.source in
         let target = range_below (places_of m) (length users) per size_of (pages_by per users) (contents s) (slice_index s.cpu.regs 22) (slice_index s.cpu.regs 23) n users_in good.target in

@@ -5,7 +5,7 @@ use Rattle.mips_table.specs.Device.{Idle}
 use Rattle.mips_table.specs.Code.{Contents, Behind, World, Configuration, at_with, Reaches, CodeAt}
 use Rattle.page_model.specs.Paging.{Pages}
 use Rattle.page_model.specs.Places.{Places}
-use Rattle.page_fault.specs.Code.{page_code}
+use Rattle.page_fault.specs.Code.{handle_page_code}
 use Rattle.cvm_primitives.specs.Copy.{copied}
 use Rattle.cvm_primitives.specs.View.{start, Held}
 use Rattle.cvm_primitives.specs.Code.{vm_copy_code}
@@ -33,4 +33,4 @@ pub record Passed (p : Places) (v : Pages) (x y n : ℕ) (c : Contents) (d : Beh
 abbrev pub CopyPasses : World → Type 0
 CopyPasses w = (p : Places) (b users per : ℕ) (size : ℕ → ℕ) (v : Pages) (c : Contents) (d : Behind) →
     Entered w p b users per size v c d → GoodCopy users size c → EndsWhole (first_word per c) (second_word per c) (c.regs 24) →
-    Through w (vm_copy_code p users per (page_code p)) (copy_steps p b per c) c d (Passed p v (first_word per c) (second_word per c) (c.regs 24) c d)
+    Through w (vm_copy_code p users per (handle_page_code p)) (copy_steps p b per c) c d (Passed p v (first_word per c) (second_word per c) (c.regs 24) c d)

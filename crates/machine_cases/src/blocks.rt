@@ -15,9 +15,9 @@
 
 use crate::block_desk::Desk;
 use crate::field::{field, hex, number};
-use frame_table::{evict, find, join_list, leave_list, move_hand};
+use frame_table::{add_mapping, advance_clock, evict_frame, remove_mapping, walk_page_table};
 use layer_map::{Map, Params};
-use pcb_layer::{keep_user, restore_registers, resume_user, save_registers};
+use pcb_layer::{restore_registers, restore_user, save_registers, save_user};
 use std::alloc::{AllocError, Global};
 use std::fmt::Write;
 use swap_layer::{swap_in, swap_out};
@@ -40,9 +40,9 @@ fn append_user(desk: &mut Desk, name: &[u8]) {
     } else if name == b"restore".as_slice() {
         desk.append(restore_registers().words());
     } else if name == b"keep".as_slice() {
-        desk.append(keep_user().words());
+        desk.append(save_user().words());
     } else if name == b"resume".as_slice() {
-        desk.append(resume_user().words());
+        desk.append(restore_user().words());
     }
 }
 
@@ -53,15 +53,15 @@ fn append_frames(desk: &mut Desk, map: &Map, name: &[u8]) {
     } else if name == b"in".as_slice() {
         desk.append(swap_in().words());
     } else if name == b"evict".as_slice() {
-        desk.append(evict(map, &swap_out()).words());
+        desk.append(evict_frame(map, &swap_out()).words());
     } else if name == b"find".as_slice() {
-        desk.append(find(map).words());
+        desk.append(walk_page_table(map).words());
     } else if name == b"leave".as_slice() {
-        desk.append(leave_list(map).words());
+        desk.append(remove_mapping(map).words());
     } else if name == b"join".as_slice() {
-        desk.append(join_list(map).words());
+        desk.append(add_mapping(map).words());
     } else if name == b"hand".as_slice() {
-        desk.append(move_hand(map).words());
+        desk.append(advance_clock(map).words());
     }
 }
 

@@ -3,7 +3,7 @@
 use layer_map::Map;
 use masm::Block;
 use mips_table::Inst;
-use page_fault::code;
+use page_fault::handle_page;
 
 /// The word of the page that is asked for.
 pub const PAGE: u32 = 1040;
@@ -48,7 +48,7 @@ pub fn driver(map: &Map) -> Block<200> {
         rs: 0,
         imm: 4 * STORE,
     });
-    driver.then(&code(map));
+    driver.then(&handle_page(map));
     driver.push(Inst::Beq {
         rs: 0,
         rt: 0,

@@ -9,10 +9,10 @@ use Rattle.masm.specs.Blocks.{when_code}
 use Rattle.masm.specs.Laws.{From}
 use Rattle.page_model.specs.Paging.{IsFrame, Names}
 use Rattle.page_model.specs.Places.{Places, view}
-use Rattle.swap_layer.specs.Code.{fetch_code}
+use Rattle.swap_layer.specs.Code.{read_sector_code}
 use Rattle.swap_layer.specs.Laws.{Fetched}
 use Rattle.frame_table.specs.View.{Sited, Ported, scratch}
-use Rattle.page_fault.specs.Code.{seen_code, source_code}
+use Rattle.page_fault.specs.Code.{look_up_page_code, locate_words_code}
 use Rattle.page_fault.proofs.From.{from_straight, from_then, from_when, from_later, straight_then}
 use Rattle.page_fault.proofs.Basics.{Laws, const_is, names_own, kept_out, besides_same, besides_none, besides_on}
 use Rattle.page_fault.proofs.Parts.{PlaceAsked, Sourced}
@@ -29,13 +29,13 @@ module _ (w : World) (f : Sound w) (laws : Laws w) (p : Places) (b : ℕ) (si : 
   e = c1.memory (p.tables + q)
 
   -- from the sector
-  comes_in : e / 2048 % 2 ≡ 0 → From w (source_code p) (10 + ((b + 8 + 1) + (1 + 1))) c1 d1 (Sourced p q h w c1 d1)
+  comes_in : e / 2048 % 2 ≡ 0 → From w (locate_words_code p) (10 + ((b + 8 + 1) + (1 + 1))) c1 d1 (Sourced p q h w c1 d1)
   comes_in gone =
       let low = si.low in let first = si.first in let second = si.second in let third = si.third in let words = f.small in let inside = a.inside in let range = a.in_range in let sectors = pt.sectors in let page = a.page in let small = a.small in
-      straight_then w laws.runs laws.straight (seen_code p 25) _ (seen_says p q (c1.memory (p.tables + q)) 0 1) _ c1 d1 _ refl a.idle
+      straight_then w laws.runs laws.straight (look_up_page_code p 25) _ (seen_says p q (c1.memory (p.tables + q)) 0 1) _ c1 d1 _ refl a.idle
       (λ n. (refl, (const_is (4 * p.tables), (omega arith, (omega arith, ((omega arith, omega arith, refl), (refl, (refl, (refl, (omega arith, (refl, tt)))))))))))
-      (λ n. from_then w laws.runs (when_code 25 fetch_code) (when_code 24 (Sll 1 21 12 ∷ [])) (b + 8 + 1) (1 + 1) _ d1 (Fetched q (sayings n (seen_code p 25) (seen_says p q (c1.memory (p.tables + q)) 0 1) c1) d1) _
-      (from_when w laws.runs laws.whens 25 fetch_code (b + 8) _ d1 _ (omega arith) a.idle
+      (λ n. from_then w laws.runs (when_code 25 read_sector_code) (when_code 24 (Sll 1 21 12 ∷ [])) (b + 8 + 1) (1 + 1) _ d1 (Fetched q (sayings n (look_up_page_code p 25) (seen_says p q (c1.memory (p.tables + q)) 0 1) c1) d1) _
+      (from_when w laws.runs laws.whens 25 read_sector_code (b + 8) _ d1 _ (omega arith) a.idle
       (λ ne. laws.fetches b q _ d1 pt.disk a.page (omega arith) a.idle)
       (λ z. absurd (omega arith)))
       (λ c3 d3 k. from_when w laws.runs laws.whens 24 (Sll 1 21 12 ∷ []) 1 c3 d3 _ (omega arith) k.besides.idle
@@ -53,12 +53,12 @@ module _ (w : World) (f : Sound w) (laws : Laws w) (p : Places) (b : ℕ) (si : 
         named = k.regs 21 (omega arith);
         valid = k.regs 24 (omega arith) ∙ sym gone;
         sectors = k.sectors;
-        regs = λ x o. k.regs x (⊎_elim (λ h. omega arith) (λ h. omega arith) o) ∙ laws.stays scratch x (kept_out x o) (seen_code p 25) (seen_says p q (c1.memory (p.tables + q)) 0 1) n c1 refl refl;
-        besides = besides_on c1 _ c3 d1 d1 d3 (besides_same c1 c1 (sayings n (seen_code p 25) (seen_says p q (c1.memory (p.tables + q)) 0 1) c1) d1 d1 refl refl refl (besides_none c1 d1 a.idle)) k.besides;
+        regs = λ x o. k.regs x (⊎_elim (λ h. omega arith) (λ h. omega arith) o) ∙ laws.stays scratch x (kept_out x o) (look_up_page_code p 25) (seen_says p q (c1.memory (p.tables + q)) 0 1) n c1 refl refl;
+        besides = besides_on c1 _ c3 d1 d1 d3 (besides_same c1 c1 (sayings n (look_up_page_code p 25) (seen_says p q (c1.memory (p.tables + q)) 0 1) c1) d1 d1 refl refl refl (besides_none c1 d1 a.idle)) k.besides;
       })))
 
   -- from the frame that it shares
-  stands_in : e / 2048 % 2 ≡ 1 → From w (source_code p) (10 + ((0 + 1) + (1 + 1))) c1 d1 (Sourced p q h w c1 d1)
+  stands_in : e / 2048 % 2 ≡ 1 → From w (locate_words_code p) (10 + ((0 + 1) + (1 + 1))) c1 d1 (Sourced p q h w c1 d1)
   stands_in val =
       let low = si.low in let first = si.first in let second = si.second in let third = si.third in let words = f.small in let inside = a.inside in let range = a.in_range in let page = a.page in let small = a.small in
       let own : Names e (e / 4096) = names_own e val in
@@ -66,15 +66,15 @@ module _ (w : World) (f : Sound w) (laws : Laws w) (p : Places) (b : ℕ) (si : 
       let lo : p.layout.zeros ≤ e / 4096 = in'.0 in
       let hi : e / 4096 ≤ p.layout.zeros + p.layout.frames = in'.1 in
       let other : e / 4096 ≢ g = λ eq. a.away (own ∙ ap (λ y. 2 * y + 1) eq) in
-      straight_then w laws.runs laws.straight (seen_code p 25) _ (seen_says p q (c1.memory (p.tables + q)) 1 0) _ c1 d1 _ refl a.idle
+      straight_then w laws.runs laws.straight (look_up_page_code p 25) _ (seen_says p q (c1.memory (p.tables + q)) 1 0) _ c1 d1 _ refl a.idle
       (λ n. (refl, (const_is (4 * p.tables), (omega arith, (omega arith, ((omega arith, omega arith, refl), (refl, (refl, (refl, (omega arith, (refl, tt)))))))))))
-      (λ n. from_then w laws.runs (when_code 25 fetch_code) (when_code 24 (Sll 1 21 12 ∷ [])) (0 + 1) (1 + 1) _ d1 (λ c d. (c ≡ sayings n (seen_code p 25) (seen_says p q (c1.memory (p.tables + q)) 1 0) c1) × (d ≡ d1)) _
-      (from_when w laws.runs laws.whens 25 fetch_code 0 _ d1 _ (omega arith) a.idle
+      (λ n. from_then w laws.runs (when_code 25 read_sector_code) (when_code 24 (Sll 1 21 12 ∷ [])) (0 + 1) (1 + 1) _ d1 (λ c d. (c ≡ sayings n (look_up_page_code p 25) (seen_says p q (c1.memory (p.tables + q)) 1 0) c1) × (d ≡ d1)) _
+      (from_when w laws.runs laws.whens 25 read_sector_code 0 _ d1 _ (omega arith) a.idle
       (λ ne. absurd (ne refl))
       (λ z. (refl, refl)))
-      (λ c3 d3 i. subst (λ c. From w (when_code 24 (Sll 1 21 12 ∷ [])) (1 + 1) c d3 (Sourced p q h w c1 d1)) (sym i.0) (subst (λ d. From w (when_code 24 (Sll 1 21 12 ∷ [])) (1 + 1) (sayings n (seen_code p 25) (seen_says p q (c1.memory (p.tables + q)) 1 0) c1) d (Sourced p q h w c1 d1)) (sym i.1)
-      (from_when w laws.runs laws.whens 24 (Sll 1 21 12 ∷ []) 1 (sayings n (seen_code p 25) (seen_says p q (c1.memory (p.tables + q)) 1 0) c1) d1 _ (omega arith) a.idle
-      (λ ne. from_straight w laws.runs laws.straight (Sll 1 21 12 ∷ []) (Gives (4 * (1024 * (e / 4096))) ∷ []) (sayings n (seen_code p 25) (seen_says p q (c1.memory (p.tables + q)) 1 0) c1) d1 _ refl a.idle
+      (λ c3 d3 i. subst (λ c. From w (when_code 24 (Sll 1 21 12 ∷ [])) (1 + 1) c d3 (Sourced p q h w c1 d1)) (sym i.0) (subst (λ d. From w (when_code 24 (Sll 1 21 12 ∷ [])) (1 + 1) (sayings n (look_up_page_code p 25) (seen_says p q (c1.memory (p.tables + q)) 1 0) c1) d (Sourced p q h w c1 d1)) (sym i.1)
+      (from_when w laws.runs laws.whens 24 (Sll 1 21 12 ∷ []) 1 (sayings n (look_up_page_code p 25) (seen_says p q (c1.memory (p.tables + q)) 1 0) c1) d1 _ (omega arith) a.idle
+      (λ ne. from_straight w laws.runs laws.straight (Sll 1 21 12 ∷ []) (Gives (4 * (1024 * (e / 4096))) ∷ []) (sayings n (look_up_page_code p 25) (seen_says p q (c1.memory (p.tables + q)) 1 0) c1) d1 _ refl a.idle
       (λ m. (
         (omega arith, tt),
         record {
@@ -90,7 +90,7 @@ module _ (w : World) (f : Sound w) (laws : Laws w) (p : Places) (b : ℕ) (si : 
           named = refl;
           valid = sym val;
           sectors = λ x i. refl;
-          regs = λ x o. laws.stays scratch x (kept_out x o) (Sll 1 21 12 ∷ []) (Gives (4 * (1024 * (e / 4096))) ∷ []) m (sayings n (seen_code p 25) (seen_says p q (c1.memory (p.tables + q)) 1 0) c1) refl refl ∙ laws.stays scratch x (kept_out x o) (seen_code p 25) (seen_says p q (c1.memory (p.tables + q)) 1 0) n c1 refl refl;
+          regs = λ x o. laws.stays scratch x (kept_out x o) (Sll 1 21 12 ∷ []) (Gives (4 * (1024 * (e / 4096))) ∷ []) m (sayings n (look_up_page_code p 25) (seen_says p q (c1.memory (p.tables + q)) 1 0) c1) refl refl ∙ laws.stays scratch x (kept_out x o) (look_up_page_code p 25) (seen_says p q (c1.memory (p.tables + q)) 1 0) n c1 refl refl;
           besides = besides_same c1 c1 _ d1 d1 refl refl refl (besides_none c1 d1 a.idle);
         },
       )))
@@ -99,8 +99,8 @@ module _ (w : World) (f : Sound w) (laws : Laws w) (p : Places) (b : ℕ) (si : 
       either : (x y : ℕ) → x ≢ y → (x < y) ⊎ (y < x)
       either x y ne = grind arith
 
-  pub sources : From w (source_code p) (b + 21) c1 d1 (Sourced p q h w c1 d1)
+  pub sources : From w (locate_words_code p) (b + 21) c1 d1 (Sourced p q h w c1 d1)
   sources = ⊎_elim
-      (λ z. from_later w laws.runs (source_code p) (10 + ((b + 8 + 1) + (1 + 1))) _ c1 d1 _ _ (omega arith) (λ c d k. k) (comes_in z))
-      (λ ne. from_later w laws.runs (source_code p) (10 + ((0 + 1) + (1 + 1))) _ c1 d1 _ _ (omega arith) (λ c d k. k) (stands_in (omega arith)))
+      (λ z. from_later w laws.runs (locate_words_code p) (10 + ((b + 8 + 1) + (1 + 1))) _ c1 d1 _ _ (omega arith) (λ c d k. k) (comes_in z))
+      (λ ne. from_later w laws.runs (locate_words_code p) (10 + ((0 + 1) + (1 + 1))) _ c1 d1 _ _ (omega arith) (λ c d k. k) (stands_in (omega arith)))
       (cases_eq (e / 2048 % 2) 0)

@@ -7,7 +7,7 @@ use Rattle.mips_table.specs.Code.{put, reg, put_reg, Contents, Behind, World, So
 use Rattle.masm.specs.Says.{Reads, Writes}
 use Rattle.masm.specs.Laws.{From}
 use Rattle.masm.proofs.Routines.{from_straight, from_then, from_later}
-use Rattle.pcb_layer.specs.Code.{saved_at, save_code, loads_code, copy_code}
+use Rattle.pcb_layer.specs.Code.{saved_at, save_registers_code, load_registers_code, save_context_code}
 use Rattle.pcb_layer.specs.Laws.{HasSaveArea, MaySave}
 use Rattle.pcb_layer.proofs.Basics.{put_same, put_other, small_is}
 
@@ -42,11 +42,11 @@ pub record CopiedTo (b n : ℕ) (c0 : Contents) (d0 : Behind) (c : Contents) (d 
   pub behind : d ≡ d0
 
 module _ (w : World) (f : Sound w) where
-  pub saves : (n : ℕ) → n ≤ 31 → HasSaveArea w → MaySave w → (c : Contents) (d : Behind) → d.pending ≡ Idle → From w (save_code n) n c d (SavedTo n c d)
+  pub saves : (n : ℕ) → n ≤ 31 → HasSaveArea w → MaySave w → (c : Contents) (d : Behind) → d.pending ≡ Idle → From w (save_registers_code n) n c d (SavedTo n c d)
   saves zero le area may c d idle = from_straight w f [] [] c d _ refl idle (λ m. (tt, record { words = λ r lo hi. absurd (omega arith); others = λ x o. refl; regs = refl; special = refl; hi = refl; lo = refl; behind = refl }))
   saves (suc n) le area may c d idle =
-      from_later w (save_code (suc n)) (n + 1) (suc n) c d _ _ (omega arith) (λ c d k. k)
-      (from_then w (save_code n) (Sw (n + 1) 0 (4 * saved_at (n + 1)) ∷ []) n 1 c d (SavedTo n c d) (SavedTo (suc n) c d) (saves n (omega arith) area may c d idle)
+      from_later w (save_registers_code (suc n)) (n + 1) (suc n) c d _ _ (omega arith) (λ c d k. k)
+      (from_then w (save_registers_code n) (Sw (n + 1) 0 (4 * saved_at (n + 1)) ∷ []) n 1 c d (SavedTo n c d) (SavedTo (suc n) c d) (saves n (omega arith) area may c d idle)
       (λ c1 d1 k.
       let small = f.small in
       let e4 = small_is (4 * saved_at (n + 1)) (omega arith) in
@@ -68,11 +68,11 @@ module _ (w : World) (f : Sound w) where
         },
       ))))
 
-  pub loads : (base offset a b n : ℕ) → n ≤ 31 → a + offset ≡ b → offset ≤ 8000 → b + 32 ≤ w.words → (c : Contents) (d : Behind) → ((g : ℕ → ℕ) → g 31 ≡ c.regs 31 → reg g base ≡ 4 * a) → d.pending ≡ Idle → From w (loads_code base offset n) n c d (LoadedTo b n c d)
+  pub loads : (base offset a b n : ℕ) → n ≤ 31 → a + offset ≡ b → offset ≤ 8000 → b + 32 ≤ w.words → (c : Contents) (d : Behind) → ((g : ℕ → ℕ) → g 31 ≡ c.regs 31 → reg g base ≡ 4 * a) → d.pending ≡ Idle → From w (load_registers_code base offset n) n c d (LoadedTo b n c d)
   loads base offset a b zero le is low area c d stays idle = from_straight w f [] [] c d _ refl idle (λ m. (tt, record { regs = λ r lo hi. absurd (omega arith); above = λ r lt. refl; memory = refl; special = refl; hi = refl; lo = refl; behind = refl }))
   loads base offset a b (suc n) le is low area c d stays idle =
-      from_later w (loads_code base offset (suc n)) (n + 1) (suc n) c d _ _ (omega arith) (λ c d k. k)
-      (from_then w (loads_code base offset n) (Lw (n + 1) base (4 * (offset + (n + 1))) ∷ []) n 1 c d (LoadedTo b n c d) (LoadedTo b (suc n) c d) (loads base offset a b n (omega arith) is low area c d stays idle)
+      from_later w (load_registers_code base offset (suc n)) (n + 1) (suc n) c d _ _ (omega arith) (λ c d k. k)
+      (from_then w (load_registers_code base offset n) (Lw (n + 1) base (4 * (offset + (n + 1))) ∷ []) n 1 c d (LoadedTo b n c d) (LoadedTo b (suc n) c d) (loads base offset a b n (omega arith) is low area c d stays idle)
       (λ c1 d1 k.
       let small = f.small in
       let e4 = small_is (4 * (offset + (n + 1))) (omega arith) in
@@ -96,11 +96,11 @@ module _ (w : World) (f : Sound w) where
         },
       ))))
 
-  pub copies : (b n : ℕ) → n ≤ 31 → saved_at 32 ≤ b → b + 32 ≤ w.words → ((k : ℕ) → k < 35 → w.kept (b + k) ≡ None) → (c : Contents) (d : Behind) → c.regs 31 ≡ 4 * b → d.pending ≡ Idle → From w (copy_code n) (2 * n) c d (CopiedTo b n c d)
+  pub copies : (b n : ℕ) → n ≤ 31 → saved_at 32 ≤ b → b + 32 ≤ w.words → ((k : ℕ) → k < 35 → w.kept (b + k) ≡ None) → (c : Contents) (d : Behind) → c.regs 31 ≡ 4 * b → d.pending ≡ Idle → From w (save_context_code n) (2 * n) c d (CopiedTo b n c d)
   copies b zero le low area free c d at idle = from_straight w f [] [] c d _ refl idle (λ m. (tt, record { words = λ r lo hi. absurd (omega arith); others = λ x o. refl; regs = λ r ne. refl; special = refl; hi = refl; lo = refl; behind = refl }))
   copies b (suc n) le low area free c d at idle =
-      from_later w (copy_code (suc n)) (2 * n + 2) (2 * suc n) c d _ _ (omega arith) (λ c d k. k)
-      (from_then w (copy_code n) (Lw 1 0 (4 * saved_at (n + 1)) ∷ Sw 1 31 (4 * (n + 1)) ∷ []) (2 * n) 2 c d (CopiedTo b n c d) (CopiedTo b (suc n) c d) (copies b n (omega arith) low area free c d at idle)
+      from_later w (save_context_code (suc n)) (2 * n + 2) (2 * suc n) c d _ _ (omega arith) (λ c d k. k)
+      (from_then w (save_context_code n) (Lw 1 0 (4 * saved_at (n + 1)) ∷ Sw 1 31 (4 * (n + 1)) ∷ []) (2 * n) 2 c d (CopiedTo b n c d) (CopiedTo b (suc n) c d) (copies b n (omega arith) low area free c d at idle)
       (λ c1 d1 k.
       let small = f.small in
       let e4 = small_is (4 * saved_at (n + 1)) (omega arith) in

@@ -5,19 +5,20 @@ use Rattle.mips_table.specs.Code.{put, with_reg, with_wide, Contents, World, Sou
 use Rattle.layer_map.specs.Map.{current_at, block_at}
 use Rattle.masm.specs.Says.{Gives, Widens, Reads, Writes, Asks}
 use Rattle.masm.proofs.Routines.{from_straight, from_then, from_later, straight_then}
-use Rattle.pcb_layer.specs.Code.{save_code, restore_code, block_code, copy_code, rest_out_code, keep_code, rest_in_code, load_code, resume_code}
+use Rattle.pcb_layer.specs.Code.{save_registers_code, restore_registers_code, find_control_block_code, save_context_code, save_user_code, load_registers_code, restore_user_code}
+use Rattle.pcb_layer.specs.declared.blocks.TheConstants.{SAVE_SPECIAL, RESTORE_SPECIAL}
 use Rattle.pcb_layer.specs.Laws.{Saved, Restored, IsBeside, Kept, UserSaved, UserRestored, SavesRegisters, RestoresRegisters, KeepsUser, SavesUser, RestoresUser}
 use Rattle.pcb_layer.proofs.Basics.{put_same, put_other}
 use Rattle.pcb_layer.proofs.Registers.{SavedTo, LoadedTo, CopiedTo, saves, loads, copies}
 
 module _ (w : World) (f : Sound w) where
   pub saves_registers : SavesRegisters w
-  saves_registers area may c d idle = from_later w (save_code 31) 31 31 c d (SavedTo 31 c d) (Saved c d) (omega arith)
+  saves_registers area may c d idle = from_later w (save_registers_code 31) 31 31 c d (SavedTo 31 c d) (Saved c d) (omega arith)
       (λ c' d' k. record { words = λ r is. k.words r is.0 is.1; others = k.others; regs = k.regs; special = k.special; hi = k.hi; lo = k.lo; behind = k.behind })
       (saves w f 31 (omega arith) area may c d idle)
 
   pub restores_registers : RestoresRegisters w
-  restores_registers area c d idle = from_later w (restore_code 31) 31 31 c d (LoadedTo 1030 31 c d) (Restored c d) (omega arith)
+  restores_registers area c d idle = from_later w (restore_registers_code 31) 31 31 c d (LoadedTo 1030 31 c d) (Restored c d) (omega arith)
       (λ c' d' k. record { regs = λ r is. k.regs r is.0 is.1; memory = k.memory; special = k.special; hi = k.hi; lo = k.lo; behind = k.behind })
       (loads w f 0 1030 0 1030 31 (omega arith) refl (omega arith) (omega (arith, area)) c d (λ g e. refl) idle)
 
@@ -39,14 +40,14 @@ module _ (w : World) (f : Sound w) where
   keeps_user u c d may is idle =
       let small = f.small in let some = is.some in let most = is.most in let inside = is.inside in
       let e = is.current in
-      from_later w keep_code (5 + (62 + 6)) 73 c d _ _ (omega arith) (λ c d k. k)
-      (straight_then w f block_code (copy_code 31 ++ rest_out_code) (Reads current_at u ∷ Gives (u - 1) ∷ Gives (256 * (u - 1)) ∷ Gives 0xc000 ∷ Gives (4 * block_at u) ∷ []) (62 + 6) c d _ refl idle
+      from_later w save_user_code (5 + (62 + 6)) 73 c d _ _ (omega arith) (λ c d k. k)
+      (straight_then w f find_control_block_code (save_context_code 31 ++ SAVE_SPECIAL) (Reads current_at u ∷ Gives (u - 1) ∷ Gives (256 * (u - 1)) ∷ Gives 0xc000 ∷ Gives (4 * block_at u) ∷ []) (62 + 6) c d _ refl idle
       (λ n. ((refl, omega arith, e), (omega arith, (omega arith, (refl, (omega arith, tt))))))
-      (λ n. from_then w (copy_code 31) rest_out_code 62 6 (found u c) d (CopiedTo (block_at u) 31 (found u c) d) (Kept u c d)
+      (λ n. from_then w (save_context_code 31) SAVE_SPECIAL 62 6 (found u c) d (CopiedTo (block_at u) 31 (found u c) d) (Kept u c d)
       (copies w f (block_at u) 31 (omega arith) (omega arith) (omega arith) may.free (found u c) d refl idle)
       (λ c1 d1 k.
       let base : c1.regs 31 ≡ 4 * block_at u = k.regs 31 (omega arith) in
-      from_straight w f rest_out_code (Asks ∷ Writes (block_at u) (c.special EPC) ∷ Gives c.hi ∷ Writes (block_at u + 33) c.hi ∷ Gives c.lo ∷ Writes (block_at u + 34) c.lo ∷ []) c1 d1 (Kept u c d) refl (ap (λ d. d.pending) k.behind ∙ idle)
+      from_straight w f SAVE_SPECIAL (Asks ∷ Writes (block_at u) (c.special EPC) ∷ Gives c.hi ∷ Writes (block_at u + 33) c.hi ∷ Gives c.lo ∷ Writes (block_at u + 34) c.lo ∷ []) c1 d1 (Kept u c d) refl (ap (λ d. d.pending) k.behind ∙ idle)
       (λ m.
       let m1 = put c1.memory (block_at u) (c.special EPC) in
       let m2 = put m1 (block_at u + 33) c.hi in (
@@ -85,12 +86,12 @@ module _ (w : World) (f : Sound w) where
       let hi = c.memory (block_at u + 33) in
       let lo = c.memory (block_at u + 34) in
       let c1 : Contents = record (with_wide (found u c) hi lo) { regs = (with_reg (with_reg (with_reg (found u c) 1 pc) 1 hi) 1 lo).regs; special = put c.special EPC pc } in
-      from_later w resume_code (5 + (6 + 31)) 42 c d _ _ (omega arith) (λ c d k. k)
-      (straight_then w f block_code (rest_in_code ++ load_code 31) (Reads current_at u ∷ Gives (u - 1) ∷ Gives (256 * (u - 1)) ∷ Gives 0xc000 ∷ Gives (4 * block_at u) ∷ []) (6 + 31) c d _ refl idle
+      from_later w restore_user_code (5 + (6 + 31)) 42 c d _ _ (omega arith) (λ c d k. k)
+      (straight_then w f find_control_block_code (RESTORE_SPECIAL ++ load_registers_code 31 0 31) (Reads current_at u ∷ Gives (u - 1) ∷ Gives (256 * (u - 1)) ∷ Gives 0xc000 ∷ Gives (4 * block_at u) ∷ []) (6 + 31) c d _ refl idle
       (λ n. ((refl, omega arith, e), (omega arith, (omega arith, (refl, (omega arith, tt))))))
-      (λ n. straight_then w f rest_in_code (load_code 31) (Reads (block_at u) pc ∷ Asks ∷ Reads (block_at u + 33) hi ∷ Widens hi c.lo ∷ Reads (block_at u + 34) lo ∷ Widens hi lo ∷ []) 31 (found u c) d (UserRestored u c d) refl idle
+      (λ n. straight_then w f RESTORE_SPECIAL (load_registers_code 31 0 31) (Reads (block_at u) pc ∷ Asks ∷ Reads (block_at u + 33) hi ∷ Widens hi c.lo ∷ Reads (block_at u + 34) lo ∷ Widens hi lo ∷ []) 31 (found u c) d (UserRestored u c d) refl idle
       (λ m. ((omega arith, omega arith, refl), ((system, (λ z. omega arith), (λ z. omega arith)), ((omega arith, omega arith, refl), ((refl, refl), ((omega arith, omega arith, refl), ((refl, refl), tt)))))))
-      (λ m. from_later w (load_code 31) 31 31 c1 d (LoadedTo (block_at u) 31 c1 d) (UserRestored u c d) (omega arith)
+      (λ m. from_later w (load_registers_code 31 0 31) 31 31 c1 d (LoadedTo (block_at u) 31 c1 d) (UserRestored u c d) (omega arith)
       (λ c' d' k. record {
         pc = ap (λ g. g EPC) k.special ∙ put_same c.special EPC pc EPC refl;
         registers = λ r h. k.regs r h.0 h.1;
@@ -105,9 +106,9 @@ module _ (w : World) (f : Sound w) where
 pub saves_user : (w : World) → SavesRegisters w → KeepsUser w → SavesUser w
 saves_user w saving keeping may u c d free is idle =
     let some = is.some in let most = is.most in let inside = is.inside in
-    from_later w (save_code 31 ++ keep_code) (31 + 73) 104 c d _ _ (omega arith) (λ c d k. k)
-    (from_then w (save_code 31) keep_code 31 73 c d (Saved c d) (UserSaved u c d) (saving (omega arith) may c d idle)
-    (λ c1 d1 s. from_later w keep_code 73 73 c1 d1 (Kept u c1 d1) (UserSaved u c d) (omega arith)
+    from_later w (save_registers_code 31 ++ save_user_code) (31 + 73) 104 c d _ _ (omega arith) (λ c d k. k)
+    (from_then w (save_registers_code 31) save_user_code 31 73 c d (Saved c d) (UserSaved u c d) (saving (omega arith) may c d idle)
+    (λ c1 d1 s. from_later w save_user_code 73 73 c1 d1 (Kept u c1 d1) (UserSaved u c d) (omega arith)
     (λ c' d' k. record {
       pc = k.pc ∙ ap (λ g. g EPC) s.special;
       registers = λ r h. k.registers r h ∙ s.words r h;

@@ -5,7 +5,7 @@ use Rattle.mips_table.specs.declared.special.TheConstants.{EPC}
 use Rattle.mips_table.specs.Code.{Contents, Behind, World}
 use Rattle.layer_map.specs.Map.{current_at, block_at}
 use Rattle.masm.specs.Laws.{From}
-use Rattle.pcb_layer.specs.Code.{saved_at, save_code, restore_code, keep_code, resume_code}
+use Rattle.pcb_layer.specs.Code.{saved_at, save_registers_code, restore_registers_code, save_user_code, restore_user_code}
 
 -- the number of a register other than register 0
 abbrev pub IsRegister : ℕ → Type 0
@@ -92,20 +92,20 @@ pub record UserRestored (u : ℕ) (c0 : Contents) (d0 : Behind) (c : Contents) (
 
 -- the registers go to the save area
 abbrev pub SavesRegisters : World → Type 0
-SavesRegisters w = HasSaveArea w → MaySave w → (c : Contents) (d : Behind) → d.pending ≡ Idle → From w (save_code 31) 31 c d (Saved c d)
+SavesRegisters w = HasSaveArea w → MaySave w → (c : Contents) (d : Behind) → d.pending ≡ Idle → From w (save_registers_code 31) 31 c d (Saved c d)
 
 -- the registers come from the save area
 abbrev pub RestoresRegisters : World → Type 0
-RestoresRegisters w = HasSaveArea w → (c : Contents) (d : Behind) → d.pending ≡ Idle → From w (restore_code 31) 31 c d (Restored c d)
+RestoresRegisters w = HasSaveArea w → (c : Contents) (d : Behind) → d.pending ≡ Idle → From w (restore_registers_code 31) 31 c d (Restored c d)
 
 -- what is saved goes to the current user's control block
 abbrev pub KeepsUser : World → Type 0
-KeepsUser w = (u : ℕ) (c : Contents) (d : Behind) → MayKeep w u → IsCurrent w u c → d.pending ≡ Idle → From w keep_code 73 c d (Kept u c d)
+KeepsUser w = (u : ℕ) (c : Contents) (d : Behind) → MayKeep w u → IsCurrent w u c → d.pending ≡ Idle → From w save_user_code 73 c d (Kept u c d)
 
 -- both
 abbrev pub SavesUser : World → Type 0
-SavesUser w = MaySave w → (u : ℕ) (c : Contents) (d : Behind) → MayKeep w u → IsCurrent w u c → d.pending ≡ Idle → From w (save_code 31 ++ keep_code) 104 c d (UserSaved u c d)
+SavesUser w = MaySave w → (u : ℕ) (c : Contents) (d : Behind) → MayKeep w u → IsCurrent w u c → d.pending ≡ Idle → From w (save_registers_code 31 ++ save_user_code) 104 c d (UserSaved u c d)
 
 -- the current user is restored
 abbrev pub RestoresUser : World → Type 0
-RestoresUser w = w.system ≡ true → (u : ℕ) (c : Contents) (d : Behind) → IsCurrent w u c → d.pending ≡ Idle → From w resume_code 42 c d (UserRestored u c d)
+RestoresUser w = w.system ≡ true → (u : ℕ) (c : Contents) (d : Behind) → IsCurrent w u c → d.pending ≡ Idle → From w restore_user_code 42 c d (UserRestored u c d)

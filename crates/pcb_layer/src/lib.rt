@@ -9,14 +9,14 @@
 //! |---|---|---|
 //! | [`save_registers`] | 31 | registers 1 to 31 go to the save area |
 //! | [`restore_registers`] | 31 | registers 1 to 31 come from the save area |
-//! | [`keep_user`] | 73 | the save area, epc, hi and lo go to the current user's control block; registers 1 and 31 change |
-//! | [`resume_user`] | 42 | registers 1 to 31, epc, hi and lo come from the current user's control block |
+//! | [`save_user`] | 73 | the save area, epc, hi and lo go to the current user's control block; registers 1 and 31 change |
+//! | [`restore_user`] | 42 | registers 1 to 31, epc, hi and lo come from the current user's control block |
 #![tactic(auto)]
 
 mod blocks;
 mod laws;
 
-pub use blocks::{find_block, keep_user, restore_registers, resume_user, save_registers};
+pub use blocks::{find_control_block, restore_registers, restore_user, save_registers, save_user};
 pub use laws::{
     a_user_is_kept, a_user_is_restored, a_user_is_saved, registers_are_restored,
     registers_are_saved,

@@ -12,7 +12,7 @@ use Rattle.mips_table.specs.Simulation.{configuration_of}
 use Rattle.layer_map.specs.Map.{Map, layer_words, current_at}
 use Rattle.page_model.specs.Paging.{PagesStand}
 use Rattle.page_model.specs.Places.{Places, layout_of, places_of, view}
-use Rattle.page_fault.specs.Code.{page_code}
+use Rattle.page_fault.specs.Code.{handle_page_code}
 use Rattle.pcb_layer.specs.Code.{saved_at}
 use Rattle.pcb_layer.specs.Laws.{HasSaveArea, MaySave}
 use Rattle.cvm_model.specs.Kernel.{Core}
@@ -35,11 +35,11 @@ use Rattle.real_layer.proofs.Leaving.{free_own}
 use Rattle.real_layer.proofs.Linked.{image_linked, image_taken}
 
 -- the handler's instructions
-pub handler_is : (m : Map) → interrupt_code m ≡ handler_code (places_of m) (page_code (places_of m))
+pub handler_is : (m : Map) → interrupt_code m ≡ handler_code (places_of m) (handle_page_code (places_of m))
 unfolding interrupt_code
 handler_is m = refl
 
-pub page_length : (p : Places) → length (page_code p) ≤ 1000
+pub page_length : (p : Places) → length (handle_page_code p) ≤ 1000
 page_length p = omega arith
 
 module _ (m : Map) (sizes code : List ℕ) (made : IsMade m sizes code) where
@@ -47,7 +47,7 @@ module _ (m : Map) (sizes code : List ℕ) (made : IsMade m sizes code) where
   y = image_site m sizes code
 
   abbrev pub handler : List Inst
-  handler = handler_code (places_of m) (page_code (places_of m))
+  handler = handler_code (places_of m) (handle_page_code (places_of m))
 
   pub handler_placed : Standing y 0 handler
   handler_placed = subst (Standing y 0) (handler_is m) (handler_stands m sizes code made)
@@ -117,7 +117,7 @@ module _ (m : Map) (sizes code : List ℕ) (made : IsMade m sizes code) where
       let area : HasSaveArea w = omega arith in
       let free : MaySave w = λ q is. let low = is.0 in let top = is.1 in free_variable s.memory (saved_at q) (omega arith) (omega arith) in
       let cause : slice_index s.special ECA ≡ 0 = ap (λ sp. slice_index sp ECA) r.special in
-      let g = law w f (places_of m) (page_code (places_of m)) 0 (contents s) (behind s) (page_length (places_of m)) refl area free ((b.stands 0 handler).stands w) cause k.idle in
+      let g = law w f (places_of m) (handle_page_code (places_of m)) 0 (contents s) (behind s) (page_length (places_of m)) refl area free ((b.stands 0 handler).stands w) cause k.idle in
       let t : Configuration = at_with 0x4000 g.0 g.1 in
       let e : ResetEntered (contents s) (behind s) g.0 g.1 = g.2 in
       let reaches : Reaches w 51 (configuration_of s) t = subst (λ u. Reaches w 51 u t) (sym (stands_at s 0 pc)) g.3 in

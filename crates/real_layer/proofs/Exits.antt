@@ -18,7 +18,7 @@ use Rattle.cvm_model.specs.Cvm.{Status, Running, Faulted, leave_steps}
 use Rattle.cvm_model.specs.Stands.{Site, Stands, runs_user}
 use Rattle.layer_contract.specs.declared.entry.Entry.TheVariants.{Fault as Exit}
 use Rattle.layer_contract.specs.Layer.{Inside, IsAt, Comes, IsEntry, Rested, Exits}
-use Rattle.trap_entry.specs.Code.{exit_code}
+use Rattle.trap_entry.specs.Code.{exit_with_code}
 use Rattle.trap_entry.specs.Laws.{ComesTo, Passed, ExitsWith}
 use Rattle.real_layer.specs.Image.{routine, routine_at, image_site, IsMade}
 use Rattle.real_layer.specs.Premises.{Premises}
@@ -172,12 +172,12 @@ module _ (m : Map) (sizes code : List ℕ) (made : IsMade m sizes code) where
   pub exits : Tools → PowerEnds → ((w : World) → Sound w → ExitsWith w) → Exits y
   exits z ends exit x s c f ne at = by f ne at
     where
-      one : (f : KernelFault) → 1 ≤ power_of f → power_of f ≤ 4 → routine m (9 + power_of f) ≡ exit_code (power_of f) → IsAt x y (Exit (power_of f)) c s → Comes x y IsEntry leave_steps s (Rested x y (Fault f) c)
+      one : (f : KernelFault) → 1 ≤ power_of f → power_of f ≤ 4 → routine m (9 + power_of f) ≡ exit_with_code (power_of f) → IsAt x y (Exit (power_of f)) c s → Comes x y IsEntry leave_steps s (Rested x y (Fault f) c)
       one f some few is at =
           let v : ℕ = power_of f in
-          let r : Routed (9 + v) (exit_code v) x s = routed z (9 + v) (exit_code v) x s c (omega arith) is at.stands at.inside (at.pc ∙ omega arith) in
-          comes_off z ends (9 + v) (exit_code v) x s c at.stands at.inside r 1 (routine_at m (9 + v) + 1) 8 v (Rested x y (Fault f) c)
-          (exit (block_world x y (run x s 1) (routine_at m (9 + v)) (exit_code v)) r.sound v (routine_at m (9 + v)) (contents s) (behind s) (omega arith) r.block r.calm.idle) (omega arith)
+          let r : Routed (9 + v) (exit_with_code v) x s = routed z (9 + v) (exit_with_code v) x s c (omega arith) is at.stands at.inside (at.pc ∙ omega arith) in
+          comes_off z ends (9 + v) (exit_with_code v) x s c at.stands at.inside r 1 (routine_at m (9 + v) + 1) 8 v (Rested x y (Fault f) c)
+          (exit (block_world x y (run x s 1) (routine_at m (9 + v)) (exit_with_code v)) r.sound v (routine_at m (9 + v)) (contents s) (behind s) (omega arith) r.block r.calm.idle) (omega arith)
           (λ t off. record { rests = off.off; stands = off.stands (Faulted f) (λ q. absurd (cc)) })
 
       by : (f : KernelFault) → f ≢ BadUser → IsAt x y (Exit (power_of f)) c s → Comes x y IsEntry leave_steps s (Rested x y (Fault f) c)

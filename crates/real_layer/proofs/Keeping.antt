@@ -20,7 +20,7 @@ use Rattle.mips_table.specs.Borders.{InterruptsAreTaken}
 use Rattle.layer_map.specs.Map.{Map, current_at, block_at, memory_words}
 use Rattle.page_model.specs.Paging.{PagesStand}
 use Rattle.page_model.specs.Places.{layout_of, places_of, view}
-use Rattle.page_fault.specs.Code.{page_code}
+use Rattle.page_fault.specs.Code.{handle_page_code}
 use Rattle.page_model.specs.Laws.{AlikesStand}
 use Rattle.pcb_layer.specs.Laws.{MaySave, MayKeep, IsCurrent, IsBeside}
 use Rattle.pcb_layer.specs.Code.{saved_at}
@@ -255,7 +255,7 @@ module _ (m : Map) (sizes code : List ℕ) (made : IsMade m sizes code) where
       let word : IsWord epc = subst IsWord (ap (λ sp. slice_index sp EPC) g.special) (All-get_or IsWord t.special EPC 0 (omega arith) g.quiet.fits.special.each) in
       let unhandled : IsHandled (slice_index t.special ECA) (slice_index t.special EDATA) (slice_index t.special PTL) → ⊥ = λ is.
       not_handled x s before cause edata epc back.user comes calm (subst (λ a. IsHandled a edata (slice_index s.special PTL)) eca (subst (λ d. IsHandled (slice_index t.special ECA) d (slice_index s.special PTL)) edata' (subst (IsHandled (slice_index t.special ECA) (slice_index t.special EDATA)) ptl is))) in
-      let r = law w f (places_of m) (page_code (places_of m)) c.current 0 (contents t) (behind t) (page_length (places_of m)) free keep current ((b.stands 0 (handler m sizes code made)).stands w) (omega arith) (λ e. h.later (sym eca ∙ e)) unhandled k.idle in
+      let r = law w f (places_of m) (handle_page_code (places_of m)) c.current 0 (contents t) (behind t) (page_length (places_of m)) free keep current ((b.stands 0 (handler m sizes code made)).stands w) (omega arith) (λ e. h.later (sym eca ∙ e)) unhandled k.idle in
       let u : Configuration = at_with 0x4000 r.0 r.1 in
       let reaches : Reaches w 124 (configuration_of t) u = subst (λ v. Reaches w 124 v u) (sym (stands_at t 0 pc)) r.3 in
       let a : Arrives x y 124 t u = arrives b.blocks x y t u 0 (handler m sizes code made) 124 (handler_placed m sizes code made) (inl (omega (arith, handler_end m sizes code made))) k (ap (λ (d : Behind). d.pending) r.2.behind ∙ k.idle) reaches in

@@ -8,7 +8,7 @@ use Rattle.mips_table.specs.Encoding.{encoding}
 use Rattle.layer_map.specs.Map.{Map}
 use Rattle.real_layer.specs.declared.routines.Routines.{Routines}
 use Rattle.page_model.specs.Places.{places_of}
-use Rattle.trap_entry.specs.Code.{leave_code, exit_code}
+use Rattle.trap_entry.specs.Code.{act_on_answer_code, exit_with_code}
 use Rattle.cvm_primitives.specs.RegisterCode.{vm_get_code, vm_set_code, vm_size_code, con_put_code, con_get_code, con_left_code}
 use Rattle.real_layer.specs.Image.{returning, joined, entries, entries_end, routines}
 use Rattle.real_layer.specs.Laid.{jumps_from, Lays, memory_routines}
@@ -57,13 +57,13 @@ on_ok (Err e) P Q f p = p
 -- the groups of routines, one behind the other, are all routines
 pub all_laid : (a b c d e f : Routines) (m : Map) → Lays a b (returning (vm_get_code m.users) ∷ returning (vm_set_code m.users) ∷ returning (vm_size_code m.users) ∷ [])
     → Lays b c (memory_routines m) → Lays c d (returning con_put_code ∷ returning con_get_code ∷ returning con_left_code ∷ [])
-    → Lays d e (exit_code 1 ∷ exit_code 2 ∷ exit_code 3 ∷ exit_code 4 ∷ []) → Lays e f (leave_code (places_of m) m.users m.params.pages ∷ []) → Lays a f (routines m)
+    → Lays d e (exit_with_code 1 ∷ exit_with_code 2 ∷ exit_with_code 3 ∷ exit_with_code 4 ∷ []) → Lays e f (act_on_answer_code (places_of m) m.users m.params.pages ∷ []) → Lays a f (routines m)
 unfolding routines
 all_laid a b c d e f m p q r s t =
     lays_more a b f (returning (vm_get_code m.users) ∷ returning (vm_set_code m.users) ∷ returning (vm_size_code m.users) ∷ []) _ p
     (lays_more b c f (memory_routines m) _ q
     (lays_more c d f (returning con_put_code ∷ returning con_get_code ∷ returning con_left_code ∷ []) _ r
-    (lays_more d e f (exit_code 1 ∷ exit_code 2 ∷ exit_code 3 ∷ exit_code 4 ∷ []) (leave_code (places_of m) m.users m.params.pages ∷ []) s t)))
+    (lays_more d e f (exit_with_code 1 ∷ exit_with_code 2 ∷ exit_with_code 3 ∷ exit_with_code 4 ∷ []) (act_on_answer_code (places_of m) m.users m.params.pages ∷ []) s t)))
 
 -- four parts, appended one after the other
 pub four_parts : (u v w x y a b c d : List ℕ) → u ≡ [] → v ≡ u ++ a → w ≡ v ++ b → x ≡ w ++ c → y ≡ x ++ d → y ≡ a ++ (b ++ (c ++ d))

@@ -31,7 +31,7 @@ use Rattle.cvm_model.specs.Paged.{pages_by}
 use Rattle.cvm_model.specs.Stands.{Site, IsUser, UserFits, Stands, is_own, runs_user}
 use Rattle.layer_contract.specs.Layer.{Inside, Comes, IsEntry, Rested, Leaves}
 use Rattle.cvm_primitives.specs.Blocks.{BlocksHold}
-use Rattle.trap_entry.specs.Code.{go_code, leave_code}
+use Rattle.trap_entry.specs.Code.{return_to_user_code, act_on_answer_code}
 use Rattle.trap_entry.specs.Laws.{ComesTo, UserReady, MayGo, LeavesToUser, LeavesForGood, LeavesBadly}
 use Rattle.real_layer.specs.Image.{routine_at, image_site, IsMade}
 use Rattle.real_layer.specs.Runs.{Calm, kept_words, block_world}
@@ -118,7 +118,7 @@ module _ (m : Map) (sizes code : List ℕ) (made : IsMade m sizes code) where
   y = image_site m sizes code
 
   abbrev is : List Inst
-  is = leave_code (places_of m) m.users m.params.pages
+  is = act_on_answer_code (places_of m) m.users m.params.pages
 
   -- the state behind the eret, from that at it
   module _ (z : Tools) (x : Outside) (s : State) (c : Core) (u : ℕ) (st : Stands x y s Running c) (i : Inside s) (user : IsUser c u) where
@@ -200,15 +200,15 @@ module _ (m : Map) (sizes code : List ℕ) (made : IsMade m sizes code) where
           inside = omega arith;
           free = free_own y s1.memory current_at (omega arith) refl;
         } in
-        let g : ComesTo w 67 n (n + 6 + length (go_code (places_of m) m.params.pages)) Eret (contents s) (behind s) (UserReady (places_of m) m.params.pages u (contents s) (behind s)) =
+        let g : ComesTo w 67 n (n + 6 + length (return_to_user_code (places_of m) m.params.pages)) Eret (contents s) (behind s) (UserReady (places_of m) m.params.pages u (contents s) (behind s)) =
         law w r.sound (places_of m) m.users m.params.pages u n (contents s) (behind s) may r.block answer r.calm.idle in
-        let e : Configuration = at_with (n + 6 + length (go_code (places_of m) m.params.pages)) g.contents g.behind in
+        let e : Configuration = at_with (n + 6 + length (return_to_user_code (places_of m) m.params.pages)) g.contents g.behind in
         let idle : g.behind.pending ≡ Idle = ap (λ (d : Behind). d.pending) g.done.behind ∙ r.calm.idle in
         let a : Arrives x y 67 s1 e = arrives_in m sizes code made z 14 is x s r 67 e idle g.reaches in
         let s2 : State = run x s1 a.steps in
-        let at2 : s2.cpu.pc / 4 ≡ n + 6 + length (go_code (places_of m) m.params.pages) = ap (λ (u : Configuration). u.at) a.there in
+        let at2 : s2.cpu.pc / 4 ≡ n + 6 + length (return_to_user_code (places_of m) m.params.pages) = ap (λ (u : Configuration). u.at) a.there in
         let aligned = a.calm.quiet.aligned in
-        let inside = (b.stands n is).inside (n + 6 + length (go_code (places_of m) m.params.pages)) Eret g.stands in
+        let inside = (b.stands n is).inside (n + 6 + length (return_to_user_code (places_of m) m.params.pages)) Eret g.stands in
         let from = inside.0 in let to = inside.1 in
         let gone : Gone z.words b.stands x y s2 n is r.stands a.calm (step x s2) = goes z.words b.stands x y s2 n is r.stands a.calm leaves (ap (placed n is) at2 ∙ g.stands) in
         let ready : UserReady (places_of m) m.params.pages u (contents s) (behind s) (contents s2) (behind s2) =
@@ -235,7 +235,7 @@ module _ (m : Map) (sizes code : List ℕ) (made : IsMade m sizes code) where
       (λ ne. ⊎_elim
       (λ past. subst (λ q. Comes x y IsEntry leave_steps s (Rested x y q c)) (sym (bad_answer m.users v few small past))
       (let g = bad w r.sound (places_of m) m.users m.params.pages n (contents s) (behind s) few r.block past small r.calm.idle in
-      comes_off m sizes code made z ends 14 is x s c at.stands at.inside r 6 (n + 8 + length (go_code (places_of m) m.params.pages)) 8 5 (Rested x y (Fault BadUser) c) g (omega arith)
+      comes_off m sizes code made z ends 14 is x s c at.stands at.inside r 6 (n + 8 + length (return_to_user_code (places_of m) m.params.pages)) 8 5 (Rested x y (Fault BadUser) c) g (omega arith)
       (λ t off. record { rests = off.off; stands = off.stands (Faulted BadUser) (λ q. absurd (cc)) })))
       (λ within. subst (λ q. Comes x y IsEntry leave_steps s (Rested x y q c)) (sym (word_answer m.users v few small (omega arith) within))
       (to_user z x s c v at.stands at.inside (omega arith, omega arith) erets to r refl))

@@ -10,8 +10,8 @@ use Rattle.mips_table.specs.declared.inst.Inst.TheVariants.{J, Eret}
 use Rattle.mips_table.specs.Encoding.{InRange, encoding}
 use Rattle.layer_map.specs.Map.{Map}
 use Rattle.page_model.specs.Places.{places_of}
-use Rattle.page_fault.specs.Code.{page_code}
-use Rattle.trap_entry.specs.Code.{leave_code, exit_code}
+use Rattle.page_fault.specs.Code.{handle_page_code}
+use Rattle.trap_entry.specs.Code.{act_on_answer_code, exit_with_code}
 use Rattle.cvm_primitives.specs.RegisterCode.{vm_get_code, vm_set_code, vm_size_code, con_put_code, con_get_code, con_left_code}
 use Rattle.cvm_primitives.specs.Code.{vm_word_code, vm_put_code, vm_copy_code, vm_resize_code}
 use Rattle.cvm_model.specs.Stands.{Site, is_own}
@@ -76,17 +76,17 @@ pub record Listed (m : Map) : Type 0 where
   pub set : routine m 1 ≡ returning (vm_set_code m.users)
   pub size : routine m 2 ≡ returning (vm_size_code m.users)
   pub resize : routine m 3 ≡ returning (vm_resize_code (places_of m) m.users m.params.pages)
-  pub word : routine m 4 ≡ returning (vm_word_code (places_of m) m.users m.params.pages (page_code (places_of m)))
-  pub put : routine m 5 ≡ returning (vm_put_code (places_of m) m.users m.params.pages (page_code (places_of m)))
-  pub copy : routine m 6 ≡ returning (vm_copy_code (places_of m) m.users m.params.pages (page_code (places_of m)))
+  pub word : routine m 4 ≡ returning (vm_word_code (places_of m) m.users m.params.pages (handle_page_code (places_of m)))
+  pub put : routine m 5 ≡ returning (vm_put_code (places_of m) m.users m.params.pages (handle_page_code (places_of m)))
+  pub copy : routine m 6 ≡ returning (vm_copy_code (places_of m) m.users m.params.pages (handle_page_code (places_of m)))
   pub con_put : routine m 7 ≡ returning con_put_code
   pub con_get : routine m 8 ≡ returning con_get_code
   pub con_left : routine m 9 ≡ returning con_left_code
-  pub null : routine m 10 ≡ exit_code 1
-  pub bounds : routine m 11 ≡ exit_code 2
-  pub zero_divisor : routine m 12 ≡ exit_code 3
-  pub stack : routine m 13 ≡ exit_code 4
-  pub leave : routine m 14 ≡ leave_code (places_of m) m.users m.params.pages
+  pub null : routine m 10 ≡ exit_with_code 1
+  pub bounds : routine m 11 ≡ exit_with_code 2
+  pub zero_divisor : routine m 12 ≡ exit_with_code 3
+  pub stack : routine m 13 ≡ exit_with_code 4
+  pub leave : routine m 14 ≡ act_on_answer_code (places_of m) m.users m.params.pages
 
 pub listed : (m : Map) → Listed m
 unfolding routines

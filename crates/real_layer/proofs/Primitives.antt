@@ -12,7 +12,7 @@ use Rattle.masm.specs.Laws.{From, ReturnRuns}
 use Rattle.layer_map.specs.Map.{Map, current_at, tables_at, memory_words}
 use Rattle.page_model.specs.Paging.{Names, PagesStand}
 use Rattle.page_model.specs.Places.{layout_of, places_of, view}
-use Rattle.page_fault.specs.Code.{page_code}
+use Rattle.page_fault.specs.Code.{handle_page_code}
 use Rattle.page_fault.specs.Asked.{MapsAreSited}
 use Rattle.cvm_model.specs.Kernel.{Core}
 use Rattle.cvm_model.specs.Primitives.{Call, VmGet, VmSet, VmSize, VmResize, VmWord, VmPut, VmCopy, ConPut, ConGet, ConLeft, Given, prim, primitive_number, units_of, user_of, pages_of, is_within, is_good}
@@ -295,15 +295,15 @@ module _ (m : Map) (sizes code : List ℕ) (made : IsMade m sizes code) where
     answers (VmSize u) p = by_registers (VmSize u) (size_call (contents s)) 2 (vm_size_code (length users)) 8 (omega arith) refl (l.size ∙ ap (λ n. returning (vm_size_code n)) (sym count)) (ap VmSize p.arguments.0) tt p.at.pc p.back (omega arith)
         (λ w f e. (z.registers w f m.params.pages users (contents s) (behind s) e).size)
     answers (VmResize u n) p = (resizes u n p).0
-    answers (VmWord u a) p = by_memory_alone (VmWord u a) (word_call (contents s)) 4 (vm_word_code (places_of m) (length users) m.params.pages (page_code (places_of m))) (omega arith) refl
-        (l.word ∙ ap (λ n. returning (vm_word_code (places_of m) n m.params.pages (page_code (places_of m)))) (sym count))
+    answers (VmWord u a) p = by_memory_alone (VmWord u a) (word_call (contents s)) 4 (vm_word_code (places_of m) (length users) m.params.pages (handle_page_code (places_of m))) (omega arith) refl
+        (l.word ∙ ap (λ n. returning (vm_word_code (places_of m) n m.params.pages (handle_page_code (places_of m)))) (sym count))
         (ap₂ VmWord p.arguments.0 p.arguments.1.0) tt p.at.pc p.back (λ w f e. (z.memory w f (places_of m) longest m.params.pages users (contents s) (behind s) e).word)
-    answers (VmPut u a v) p = by_memory_alone (VmPut u a v) (store_call (contents s)) 5 (vm_put_code (places_of m) (length users) m.params.pages (page_code (places_of m))) (omega arith) refl
-        (l.put ∙ ap (λ n. returning (vm_put_code (places_of m) n m.params.pages (page_code (places_of m)))) (sym count))
+    answers (VmPut u a v) p = by_memory_alone (VmPut u a v) (store_call (contents s)) 5 (vm_put_code (places_of m) (length users) m.params.pages (handle_page_code (places_of m))) (omega arith) refl
+        (l.put ∙ ap (λ n. returning (vm_put_code (places_of m) n m.params.pages (handle_page_code (places_of m)))) (sym count))
         (put_is _ _ _ u a v p.arguments.0 p.arguments.1.0 p.arguments.1.1.0) (as_word v (slice_index s.cpu.regs 22) (regs 22) p.arguments.1.1.0) p.at.pc p.back
         (λ w f e. (z.memory w f (places_of m) longest m.params.pages users (contents s) (behind s) e).put)
-    answers (VmCopy u a v b n) p = by_memory_alone (VmCopy u a v b n) (copy_call (contents s)) 6 (vm_copy_code (places_of m) (length users) m.params.pages (page_code (places_of m))) (omega arith) refl
-        (l.copy ∙ ap (λ n. returning (vm_copy_code (places_of m) n m.params.pages (page_code (places_of m)))) (sym count))
+    answers (VmCopy u a v b n) p = by_memory_alone (VmCopy u a v b n) (copy_call (contents s)) 6 (vm_copy_code (places_of m) (length users) m.params.pages (handle_page_code (places_of m))) (omega arith) refl
+        (l.copy ∙ ap (λ n. returning (vm_copy_code (places_of m) n m.params.pages (handle_page_code (places_of m)))) (sym count))
         (copy_is _ _ _ _ _ u a v b n p.arguments.0 p.arguments.1.0 p.arguments.1.1.0 p.arguments.1.1.1.0 p.arguments.1.1.1.1.0) tt p.at.pc p.back
         (λ w f e. (z.memory w f (places_of m) longest m.params.pages users (contents s) (behind s) e).copy)
     answers (ConPut v) p = by_registers (ConPut v) (put_call (contents s)) 7 con_put_code 3 (omega arith) refl l.con_put (ap ConPut p.arguments.0) tt p.at.pc p.back (omega arith)

@@ -25,7 +25,7 @@ use Rattle.page_model.specs.Places.{Places, count_at, layout_of, places_of, view
 use Rattle.page_model.specs.Edits.{Alike}
 use Rattle.page_model.specs.Laws.{HandledPass, TwoFaultsSuffice}
 use Rattle.frame_table.specs.View.{Sited, Ported, names_hand}
-use Rattle.page_fault.specs.Code.{page_code}
+use Rattle.page_fault.specs.Code.{handle_page_code}
 use Rattle.page_fault.specs.Asked.{swap_steps, fault_steps, PageBlock, IsPageBlock, MapsAreSited}
 use Rattle.pcb_layer.specs.Code.{saved_at}
 use Rattle.pcb_layer.specs.Laws.{MaySave}
@@ -302,7 +302,7 @@ module _ (m : Map) (sizes code : List ℕ) (made : IsMade m sizes code) where
 
     -- the handler's run to its eret
     abbrev eret_at : ℕ
-    eret_at = fault_eret_at 0 (places_of m) (page_code (places_of m))
+    eret_at = fault_eret_at 0 (places_of m) (handle_page_code (places_of m))
 
     -- with what it takes, and the most of that
     to_eret : ComesTo w (swap_steps (places_of m) longest (contents (step x s)).memory + 85) 0 eret_at Eret (contents (step x s)) (behind (step x s)) (FaultDone (places_of m) (pages_by m.params.pages c.users) (base + a.edata / 4096) (contents (step x s)) (behind (step x s)))

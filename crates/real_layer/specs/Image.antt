@@ -7,8 +7,8 @@ use Rattle.mips_table.specs.declared.inst.Inst.TheVariants.{J, Jr}
 use Rattle.mips_table.specs.Encoding.{encoding}
 use Rattle.layer_map.specs.Map.{Map, MapInRange, leave_at, heap_at, stack_at}
 use Rattle.page_model.specs.Places.{places_of}
-use Rattle.page_fault.specs.Code.{page_code}
-use Rattle.trap_entry.specs.Code.{handler_code, leave_code, exit_code}
+use Rattle.page_fault.specs.Code.{handle_page_code}
+use Rattle.trap_entry.specs.Code.{handler_code, act_on_answer_code, exit_with_code}
 use Rattle.cvm_model.specs.Stands.{Site}
 use Rattle.layer_contract.specs.Layer.{site_with}
 use Rattle.cvm_primitives.specs.RegisterCode.{vm_get_code, vm_set_code, vm_size_code, con_put_code, con_get_code, con_left_code}
@@ -16,7 +16,7 @@ use Rattle.cvm_primitives.specs.Code.{vm_word_code, vm_put_code, vm_copy_code, v
 
 -- an interrupt goes to word 0, where its handler stands
 unfoldable pub interrupt_code : Map → List Inst
-interrupt_code m = handler_code (places_of m) (page_code (places_of m))
+interrupt_code m = handler_code (places_of m) (handle_page_code (places_of m))
 
 -- a primitive goes back to the address in register 31
 abbrev pub returning : List Inst → List Inst
@@ -29,12 +29,12 @@ routines m =
     let p = places_of m in
     let n = m.users in
     let per = m.params.pages in
-    let page = page_code (places_of m) in
+    let page = handle_page_code (places_of m) in
     returning (vm_get_code n) ∷ returning (vm_set_code n) ∷ returning (vm_size_code n)
     ∷ returning (vm_resize_code p n per) ∷ returning (vm_word_code p n per page) ∷ returning (vm_put_code p n per page) ∷ returning (vm_copy_code p n per page)
     ∷ returning con_put_code ∷ returning con_get_code ∷ returning con_left_code
-    ∷ exit_code 1 ∷ exit_code 2 ∷ exit_code 3 ∷ exit_code 4
-    ∷ leave_code p n per ∷ []
+    ∷ exit_with_code 1 ∷ exit_with_code 2 ∷ exit_with_code 3 ∷ exit_with_code 4
+    ∷ act_on_answer_code p n per ∷ []
 
 -- lists of instructions one after the other
 abbrev pub joined : List (List Inst) → List Inst

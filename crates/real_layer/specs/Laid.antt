@@ -5,7 +5,7 @@ use Rattle.mips_table.specs.declared.inst.Inst.TheVariants.{J}
 use Rattle.mips_table.specs.Encoding.{encoding}
 use Rattle.layer_map.specs.Map.{Map}
 use Rattle.page_model.specs.Places.{places_of}
-use Rattle.page_fault.specs.Code.{page_code}
+use Rattle.page_fault.specs.Code.{handle_page_code}
 use Rattle.cvm_primitives.specs.Code.{vm_word_code, vm_put_code, vm_copy_code, vm_resize_code}
 use Rattle.cvm_primitives.specs.RegisterCode.{vm_get_code, vm_set_code, vm_size_code}
 use Rattle.real_layer.specs.declared.routines.Routines.{Routines}
@@ -31,5 +31,5 @@ memory_routines m =
     let p = places_of m in
     let n = m.users in
     let per = m.params.pages in
-    let page = page_code (places_of m) in
+    let page = handle_page_code (places_of m) in
     returning (vm_resize_code p n per) ∷ returning (vm_word_code p n per page) ∷ returning (vm_put_code p n per page) ∷ returning (vm_copy_code p n per page) ∷ []

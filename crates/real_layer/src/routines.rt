@@ -3,8 +3,8 @@ ghost use Rattle.std.specs.Prelude.{◌≡◌, List, [], ◌∷◌, ◌++◌, ma
 ghost use Rattle.mips_table.specs.declared.inst.Inst.{Inst as Instruction};
 ghost use Rattle.mips_table.specs.Encoding.{encoding};
 ghost use Rattle.page_model.specs.Places.{places_of};
-ghost use Rattle.page_fault.specs.Code.{page_code};
-ghost use Rattle.trap_entry.specs.Code.{leave_code, exit_code};
+ghost use Rattle.page_fault.specs.Code.{handle_page_code};
+ghost use Rattle.trap_entry.specs.Code.{act_on_answer_code, exit_with_code};
 ghost use Rattle.cvm_primitives.specs.RegisterCode.{con_put_code, con_get_code, con_left_code};
 ghost use Rattle.cvm_primitives.specs.Code.{vm_word_code, vm_put_code, vm_copy_code, vm_resize_code};
 ghost use Rattle.real_layer.specs.Image.{returning, entries, joined, routines};
@@ -16,7 +16,7 @@ use cvm_primitives::{
 use layer_map::Map;
 use mips_table::{Inst, encode};
 use std::alloc::{AllocError, Global};
-use trap_entry::{exit, leave};
+use trap_entry::{act_on_answer, exit_with};
 
 /// Routines one after another, and the jumps to them.
 #[derive(Drop)]
@@ -76,12 +76,12 @@ impl Routines {
 
     // Appends the exits of the four faults.
     fn put_exits(&mut self) -> Result<(), AllocError>
-        ensures { OnOk result (Lays self.old self.new (exit_code 1 ∷ exit_code 2 ∷ exit_code 3 ∷ exit_code 4 ∷ [])) }
+        ensures { OnOk result (Lays self.old self.new (exit_with_code 1 ∷ exit_with_code 2 ∷ exit_with_code 3 ∷ exit_with_code 4 ∷ [])) }
     {
-        self.put(exit(1).words())?;
-        self.put(exit(2).words())?;
-        self.put(exit(3).words())?;
-        self.put(exit(4).words())
+        self.put(exit_with(1).words())?;
+        self.put(exit_with(2).words())?;
+        self.put(exit_with(3).words())?;
+        self.put(exit_with(4).words())
     }
 }
 
@@ -98,6 +98,6 @@ pub fn lay_routines(alloc: Global, map: &Map) -> Result<Routines, AllocError>
     laid.put_memory(map)?;
     laid.put_console()?;
     laid.put_exits()?;
-    laid.put(leave(map).words())?;
+    laid.put(act_on_answer(map).words())?;
     Ok(laid)
 }

@@ -1,16 +1,26 @@
 -- Words are moved, eight a turn, within memory or from and to the disk's buffer.
-use Rattle.std.proofs.Common.{◌≡◌, ℕ, zero, suc, ◌+◌, ◌-◌, ◌*◌, ◌<◌, ◌≤◌, ◌⊎◌, nat_lt, [], ◌∷◌, ◌++◌, refl, sym, ap, ◌∙◌, subst, ⊎_elim, inl, inr, arith, le-ltb}
+use Rattle.std.proofs.Common.{◌≡◌, ℕ, zero, suc, ◌+◌, ◌-◌, ◌*◌, ◌<◌, ◌≤◌, ◌⊎◌, nat_lt, List, [], ◌∷◌, ◌++◌, refl, sym, ap, ◌∙◌, subst, ⊎_elim, inl, inr, arith, le-ltb}
 use Rattle.std.proofs.lemmas.Bool.{cases_eq}
-use Rattle.mips_table.specs.declared.inst.Inst.TheVariants.{Lw, Sw}
+use Rattle.mips_table.specs.declared.inst.Inst.{Inst}
+use Rattle.mips_table.specs.declared.inst.Inst.TheVariants.{Addiu, Lw, Sw}
 use Rattle.mips_table.specs.Device.{Idle, SECTOR}
 use Rattle.mips_table.specs.Code.{put, with_reg, Contents, Behind, World, Sound, Does}
 use Rattle.masm.specs.Says.{Says, Gives, Reads, Writes, ReadsDisk, WritesDisk}
 use Rattle.masm.specs.Laws.{From}
 use Rattle.masm.specs.Stays.{RegistersStay}
 use Rattle.masm.proofs.Routines.{from_straight, does_from, from_does, follows, weaker, loop_goes}
-use Rattle.swap_layer.specs.Code.{pairs_code, bumps_code, move_code}
+use Rattle.swap_layer.specs.Code.{move_words_code}
 use Rattle.swap_layer.specs.Laws.{MoveAsked, Moved, MovesRun}
 use Rattle.swap_layer.proofs.Basics.{put_same, put_other, small_is, disk_is, place_top}
+
+-- m words, the o-th and on, from the address in register 1 to that in register 2: what a turn is made of
+abbrev pairs_code : (m o : ℕ) → List Inst
+pairs_code zero o = []
+pairs_code (suc m) o = Lw 4 1 (4 * o) ∷ Sw 4 2 (4 * o) ∷ pairs_code m (o + 1)
+
+-- both addresses go on by eight words, and the count of turns in register 3 falls
+abbrev bumps_code : List Inst
+bumps_code = Addiu 1 1 32 ∷ Addiu 2 2 32 ∷ Addiu 3 3 65535 ∷ []
 
 module _ (w : World) (f : Sound w) (spared : RegistersStay) (a b : ℕ) (c0 : Contents) (d0 : Behind) (asked : MoveAsked w a b c0 d0) where
   -- i turns and o words are moved
@@ -110,10 +120,10 @@ module _ (w : World) (f : Sound w) (spared : RegistersStay) (a b : ℕ) (c0 : Co
         },
       ))))
 
-  moves : From w move_code 2689 c0 d0 (Moved a b c0 d0)
+  moves : From w move_words_code 2689 c0 d0 (Moved a b c0 d0)
   moves =
       let from = asked.from in let to = asked.to in let count = asked.count in
-      from_does w move_code _ c0 d0 (Left 0 0) (Moved a b c0 d0)
+      from_does w move_words_code _ c0 d0 (Left 0 0) (Moved a b c0 d0)
       (record { most = omega arith; from = omega arith; to = omega arith; count = omega arith; words = λ j lt. absurd (omega arith); others = λ x o. refl; regs = λ x lt. refl; special = refl; hi = refl; lo = refl; same = refl })
       (loop_goes w f (pairs_code 8 0 ++ bumps_code) 3 (λ i. Left i 0) (λ i. i < 128) (λ i. 21 * (128 - i)) (λ i. 19) suc (Moved a b c0 d0) (omega arith)
       (λ i c d l. idle i 0 c d l)

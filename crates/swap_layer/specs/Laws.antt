@@ -4,7 +4,7 @@ use Rattle.mips_table.specs.Device.{Idle, BUFFER}
 use Rattle.mips_table.specs.Code.{Contents, Behind, World}
 use Rattle.masm.specs.Laws.{From}
 use Rattle.masm.specs.Frames.{HasDisk, Besides, WritesFrames}
-use Rattle.swap_layer.specs.Code.{move_code, swap_out_code, fetch_code, settle_code, swap_in_code}
+use Rattle.swap_layer.specs.Code.{move_words_code, swap_out_code, read_sector_code, copy_to_frame_code, swap_in_code}
 
 -- 1,024 words from this one on lie in memory, or are the disk's buffer
 abbrev pub IsPlace : World → ℕ → Type 0
@@ -57,7 +57,7 @@ MayFill w g = (1024 * g + 1024 ≤ w.words) × ((x : ℕ) → 1024 * g ≤ x →
 
 -- 1,024 words are moved
 abbrev pub MovesRun : World → Type 0
-MovesRun w = (a b : ℕ) (c : Contents) (d : Behind) → MoveAsked w a b c d → From w move_code 2689 c d (Moved a b c d)
+MovesRun w = (a b : ℕ) (c : Contents) (d : Behind) → MoveAsked w a b c d → From w move_words_code 2689 c d (Moved a b c d)
 
 -- a frame goes to a sector
 abbrev pub SwapsOut : World → Type 0
@@ -65,12 +65,12 @@ SwapsOut w = (b : ℕ) → HasDisk w b → WritesFrames w swap_out_code (b + 269
 
 -- a sector comes into the buffer
 abbrev pub Fetches : World → Type 0
-Fetches w = (b s : ℕ) (c : Contents) (d : Behind) → HasDisk w b → c.regs 16 ≡ s → s < w.count → d.pending ≡ Idle → From w fetch_code (b + 8) c d (Fetched s c d)
+Fetches w = (b s : ℕ) (c : Contents) (d : Behind) → HasDisk w b → c.regs 16 ≡ s → s < w.count → d.pending ≡ Idle → From w read_sector_code (b + 8) c d (Fetched s c d)
 
 -- words of memory, or of the buffer, come into a frame
 abbrev pub Settles : World → Type 0
 Settles w = (b a g : ℕ) (c : Contents) (d : Behind) → HasDisk w b → c.regs 1 ≡ 4 * a → c.regs 18 ≡ 4096 * g → MayFill w g → IsPlace w a → (a + 1024 ≤ 1024 * g) ⊎ (1024 * g + 1024 ≤ a) → d.pending ≡ Idle
-    → From w settle_code 2691 c d (Moved a (1024 * g) c d)
+    → From w copy_to_frame_code 2691 c d (Moved a (1024 * g) c d)
 
 -- a sector comes to a frame
 abbrev pub SwapsIn : World → Type 0

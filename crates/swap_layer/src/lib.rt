@@ -3,11 +3,13 @@
 //!
 //! | Block | Asks | Changes |
 //! |---|---|---|
-//! | [`move_words`] | from the address in register 1 to that in 2; register 3 is 128 | registers 1 to 4 |
-//! | [`swap_out`] | the frame at the address in register 18, the sector in register 21 | registers 1 to 5, the disk's buffer and sector register |
-//! | [`fetch`] | the sector in register 16 | registers 1 to 5, the disk's buffer and sector register |
-//! | [`settle`] | from the address in register 1 to the frame at that in register 18 | registers 1 to 4 |
-//! | [`swap_in`] | the sector in register 16, the frame at the address in register 18 | registers 1 to 5, the disk's buffer and sector register |
+//! | [`move_words`] | from the address in SOURCE to that in TARGET; WORDS is 128 | SOURCE, TARGET, WORDS, WORD |
+//! | [`swap_out`] | the frame at the address in VICTIM_AT, the sector of OUT_PAGE | these, ORDER, the disk's buffer and sector register |
+//! | [`read_sector`] | the sector of PAGE | these, the disk's buffer and sector register |
+//! | [`copy_to_frame`] | from the address in SOURCE to the frame at that in VICTIM_AT | SOURCE, TARGET, WORDS, WORD |
+//! | [`swap_in`] | the sector of PAGE, the frame at the address in VICTIM_AT | as `swap_out` |
+//!
+//! The names of registers are those of [`masm::roles`].
 #![tactic(auto)]
 
 mod laws;
@@ -16,4 +18,4 @@ mod swap;
 pub use laws::{
     a_frame_goes_out, a_frame_is_settled, a_sector_comes_in, a_sector_is_fetched, words_are_moved,
 };
-pub use swap::{fetch, move_words, settle, swap_in, swap_out};
+pub use swap::{copy_to_frame, move_words, read_sector, swap_in, swap_out};

@@ -1,163 +1,124 @@
 // The blocks.
-ghost use Rattle.std.specs.Prelude.{◌≡◌, ◌+◌, ◌*◌, ◌<◌, ◌≤◌, [], ◌∷◌, ◌++◌, length, map};
-ghost use Rattle.mips_table.specs.declared.inst.Inst.TheVariants.{Lw, Sw};
+ghost use Rattle.std.specs.Prelude.{◌≡◌, ◌<◌, ◌++◌, map};
 ghost use Rattle.mips_table.specs.Encoding.{encoding};
-ghost use Rattle.swap_layer.specs.Code.{bumps_code, move_code, name_code, command_code, swap_out_code, fetch_code, settle_code, swap_in_code};
+ghost use Rattle.swap_layer.specs.Code.{move_words_code, name_sector_code, give_command_code, swap_out_code, read_sector_code, copy_to_frame_code, swap_in_code};
 
-use masm::Block;
+use masm::addresses::{BUFFER, COMMAND, READ_SECTOR, SECTOR, WRITE_SECTOR};
+use masm::roles::{ORDER, OUT_PAGE, PAGE, SOURCE, TARGET, VICTIM_AT, WORD, WORDS, ZERO};
 use masm::waiting::wait_for_disk;
+use masm::{Block, block, code};
 use mips_table::Inst;
 
-// One word, the o-th from the addresses in registers 1 and 2 on.
-fn pair(turn: &mut Block<19>, o: u32)
-    requires place { o < 8 }
-    requires room { length turn.old + 2 ≤ 19 }
-    ensures { turn.new ≡ turn.old ++ map encoding (Lw 4 1 (4 * o) ∷ Sw 4 2 (4 * o) ∷ []) }
+/// Eight words are moved, both addresses go on behind them, and one turn less is left.
+const MOVE_EIGHT_WORDS: [Inst; 19] = code! {
+    lw WORD, 0(SOURCE);
+    sw WORD, 0(TARGET);
+    lw WORD, 4(SOURCE);
+    sw WORD, 4(TARGET);
+    lw WORD, 8(SOURCE);
+    sw WORD, 8(TARGET);
+    lw WORD, 12(SOURCE);
+    sw WORD, 12(TARGET);
+    lw WORD, 16(SOURCE);
+    sw WORD, 16(TARGET);
+    lw WORD, 20(SOURCE);
+    sw WORD, 20(TARGET);
+    lw WORD, 24(SOURCE);
+    sw WORD, 24(TARGET);
+    lw WORD, 28(SOURCE);
+    sw WORD, 28(TARGET);
+    addiu SOURCE, SOURCE, 32;
+    addiu TARGET, TARGET, 32;
+    addiu WORDS, WORDS, -1;
+};
+
+// They are, as a block.
+fn move_eight_words() -> Block<19>
+    ensures { result ≡ map encoding MOVE_EIGHT_WORDS }
 {
-    turn.push(Inst::Lw {
-        rt: 4,
-        rs: 1,
-        imm: 4 * o,
-    });
-    turn.push(Inst::Sw {
-        rt: 4,
-        rs: 2,
-        imm: 4 * o,
-    });
+    block! {
+        code MOVE_EIGHT_WORDS;
+    }
 }
 
-// Both addresses go on, and the count of turns falls.
-fn bumps(turn: &mut Block<19>)
-    requires room { length turn.old + 3 ≤ 19 }
-    ensures { turn.new ≡ turn.old ++ map encoding bumps_code }
-{
-    turn.push(Inst::Addiu {
-        rt: 1,
-        rs: 1,
-        imm: 32,
-    });
-    turn.push(Inst::Addiu {
-        rt: 2,
-        rs: 2,
-        imm: 32,
-    });
-    turn.push(Inst::Addiu {
-        rt: 3,
-        rs: 3,
-        imm: 65535,
-    });
-}
-
-/// Code that moves 1,024 words from the address in register 1 to that in register 2, where register 3 is 128: eight words a turn.
+/// Code that moves 1,024 words from the address in SOURCE to that in TARGET, where WORDS is 128: eight words a turn.
 pub fn move_words() -> Block<21>
-    ensures { result ≡ map encoding move_code }
+    ensures { result ≡ map encoding move_words_code }
 {
-    let mut turn = Block::<19>::new();
-    pair(&mut turn, 0);
-    pair(&mut turn, 1);
-    pair(&mut turn, 2);
-    pair(&mut turn, 3);
-    pair(&mut turn, 4);
-    pair(&mut turn, 5);
-    pair(&mut turn, 6);
-    pair(&mut turn, 7);
-    bumps(&mut turn);
-    let test = Block::<0>::new();
-    let mut code = Block::<21>::new();
-    code.loop_while(&test, 3, &turn);
-    code
+    block! {
+        while WORDS, move_eight_words();
+    }
 }
 
 // A register names the sector, the command is given, and its end waited for.
-fn command(r: u32, number: u32) -> Block<6>
-    requires register { r < 32 }
-    requires number { number < 65536 }
-    ensures { result ≡ map encoding (name_code r number ++ command_code) }
+fn run_disk_command(sector: u32, order: u32) -> Block<6>
+    requires register { sector < 32 }
+    requires order { order < 65536 }
+    ensures { result ≡ map encoding (name_sector_code sector order ++ give_command_code) }
 {
-    let mut code = Block::<6>::new();
-    code.push(Inst::Sw {
-        rt: r,
-        rs: 0,
-        imm: 0xf000,
-    });
-    code.push(Inst::Addiu {
-        rt: 5,
-        rs: 0,
-        imm: number,
-    });
-    code.push(Inst::Sw {
-        rt: 5,
-        rs: 0,
-        imm: 0xf004,
-    });
-    code.then(&wait_for_disk());
-    code
+    block! {
+        sw sector, SECTOR(ZERO);
+        addiu ORDER, ZERO, order;
+        sw ORDER, COMMAND(ZERO);        // the disk begins
+        then wait_for_disk();
+    }
 }
 
-/// Code that writes the frame at the address in register 18 to the sector in register 21.
+/// The frame at the address in VICTIM_AT is to be moved to the disk's buffer, in 128 turns of eight words.
+const FROM_FRAME_TO_BUFFER: [Inst; 3] = code! {
+    addu SOURCE, VICTIM_AT, ZERO;
+    addiu TARGET, ZERO, BUFFER;
+    addiu WORDS, ZERO, 128;
+};
+
+/// Code that writes the frame at the address in VICTIM_AT to the sector of OUT_PAGE.
 pub fn swap_out() -> Block<30>
     ensures { result ≡ map encoding swap_out_code }
 {
-    let mut code = Block::<30>::new();
-    code.push(Inst::Addu {
-        rd: 1,
-        rs: 18,
-        rt: 0,
-    });
-    code.push(Inst::Addiu {
-        rt: 2,
-        rs: 0,
-        imm: 0xe000,
-    });
-    code.push(Inst::Addiu {
-        rt: 3,
-        rs: 0,
-        imm: 128,
-    });
-    code.then(&move_words());
-    code.then(&command(21, 2));
-    code
+    block! {
+        code FROM_FRAME_TO_BUFFER;
+        then move_words();
+        then run_disk_command(OUT_PAGE, WRITE_SECTOR);
+    }
 }
 
-/// Code that reads the sector in register 16 into the buffer, whose address register 1 becomes.
-pub fn fetch() -> Block<7>
-    ensures { result ≡ map encoding fetch_code }
+/// The words that were read stand in the disk's buffer.
+const FROM_BUFFER: [Inst; 1] = code! {
+    addiu SOURCE, ZERO, BUFFER;
+};
+
+/// Code that reads the sector of PAGE into the buffer, whose address SOURCE becomes.
+pub fn read_sector() -> Block<7>
+    ensures { result ≡ map encoding read_sector_code }
 {
-    let mut code = Block::<7>::new();
-    code.then(&command(16, 1));
-    code.push(Inst::Addiu {
-        rt: 1,
-        rs: 0,
-        imm: 0xe000,
-    });
-    code
+    block! {
+        then run_disk_command(PAGE, READ_SECTOR);
+        code FROM_BUFFER;
+    }
 }
 
-/// Code that moves the 1,024 words at the address in register 1 to the frame at that in register 18.
-pub fn settle() -> Block<23>
-    ensures { result ≡ map encoding settle_code }
+/// Words are to be moved to the frame at the address in VICTIM_AT, in 128 turns of eight.
+const TO_FRAME: [Inst; 2] = code! {
+    addu TARGET, VICTIM_AT, ZERO;
+    addiu WORDS, ZERO, 128;
+};
+
+/// Code that moves the 1,024 words at the address in SOURCE to the frame at that in VICTIM_AT.
+pub fn copy_to_frame() -> Block<23>
+    ensures { result ≡ map encoding copy_to_frame_code }
 {
-    let mut code = Block::<23>::new();
-    code.push(Inst::Addu {
-        rd: 2,
-        rs: 18,
-        rt: 0,
-    });
-    code.push(Inst::Addiu {
-        rt: 3,
-        rs: 0,
-        imm: 128,
-    });
-    code.then(&move_words());
-    code
+    block! {
+        code TO_FRAME;
+        then move_words();
+    }
 }
 
-/// Code that reads the sector in register 16 into the frame at the address in register 18.
+/// Code that reads the sector of PAGE into the frame at the address in VICTIM_AT.
 pub fn swap_in() -> Block<30>
     ensures { result ≡ map encoding swap_in_code }
 {
-    let mut code = Block::<30>::new();
-    code.then(&fetch());
-    code.then(&settle());
-    code
+    block! {
+        then read_sector();
+        then copy_to_frame();
+    }
 }

@@ -13,9 +13,9 @@ use Rattle.masm.specs.Says.{Gives, Widens, Reads, Writes, Asks}
 use Rattle.masm.specs.Laws.{RunsCompose, WhenRuns, From}
 use Rattle.masm.proofs.Routines.{from_straight, from_later, straight_then}
 use Rattle.page_model.specs.Places.{Places}
-use Rattle.pcb_layer.specs.Code.{block_code, resume_code}
+use Rattle.pcb_layer.specs.Code.{find_control_block_code, restore_user_code}
 use Rattle.pcb_layer.specs.Laws.{UserRestored, RestoresUser}
-use Rattle.trap_entry.specs.Code.{switch_code, size_code, go_code, leave_code, exit_code}
+use Rattle.trap_entry.specs.Code.{switch_page_table_code, set_user_limits_code, return_to_user_code, act_on_answer_code, exit_with_code}
 use Rattle.trap_entry.specs.Laws.{ComesTo, MayGo, Passed, UserReady, LeavesToUser, LeavesForGood, LeavesBadly, ExitsWith}
 use Rattle.trap_entry.proofs.Basics.{put_other, const_is, Run, block, join, later, comes}
 
@@ -24,7 +24,7 @@ module _ (w : World) (f : Sound w) (runs : RunsCompose) where
   small_is v lt = cond-true (nat_lt v (2 ^ 15)) v (v + (2 ^ 32 - 2 ^ 16)) (lt-ltb v (2 ^ 15) lt)
 
   -- the user goes on
-  goes : RestoresUser w → (p : Places) (users per u : ℕ) (c0 c : Contents) (d : Behind) → MayGo w p users per u → Passed c0 d c d → c0.regs 2 ≡ u → d.pending ≡ Idle → From w (go_code p per) 62 c d (UserReady p per u c0 d)
+  goes : RestoresUser w → (p : Places) (users per u : ℕ) (c0 c : Contents) (d : Behind) → MayGo w p users per u → Passed c0 d c d → c0.regs 2 ≡ u → d.pending ≡ Idle → From w (return_to_user_code p per) 62 c d (UserReady p per u c0 d)
   goes restores p users per u c0 c d may s r2 idle =
       let words = f.small in let some = may.some in let one = may.one in let few = may.few in let least = may.least in let most = may.most in let pages = may.pages in let tables = may.tables in let inside = may.inside in
       let k = (u - 1) * per in
@@ -33,15 +33,15 @@ module _ (w : World) (f : Sound w) (runs : RunsCompose) where
       let same : (x : ℕ) → x ≢ current_at → m1 x ≡ c.memory x = λ x ne. put_other c.memory current_at u x ne in
       let size = c.memory (block_at u + 32) in
       let small = small_is per (omega arith) in
-      from_later w (go_code p per) (10 + (5 + (5 + 42))) 62 c d _ _ (omega arith) (λ c d k. k)
-      (straight_then w f (switch_code p per) (block_code ++ (size_code ++ resume_code))
+      from_later w (return_to_user_code p per) (10 + (5 + (5 + 42))) 62 c d _ _ (omega arith) (λ c d k. k)
+      (straight_then w f (switch_page_table_code p per) (find_control_block_code ++ (set_user_limits_code ++ restore_user_code))
       (Writes current_at u ∷ Gives (u - 1) ∷ Gives per ∷ Widens (k / 2 ^ 32) (k % 2 ^ 32) ∷ Gives k ∷ Gives (4 * k) ∷ Gives (4 * p.tables / 65536 * 2 ^ 16) ∷ Gives (4 * p.tables) ∷ Gives (4 * (p.tables + k)) ∷ Asks ∷ []) (5 + (5 + 42)) c d _ refl idle
       (λ n. ((refl, omega arith, may.free, here), (omega arith, (omega arith, ((refl, refl), (omega arith, (omega arith, (refl, (const_is (4 * p.tables), (omega arith, ((may.system, (λ z. omega arith), (λ z. omega arith)), tt)))))))))))
-      (λ n. straight_then w f block_code (size_code ++ resume_code) (Reads current_at u ∷ Gives (u - 1) ∷ Gives (256 * (u - 1)) ∷ Gives 0xc000 ∷ Gives (4 * block_at u) ∷ []) (5 + 42) _ d _ refl idle
+      (λ n. straight_then w f find_control_block_code (set_user_limits_code ++ restore_user_code) (Reads current_at u ∷ Gives (u - 1) ∷ Gives (256 * (u - 1)) ∷ Gives 0xc000 ∷ Gives (4 * block_at u) ∷ []) (5 + 42) _ d _ refl idle
       (λ n. ((refl, omega arith, refl), (omega arith, (omega arith, (refl, (omega arith, tt))))))
-      (λ n. straight_then w f size_code resume_code (Reads (block_at u + 32) size ∷ Asks ∷ Gives 1 ∷ Asks ∷ Asks ∷ []) 42 _ d _ refl idle
+      (λ n. straight_then w f set_user_limits_code restore_user_code (Reads (block_at u + 32) size ∷ Asks ∷ Gives 1 ∷ Asks ∷ Asks ∷ []) 42 _ d _ refl idle
       (λ n. ((omega arith, omega arith, same (block_at u + 32) (omega arith)), ((may.system, (λ z. omega arith), (λ z. omega arith)), (refl, ((may.system, (λ z. omega arith), (λ z. omega arith)), ((may.system, (λ z. omega arith), (λ z. omega arith)), tt))))))
-      (λ n. from_later w resume_code 42 42 _ d (UserRestored u _ d) (UserReady p per u c0 d) (omega arith)
+      (λ n. from_later w restore_user_code 42 42 _ d (UserRestored u _ d) (UserReady p per u c0 d) (omega arith)
       (λ c' d' t. record {
         current = ap (λ m. m current_at) t.memory;
         others = λ x ne. ap (λ m. m x) t.memory ∙ same x ne ∙ ap (λ m. m x) s.memory;
@@ -77,12 +77,12 @@ module _ (w : World) (f : Sound w) (runs : RunsCompose) where
       from_straight w f (Addiu 9 2 65535 ∷ Sltiu 9 9 users ∷ []) (Gives (v - 1) ∷ Gives t ∷ []) c d _ refl idle
       (λ m. ((omega arith, (ap (λ u. flag (nat_lt (v - 1) u)) e ∙ is, tt)), (record { regs = λ r n8 n9. put_other (put c.regs 9 (v - 1)) 9 t r n9 ∙ put_other c.regs 9 (v - 1) r n9; memory = refl; special = refl; hi = refl; lo = refl; behind = refl }, refl)))
 
-  module _ (whens : (r : ℕ) (body : List Inst) → length body < 32768 → WhenRuns w r body) (p : Places) (users per n : ℕ) (at : CodeAt w n (leave_code p users per)) where
+  module _ (whens : (r : ℕ) (body : List Inst) → length body < 32768 → WhenRuns w r body) (p : Places) (users per n : ℕ) (at : CodeAt w n (act_on_answer_code p users per)) where
     abbrev good : List Inst
     good = Sw 0 0 0xf008 ∷ []
 
     abbrev user : List Inst
-    user = go_code p per ++ Eret ∷ []
+    user = return_to_user_code p per ++ Eret ∷ []
 
     abbrev last : List Inst
     last = Addiu 8 0 5 ∷ Sw 8 0 0xf008 ∷ []
@@ -108,8 +108,8 @@ module _ (w : World) (f : Sound w) (runs : RunsCompose) where
     last_at : CodeAt w (n + 1 + 2 + 2 + length (when_code 9 user)) last
     last_at = runs.back w (n + 1 + 2 + 2) (when_code 9 user) last after_tests
 
-    user_size : length user ≡ length (go_code p per) + 1
-    user_size = length-append (go_code p per) (Eret ∷ [])
+    user_size : length user ≡ length (return_to_user_code p per) + 1
+    user_size = length-append (return_to_user_code p per) (Eret ∷ [])
 
     short : length user < 32768
     short = omega arith
@@ -129,24 +129,24 @@ module _ (w : World) (f : Sound w) (runs : RunsCompose) where
         (λ c' d' k. (on c c2 c' d d2 d' (subst (λ x. Passed c d x d2) (sym e.0) (subst (λ y. Passed c d c1 y) (sym e.1) a.0)) k.0, k.1))
         (second_test users t v c2 d2 few (ap (λ c. c.regs 2) e.0 ∙ a.0.regs 2 (omega arith) (omega arith) ∙ r2) some lt is (ap (λ d. d.pending) e.1 ∙ idle1)))))
 
-    to_user : RestoresUser w → (u : ℕ) (c : Contents) (d : Behind) → MayGo w p users per u → c.regs 2 ≡ u → d.pending ≡ Idle → ComesTo w 67 n (n + 6 + length (go_code p per)) Eret c d (UserReady p per u c d)
+    to_user : RestoresUser w → (u : ℕ) (c : Contents) (d : Behind) → MayGo w p users per u → c.regs 2 ≡ u → d.pending ≡ Idle → ComesTo w 67 n (n + 6 + length (return_to_user_code p per)) Eret c d (UserReady p per u c d)
     to_user restores u c d may r2 idle =
         let some = may.some in let one = may.one in let few = may.few in
         let inside = user_at.1 in
         let size = user_size in
-        let to : n + 1 + 2 + 2 + 1 + length (go_code p per) ≡ n + 6 + length (go_code p per) = omega arith in
-        let stands = runs.back w (n + 1 + 2 + 2 + 1) (go_code p per) (Eret ∷ []) inside in
-        comes w runs 67 n (n + 6 + length (go_code p per)) Eret c d (UserReady p per u c d)
-        (later w runs (4 + (1 + 62)) 67 n (n + 1 + 2 + 2 + 1 + length (go_code p per)) (n + 6 + length (go_code p per)) c d _ (omega arith) to
-        (join w runs 4 (1 + 62) n (n + 1 + 2 + 2) (n + 1 + 2 + 2 + 1 + length (go_code p per)) c d (λ c' d'. Passed c d c' d' × (c'.regs 9 ≡ 1)) _
+        let to : n + 1 + 2 + 2 + 1 + length (return_to_user_code p per) ≡ n + 6 + length (return_to_user_code p per) = omega arith in
+        let stands = runs.back w (n + 1 + 2 + 2 + 1) (return_to_user_code p per) (Eret ∷ []) inside in
+        comes w runs 67 n (n + 6 + length (return_to_user_code p per)) Eret c d (UserReady p per u c d)
+        (later w runs (4 + (1 + 62)) 67 n (n + 1 + 2 + 2 + 1 + length (return_to_user_code p per)) (n + 6 + length (return_to_user_code p per)) c d _ (omega arith) to
+        (join w runs 4 (1 + 62) n (n + 1 + 2 + 2) (n + 1 + 2 + 2 + 1 + length (return_to_user_code p per)) c d (λ c' d'. Passed c d c' d' × (c'.regs 9 ≡ 1)) _
         (past 1 u c d few r2 some (omega arith) (cond-true (nat_lt (u - 1) users) 1 0 (lt-ltb _ _ (omega arith))) idle)
         (λ c1 d1 a.
         let idle1 : d1.pending ≡ Idle = ap (λ d. d.pending) a.0.behind ∙ idle in
-        join w runs 1 62 (n + 1 + 2 + 2) (n + 1 + 2 + 2 + 1) (n + 1 + 2 + 2 + 1 + length (go_code p per)) c1 d1 (λ c' d'. (c' ≡ c1) × (d' ≡ d1)) _
+        join w runs 1 62 (n + 1 + 2 + 2) (n + 1 + 2 + 2 + 1) (n + 1 + 2 + 2 + 1 + length (return_to_user_code p per)) c1 d1 (λ c' d'. (c' ≡ c1) × (d' ≡ d1)) _
         (c1, d1, (refl, refl), (whens 9 user short).enters (n + 1 + 2 + 2) c1 d1 user_at idle1 (λ z. omega (arith, z, a.1)))
-        (λ c2 d2 e. block w runs (go_code p per) 62 (n + 1 + 2 + 2 + 1) c2 d2 (UserReady p per u c d) (runs.front w (n + 1 + 2 + 2 + 1) (go_code p per) (Eret ∷ []) inside)
+        (λ c2 d2 e. block w runs (return_to_user_code p per) 62 (n + 1 + 2 + 2 + 1) c2 d2 (UserReady p per u c d) (runs.front w (n + 1 + 2 + 2 + 1) (return_to_user_code p per) (Eret ∷ []) inside)
         (let s : Passed c d c2 d2 = subst (λ x. Passed c d x d2) (sym e.0) (subst (λ y. Passed c d c1 y) (sym e.1) a.0) in
-        from_later w (go_code p per) 62 62 c2 d2 (UserReady p per u c d2) (UserReady p per u c d) (omega arith)
+        from_later w (return_to_user_code p per) 62 62 c2 d2 (UserReady p per u c d2) (UserReady p per u c d) (omega arith)
         (λ c' d' k. record { current = k.current; others = k.others; registers = k.registers; high = k.high; low = k.low; pc = k.pc; table = k.table; size = k.size; interrupts = k.interrupts; mode = k.mode; special = k.special; behind = k.behind ∙ s.behind })
         (goes restores p users per u c c2 d2 may (record { regs = s.regs; memory = s.memory; special = s.special; hi = s.hi; lo = s.lo; behind = refl }) r2 (ap (λ d. d.pending) e.1 ∙ idle1)))))))
         (subst (λ m. w.code m ≡ Some Eret) to stands.0)
@@ -162,13 +162,13 @@ module _ (w : World) (f : Sound w) (runs : RunsCompose) where
         (λ c1 d1 a. (c1, d1, a.0, (whens 8 good (omega arith)).enters (n + 1) c1 d1 good_at (ap (λ d. d.pending) a.0.behind ∙ idle) (λ z. omega (arith, z, a.1))))))
         (subst (λ m. w.code m ≡ Some (Sw 0 0 0xf008)) to good_at.1.0)
 
-    badly : (c : Contents) (d : Behind) → users ≤ 64 → users < c.regs 2 → c.regs 2 < 2 ^ 32 → d.pending ≡ Idle → ComesTo w 6 n (n + 8 + length (go_code p per)) (Sw 8 0 0xf008) c d (λ c' d'. Passed c d c' d' × (c'.regs 8 ≡ 5))
+    badly : (c : Contents) (d : Behind) → users ≤ 64 → users < c.regs 2 → c.regs 2 < 2 ^ 32 → d.pending ≡ Idle → ComesTo w 6 n (n + 8 + length (return_to_user_code p per)) (Sw 8 0 0xf008) c d (λ c' d'. Passed c d c' d' × (c'.regs 8 ≡ 5))
     badly c d few above lt idle =
         let size = user_size in
         let m = n + 1 + 2 + 2 + length (when_code 9 user) in
-        let to : m + 1 ≡ n + 8 + length (go_code p per) = omega arith in
-        comes w runs 6 n (n + 8 + length (go_code p per)) (Sw 8 0 0xf008) c d _
-        (later w runs (4 + (1 + 1)) 6 n (m + 1) (n + 8 + length (go_code p per)) c d _ (omega arith) to
+        let to : m + 1 ≡ n + 8 + length (return_to_user_code p per) = omega arith in
+        comes w runs 6 n (n + 8 + length (return_to_user_code p per)) (Sw 8 0 0xf008) c d _
+        (later w runs (4 + (1 + 1)) 6 n (m + 1) (n + 8 + length (return_to_user_code p per)) c d _ (omega arith) to
         (join w runs 4 (1 + 1) n (n + 1 + 2 + 2) (m + 1) c d (λ c' d'. Passed c d c' d' × (c'.regs 9 ≡ 0)) _
         (past 0 (c.regs 2) c d few refl (omega arith) lt (cond-false (nat_lt (c.regs 2 - 1) users) 1 0 (le-ltb _ _ (omega arith))) idle)
         (λ c1 d1 a.
@@ -180,7 +180,7 @@ module _ (w : World) (f : Sound w) (runs : RunsCompose) where
         (λ k. ((refl, tt), (on c c2 _ d d2 d2 (subst (λ x. Passed c d x d2) (sym e.0) (subst (λ y. Passed c d c1 y) (sym e.1) a.0)) (record { regs = λ r n8 n9. put_other c2.regs 8 5 r n8; memory = refl; special = refl; hi = refl; lo = refl; behind = refl }), refl))))))))
         (subst (λ m. w.code m ≡ Some (Sw 8 0 0xf008)) to last_at.1.0)
 
-  exits : (power n : ℕ) (c : Contents) (d : Behind) → power < 32768 → CodeAt w n (exit_code power) → d.pending ≡ Idle → ComesTo w 1 n (n + 1) (Sw 8 0 0xf008) c d (λ c' d'. Passed c d c' d' × (c'.regs 8 ≡ power))
+  exits : (power n : ℕ) (c : Contents) (d : Behind) → power < 32768 → CodeAt w n (exit_with_code power) → d.pending ≡ Idle → ComesTo w 1 n (n + 1) (Sw 8 0 0xf008) c d (λ c' d'. Passed c d c' d' × (c'.regs 8 ≡ power))
   exits power n c d lt at idle =
       let e = small_is power lt in
       comes w runs 1 n (n + 1) (Sw 8 0 0xf008) c d _

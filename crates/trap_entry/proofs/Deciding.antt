@@ -8,9 +8,9 @@ use Rattle.mips_table.specs.Code.{Contents, Behind, World, Sound}
 use Rattle.masm.specs.Says.{Gives, Asks}
 use Rattle.masm.specs.Laws.{From}
 use Rattle.masm.proofs.Routines.{from_straight, from_then}
-use Rattle.pcb_layer.specs.Code.{saved_at, save_code}
+use Rattle.pcb_layer.specs.Code.{saved_at, save_registers_code}
 use Rattle.pcb_layer.specs.Laws.{IsRegister, HasSaveArea, MaySave, Saved, SavesRegisters}
-use Rattle.trap_entry.specs.Code.{decide_code, front_code}
+use Rattle.trap_entry.specs.Code.{is_page_fault_code, save_and_classify_code}
 use Rattle.trap_entry.specs.Laws.{IsHandled, IsUnsaved}
 
 -- the decision, by its three flags
@@ -73,12 +73,12 @@ pub ready_on : (c0 : Contents) (d0 : Behind) (c c1 : Contents) (d : Behind) → 
 ready_on c0 d0 c c1 d m sp eh el s = record { words = λ r is. ap (λ m. m (saved_at r)) m ∙ s.words r is; others = λ x o. ap (λ m. m x) m ∙ s.others x o; special = sp ∙ s.special; hi = eh ∙ s.hi; lo = el ∙ s.lo; behind = s.behind }
 
 module _ (w : World) (f : Sound w) (system : w.system ≡ true) (saves : SavesRegisters w) (area : HasSaveArea w) (may : MaySave w) (c0 : Contents) (d0 : Behind) (idle : d0.pending ≡ Idle) where
-  pub decides : (t : ℕ) → decision (c0.special ECA) (c0.special EDATA) (c0.special PTL) ≡ t → From w front_code 44 c0 d0 (Decided t c0 d0)
-  decides t is = from_then w (save_code 31) decide_code 31 13 c0 d0 (Saved c0 d0) _ (saves area may c0 d0 idle)
+  pub decides : (t : ℕ) → decision (c0.special ECA) (c0.special EDATA) (c0.special PTL) ≡ t → From w save_and_classify_code 44 c0 d0 (Decided t c0 d0)
+  decides t is = from_then w (save_registers_code 31) is_page_fault_code 31 13 c0 d0 (Saved c0 d0) _ (saves area may c0 d0 idle)
       (λ c d s.
       let a = c.special ECA in let e = c.special EDATA in let l = c.special PTL in
       let so : decision a e l ≡ t = ap (λ g. decision (g ECA) (g EDATA) (g PTL)) s.special ∙ is in
-      from_straight w f decide_code (Asks ∷ Asks ∷ Asks ∷ Gives (e / 4096) ∷ Gives (below e l) ∷ Gives (sum a 4294967293) ∷ Gives (three a) ∷ Gives (sum a 4294967288) ∷ Gives (eight a) ∷ Gives (sum (eight a) (three a)) ∷ Gives (sum (sum (eight a) (three a)) (below e l))
+      from_straight w f is_page_fault_code (Asks ∷ Asks ∷ Asks ∷ Gives (e / 4096) ∷ Gives (below e l) ∷ Gives (sum a 4294967293) ∷ Gives (three a) ∷ Gives (sum a 4294967288) ∷ Gives (eight a) ∷ Gives (sum (eight a) (three a)) ∷ Gives (sum (sum (eight a) (three a)) (below e l))
       ∷ Gives (flag (nat_lt (sum (sum (eight a) (three a)) (below e l)) 2)) ∷ Gives t ∷ []) c d (Decided t c0 d0) refl (ap (λ d. d.pending) s.behind ∙ idle)
       (λ n. (
         (system, (system, (system, (refl, (refl, (refl, (refl, (refl, (refl, (refl, (refl, (refl, (so, tt))))))))))))),

@@ -1,63 +1,66 @@
 -- The way into the kernel and out of it: the instructions.
-use Rattle.std.specs.Prelude.{ℕ, ◌*◌, List, [], ◌∷◌, ◌++◌}
+use Rattle.std.specs.Prelude.{ℕ, ◌*◌, ◌/◌, List, [], ◌∷◌, ◌++◌}
 use Rattle.mips_table.specs.declared.inst.Inst.{Inst}
 use Rattle.mips_table.specs.declared.inst.Inst.TheVariants.{Sll, Addu, Addiu, Sltiu, J, Sw, Multu, Mflo, Mtc0, Eret}
-use Rattle.layer_map.specs.declared.entries.TheConstants.{ANSWER}
+use Rattle.layer_map.specs.declared.entries.TheConstants.{ANSWER, ENTRY}
 use Rattle.layer_map.specs.declared.places.TheConstants.{CURRENT}
-use Rattle.masm.specs.Blocks.{minus, when_code}
+use Rattle.masm.specs.Blocks.{minus, load_immediate_code, when_code}
 use Rattle.mips_table.specs.declared.special.TheConstants.{PTO}
 use Rattle.masm.specs.declared.addresses.TheConstants.{POWER}
 use Rattle.masm.specs.declared.roles.TheConstants.{T0, T1, T2, ZERO}
 use Rattle.page_model.specs.Places.{Places}
-use Rattle.pcb_layer.specs.Code.{save_code, restore_code, block_code, keep_code, resume_code}
-use Rattle.frame_table.specs.Code.{const_code}
+use Rattle.pcb_layer.specs.Code.{save_registers_code, restore_registers_code, find_control_block_code, save_user_code, restore_user_code}
 use Rattle.trap_entry.specs.declared.handler.TheConstants.{IS_PAGE_FAULT, FAULTING_PAGE, NUMBER_OVER_USERS, CAUSE, DISPATCH_ARGUMENTS}
-use Rattle.trap_entry.specs.declared.leaving.TheConstants.{ENTER_USER}
+use Rattle.trap_entry.specs.declared.leaving.TheConstants.{SET_USER_LIMITS}
 
--- DECIDE: register 8 becomes 1 where the cause is a fetch or data fault and its page is below the current user's size, and else 0
-abbrev pub decide_code : List Inst
-decide_code = IS_PAGE_FAULT
+-- T0 becomes 1 where the cause is a fetch or data fault and its page is below the current user's size, and else 0
+abbrev pub is_page_fault_code : List Inst
+is_page_fault_code = IS_PAGE_FAULT
 
 -- the registers are saved, and it is decided
-abbrev pub front_code : List Inst
-front_code = save_code 31 ++ decide_code
+abbrev pub save_and_classify_code : List Inst
+save_and_classify_code = save_registers_code 31 ++ is_page_fault_code
 
--- ASK: register 16 becomes the number of the page that the fault concerns, and 15 asks for it to be stored to
-abbrev pub ask_code : Places → List Inst
-ask_code p = FAULTING_PAGE ++ (const_code T2 (4 * p.tables) ++ NUMBER_OVER_USERS)
+-- PAGE becomes the number of the page that the fault concerns, and FOR_STORE asks for it to be stored to
+abbrev pub find_faulting_page_code : Places → List Inst
+find_faulting_page_code p = FAULTING_PAGE ++ (load_immediate_code T2 (4 * p.tables) ++ NUMBER_OVER_USERS)
 
 -- a handled fault, up to the eret: page is the block that brings in a page
-abbrev pub work_code : Places → List Inst → List Inst
-work_code p page = ask_code p ++ (page ++ restore_code 31)
+abbrev pub handle_page_fault_code : Places → List Inst → List Inst
+handle_page_fault_code p page = find_faulting_page_code p ++ (page ++ restore_registers_code 31)
 
 -- the cause, what it concerns, and the current user become the arguments of `dispatch`
-abbrev pub call_code : List Inst
-call_code = DISPATCH_ARGUMENTS
+abbrev pub load_dispatch_arguments_code : List Inst
+load_dispatch_arguments_code = DISPATCH_ARGUMENTS
 
 -- a user is kept, which all causes but the reset interrupt
-abbrev pub kernel_code : List Inst
-kernel_code = CAUSE ++ (when_code T0 keep_code ++ call_code)
+abbrev pub enter_kernel_code : List Inst
+enter_kernel_code = CAUSE ++ (when_code T0 save_user_code ++ load_dispatch_arguments_code)
 
 -- HANDLER: a handled fault goes back to the user, and all else to `dispatch`
 abbrev pub handler_code : Places → List Inst → List Inst
-handler_code p page = front_code ++ (when_code T0 (work_code p page ++ Eret ∷ []) ++ (kernel_code ++ J 0x4000 ∷ []))
+handler_code p page = save_and_classify_code ++ (when_code T0 (handle_page_fault_code p page ++ Eret ∷ []) ++ (enter_kernel_code ++ J (ENTRY / 4) ∷ []))
 
--- the user in register 2 becomes the current one, with its page table; a user has up to so many pages
-abbrev pub switch_code : Places → (per : ℕ) → List Inst
-switch_code p per = (Sw ANSWER ZERO CURRENT ∷ Addiu T1 ANSWER (minus 1) ∷ Addiu T2 ZERO per ∷ Multu T1 T2 ∷ Mflo T1 ∷ Sll T1 T1 2 ∷ const_code T2 (4 * p.tables)) ++ (Addu T1 T1 T2 ∷ Mtc0 T1 PTO ∷ [])
+-- the user in ANSWER becomes the current one, and T1 the offset of its page table; a user has up to so many pages
+abbrev pub set_current_user_code : (per : ℕ) → List Inst
+set_current_user_code per = Sw ANSWER ZERO CURRENT ∷ Addiu T1 ANSWER (minus 1) ∷ Addiu T2 ZERO per ∷ Multu T1 T2 ∷ Mflo T1 ∷ Sll T1 T1 2 ∷ []
 
--- its size, from the control block at the address in register 31, and sr 1 and user mode behind the eret
-abbrev pub size_code : List Inst
-size_code = ENTER_USER
+-- and its page table is the one that is used
+abbrev pub switch_page_table_code : Places → (per : ℕ) → List Inst
+switch_page_table_code p per = (set_current_user_code per ++ load_immediate_code T2 (4 * p.tables)) ++ (Addu T1 T1 T2 ∷ Mtc0 T1 PTO ∷ [])
+
+-- its size, from the control block at the address in BLOCK, and, behind the eret, interrupts and user mode
+abbrev pub set_user_limits_code : List Inst
+set_user_limits_code = SET_USER_LIMITS
 
 -- all of it, up to the eret
-abbrev pub go_code : Places → (per : ℕ) → List Inst
-go_code p per = switch_code p per ++ (block_code ++ (size_code ++ resume_code))
+abbrev pub return_to_user_code : Places → (per : ℕ) → List Inst
+return_to_user_code p per = switch_page_table_code p per ++ (find_control_block_code ++ (set_user_limits_code ++ restore_user_code))
 
 -- EXIT: the power becomes the fault's
-abbrev pub exit_code : ℕ → List Inst
-exit_code power = Addiu T0 ZERO power ∷ Sw T0 ZERO POWER ∷ []
+abbrev pub exit_with_code : ℕ → List Inst
+exit_with_code power = Addiu T0 ZERO power ∷ Sw T0 ZERO POWER ∷ []
 
--- LEAVE: the answer of `dispatch` in register 2 is 0, a user's number, or neither
-abbrev pub leave_code : Places → (users per : ℕ) → List Inst
-leave_code p users per = (Sltiu T0 ANSWER 1 ∷ []) ++ (when_code T0 (Sw ZERO ZERO POWER ∷ []) ++ ((Addiu T1 ANSWER (minus 1) ∷ Sltiu T1 T1 users ∷ []) ++ (when_code T1 (go_code p per ++ Eret ∷ []) ++ exit_code 5)))
+-- LEAVE: the answer of `dispatch`, in ANSWER, is 0, a user's number, or neither
+abbrev pub act_on_answer_code : Places → (users per : ℕ) → List Inst
+act_on_answer_code p users per = (Sltiu T0 ANSWER 1 ∷ []) ++ (when_code T0 (Sw ZERO ZERO POWER ∷ []) ++ ((Addiu T1 ANSWER (minus 1) ∷ Sltiu T1 T1 users ∷ []) ++ (when_code T1 (return_to_user_code p per ++ Eret ∷ []) ++ exit_with_code 5)))

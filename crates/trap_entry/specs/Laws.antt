@@ -5,7 +5,9 @@ use Rattle.mips_table.specs.declared.inst.Inst.TheVariants.{Sw, Eret}
 use Rattle.mips_table.specs.Device.{Idle, BUFFER}
 use Rattle.mips_table.specs.declared.special.TheConstants.{ESR, ECA, EPC, EDATA, PTO, PTL, EMODE}
 use Rattle.mips_table.specs.Code.{Contents, Behind, World, at_with, CodeAt, Reaches}
-use Rattle.layer_map.specs.Map.{current_at, hand_at, block_at}
+use Rattle.layer_map.specs.Map.{current_at, hand_at, block_at, layer_words}
+use Rattle.masm.specs.declared.addresses.TheConstants.{POWER}
+use Rattle.masm.specs.declared.roles.TheConstants.{ZERO, T0}
 use Rattle.masm.specs.Frames.{Besides}
 use Rattle.page_model.specs.Paging.{Pages, PagesStand}
 use Rattle.page_model.specs.Faults.{Brought}
@@ -14,7 +16,7 @@ use Rattle.frame_table.specs.View.{Sited, Ported}
 use Rattle.page_fault.specs.Asked.{swap_steps, fault_steps, PageBlock}
 use Rattle.pcb_layer.specs.Code.{saved_at}
 use Rattle.pcb_layer.specs.Laws.{IsRegister, HasSaveArea, MaySave, IsCurrent, MayKeep, IsBeside}
-use Rattle.trap_entry.specs.Code.{front_code, work_code, handler_code, go_code, leave_code, exit_code}
+use Rattle.trap_entry.specs.Code.{save_and_classify_code, handle_page_fault_code, handler_code, return_to_user_code, act_on_answer_code, exit_with_code}
 
 -- a fetch or data fault of a page below the current user's size
 abbrev pub IsHandled : (cause edata pages : ℕ) → Type 0
@@ -57,7 +59,7 @@ pub record FaultDone (p : Places) (v : Pages) (q : ℕ) (c0 : Contents) (d0 : Be
 
 -- where the eret of a handled fault stands, in a handler at word n
 abbrev pub fault_eret_at : ℕ → Places → List Inst → ℕ
-fault_eret_at n p page = n + length front_code + 1 + length (work_code p page)
+fault_eret_at n p page = n + length save_and_classify_code + 1 + length (handle_page_fault_code p page)
 
 -- HANDLED FAULT: from its start the handler comes to the eret, in a swap for each page that names the frame at the hand, one more, and 85 steps
 abbrev pub HandlesFaults : World → Type 0
@@ -93,12 +95,12 @@ pub record ResetEntered (c0 : Contents) (d0 : Behind) (c : Contents) (d : Behind
 -- ENTER, from a user: all interrupts but handled faults lead to the kernel's first word
 abbrev pub EntersKernel : World → Type 0
 EntersKernel w = (p : Places) (page : List Inst) (u n : ℕ) (c : Contents) (d : Behind) → length page ≤ 1000 → MaySave w → MayKeep w u → IsCurrent w u c → CodeAt w n (handler_code p page) → c.special ECA < 2 ^ 32 → c.special ECA ≢ 0
-    → (IsHandled (c.special ECA) (c.special EDATA) (c.special PTL) → ⊥) → d.pending ≡ Idle → (c' : Contents) × (d' : Behind) × UserEntered u c d c' d' × Reaches w 124 (at_with n c d) (at_with 0x4000 c' d')
+    → (IsHandled (c.special ECA) (c.special EDATA) (c.special PTL) → ⊥) → d.pending ≡ Idle → (c' : Contents) × (d' : Behind) × UserEntered u c d c' d' × Reaches w 124 (at_with n c d) (at_with layer_words c' d')
 
 -- ENTER, after the reset
 abbrev pub EntersFirst : World → Type 0
 EntersFirst w = (p : Places) (page : List Inst) (n : ℕ) (c : Contents) (d : Behind) → length page ≤ 1000 → w.system ≡ true → HasSaveArea w → MaySave w → CodeAt w n (handler_code p page) → c.special ECA ≡ 0 → d.pending ≡ Idle
-    → (c' : Contents) × (d' : Behind) × ResetEntered c d c' d' × Reaches w 51 (at_with n c d) (at_with 0x4000 c' d')
+    → (c' : Contents) × (d' : Behind) × ResetEntered c d c' d' × Reaches w 51 (at_with n c d) (at_with layer_words c' d')
 
 -- user u goes on behind the eret: it is the current one, and the processor is as its control block says
 pub record UserReady (p : Places) (per u : ℕ) (c0 : Contents) (d0 : Behind) (c : Contents) (d : Behind) : Type 0 where
@@ -139,20 +141,20 @@ pub record Passed (c0 : Contents) (d0 : Behind) (c : Contents) (d : Behind) : Ty
 
 -- LEAVE, to user u: in 67 steps to the eret
 abbrev pub LeavesToUser : World → Type 0
-LeavesToUser w = (p : Places) (users per u n : ℕ) (c : Contents) (d : Behind) → MayGo w p users per u → CodeAt w n (leave_code p users per) → c.regs 2 ≡ u → d.pending ≡ Idle
-    → ComesTo w 67 n (n + 6 + length (go_code p per)) Eret c d (UserReady p per u c d)
+LeavesToUser w = (p : Places) (users per u n : ℕ) (c : Contents) (d : Behind) → MayGo w p users per u → CodeAt w n (act_on_answer_code p users per) → c.regs 2 ≡ u → d.pending ≡ Idle
+    → ComesTo w 67 n (n + 6 + length (return_to_user_code p per)) Eret c d (UserReady p per u c d)
 
 -- LEAVE, with the answer 0: in 2 steps to the store of a 0 to the power port
 abbrev pub LeavesForGood : World → Type 0
-LeavesForGood w = (p : Places) (users per n : ℕ) (c : Contents) (d : Behind) → CodeAt w n (leave_code p users per) → c.regs 2 ≡ 0 → d.pending ≡ Idle
-    → ComesTo w 2 n (n + 2) (Sw 0 0 0xf008) c d (Passed c d)
+LeavesForGood w = (p : Places) (users per n : ℕ) (c : Contents) (d : Behind) → CodeAt w n (act_on_answer_code p users per) → c.regs 2 ≡ 0 → d.pending ≡ Idle
+    → ComesTo w 2 n (n + 2) (Sw ZERO ZERO POWER) c d (Passed c d)
 
 -- LEAVE, with no user's number: in 6 steps to the store of a 5
 abbrev pub LeavesBadly : World → Type 0
-LeavesBadly w = (p : Places) (users per n : ℕ) (c : Contents) (d : Behind) → users ≤ 64 → CodeAt w n (leave_code p users per) → users < c.regs 2 → c.regs 2 < 2 ^ 32 → d.pending ≡ Idle
-    → ComesTo w 6 n (n + 8 + length (go_code p per)) (Sw 8 0 0xf008) c d (λ c' d'. Passed c d c' d' × (c'.regs 8 ≡ 5))
+LeavesBadly w = (p : Places) (users per n : ℕ) (c : Contents) (d : Behind) → users ≤ 64 → CodeAt w n (act_on_answer_code p users per) → users < c.regs 2 → c.regs 2 < 2 ^ 32 → d.pending ≡ Idle
+    → ComesTo w 6 n (n + 8 + length (return_to_user_code p per)) (Sw T0 ZERO POWER) c d (λ c' d'. Passed c d c' d' × (c'.regs 8 ≡ 5))
 
 -- FAULT EXIT: in one step to the store of the fault's power word
 abbrev pub ExitsWith : World → Type 0
-ExitsWith w = (power n : ℕ) (c : Contents) (d : Behind) → power < 32768 → CodeAt w n (exit_code power) → d.pending ≡ Idle
-    → ComesTo w 1 n (n + 1) (Sw 8 0 0xf008) c d (λ c' d'. Passed c d c' d' × (c'.regs 8 ≡ power))
+ExitsWith w = (power n : ℕ) (c : Contents) (d : Behind) → power < 32768 → CodeAt w n (exit_with_code power) → d.pending ≡ Idle
+    → ComesTo w 1 n (n + 1) (Sw T0 ZERO POWER) c d (λ c' d'. Passed c d c' d' × (c'.regs 8 ≡ power))

@@ -1,47 +1,46 @@
 // What follows an answer of `dispatch`, and the exits of faults.
 ghost use Rattle.std.specs.Prelude.{◌≡◌, ◌<◌, ◌≤◌, [], ◌∷◌, ◌++◌, map as each};
-ghost use Rattle.mips_table.specs.declared.inst.Inst.TheVariants.{Sw, Addiu, Multu, Mflo, Sll, Eret};
+ghost use Rattle.mips_table.specs.declared.inst.Inst.TheVariants.{Eret};
 ghost use Rattle.mips_table.specs.Encoding.{encoding};
 ghost use Rattle.page_model.specs.Places.{places_of};
-ghost use Rattle.trap_entry.specs.Code.{switch_code, go_code, leave_code, exit_code};
+ghost use Rattle.trap_entry.specs.Code.{set_current_user_code, switch_page_table_code, return_to_user_code, act_on_answer_code, exit_with_code};
 
-use frame_table::constant;
 use layer_map::{ANSWER, BLOCK_SIZE, CURRENT, Map};
 use masm::addresses::POWER;
 use masm::roles::{BLOCK, T0, T1, T2, ZERO};
-use masm::{Code, block, code};
+use masm::{Code, block, code, load_immediate};
 use mips_table::{EMODE, ESR, Inst, PTL, PTO};
-use pcb_layer::{find_block, resume_user};
+use pcb_layer::{find_control_block, restore_user};
 
-// The user in register 2 becomes the current one, and 9 becomes the offset of its page table.
-fn choose(pages: u32) -> Code
+// The user in ANSWER becomes the current one, and T1 the offset of its page table.
+fn set_current_user(pages: u32) -> Code
     requires { pages ≤ 1024 }
-    ensures { result ≡ each encoding (Sw 2 0 0x1000 ∷ Addiu 9 2 65535 ∷ Addiu 10 0 pages ∷ Multu 9 10 ∷ Mflo 9 ∷ Sll 9 9 2 ∷ []) }
+    ensures { result ≡ each encoding (set_current_user_code pages) }
 {
     block! {
         sw ANSWER, CURRENT(ZERO);
-        addiu T1, ANSWER, -1;
+        addiu T1, ANSWER, -1;           // users are counted from 1
         addiu T2, ZERO, pages;
         multu T1, T2;
         mflo T1;
-        sll T1, T1, 2;
+        sll T1, T1, 2;                  // an entry has four bytes
     }
 }
 
 // Its page table is the one that is used.
-fn switch(map: &Map) -> Code
-    ensures { result ≡ each encoding (switch_code (places_of map.now) map.now.params.pages) }
+fn switch_page_table(map: &Map) -> Code
+    ensures { result ≡ each encoding (switch_page_table_code (places_of map.now) map.now.params.pages) }
 {
     block! {
-        then choose(map.params().pages);
-        then constant(T2, map.page_tables());
+        then set_current_user(map.params().pages);
+        then load_immediate(T2, map.page_tables());
         addu T1, T1, T2;
         mtc0 T1, PTO;
     }
 }
 
-/// Its size, from the control block at the address in BLOCK, and sr 1 and user mode behind the eret.
-const ENTER_USER: [Inst; 5] = code! {
+/// Its size, from the control block at the address in BLOCK, and, behind the eret, interrupts and user mode.
+const SET_USER_LIMITS: [Inst; 5] = code! {
     lw T1, (4 * BLOCK_SIZE)(BLOCK);
     mtc0 T1, PTL;
     addiu T1, ZERO, 1;
@@ -49,23 +48,23 @@ const ENTER_USER: [Inst; 5] = code! {
     mtc0 T1, EMODE;
 };
 
-// The user goes on, with the eret.
-fn go(map: &Map) -> Code
-    ensures { result ≡ each encoding (go_code (places_of map.now) map.now.params.pages ++ Eret ∷ []) }
+// The user in ANSWER goes on, with the eret.
+fn return_to_user(map: &Map) -> Code
+    ensures { result ≡ each encoding (return_to_user_code (places_of map.now) map.now.params.pages ++ Eret ∷ []) }
 {
     block! {
-        then switch(map);
-        then find_block();
-        code ENTER_USER;
-        then resume_user();
+        then switch_page_table(map);
+        then find_control_block();
+        code SET_USER_LIMITS;
+        then restore_user();
         eret;
     }
 }
 
 /// Code that is run at a fault of the kernel: its word, below 65,536, goes to the power port.
-pub fn exit(power: u32) -> Code
+pub fn exit_with(power: u32) -> Code
     requires { power < 65536 }
-    ensures { result ≡ each encoding (exit_code power) }
+    ensures { result ≡ each encoding (exit_with_code power) }
 {
     block! {
         addiu T0, ZERO, power;
@@ -73,18 +72,18 @@ pub fn exit(power: u32) -> Code
     }
 }
 
-/// Code that is run at an answer of `dispatch`, in register 2: a user goes on, or a 0 or a 5 goes to the power port.
-pub fn leave(map: &Map) -> Code
-    ensures { result ≡ each encoding (leave_code (places_of map.now) map.now.users map.now.params.pages) }
+/// Code that is run at an answer of `dispatch`, in ANSWER: a user goes on, or a 0 or a 5 goes to the power port.
+pub fn act_on_answer(map: &Map) -> Code
+    ensures { result ≡ each encoding (act_on_answer_code (places_of map.now) map.now.users map.now.params.pages) }
 {
     block! {
-        sltiu T0, ANSWER, 1;
+        sltiu T0, ANSWER, 1;            // whether the answer is 0
         when T0 {
             sw ZERO, POWER(ZERO);
         }
         addiu T1, ANSWER, -1;
-        sltiu T1, T1, map.users();
-        when T1, go(map);
-        then exit(5);
+        sltiu T1, T1, map.users();      // whether it is a user's number
+        when T1, return_to_user(map);
+        then exit_with(5);
     }
 }

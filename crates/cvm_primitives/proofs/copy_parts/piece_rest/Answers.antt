@@ -1,10 +1,10 @@
 -- By the words of its parts.
 use Rattle.page_model.specs.Places.{places_of}
-use Rattle.page_fault.specs.Code.{page_code}
+use Rattle.page_fault.specs.Code.{handle_page_code}
 use Rattle.cvm_primitives.specs.Code.{choose_code, piece_end_code}
 use Rattle.cvm_primitives.proofs.Emit.{two}
 use Rattle.cvm_primitives.proofs.copy_parts.piece_rest.Goals as goal
 
 pub returns : goal.returns
 returns c =
-    two c.words_are_encodings.ensures (choose_code (places_of c.args.map.now)) (piece_end_code (places_of c.args.map.now) (page_code (places_of c.args.map.now))) _ _ _ _ _ c.new-code.ensures c.then.ensures c.then-2.ensures c.choose.ensures c.piece_end.ensures
+    two c.words_are_encodings.ensures (choose_code (places_of c.args.map.now)) (piece_end_code (places_of c.args.map.now) (handle_page_code (places_of c.args.map.now))) _ _ _ _ _ c.new-code.ensures c.then.ensures c.then-2.ensures c.choose.ensures c.piece_end.ensures

@@ -1,10 +1,10 @@
 -- By the words of its parts.
 use Rattle.page_model.specs.Places.{places_of}
-use Rattle.page_fault.specs.Code.{page_code}
+use Rattle.page_fault.specs.Code.{handle_page_code}
 use Rattle.cvm_primitives.specs.Code.{both_code, paste_code}
 use Rattle.cvm_primitives.proofs.Emit.{two}
 use Rattle.cvm_primitives.proofs.copy_parts.words.Goals as goal
 
 pub returns : goal.returns
 returns c =
-    two c.words_are_encodings.ensures (both_code (page_code (places_of c.args.map.now))) (paste_code (places_of c.args.map.now)) _ _ _ _ _ c.new-code.ensures c.then.ensures c.then-2.ensures c.both.ensures c.paste.ensures
+    two c.words_are_encodings.ensures (both_code (handle_page_code (places_of c.args.map.now))) (paste_code (places_of c.args.map.now)) _ _ _ _ _ c.new-code.ensures c.then.ensures c.then-2.ensures c.both.ensures c.paste.ensures

@@ -1,6 +1,6 @@
 -- By the laws that the body calls; the page-fault block is page_fault's.
 use Rattle.std.proofs.Common.{refl}
-use Rattle.page_fault.specs.Code.{page_code}
+use Rattle.page_fault.specs.Code.{handle_page_code}
 use Rattle.cvm_primitives.specs.Code.{vm_copy_code}
 use Rattle.cvm_primitives.proofs.Forms.{renamed}
 use Rattle.cvm_primitives.proofs.Copies.{vm_copy_good, vm_copy_bad}
@@ -10,6 +10,6 @@ pub returns : goal.returns
 returns k = λ w p b users per size v c d e.
     let f = k.routines_have_laws.ensures w e.sound in
     let block = k.the_block_is_a_page_block.ensures w e.sound p b e.sited e.ported in record {
-      good = λ g. renamed w (vm_copy_code p users per) block.0.code (page_code p) _ c d _ block.1 (vm_copy_good w f p b e.sited block.0 users per size v c d e.held e.sizes (c.regs 20) (c.regs 21) (c.regs 22) (c.regs 23) (c.regs 24) refl refl refl refl refl (e.regs 20) (e.regs 21) (e.regs 22) (e.regs 23) (e.regs 24) g);
-      bad = λ g. renamed w (vm_copy_code p users per) block.0.code (page_code p) _ c d _ block.1 (vm_copy_bad w f p b e.sited block.0 users per size v c d e.held e.sizes (c.regs 20) (c.regs 21) (c.regs 22) (c.regs 23) (c.regs 24) refl refl refl refl refl (e.regs 20) (e.regs 21) (e.regs 22) (e.regs 23) (e.regs 24) g);
+      good = λ g. renamed w (vm_copy_code p users per) block.0.code (handle_page_code p) _ c d _ block.1 (vm_copy_good w f p b e.sited block.0 users per size v c d e.held e.sizes (c.regs 20) (c.regs 21) (c.regs 22) (c.regs 23) (c.regs 24) refl refl refl refl refl (e.regs 20) (e.regs 21) (e.regs 22) (e.regs 23) (e.regs 24) g);
+      bad = λ g. renamed w (vm_copy_code p users per) block.0.code (handle_page_code p) _ c d _ block.1 (vm_copy_bad w f p b e.sited block.0 users per size v c d e.held e.sizes (c.regs 20) (c.regs 21) (c.regs 22) (c.regs 23) (c.regs 24) refl refl refl refl refl (e.regs 20) (e.regs 21) (e.regs 22) (e.regs 23) (e.regs 24) g);
     }

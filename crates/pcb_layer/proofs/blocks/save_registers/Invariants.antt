@@ -1,8 +1,8 @@
 -- The code is that of the registers before.
 use Rattle.std.proofs.Common.{◌≡◌, length, map}
 use Rattle.mips_table.specs.Encoding.{encoding}
-use Rattle.pcb_layer.specs.Code.{save_code}
+use Rattle.pcb_layer.specs.Code.{save_registers_code}
 use Rattle.pcb_layer.proofs.blocks.save_registers.Given as goal
 
 abbrev pub invariant-loop-n : goal.invariant-loop-n
-invariant-loop-n l = (l.code ≡ map encoding (save_code l.n)) × (length l.code ≡ l.n)
+invariant-loop-n l = (l.code ≡ map encoding (save_registers_code l.n)) × (length l.code ≡ l.n)
