@@ -2,17 +2,26 @@
 
 ghost use Rattle.std.specs.Prelude.{◌≡◌, ◌++◌, ◌<◌, ◌^◌, map, OnOk, OnErr};
 ghost use Rattle.mips_table.specs.Encoding.{encoding};
-ghost use Rattle.c0_runtime.specs.Code.{load_ends_code, entry_code};
+ghost use Rattle.c0_runtime.specs.Code.{entry_code};
 
 use layer_map::{LEAVE, STACK_FIRST, STACK_WORDS};
-use masm::Block;
 use masm::registers::{FRAME_END, GLOBALS, STACK_END};
+use masm::roles::ZERO;
+use masm::{Block, block, code};
 use mips_table::Inst;
 use std::alloc::{AllocError, Global};
 use std::vec::Vec;
 
 /// The words of the entry.
 pub const ENTRY_WORDS: u32 = 8;
+
+/// The end of the first frame (none stands yet, so it is the stack's first address) and the stack's end, from the layer's variables.
+const LOAD_ENDS: [Inst; 4] = code! {
+    lw FRAME_END, STACK_FIRST(ZERO);
+    lw STACK_END, STACK_WORDS(ZERO);
+    sll STACK_END, STACK_END, 2;            // its words in bytes
+    addu STACK_END, FRAME_END, STACK_END;
+};
 
 /// Appends the entry: the globals' address `globals`, the end of the frames and the stack's end go to their registers, the
 /// function at the address `dispatch` is called, and then the kernel is left. Both addresses are in bytes.
@@ -28,48 +37,12 @@ pub fn emit_entry(
     ensures appended { OnOk result (code.new.items ≡ code.old.items ++ map encoding (entry_code globals dispatch)) }
     ensures unchanged { OnErr result (code.new.items ≡ code.old.items) }
 {
-    let mut entry = Block::<8>::new();
-    entry.push(Inst::Lui {
-        rt: GLOBALS,
-        imm: globals / 65536,
-    });
-    entry.push(Inst::Ori {
-        rt: GLOBALS,
-        rs: GLOBALS,
-        imm: globals % 65536,
-    });
-    entry.then(&load_ends());
-    entry.push(Inst::Jal {
-        index: dispatch / 4,
-    });
-    entry.push(Inst::J { index: LEAVE / 4 });
+    let entry: Block<8> = block! {
+        lui GLOBALS, globals / 65536;
+        ori GLOBALS, GLOBALS, globals % 65536;
+        code LOAD_ENDS;
+        jal dispatch / 4;
+        j LEAVE / 4;
+    };
     code.extend_from_slice(entry.words())
-}
-
-// The end of the frames and the stack's end, from the layer's variables.
-fn load_ends() -> Block<4>
-    ensures { result ≡ map encoding load_ends_code }
-{
-    let mut ends = Block::<4>::new();
-    ends.push(Inst::Lw {
-        rt: FRAME_END,
-        rs: 0,
-        imm: STACK_FIRST,
-    });
-    ends.push(Inst::Lw {
-        rt: STACK_END,
-        rs: 0,
-        imm: STACK_WORDS,
-    });
-    ends.push(Inst::Sll {
-        rd: STACK_END,
-        rt: STACK_END,
-        sa: 2,
-    });
-    ends.push(Inst::Addu {
-        rd: STACK_END,
-        rs: FRAME_END,
-        rt: STACK_END,
-    });
-    ends
 }

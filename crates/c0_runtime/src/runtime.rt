@@ -3,11 +3,12 @@
 ghost use Rattle.std.specs.Prelude.{◌≡◌, ◌++◌, ◌<◌, ◌^◌, map, OnOk, OnErr};
 ghost use Rattle.mips_table.specs.Encoding.{encoding};
 ghost use Rattle.masm.specs.Places.{ArePlaces};
-ghost use Rattle.c0_runtime.specs.Code.{multiply_code, division_code, divide_code, remainder_code, runtime_code};
+ghost use Rattle.c0_runtime.specs.Code.{division_code, divide_code, remainder_code, runtime_code};
 
 use crate::new_object::new_object;
-use masm::Block;
 use masm::registers::{ANSWER, ARGUMENTS, Places, RETURN};
+use masm::roles::ZERO;
+use masm::{Block, block, code};
 use mips_table::Inst;
 use std::alloc::{AllocError, Global};
 use std::vec::Vec;
@@ -36,45 +37,44 @@ pub fn emit_runtime(_alloc: Global, places: &Places, code: &mut Vec<u32>) -> Res
     ensures unchanged { OnErr result (code.new.items ≡ code.old.items) }
 {
     let exit = places.faults[2];
-    let mut routines = Block::<31>::new();
-    routines.then(&new_object());
-    routines.then(&multiply());
-    routines.then(&divide(exit));
-    routines.then(&remainder(exit));
+    let routines: Block<31> = block! {
+        then new_object();
+        code MULTIPLY_INTS;
+        then divide(exit);
+        then remainder(exit);
+    };
     code.extend_from_slice(routines.words())
 }
 
-// The product of the first two arguments.
-fn multiply() -> Block<3>
-    ensures { result ≡ map encoding multiply_code }
-{
-    let mut code = Block::<3>::new();
-    code.push(Inst::Mult {
-        rs: ARGUMENTS,
-        rt: ARGUMENTS + 1,
-    });
-    code.push(Inst::Mflo { rd: ANSWER });
-    code.push(Inst::Jr { rs: RETURN });
-    code
-}
+/// The product of the first two arguments.
+const MULTIPLY_INTS: [Inst; 3] = code! {
+    mult ARGUMENTS, ARGUMENTS + 1;
+    mflo ANSWER;
+    jr RETURN;
+};
 
-// Their quotient, in register lo, unless the second is 0.
+/// The quotient is the answer.
+const GIVE_QUOTIENT: [Inst; 2] = code! {
+    mflo ANSWER;
+    jr RETURN;
+};
+
+/// What the quotient leaves is the answer.
+const GIVE_REMAINDER: [Inst; 2] = code! {
+    mfhi ANSWER;
+    jr RETURN;
+};
+
+// The first two arguments are divided, unless the second is 0.
 fn division(exit: u32) -> Block<3>
     requires { exit < 2 ^ 28 }
     ensures { result ≡ map encoding (division_code exit) }
 {
-    let mut code = Block::<3>::new();
-    code.push(Inst::Bne {
-        rs: ARGUMENTS + 1,
-        rt: 0,
-        imm: 1,
-    });
-    code.push(Inst::J { index: exit / 4 });
-    code.push(Inst::Div {
-        rs: ARGUMENTS,
-        rt: ARGUMENTS + 1,
-    });
-    code
+    block! {
+        bne ARGUMENTS + 1, ZERO, 1;
+        j exit / 4;
+        div ARGUMENTS, ARGUMENTS + 1;
+    }
 }
 
 // Their quotient.
@@ -82,11 +82,10 @@ fn divide(exit: u32) -> Block<5>
     requires { exit < 2 ^ 28 }
     ensures { result ≡ map encoding (divide_code exit) }
 {
-    let mut code = Block::<5>::new();
-    code.then(&division(exit));
-    code.push(Inst::Mflo { rd: ANSWER });
-    code.push(Inst::Jr { rs: RETURN });
-    code
+    block! {
+        then division(exit);
+        code GIVE_QUOTIENT;
+    }
 }
 
 // What the quotient leaves.
@@ -94,9 +93,8 @@ fn remainder(exit: u32) -> Block<5>
     requires { exit < 2 ^ 28 }
     ensures { result ≡ map encoding (remainder_code exit) }
 {
-    let mut code = Block::<5>::new();
-    code.then(&division(exit));
-    code.push(Inst::Mfhi { rd: ANSWER });
-    code.push(Inst::Jr { rs: RETURN });
-    code
+    block! {
+        then division(exit);
+        code GIVE_REMAINDER;
+    }
 }

@@ -12,6 +12,7 @@ pub mod laws;
 mod parts;
 mod registers;
 mod resizing;
+mod roles;
 
 pub use accessing::{vm_put, vm_word};
 pub use copying::vm_copy;

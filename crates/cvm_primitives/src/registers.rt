@@ -4,90 +4,42 @@ ghost use Rattle.mips_table.specs.Encoding.{encoding};
 ghost use Rattle.cvm_primitives.specs.RegisterCode.{user_code, register_code, place_code, asked_words, vm_get_code};
 ghost use Rattle.cvm_primitives.specs.RegisterCode.{vm_set_code, vm_size_code, con_put_code, con_get_code, con_left_code};
 
-use layer_map::Map;
-use masm::Block;
+use crate::parts::FIND_SIZE;
+use crate::roles::{BLOCKS, NUMBER, USER, VALUE};
+use layer_map::{ANSWER, Map};
+use masm::registers::ARGUMENTS;
+use masm::roles::{T0, T1, T2, T3, ZERO};
+use masm::{Block, block, code, extend};
 use mips_table::Inst;
 
-// Register 2 becomes what a bad call answers, as 16 bits; register 9 isn't 0 where register 20 is a user, and 8 its number less 1.
-fn user_test(bad: u32, users: u32) -> Block<3>
+/// ANSWER becomes what a bad call answers, as 16 bits; T1 isn't 0 where USER is a user's number, and T0 is that less 1.
+pub fn user_test(bad: u32, users: u32) -> Block<3>
     requires bad { bad < 65536 }
     requires users { users ≤ 64 }
     ensures { result ≡ each encoding (user_code bad users) }
 {
-    let mut code = Block::<3>::new();
-    code.push(Inst::Addiu {
-        rt: 2,
-        rs: 0,
-        imm: bad,
-    });
-    code.push(Inst::Addiu {
-        rt: 8,
-        rs: 20,
-        imm: 65535,
-    });
-    code.push(Inst::Sltiu {
-        rt: 9,
-        rs: 8,
-        imm: users,
-    });
-    code
+    block! {
+        addiu ANSWER, ZERO, bad;
+        addiu T0, USER, -1;
+        sltiu T1, T0, users;
+    }
 }
 
-// Register 9 isn't 0 where register 21 is the number of a register, or 32.
-fn register_test() -> Block<2>
-    ensures { result ≡ each encoding register_code }
-{
-    let mut code = Block::<2>::new();
-    code.push(Inst::Addiu {
-        rt: 10,
-        rs: 21,
-        imm: 65535,
-    });
-    code.push(Inst::Sltiu {
-        rt: 9,
-        rs: 10,
-        imm: 32,
-    });
-    code
-}
+/// T1 isn't 0 where NUMBER is that of a register, 1 to 31, or 32.
+const IS_REGISTER: [Inst; 2] = code! {
+    addiu T2, NUMBER, -1;
+    sltiu T1, T2, 32;
+};
 
-// Register 11 becomes the address of the word of the control block.
-fn place() -> Block<6>
-    ensures { result ≡ each encoding place_code }
-{
-    let mut code = Block::<6>::new();
-    code.push(Inst::Ori {
-        rt: 11,
-        rs: 0,
-        imm: 49152,
-    });
-    code.push(Inst::Sll {
-        rd: 9,
-        rt: 8,
-        sa: 8,
-    });
-    code.push(Inst::Addu {
-        rd: 11,
-        rs: 11,
-        rt: 9,
-    });
-    code.push(Inst::Sll {
-        rd: 10,
-        rt: 21,
-        sa: 27,
-    });
-    code.push(Inst::Srl {
-        rd: 10,
-        rt: 10,
-        sa: 25,
-    });
-    code.push(Inst::Addu {
-        rd: 11,
-        rs: 11,
-        rt: 10,
-    });
-    code
-}
+/// By the user's number less 1 in T0, T3 becomes the address of the word of its control block for NUMBER: that of 32 is word 0.
+const FIND_WORD: [Inst; 6] = code! {
+    ori T3, ZERO, BLOCKS;
+    sll T1, T0, 8;                  // a control block has 256 bytes
+    addu T3, T3, T1;
+    sll T2, NUMBER, 27;             // NUMBER modulo 32, as an offset in bytes
+    srl T2, T2, 25;
+    addu T3, T3, T2;
+};
 
 // The work is done where the user and the register are good.
 fn asked(bad: u32, users: u32, work: &Block<2>) -> Block<15>
@@ -97,27 +49,35 @@ fn asked(bad: u32, users: u32, work: &Block<2>) -> Block<15>
 {
     let _fits = work.len();
     let mut inner = Block::<8>::new();
-    inner.then(&place());
+    extend(&mut inner, &FIND_WORD);
     inner.then(work);
     let mut body = Block::<11>::new();
-    body.then(&register_test());
-    body.when(9, &inner);
+    extend(&mut body, &IS_REGISTER);
+    body.when(T1, &inner);
     let mut code = Block::<15>::new();
     code.then(&user_test(bad, users));
-    code.when(9, &body);
+    code.when(T1, &body);
     code
 }
+
+/// The answer is the word.
+const LOAD_WORD: [Inst; 1] = code! {
+    lw ANSWER, 0(T3);
+};
+
+/// The word becomes VALUE, and the answer is true.
+const STORE_WORD: [Inst; 2] = code! {
+    sw VALUE, 0(T3);
+    addiu ANSWER, ZERO, 1;
+};
 
 /// `vm_get`: the user stands in register 20, and the register, or 32 for the pc, in 21.
 pub fn vm_get(map: &Map) -> Block<15>
     ensures { result ≡ each encoding (vm_get_code map.now.users) }
 {
-    let mut work = Block::<2>::new();
-    work.push(Inst::Lw {
-        rt: 2,
-        rs: 11,
-        imm: 0,
-    });
+    let work: Block<2> = block! {
+        code LOAD_WORD;
+    };
     asked(65535, map.users(), &work)
 }
 
@@ -125,17 +85,9 @@ pub fn vm_get(map: &Map) -> Block<15>
 pub fn vm_set(map: &Map) -> Block<15>
     ensures { result ≡ each encoding (vm_set_code map.now.users) }
 {
-    let mut work = Block::<2>::new();
-    work.push(Inst::Sw {
-        rt: 22,
-        rs: 11,
-        imm: 0,
-    });
-    work.push(Inst::Addiu {
-        rt: 2,
-        rs: 0,
-        imm: 1,
-    });
+    let work: Block<2> = block! {
+        code STORE_WORD;
+    };
     asked(0, map.users(), &work)
 }
 
@@ -143,78 +95,56 @@ pub fn vm_set(map: &Map) -> Block<15>
 pub fn vm_size(map: &Map) -> Block<8>
     ensures { result ≡ each encoding (vm_size_code map.now.users) }
 {
-    let mut work = Block::<4>::new();
-    work.push(Inst::Ori {
-        rt: 11,
-        rs: 0,
-        imm: 49280,
-    });
-    work.push(Inst::Sll {
-        rd: 9,
-        rt: 8,
-        sa: 8,
-    });
-    work.push(Inst::Addu {
-        rd: 11,
-        rs: 11,
-        rt: 9,
-    });
-    work.push(Inst::Lw {
-        rt: 2,
-        rs: 11,
-        imm: 0,
-    });
-    let mut code = Block::<8>::new();
-    code.then(&user_test(65535, map.users()));
-    code.when(9, &work);
-    code
+    let work: Block<4> = block! {
+        code FIND_SIZE;
+        code LOAD_WORD;
+    };
+    block! {
+        then user_test(65535, map.users());
+        when T1, work;
+    }
 }
+
+/// The log's port tells its length. The answer is whether a word more has room; one that hasn't is lost.
+const PUT: [Inst; 3] = code! {
+    lw T0, LOG(ZERO);
+    sltiu ANSWER, T0, 4096;
+    sw ARGUMENTS, LOG(ZERO);
+};
 
 /// `con_put`: the word stands in register 20.
 pub fn con_put() -> Block<3>
     ensures { result ≡ each encoding con_put_code }
 {
-    let mut code = Block::<3>::new();
-    code.push(Inst::Lw {
-        rt: 8,
-        rs: 0,
-        imm: 0xf00c,
-    });
-    code.push(Inst::Sltiu {
-        rt: 2,
-        rs: 8,
-        imm: 4096,
-    });
-    code.push(Inst::Sw {
-        rt: 20,
-        rs: 0,
-        imm: 0xf00c,
-    });
-    code
+    block! {
+        code PUT;
+    }
 }
+
+/// A read takes the next word of the input.
+const GET: [Inst; 1] = code! {
+    lw ANSWER, INPUT(ZERO);
+};
 
 /// `con_get`.
 pub fn con_get() -> Block<1>
     ensures { result ≡ each encoding con_get_code }
 {
-    let mut code = Block::<1>::new();
-    code.push(Inst::Lw {
-        rt: 2,
-        rs: 0,
-        imm: 0xf014,
-    });
-    code
+    block! {
+        code GET;
+    }
 }
+
+/// How many words of the input are left.
+const TELL_LEFT: [Inst; 1] = code! {
+    lw ANSWER, INPUT_LEFT(ZERO);
+};
 
 /// `con_left`.
 pub fn con_left() -> Block<1>
     ensures { result ≡ each encoding con_left_code }
 {
-    let mut code = Block::<1>::new();
-    code.push(Inst::Lw {
-        rt: 2,
-        rs: 0,
-        imm: 0xf010,
-    });
-    code
+    block! {
+        code TELL_LEFT;
+    }
 }
