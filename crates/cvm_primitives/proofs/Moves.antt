@@ -11,7 +11,8 @@ use Rattle.cvm_primitives.proofs.Forms.{from_straight, from_later, from_does, do
 use Rattle.page_model.specs.Places.{Places}
 use Rattle.frame_table.specs.View.{Sited}
 use Rattle.cvm_primitives.proofs.Between.{Keeps, MoveAsked, Moved, Located}
-use Rattle.cvm_primitives.specs.Code.{copy_body, copy_code, locate_code}
+use Rattle.masm.specs.Copy.{copy_turn as copy_body, copy_code}
+use Rattle.cvm_primitives.specs.Code.{locate_code}
 use Rattle.cvm_primitives.proofs.Basics.{const_is, put_same, put_other, all_kept, kept_on}
 
 module _ (w : World) (f : RoutineLaws w) (a b n : ℕ) (c0 : Contents) (d0 : Behind) (asked : MoveAsked w a b n c0 d0) where

@@ -5,8 +5,9 @@ ghost use Rattle.cvm_primitives.specs.RegisterCode.{user_code, register_code, pl
 ghost use Rattle.cvm_primitives.specs.RegisterCode.{vm_set_code, vm_size_code, con_put_code, con_get_code, con_left_code};
 
 use crate::parts::FIND_SIZE;
-use crate::roles::{BLOCKS, NUMBER, USER, VALUE};
+use crate::roles::{NUMBER, USER, VALUE};
 use layer_map::{ANSWER, Map};
+use masm::addresses::{BLOCKS, INPUT, INPUT_LEFT, LOG};
 use masm::registers::ARGUMENTS;
 use masm::roles::{T0, T1, T2, T3, ZERO};
 use masm::{Block, block, code, extend};

@@ -28,7 +28,7 @@ pub const LENGTH: u32 = 24;
 pub const GOOD: u32 = 12;
 
 /// A word's number: those of all users are counted through, 1,024 a page.
-pub const WORD: u32 = 26;
+pub const WORD_NUMBER: u32 = 26;
 
 /// The word that is written, while its page comes in.
 pub const KEPT: u32 = 27;
@@ -48,15 +48,6 @@ pub const PIECE: u32 = 13;
 /// Whether a piece is copied word by word, and not by sharing its frame.
 pub const BY_WORDS: u32 = 15;
 
-/// The address that words are copied to.
-pub const TARGET: u32 = 2;
-
-/// How many words are copied.
-pub const COUNT: u32 = 3;
-
-/// The word that is copied.
-pub const COPIED: u32 = 4;
-
 /// The new size of a memory, in pages.
 pub const SIZE: u32 = 26;
 
@@ -74,9 +65,3 @@ pub const OLD_END: u32 = 13;
 
 /// What a fresh page's entry is.
 pub const FRESH: u32 = 13;
-
-/// The address of user 1's control block. Those of the others follow, 256 bytes each.
-pub const BLOCKS: u32 = 0xc000;
-
-/// The address of the size in user 1's control block.
-pub const SIZES: u32 = 0xc080;
