@@ -3,7 +3,7 @@
 ghost use Rattle.std.specs.Prelude.{◌≡◌, ◌++◌, ◌<◌, ◌^◌, map, OnOk, OnErr};
 ghost use Rattle.mips_table.specs.Encoding.{encoding};
 ghost use Rattle.masm.specs.Places.{ArePlaces};
-ghost use Rattle.c0_runtime.specs.Code.{division_code, divide_code, remainder_code, runtime_code};
+ghost use Rattle.c0_runtime.specs.Code.{new_code, multiply_code, division_code, divide_code, remainder_code, runtime_code};
 
 use crate::new_object::new_object;
 use masm::registers::{ANSWER, ARGUMENTS, Places, RETURN};
@@ -36,14 +36,21 @@ pub fn emit_runtime(_alloc: Global, places: &Places, code: &mut Vec<u32>) -> Res
     ensures appended { OnOk result (code.new.items ≡ code.old.items ++ map encoding (runtime_code places.now)) }
     ensures unchanged { OnErr result (code.new.items ≡ code.old.items) }
 {
-    let exit = places.faults[2];
-    let routines: Block<31> = block! {
+    let all = routines(places.faults[2]);
+    code.extend_from_slice(all.words())
+}
+
+// All routines.
+fn routines(exit: u32) -> Block<31>
+    requires { exit < 2 ^ 28 }
+    ensures { result ≡ map encoding (new_code ++ (multiply_code ++ (divide_code exit ++ remainder_code exit))) }
+{
+    block! {
         then new_object();
-        code MULTIPLY_INTS;
+        then multiply();
         then divide(exit);
         then remainder(exit);
-    };
-    code.extend_from_slice(routines.words())
+    }
 }
 
 /// The product of the first two arguments.
@@ -52,6 +59,15 @@ const MULTIPLY_INTS: [Inst; 3] = code! {
     mflo ANSWER;
     jr RETURN;
 };
+
+// The product.
+fn multiply() -> Block<3>
+    ensures { result ≡ map encoding multiply_code }
+{
+    block! {
+        code MULTIPLY_INTS;
+    }
+}
 
 /// The quotient is the answer.
 const GIVE_QUOTIENT: [Inst; 2] = code! {
