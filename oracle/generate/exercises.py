@@ -1,0 +1,55 @@
+"""Cases of the exercises' solutions for shell_cases, with what each command prints.
+
+usage: oracle/model write_exercises CASES STDOUT [PRINTED]   as write_examples
+
+The cases name the files of the solutions, as write_examples does those of the examples.
+"""
+import os
+
+from oracle.generate.examples import Folders, names_of
+from oracle.generate.writing import STEPS, TOP, BrokenRule, main_of, read
+
+EXERCISES = os.path.abspath(os.path.join(TOP, 'exercises'))
+NOTE = '''The solutions of the exercises, from copies of their files: data/exercises/NAME has those of exercises/NAME/solution. Written by
+bench/models/gen_exercises.py.
+
+At which turns lines are taken hangs on the physical machine alone: as in lines.cases those texts are the program's own, checked by that script. So are
+the texts of 7_service, whose user is compiled: of these the script checks all that the compiled code has no part in. All others are worked out apart.'''
+
+
+def expects(name, text):
+    """Whether the rows that the exercise expects come in a text, in their order; a text that isn't there yet is taken for one."""
+    rows = iter(text.split('\n'))
+    return text.startswith('(') or all(row in rows for row in read(EXERCISES, name, 'expected').split('\n') if row)
+
+
+class Exercises(Folders):
+    note = NOTE
+
+    def booted(self, name, text):
+        """A boot, whose text has what the exercise expects."""
+        if not expects(name, text):
+            raise BrokenRule('the solution of %s does not print what is expected' % name)
+        self.run('boot img s 100000 %d' % STEPS, text)
+
+    def exercise(self, name):
+        case, folder = 'the exercise ' + name, os.path.join(EXERCISES, name, 'solution')
+        kernel, users, par, schedule = self.begin_system(case, folder, 'exercises/' + name, names_of(folder, 's'), 64)
+        self.booted(name, self.modeled(case, kernel, users, par, schedule))
+
+    def program_exercise(self, name):
+        """A solution with users in C0: a boot, and what each user saw."""
+        case, folder = 'the exercise ' + name, os.path.join(EXERCISES, name, 'solution')
+        kernel, users, par, _ = self.begin_system(case, folder, 'exercises/' + name, names_of(folder, 'c0'), 128)
+        self.booted(name, self.own_boot(case, kernel, users, par))
+        for u in range(1, len(users) + 1):
+            self.run('trace img s 100000 %d %d' % (STEPS, u), self.own_trace(case, kernel, users, par, u))
+
+    def write(self):
+        for name in sorted(os.listdir(EXERCISES)):
+            if os.path.isdir(os.path.join(EXERCISES, name)):
+                (self.exercise if names_of(os.path.join(EXERCISES, name, 'solution'), 's') else self.program_exercise)(name)
+
+
+def main(words):
+    return main_of(Exercises, words)
