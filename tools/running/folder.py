@@ -18,10 +18,16 @@ class Folder:
         self.path = path
         self.kernel, self.params, self.schedule = (os.path.join(path, name) for name in ('kernel.c0', 'params', 'schedule'))
         self.users = [os.path.join(path, name) for name in user_names(path)]
+        self.check_files()
+
+    def check_files(self):
+        """Looks whether each file is there and can be read to its end, as a pipe that nobody writes to can't."""
         for name in [self.kernel, self.params, self.schedule, *self.users]:
             fault = files.get_fault(name)
             if fault:
-                raise BadFolder(fault + hint(path, name))
+                raise BadFolder(fault + hint(os.path.dirname(name), name))
+            if not os.path.isfile(name):
+                raise BadFolder("'%s' is a pipe or a device, and is to be a file" % name)
         programs = [name for name in self.users if name.endswith('.c0')]
         if programs and not has_programs():
             raise BadFolder("'%s' is a user in C0, and this version has no command 'compile program'" % programs[0])
@@ -34,7 +40,7 @@ def has_programs():
 
 def hint(path, name):
     """What may have been meant where a file of a folder is missing."""
-    if os.path.lexists(name):
+    if os.path.lexists(name) or not os.path.isdir(path):
         return ''
     asked = os.path.basename(name)
     others = [other for other in sorted(os.listdir(path)) if other.lower().startswith(asked[:4].lower()) and not USER.fullmatch(other)]

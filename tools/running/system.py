@@ -12,6 +12,7 @@ class Run:
 
     def __init__(self, start, folder, work, put, say):
         self.start, self.folder, self.work, self.put, self.say = start, folder, work, put, say
+        self.schedule = folder.schedule
         self.names = {os.path.abspath(name): name for name in [folder.kernel, folder.params, folder.schedule, *folder.users]}
         self.names[self.made('system.img')] = 'the image of ' + folder.path
         self.names[self.made('kernel.obj')] = 'the object of ' + folder.kernel
@@ -54,9 +55,12 @@ class Run:
         commands.append(['link', self.made('kernel.obj'), self.given(self.folder.params), self.made('system.img'), *images])
         return next((status for status in map(self.command, commands) if status), 0)
 
+    def boot_words(self, turns, steps):
+        return ['boot', self.made('system.img'), self.given(self.schedule), str(turns), str(steps)]
+
     def boot(self, turns, steps):
-        return self.command(['boot', self.made('system.img'), self.given(self.folder.schedule), str(turns), str(steps)], 'boot')
+        return self.command(self.boot_words(turns, steps), 'boot')
 
     def trace(self, turns, steps, user):
-        words = ['trace', self.made('system.img'), self.given(self.folder.schedule), str(turns), str(steps), str(user)]
+        words = ['trace', self.made('system.img'), self.given(self.schedule), str(turns), str(steps), str(user)]
         return self.command(words, 'trace%d' % user)

@@ -3,7 +3,7 @@ import os
 import tempfile
 
 from explain import files, pages, status as explaining, words as command_words
-from running import expected, kept, program, proved, system
+from running import expected, extras, kept, program, proved, sharing, system
 from running.folder import BadFolder, Folder
 from running.guard import Bad, say
 
@@ -12,10 +12,10 @@ HELP = '''./try FOLDER..        compiles, links and boots the system of each fol
   --turns N           so many turns at most, in place of 100000
   --steps N           so many steps of the machine at most, in place of 1000000 (a quarter of a minute), and of 100000000 with --proved
   --picture FILE      draws the run, too, as an SVG
-  --expect FILE       prints of each folder only whether the rows of this file come in what it prints, in this order; what is no folder doesn't pass
+%s
   --proved            by the proved program, which ./cvm builds
 ./try COMMAND WORD..  one command of the program, as ./cvm COMMAND WORD..
-./try --keep          builds the program and runs nothing. Each ./try keeps its build until a source changes; ./try --anew FOLDER.. builds again'''
+./try --keep          builds the program and runs nothing. Each ./try keeps its build until a source changes; ./try --anew FOLDER.. builds again''' % extras.HELP
 
 
 class Options:
@@ -23,7 +23,8 @@ class Options:
 
     def __init__(self):
         self.folders, self.turns, self.given_steps = [], 100000, None
-        self.trace, self.picture, self.expect, self.proved = None, None, None, False
+        self.trace, self.picture, self.proved = None, None, False
+        self.extras = extras.Extras()
 
     @property
     def steps(self):
@@ -46,12 +47,13 @@ def options_of(words):
     taken = {'--trace': lambda word: setattr(options, 'trace', number_of(word, '--trace', 1, 64)),
              '--turns': lambda word: setattr(options, 'turns', number_of(word, '--turns', 1, 2**32 - 1)),
              '--steps': lambda word: setattr(options, 'given_steps', number_of(word, '--steps', 0, 2**64 - 1)),
-             '--picture': lambda word: setattr(options, 'picture', word),
-             '--expect': lambda word: setattr(options, 'expect', word)}
+             '--picture': lambda word: setattr(options, 'picture', word), **options.extras.taken()}
     while left:
         word = left.pop(0)
         if word == '--proved':
             options.proved = True
+        elif word in extras.FLAGS:
+            options.extras.set_flag(word)
         elif word in taken:
             if not left:
                 raise Bad('behind %s a word is missing' % word)
@@ -61,7 +63,7 @@ def options_of(words):
         elif word == '--keep':
             raise Bad("'--keep' stands alone: ./try --keep builds the program and runs nothing. Each ./try FOLDER keeps its build by itself")
         elif word.startswith('--'):
-            near = command_words.nearest(word, [*taken, '--proved', '--keep', '--anew'])
+            near = command_words.nearest(word, [*taken, *extras.FLAGS, '--proved', '--keep', '--anew'])
             raise Bad("'%s' is no option%s ./try --help lists them" % (word, ": did you mean '%s'?" % near if near else ';'))
         else:
             options.folders.append(word)
@@ -72,41 +74,44 @@ def checked(options):
     """The folders, each with its files, before the toolchain starts."""
     if not options.folders:
         raise Bad('no folder is given; ./try --help says what can be')
-    if len(options.folders) > 1 and (options.picture or options.trace):
+    drawn, graded = options.picture is not None, options.extras.expect is not None
+    if len(options.folders) > 1 and (drawn or options.trace):
         raise Bad('--trace and --picture are for one folder')
-    if options.picture and (options.trace or options.expect):
+    if drawn and (options.trace or graded):
         raise Bad('--picture goes with the boot alone: leave out --trace and --expect')
-    fault = options.picture and files.put_fault(options.picture)
-    fault = fault or (options.expect and files.get_fault(options.expect))
+    fault = drawn and files.put_fault(options.picture)
     if fault:
         raise Bad(fault)
+    options.extras.check(options)
     found = []
     for path in options.folders:
         try:
             if not os.path.isdir(path):
                 raise BadFolder(files.get_fault(path) or "'%s' is no folder" % path)
-            found.append(Folder(path))
+            found.append(options.extras.folder(path))
         except BadFolder as bad:
             if len(options.folders) == 1:
                 raise Bad(str(bad)) from None
             found.append(str(bad))
     for folder in found:
-        if options.trace and options.trace > len(folder.users):
+        if options.trace and not isinstance(folder, str) and options.trace > len(folder.users):
             raise Bad('--trace %d: %s has %d users' % (options.trace, folder.path, len(folder.users)))
     return found
 
 
 def run_folder(start, folder, options, put, say_of):
     """Runs one folder. Gives the status of the command that ended it."""
+    clock_start = options.extras.begin()
     with tempfile.TemporaryDirectory(prefix='cvm-try-') as work:
-        run = system.Run(start, folder, os.path.realpath(work), put, say_of)
+        run = system.Run(start, folder, os.path.realpath(work), options.extras.put(put), say_of)
         status = run.build()
         if status:
             return status
+        options.extras.prepare(run, options, say_of)
         if options.trace:
             return run.trace(options.turns, options.steps, options.trace)
-        status = run.boot(options.turns, options.steps)
-        if options.picture and status in (0, 3, 4):
+        status = options.extras.boot(run, options, clock_start)
+        if options.picture is not None and status in (0, 3, 4):
             draw(run, folder, options)
         return status
 
@@ -132,11 +137,13 @@ def start_of(options):
         return kept.program(say)
     except kept.NoBuild as why:
         raise Bad(str(why), 70) from None
+    finally:
+        sharing.open_to_readers(kept.KEPT)
 
 
 def run_one(start, folder, options):
     """Runs one folder, whose text goes to standard output."""
-    if not options.expect:
+    if options.extras.expect is None:
         return run_folder(start, folder, options, program.put, say)
     return run_expected(start, folder, options)
 
@@ -145,8 +152,8 @@ def run_expected(start, folder, options):
     """Runs one folder, and says in one line whether it prints what is expected. Gives 0 where it does, and 1 where not."""
     text, said = [], []
     status = run_folder(start, folder, options, text.append, said.extend)
-    answer = expected.answer(files.content(options.expect), b''.join(text), status, said)
-    program.put_line('%s: %s' % (folder.path, answer or 'as expected'))
+    answer = options.extras.answer(b''.join(text), status, said)
+    program.put_line('%s: %s' % (expected.one_line(folder.path), answer or 'as expected'))
     return 1 if answer else 0
 
 
@@ -157,8 +164,8 @@ def run_many(start, folders, options):
         if isinstance(folder, str):
             worst = 1
             say('try: ' + folder)
-            program.put_line('%s: %s' % (path, folder) if options.expect else '== %s\nstatus 64' % path)
-        elif options.expect:
+            program.put_line(expected.one_line('%s: %s' % (path, folder)) if options.extras.expect is not None else '== %s\nstatus 64' % path)
+        elif options.extras.expect is not None:
             worst = run_expected(start, folder, options) or worst
         else:
             program.put_line('== ' + path)
