@@ -14,7 +14,7 @@ from running.folder import Folder  # noqa: E402
 
 # Systems with what makes turns long: lines and waits, pages that come from the disk and are shared, a program in C0.
 SYSTEMS = ('exercises/2_round_robin/solution', 'examples/sharing', 'examples/services')
-TURNS, STEPS, SAVES = 100000, 1000000, 4
+TURNS, STEPS, SAVES = 100000, 1000000, 2
 
 
 def saved_steps(run, start, turns):
