@@ -1,9 +1,8 @@
 """Habits from C that a source of C0 is refused for, each by the sentence that names it."""
 import re
 
-from explain import places
-
-TOKEN = re.compile(rb'//[^\n]*|/\*|[A-Za-z_]\w*|\d+|->|==|!=|<=|>=|&&|\|\||"[^"\n]*"?|[^\s]')
+from explain import c_names, c_shapes, c_wrong_types, places
+from explain.c_tokens import tokens
 
 # What a word of C stands for that C0 has not, by the word.
 FOREIGN = {
@@ -57,15 +56,6 @@ OF_PROGRAMS = {
 PRIMITIVES = ('vm_get', 'vm_set', 'vm_size', 'vm_resize', 'vm_word', 'vm_put', 'vm_copy', 'con_put', 'con_get', 'con_left')
 TYPES = ('int', 'bool', 'struct')
 RESERVED = TYPES + ('if', 'else', 'while', 'return', 'new', 'true', 'false', 'null', 'asm')
-
-
-def tokens(data):
-    """The tokens of a source as pairs of a place and a text; comments are none."""
-    found = []
-    for match in TOKEN.finditer(data):
-        if not match.group().startswith(b'//'):
-            found.append((match.start(), match.group().decode('utf-8', errors='replace')))
-    return found
 
 
 class Before:
@@ -246,7 +236,7 @@ def unexpected(data, at, is_program):
     called = near.back[0]
     if near.here[0] == '(' and not word and is_name(called) and not declares(data, called):
         word = primitive(called, is_program)
-    return word or missing(near, part) or declaration(near, part) or right_side(near, part) or statement(near, part)
+    return word or c_shapes.sentence(data, at, is_program) or missing(near, part) or declaration(near, part) or right_side(near, part) or statement(near, part)
 
 
 def bad_byte(data, at, is_program):
@@ -264,21 +254,7 @@ def bad_byte(data, at, is_program):
 def unknown(data, start, end, is_program):
     """The habit behind a name that nothing has (20)."""
     name = re.split(r'\W', data[start:end].decode('utf-8', errors='replace'))[0]
-    return foreign(name, is_program) or primitive(name, is_program)
-
-
-def wrong_type(data, start, end):
-    """The habit behind a wrong type (22)."""
-    near = Before(data, start)
-    part = near.statement()
-    text = data[start:end].decode('utf-8', errors='replace')
-    if near.back[0] == '(' and near.back[1] in ('if', 'while'):
-        return "a condition is a bool: '%s != 0' where an int is meant" % text
-    if text.startswith('!'):
-        return "'!' takes a bool: 'x == 0' where an int is meant"
-    if '=' in part and (text in ('true', 'false') or (text.isdigit() and part[-1] == '=')):
-        return "an int takes a number and a bool 'true' or 'false': neither becomes the other by itself"
-    return None
+    return foreign(name, is_program) or primitive(name, is_program) or c_names.nearest_of(data, start, end, is_program)
 
 
 def number(data, at):
@@ -300,7 +276,7 @@ def habit(key, data, start, end, is_program=False):
     if key == 20:
         return unknown(data, start, end, is_program)
     if key == 22:
-        return wrong_type(data, start, end)
+        return c_wrong_types.sentence(data, start, end, is_program)
     if key == 25:
         return "no pointer points to a local in C0: make it a global, or an object by 'new'"
     return None

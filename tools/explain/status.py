@@ -2,7 +2,7 @@
 import os
 import re
 
-from explain import asm_habits, c_habits, files, pages, places, steps, words
+from explain import asm_habits, c_habits, files, heads, pages, places, row_habits, steps, words
 
 # The number of docs/REFUSALS.md that says what to do where a command finds no memory.
 MEMORY = {'compile user': '8', 'compile program': '38', 'compile': '15', 'link': '64', 'check': '64', 'migrate': '57', 'save': '108', 'resume': '108'}
@@ -71,7 +71,9 @@ def source_place(key, fields, name, data, is_program=False):
     end = fields[1] if key >= 20 and len(fields) > 1 else start + 1
     if data is None or start > len(data):
         return []
-    if key in (29, 31, 36) and start == 0:
+    if key in (31, 36) and start == 0:
+        return heads.of_main(name, data, 'main' if is_program else 'dispatch')
+    if key == 29 and start == 0:
         return ['%s: the whole source' % name]
     said = [places.shown(name, data, start, end)]
     if key == 32 and len(fields) > 2:
@@ -94,10 +96,15 @@ def text_place(key, fields, name, data):
     return [places.shown_line(name, data, fields[0])] + (['cvm: ' + found + '.'] if found else [])
 
 
-def row_habit(data, number):
+def row_habit(data, number, is_schedule):
     """What a row of parameters or of a schedule has that it may not have."""
     start, end = places.span_of_line(data, number)
     line = data[start:end]
+    row = places.readable(line)
+    rows = places.readable(data.replace(b'\n', b'\t')).split('\t')
+    shape = row_habits.of_schedule(row) if is_schedule else row_habits.of_params(row, number, rows)
+    if shape:
+        return shape
     if line.endswith(b'\r'):
         return "the line ends in CR LF, as Windows writes it, and is to end in LF alone: sed -i 's/\\r$//' FILE mends all lines"
     if b'\t' in line or b'  ' in line:
@@ -119,12 +126,12 @@ def row_habit(data, number):
     return None
 
 
-def row_place(name, number):
+def row_place(name, number, is_schedule):
     """The place of a line of parameters or of a schedule, and what is odd in it."""
     data = files.content(name)
     if data is None:
         return [], None
-    return data, row_habit(data, number)
+    return data, row_habit(data, number, is_schedule)
 
 
 def object_source(name):
@@ -157,9 +164,10 @@ def located(key, fields, command, way):
     if key == 66 and len(gets) > 1 and fields:
         return line_of(gets[1], fields[0], way)
     if 70 <= key <= 74 and len(gets) > 1 and fields:
-        return line_of(gets[1], fields[0], way)
+        return line_of(gets[1], fields[0], way, True)
     if key in (61, 65) and fields and len(gets) > fields[0] + 1:
-        return ['cvm: user %d is %s.' % (fields[0], way.shown(gets[fields[0] + 1]))] + given_text(gets[fields[0] + 1], key)
+        room = line_of(gets[1], 1, way) + pages_for(fields[1]) if key == 61 and len(fields) > 1 else []
+        return room + ['cvm: user %d is %s.' % (fields[0], way.shown(gets[fields[0] + 1]))] + given_text(gets[fields[0] + 1], key)
     if key == 62 and len(gets) > 1 and fields:
         return line_of(gets[1], fields[0], way)
     if key in (40, 50) and gets:
@@ -183,12 +191,20 @@ def saved_place(key, fields, name, way):
     return said
 
 
-def line_of(name, number, way):
+def line_of(name, number, way, is_schedule=False):
     """A line of parameters or of a schedule, with its mark, and what is odd in it."""
-    data, habit = row_place(name, number)
+    data, habit = row_place(name, number, is_schedule)
     if data == []:
         return []
     return [places.shown_line(way.shown(name), data, number)] + (['cvm: %s.' % habit] if habit else [])
+
+
+def pages_for(words):
+    """How many pages a user of so many words needs."""
+    if words > 65536:
+        return ['cvm: it has {:,} words, and no user has more than 65,536.'.format(words)]
+    pages_of = (words + 1023) // 1024
+    return ["cvm: it has {:,} words, which take {} page{}: write 'pages {}', or more.".format(words, pages_of, '' if pages_of == 1 else 's', pages_of)]
 
 
 def given_text(name, key):
@@ -215,6 +231,9 @@ def refusal(numbers, command, way):
     key, fields = numbers[0], numbers[1:]
     said = located(key, fields, command, way)
     with_fields = ' with %s' % ' '.join(map(str, fields)) if fields else ''
+    if key == 12 and any(line.startswith('cvm: ') for line in said):
+        # the habit is named, and says more than what is said of any token
+        return said + ['cvm: refusal 12%s, unexpected.' % with_fields]
     return said + ['cvm: refusal %d%s, %s' % (key, with_fields, row_of(str(key)))]
 
 

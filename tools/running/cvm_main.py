@@ -1,5 +1,5 @@
 """./cvm: runs the proved program with the words given, in the current folder, and explains on standard error any status but 0, and the answer of a check."""
-from explain import pages, status as explaining, words as command_words
+from explain import given_texts, pages, status as explaining, words as command_words
 from running import program, proved
 from running.guard import say
 
@@ -20,6 +20,7 @@ def main(words):
         return bad_words(['cvm: compiles kernels and boots them. The commands are:', *forms(), 'docs/FORMATS.md says what each takes and prints.'])
     if not proved.is_current() and command_words.fault(words):
         return bad_words(explaining.explain(1, words, ['bad words']))
+    say(given_texts.said(words, './cvm'))
     status, rows = program.run_here([*proved.program(), *words])
     say(explaining.explain(status, words, rows))
     return status if status >= 0 else 128 - status

@@ -2,7 +2,7 @@
 import os
 import tempfile
 
-from explain import files, pages, status as explaining, words as command_words
+from explain import files, given_texts, pages, status as explaining, words as command_words
 from running import expected, extras, kept, program, proved, sharing, system
 from running.folder import BadFolder, Folder
 from running.guard import Bad, say
@@ -197,6 +197,7 @@ def run_command(words):
     if fault:
         say('try: a file could not be had: %s.' % fault)
         return 6
+    say(given_texts.said(words, './try'))
     status, rows = program.run_here([*start_of(Options()), *words])
     say(explaining.explain(status, words, rows, explaining.Way(words, './try')))
     return status if status >= 0 else 128 - status

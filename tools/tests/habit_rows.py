@@ -37,7 +37,7 @@ SOURCES = [
     ('@unsigned x;', 12, "no 'unsigned'"),
     ('int f() { char @c; return 0; }', 12, "no 'char'"),
     ('int f() { return @; }', 12, 'answers a value'),
-    ('struct s { int a; }; @s v;', 12, "'struct s'"),
+    ('struct s { int a; }; @s v;', 12, "'struct s v;'"),
     ('int x; int f(bool b) { x = (@int) b; return 0; }', 12, 'no casts'),
     ('int* p; int f() { p = (@int*) 5; return 0; }', 12, 'no casts'),
     ('int x; int f() { x = @trap(1); return 0; }', 20, "'trap' is a user program's"),
@@ -59,7 +59,7 @@ SOURCES = [
     ('int* p; int f() { p = @NULL; return 0; }', 20, "'null'"),
     ('int x; int f() { if (@x) { } return 0; }', 22, 'a condition is a bool'),
     ('int x; int f() { while (@1) { } return 0; }', 22, 'a condition is a bool'),
-    ('bool b; int f() { b = @1; return 0; }', 22, "'true' or 'false'"),
+    ('bool b; int f() { b = @1; return 0; }', 22, "write 'b = true;'"),
     ('int* p; int f() { int x; p = &@x; return 0; }', 25, 'no pointer points to a local'),
 ]
 

@@ -26,19 +26,24 @@ class Course(unittest.TestCase):
     def test_each_exercise_is_whole(self):
         self.assertEqual(len(NAMES), 8)
         for name in NAMES:
-            self.assertEqual(sorted(os.listdir(path(name))), ['README.md', 'expected', 'solution', 'start'])
+            self.assertEqual(sorted(os.listdir(path(name))), ['README.md', 'expected', 'solution', 'start', 'wrong'])
             self.assertEqual(sorted(os.listdir(path(name, 'start'))), sorted(os.listdir(path(name, 'solution'))))
             self.assertNotEqual(text(path(name, 'start', 'kernel.c0')), text(path(name, 'solution', 'kernel.c0')))
+            wrong = os.listdir(path(name, 'wrong'))
+            self.assertEqual((len(wrong), {'constant', 'one_more', 'one_less', 'by_chance'} <= set(wrong)), (5, True), name)
+            for folder in wrong:
+                self.assertTrue({'kernel.c0'} <= set(os.listdir(path(name, 'wrong', folder))) <= set(os.listdir(path(name, 'start'))), folder)
 
     def test_each_page_shows_what_is_expected(self):
         for name in NAMES:
             page = text(path(name, 'README.md'))
-            block = page.partition('these in this order (`expected`):\n\n')[2].partition('\n\n')[0]
+            block = re.split(r'Of each of these kinds all rows are compared \(`expected`\)[^\n]*:\n\n', page)[1].partition('\n\n')[0]
             self.assertEqual([line[4:] for line in block.split('\n')], text(path(name, 'expected')).split('\n')[:-1], name)
             for part in ('## Task', './try exercises/%s/start' % name, './try MY_FOLDER --expect exercises/%s/expected' % name, '## Hints'):
                 self.assertIn(part, page)
 
     def test_the_model_agrees(self):
+        # in exercises with lines and in that with a program in C0 the turns are those of the machine and of the compiler
         tried = 0
         for name in NAMES:
             if text(path(name, 'start', 'schedule')) or not os.path.exists(path(name, 'start', 'user1.s')):

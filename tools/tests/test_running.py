@@ -8,7 +8,7 @@ import unittest
 from unittest import mock
 
 from explain import files, pages
-from running import expected, guard, program, try_main
+from running import guard, program, try_main
 from running.folder import BadFolder, Folder
 
 
@@ -48,12 +48,6 @@ class Rooms(unittest.TestCase):
     def test_two_files_of_one_user(self):
         self.put('kernel.c0', 'params', 'schedule', 'user1.s', 'user1.c0')
         self.assertIn('both user 1', self.why())
-
-    def test_expected_rows(self):
-        self.assertIsNone(expected.answer(b'a\nc\n', b'a\nb\nc\nd\n', 0, []))
-        self.assertIn("'c'", expected.answer(b'a\nc\n', b'c\na\n', 0, []))
-        self.assertEqual(expected.answer(b'a\n', b'refused 12 5\n', 2, ['k.c0:1:2\n  x', 'cvm: a call needs its answer taken.']), 'status 2, k.c0:1:2: a call needs its answer taken')
-        self.assertEqual(expected.answer(b'a\n', b'', 8, []), 'status 8, ')
 
 
 # Stands in for the program: a boot and a trace print what is stored beside the schedule.
@@ -102,7 +96,7 @@ class Folders(unittest.TestCase):
     def test_a_stray_file_among_folders_does_not_pass(self):
         wanted, one, two = self.expected(), self.handed_in(b'one', b'halted\n'), self.handed_in(b'two', b'stopped\n')
         status, out = self.tried(one, wanted, two, '--expect', wanted)
-        self.assertEqual((status, out.decode().split('\n')), (1, [one + ': as expected', "%s: '%s' is no folder" % (wanted, wanted), two + ": the row 'halted' is missing, or out of its order", '']))
+        self.assertEqual((status, out.decode().split('\n')), (1, [one + ': as expected', "%s: '%s' is no folder" % (wanted, wanted), two + ": the row of end: 'stopped' came in place of 'halted'", '']))
         self.assertEqual(self.tried(one, wanted), (1, ('== %s\nhalted\nstatus 0\n== %s\nstatus 64\n' % (one, wanted)).encode()))
         self.assertEqual(self.tried(wanted, one, '--expect', wanted)[0], 1)
         self.assertEqual(self.tried(one, one, '--expect', wanted)[0], 0)

@@ -1,0 +1,40 @@
+"""What a row of parameters or of a schedule has that it may not have, beyond signs and blanks: words out of their order, letters, rows that were swapped."""
+import re
+
+ORDER = ('pages', 'frames', 'heap', 'stack')
+
+
+def of_params(row, number, rows):
+    """The sentence on a row of parameters by its number from 1; `rows` are all of them."""
+    if number > len(ORDER):
+        return 'there are four rows, and this is one more'
+    wanted = ORDER[number - 1]
+    match = re.fullmatch(r'(\w+)\s*[:=]?\s*(\S*)', row)
+    first = match.group(1).lower() if match else ''
+    if first in ORDER and first != wanted:
+        found = next((other for other in rows if other.split()[:1] == [wanted]), None)
+        return "the rows are in the order pages, frames, heap, stack: '%s' stands here%s" % (found or wanted + ' ' + wanted[0].upper(), '' if found else ', and is missing')
+    if first == wanted and re.fullmatch(r'\d+', match.group(2)) and row != '%s %s' % (wanted, match.group(2)) and not row.endswith(' '):
+        return "the row is '%s %d'" % (wanted, int(match.group(2)))
+    if re.fullmatch(r'\d+', row):
+        return "the row has its name before its number: '%s %s'" % (wanted, row)
+    return None
+
+
+def of_schedule(row):
+    """The sentence on a row of a schedule."""
+    words = row.split()
+    if words[:1] == ['input'] and len(words) == 2 and len(words[1].strip('\'"')) == 1 and not words[1].isdigit():
+        sign = words[1].strip('\'"')
+        return "the console takes numbers: 'input %d' is %s" % (ord(sign), sign)
+    if words[:1] == ['input'] and len(words) == 2 and not re.fullmatch(r'-?\d+', words[1]):
+        return "the console takes numbers, one a row: %s" % ', '.join("'input %d'" % ord(sign) for sign in words[1].strip('\'"')[:8])
+    if words[:1] == ['input'] and len(words) > 2:
+        return "each row has one word of input: %s" % ', '.join("'input %s'" % word for word in words[1:5])
+    if words[:1] == ['line'] and len(words) == 3 and words[1].isdigit() and words[2].isdigit() and int(words[1]) <= 7 < int(words[2]):
+        return "the step stands first, and then the line: 'line %s %s'" % (words[2], words[1])
+    if words[:1] == ['line'] and len(words) == 2:
+        return "a row has a step and a line: 'line %s 0'" % words[1]
+    if words[:1] in (['lines'], ['irq'], ['interrupt'], ['timer']):
+        return "the row of a line is 'line T J': at step T line J is raised"
+    return None
