@@ -1,8 +1,9 @@
 // The code that calls the block.
 
 use layer_map::Map;
-use masm::Block;
-use mips_table::Inst;
+use masm::registers::SCRATCH;
+use masm::roles::{self, FOR_STORE, ZERO};
+use masm::{Block, block};
 use page_fault::handle_page;
 
 /// The word of the page that is asked for.
@@ -22,37 +23,13 @@ pub const LAST: u32 = 712;
 
 /// Code for address 0, which waits until it may begin, runs the block and waits again.
 pub fn driver(map: &Map) -> Block<200> {
-    let mut driver = Block::<200>::new();
-    driver.push(Inst::Lw {
-        rt: 1,
-        rs: 0,
-        imm: 4 * BEGIN,
-    });
-    driver.push(Inst::Beq {
-        rs: 1,
-        rt: 0,
-        imm: 65534,
-    });
-    driver.push(Inst::Sw {
-        rt: 0,
-        rs: 0,
-        imm: 4 * BEGIN,
-    });
-    driver.push(Inst::Lw {
-        rt: 16,
-        rs: 0,
-        imm: 4 * PAGE,
-    });
-    driver.push(Inst::Lw {
-        rt: 15,
-        rs: 0,
-        imm: 4 * STORE,
-    });
-    driver.then(&handle_page(map));
-    driver.push(Inst::Beq {
-        rs: 0,
-        rt: 0,
-        imm: 65357,
-    });
-    driver
+    block! {
+        lw SCRATCH, (4 * BEGIN)(ZERO);
+        beq SCRATCH, ZERO, -2;                  // back to the line above
+        sw ZERO, (4 * BEGIN)(ZERO);
+        lw roles::PAGE, (4 * PAGE)(ZERO);
+        lw FOR_STORE, (4 * STORE)(ZERO);
+        then handle_page(map);
+        beq ZERO, ZERO, -179;                   // back to the first
+    }
 }

@@ -4,12 +4,12 @@ use c0_asm_body::emit_asm;
 use c0_runtime::emit_runtime;
 use c0_runtime::runtime::{DIVIDE, MULTIPLY, REMAINDER, RUNTIME_WORDS};
 use c0_tree::{AsmText, Span};
-use masm::Block;
 use masm::copying::copy_words;
-use masm::registers::{ANSWER, ARGUMENTS, Places, RETURN};
+use masm::registers::{ANSWER, ARGUMENTS, Places, RETURN, SCRATCH};
+use masm::roles::{T0, T1, ZERO};
 use masm::waiting::wait_for_disk;
+use masm::{Block, block};
 use mips_step::{Cpu, Flat, step};
-use mips_table::Inst;
 use std::alloc::{AllocError, Global};
 use std::fmt::Write;
 
@@ -22,43 +22,27 @@ fn put_words(out: &mut String, name: &str, words: &[u32]) -> Result<(), AllocErr
     Ok(())
 }
 
-// Register 2 becomes 1 and the routine returns where register 8 isn't 0; else register 2 becomes 0.
+// ANSWER becomes 1 and the routine returns where T0 isn't 0; else ANSWER becomes 0.
 fn condition() -> Block<4> {
-    let mut body = Block::<2>::new();
-    body.push(Inst::Addiu {
-        rt: 2,
-        rs: 0,
-        imm: 1,
-    });
-    body.push(Inst::Jr { rs: 31 });
-    let mut rest = Block::<1>::new();
-    rest.push(Inst::Addu {
-        rd: 2,
-        rs: 0,
-        rt: 0,
-    });
-    let mut code = Block::<4>::new();
-    code.when(8, &body);
-    code.then(&rest);
-    code
+    block! {
+        when T0 {
+            addiu ANSWER, ZERO, 1;
+            jr RETURN;
+        }
+        addu ANSWER, ZERO, ZERO;
+    }
 }
 
-// Register 8 is raised to register 9.
+// T0 is raised to T1.
 fn count() -> Block<4> {
-    let mut test = Block::<1>::new();
-    test.push(Inst::Sltu {
-        rd: 1,
-        rs: 8,
-        rt: 9,
-    });
-    let mut body = Block::<1>::new();
-    body.push(Inst::Addiu {
-        rt: 8,
-        rs: 8,
-        imm: 1,
-    });
+    let test: Block<1> = block! {
+        sltu SCRATCH, T0, T1;
+    };
+    let body: Block<1> = block! {
+        addiu T0, T0, 1;
+    };
     let mut code = Block::<4>::new();
-    code.loop_while(&test, 1, &body);
+    code.loop_while(&test, SCRATCH, &body);
     code
 }
 

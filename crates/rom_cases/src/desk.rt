@@ -2,8 +2,9 @@
 ghost use Rattle.std.specs.Prelude.{◌≡◌, ◌<◌, ◌≤◌, length};
 
 use cvm_outside::{DiskFault, MemSectors, Sectors};
+use masm::instruction;
 use mips_machine::{Event, Machine};
-use mips_table::{Inst, encode};
+use mips_table::encode;
 use schedule_file::Schedule;
 use std::alloc::{AllocError, Global};
 use std::marker::Model;
@@ -92,7 +93,7 @@ impl Desk {
     // Puts the words of the ROM, and a jump to them.
     fn put_rom(&mut self, rom: &[u32]) {
         let mut at = self.rom_at();
-        self.set(0, encode(&Inst::J { index: at }));
+        self.set(0, encode(&instruction!(j at)));
         for word in rom {
             self.set(at, *word);
             at = at.wrapping_add(1);
