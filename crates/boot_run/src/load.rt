@@ -15,8 +15,9 @@ use boot_turns::View;
 use boot_turns::tracer::Tracer;
 use layer_contract::Boot;
 use layer_map::Map;
+use masm::instruction;
 use mips_machine::Machine;
-use mips_table::{Inst, encode};
+use mips_table::encode;
 use schedule_file::Schedule;
 use std::alloc::{AllocError, Global};
 
@@ -118,9 +119,7 @@ pub(crate) fn rom_machine(
     ensures { IfOk result (λ m. m ≡ with_rom (memory_frames map.now) rom.now schedule) }
 {
     let frames = map.memory_frames();
-    let jump = encode(&Inst::J {
-        index: 1024 * frames,
-    });
+    let jump = encode(&instruction!(j 1024 * frames));
     let mut machine = Machine::new(alloc, frames + 1, schedule)?;
     put_words(&mut machine, 0, &[jump]);
     put_words(&mut machine, 1024 * frames, rom);

@@ -14,7 +14,9 @@ use cvm_primitives::{
     con_get, con_left, con_put, vm_copy, vm_get, vm_put, vm_resize, vm_set, vm_size, vm_word,
 };
 use layer_map::Map;
-use mips_table::{Inst, encode};
+use masm::instruction;
+use masm::registers::RETURN;
+use mips_table::encode;
 use std::alloc::{AllocError, Global};
 use trap_entry::{act_on_answer, exit_with};
 
@@ -31,9 +33,8 @@ impl Routines {
         ensures { (is : List Instruction) → words.now ≡ each encoding is → OnOk result (Lays self.old self.new (is ∷ [])) }
     {
         let word = 2063 + self.words.len();
-        self.entries.push(encode(&Inst::J {
-            index: (word % 0x400_0000) as u32,
-        }))?;
+        let index = (word % 0x400_0000) as u32;
+        self.entries.push(encode(&instruction!(j index)))?;
         self.words.extend_from_slice(words)
     }
 
@@ -42,7 +43,7 @@ impl Routines {
         ensures { (is : List Instruction) → words.now ≡ each encoding is → OnOk result (Lays self.old self.new (returning is ∷ [])) }
     {
         self.put(words)?;
-        self.words.push(encode(&Inst::Jr { rs: 31 }))?;
+        self.words.push(encode(&instruction!(jr RETURN)))?;
         Ok(())
     }
 
