@@ -61,7 +61,9 @@ class Drawing:
     """A picture of a boot, with the traces that there are."""
 
     def __init__(self, boot, traces, title, turns):
-        self.boot, self.traces, self.title = boot, {trace.user: trace for trace in traces}, title
+        self.boot, self.traces = boot, {trace.user: trace for trace in traces}
+        # signs that no XML can have
+        self.title = re.sub('[\x00-\x1f\x7f-\x9f\ud800-\udfff\ufffe\uffff]', '\u00b7', title)
         self.last = times.end_of(boot, turns, traces)
         self.parts = times.stretches(boot, self.last)
         self.scale = WIDTH / (self.last + 1)

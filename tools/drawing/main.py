@@ -1,5 +1,6 @@
 """tools/picture: draws stored output, `tools/picture BOOT.txt [TRACE..] [--turns N] > run.svg`."""
 import os
+import select
 
 from explain import files, words as command_words
 from drawing import draw, rows
@@ -29,11 +30,30 @@ def options_of(words):
     return names, turns, title
 
 
+def content(name):
+    """The bytes of a file or a pipe, of which there are no more than a text may have; a pipe that nobody writes to has none."""
+    number, parts, length = os.open(name, os.O_RDONLY | os.O_NONBLOCK), [], 0
+    try:
+        while length <= files.MOST:
+            select.select([number], [], [], 1)
+            try:
+                part = os.read(number, 1 << 20)
+            except BlockingIOError:
+                continue  # somebody writes to the pipe, and has not done so yet
+            if not part:
+                return b''.join(parts)
+            parts.append(part)
+            length += len(part)
+    finally:
+        os.close(number)
+    raise Bad("'%s' has more than 67,108,864 bytes, and no such text is drawn" % name)
+
+
 def read(name):
     fault = files.get_fault(name)
     if fault:
         raise Bad(fault)
-    return draw.read(name)
+    return content(name).decode('utf-8', errors='replace')
 
 
 def main(words):
@@ -47,6 +67,7 @@ def main(words):
             made.append(of(text))
         except rows.BadText as bad:
             raise Bad("'%s' can't be drawn: %s" % (name, bad)) from None
-    title = title or os.path.basename(os.path.dirname(os.path.abspath(names[0]))) + '/' + os.path.basename(names[0])
+    if title is None:
+        title = os.path.basename(os.path.dirname(os.path.abspath(names[0]))) + '/' + os.path.basename(names[0])
     program.put(draw.Drawing(made[0], made[1:], title, turns).draw().encode('utf-8', errors='replace'))
     return 0

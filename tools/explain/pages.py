@@ -58,3 +58,9 @@ def forms():
     """The forms of the commands, as lists of words, from docs/FORMATS.md: words in capitals stand for what is given."""
     section = page('FORMATS.md').partition('\n## Commands\n')[2].partition('\n## ')[0]
     return [line.split()[1:] for line in section.split('\n') if line.startswith('    cvm ')]
+
+
+def require(bad):
+    """Raises a fault where the pages from which the commands are read are not there."""
+    if not forms():
+        raise bad("the commands are read from '%s', which is missing or has no section 'Commands': git -C '%s' checkout docs brings it back" % (os.path.join(TOP, 'docs', 'FORMATS.md'), TOP), 70)

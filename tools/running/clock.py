@@ -10,7 +10,7 @@ import shutil
 import subprocess
 
 from explain import files, pages
-from running import kept, program, sharing
+from running import kept, program, rooms, sharing
 from running.guard import Bad
 
 TOP = pages.TOP
@@ -41,7 +41,7 @@ def lay_out(room):
 
 def build_into(rt, folder):
     """Builds the program by one run of the toolchain, and copies it into a folder while it waits for its schedule."""
-    with kept.made_room('cvm-clock-', None) as room:
+    with rooms.room('cvm-clock-') as room:
         lay_out(room)
         pipe, image, log = (os.path.join(room, name) for name in ('pipe', 'image', 'log'))
         os.mkfifo(pipe)

@@ -1,7 +1,7 @@
 """./cvm: runs the proved program with the words given, in the current folder, and explains on standard error any status but 0, and the answer of a check."""
 from explain import given_texts, pages, status as explaining, words as command_words
 from running import program, proved
-from running.guard import say
+from running.guard import Bad, say
 
 
 def forms():
@@ -16,6 +16,7 @@ def bad_words(lines):
 
 
 def main(words):
+    pages.require(Bad)
     if not words or words[0] in ('--help', '-h'):
         return bad_words(['cvm: compiles kernels and boots them. The commands are:', *forms(), 'docs/FORMATS.md says what each takes and prints.'])
     if not proved.is_current() and command_words.fault(words):

@@ -2,7 +2,7 @@
 import os
 
 from explain import files
-from running import clock, expected, mixed, only, timer
+from running import clock, clock_saves, expected, mixed, only, timer
 from running.folder import BadFolder, Folder, user_names
 from running.guard import Bad, say
 
@@ -88,9 +88,9 @@ class Extras:
         """What is not as expected of a run, in one line; None where all is."""
         return expected.answer(self.wanted, text, status, said, self.within)
 
-    def begin(self):
-        """Builds what these options need beside the program. The words that start it, or none."""
-        return clock.start(say) if self.clock else None
+    def begin(self, options):
+        """Builds what these options need beside the program. The words that start the clock's program where it tells the steps, or none."""
+        return clock.start(say) if self.clock and is_checked(options) else None
 
     def put(self, put):
         """Puts the chosen rows alone, where some are chosen."""
@@ -103,7 +103,7 @@ class Extras:
 
     def boot(self, run, options, clock_start):
         """Boots a run, with the steps beside its turns where these are wanted. Gives the status of the boot."""
-        if not clock_start:
+        if not self.clock:
             return run.boot(options.turns, options.steps)
         put, text = run.put, []
         run.put = text.append
@@ -113,6 +113,17 @@ class Extras:
             run.put = put
         whole = b''.join(text)
         if status in (0, 3, 4):
-            whole = clock.beside(whole, clock.told(clock_start, run, run.boot_words(options.turns, options.steps)))
+            whole = clock.beside(whole, self.told(run, options, clock_start, whole))
         put(whole)
         return status
+
+    def told(self, run, options, clock_start, text):
+        """The steps of a boot's turns: of the program that is built with checks by the clock's own program, of a fast one by machines that it saves."""
+        if clock_start:
+            return clock.told(clock_start, run, run.boot_words(options.turns, options.steps))
+        return clock_saves.told(run.start, run, options.turns, options.steps, text)
+
+
+def is_checked(options):
+    """Whether the program is the one that is built with checks, which is slow, and takes the toolchain."""
+    return getattr(options, 'checked', not options.proved)

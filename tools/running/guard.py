@@ -1,4 +1,5 @@
 """Ends a tool with a sentence and a status, whatever happens, and never with a trace of a stack."""
+import re
 import signal
 import sys
 
@@ -11,24 +12,41 @@ class Bad(Exception):
         self.status = status
 
 
+def pasted(line):
+    """A line that can be pasted: what stands in quotes and has bytes that aren't UTF-8 is written as a shell takes it, `$'caf\\xe9'`."""
+    byte = lambda match: '\\x%02x' % (ord(match[0]) - 0xdc00)
+    quoted = lambda match: '$' + re.sub('[\udc80-\udcff]', byte, match[0].replace('\\', '\\\\'))
+    line = re.sub("'[^']*[\udc80-\udcff][^']*'", quoted, line)
+    return re.sub('[\udc80-\udcff]', byte, line)
+
+
 def say(lines):
     """Puts lines to standard error, if it is there."""
     if sys.stderr is None:
         return
     try:
         for line in [lines] if isinstance(lines, str) else lines:
-            print(line, file=sys.stderr, flush=True)
+            print(pasted(line), file=sys.stderr, flush=True)
     except (OSError, ValueError):
         pass
 
 
 class Ended(BaseException):
-    """SIGTERM came. What is under way is put away on the way out, as it is where a user interrupts."""
+    """A signal came that ends this tool. What is under way is put away on the way out, as it is where a user interrupts."""
+
+    def __init__(self, number):
+        BaseException.__init__(self)
+        self.number = number
+
+
+# The signals that end a tool so; a hangup that the caller has this tool ignore is ignored.
+ENDING = (signal.SIGTERM, signal.SIGHUP)
 
 
 def end(number, frame):
-    signal.signal(signal.SIGTERM, signal.SIG_IGN)  # a second one doesn't cut off what is put away
-    raise Ended
+    for other in ENDING:
+        signal.signal(other, signal.SIG_IGN)  # a second one doesn't cut off what is put away
+    raise Ended(number)
 
 
 def guarded(name, main, words):
@@ -39,12 +57,14 @@ def guarded(name, main, words):
     if sys.stdout is None:
         say('%s: there is no standard output; nothing was done' % name)
         return 7
-    before = signal.getsignal(signal.SIGTERM)
+    before = {number: signal.getsignal(number) for number in ENDING}
     try:
-        signal.signal(signal.SIGTERM, end)
+        for number in ENDING:
+            if before[number] != signal.SIG_IGN:
+                signal.signal(number, end)
         return main(words)
-    except Ended:
-        return 128 + signal.SIGTERM
+    except Ended as ended:
+        return 128 + ended.number
     except Bad as bad:
         say('%s: %s' % (name, bad))
         return bad.status
@@ -57,4 +77,5 @@ def guarded(name, main, words):
         say('%s: this tool has a fault of its own (%s: %s)' % (name, type(error).__name__, error))
         return 70
     finally:
-        signal.signal(signal.SIGTERM, signal.SIG_DFL if before is None else before)
+        for number in ENDING:
+            signal.signal(number, signal.SIG_DFL if before[number] is None else before[number])

@@ -2,6 +2,7 @@
 import os
 import subprocess
 
+from running import parting
 from running.guard import Bad
 
 MOST_OF_A_ROW = 65536
@@ -52,12 +53,17 @@ def copied(source):
             return kept, True
 
 
+def told_status(status):
+    """The status of a program as a shell tells it: 128 and the signal's number of one that a signal ended."""
+    return 128 - status if status < 0 else status
+
+
 def run_here(command):
-    """Runs a command and copies its standard output to this process's. Gives its status and the last rows.
+    """Runs a command and copies its standard output to this process's. Gives its status and the last rows. It ends with this process.
 
     Where the copy can't be written, the status is 7, as the program's own is then.
     """
-    program = subprocess.Popen(command, stdin=subprocess.DEVNULL, stdout=subprocess.PIPE)
+    program = subprocess.Popen(command, stdin=subprocess.DEVNULL, stdout=subprocess.PIPE, preexec_fn=parting.with_caller())
     try:
         kept, failed = copied(program.stdout)
         program.stdout.close()
@@ -65,13 +71,13 @@ def run_here(command):
     except BaseException:  # this tool was stopped, and so is the program
         program.kill()
         raise
-    return (7 if failed else status), last_rows(kept)
+    return (7 if failed else told_status(status)), last_rows(kept)
 
 
 def run_to(command, path, folder=None):
-    """Runs a command in a folder; its standard output goes to a file. Gives its status and the last rows."""
+    """Runs a command in a folder; its standard output goes to a file. Gives its status and the last rows. It ends with this process."""
     with open(path, 'wb') as out:
-        status = subprocess.run(command, cwd=folder, stdin=subprocess.DEVNULL, stdout=out).returncode
+        status = told_status(subprocess.run(command, cwd=folder, stdin=subprocess.DEVNULL, stdout=out, preexec_fn=parting.with_caller()).returncode)
     with open(path, 'rb') as out:
         out.seek(0, os.SEEK_END)
         out.seek(max(0, out.tell() - MOST_OF_A_ROW))

@@ -1,9 +1,8 @@
 """./try: a command, or whole systems from their sources, by the program as the sources are, with no proof."""
 import os
-import tempfile
 
 from explain import files, given_texts, pages, status as explaining, words as command_words
-from running import expected, extras, kept, program, proved, sharing, system
+from running import expected, extras, kept, program, proved, rooms, sharing, system
 from running.folder import BadFolder, Folder
 from running.guard import Bad, say
 
@@ -101,9 +100,9 @@ def checked(options):
 
 def run_folder(start, folder, options, put, say_of):
     """Runs one folder. Gives the status of the command that ended it."""
-    clock_start = options.extras.begin()
-    with tempfile.TemporaryDirectory(prefix='cvm-try-') as work:
-        run = system.Run(start, folder, os.path.realpath(work), options.extras.put(put), say_of)
+    clock_start = options.extras.begin(options)
+    with rooms.room('cvm-try-') as work:
+        run = system.Run(start, folder, work, options.extras.put(put), say_of)
         status = run.build()
         if status:
             return status
@@ -137,6 +136,8 @@ def start_of(options):
         return kept.program(say)
     except kept.NoBuild as why:
         raise Bad(str(why), 70) from None
+    except UnicodeDecodeError:
+        raise Bad("'%s' is not UTF-8, and has to be: git -C '%s' checkout crates.txt brings it back" % (os.path.join(pages.TOP, 'crates.txt'), pages.TOP), 70) from None
     finally:
         sharing.open_to_readers(kept.KEPT)
 
@@ -175,16 +176,18 @@ def run_many(start, folders, options):
     return worst
 
 
-def run_folders(words):
+def run_folders(words, before):
+    """Runs folders; what is to be done before the program is looked for is done once all words are read."""
     options = options_of(words)
     folders = checked(options)
+    before()
     # where no folder is one, nothing is built
     start = start_of(options) if any(isinstance(folder, Folder) for folder in folders) else []
     return run_one(start, folders[0], options) if len(folders) == 1 else run_many(start, folders, options)
 
 
-def run_command(words):
-    """Runs one command. What is wrong with its words and files is said before the toolchain starts, as the program would."""
+def run_command(words, before):
+    """Runs one command; what is to be done before the program is looked for is done once all words are read. What is wrong with its words and files is said before the toolchain starts, as the program would."""
     if command_words.fault(words):
         program.put(b'bad words\n')
         say(explaining.explain(1, words, ['bad words'], explaining.Way(words, './try')))
@@ -197,6 +200,7 @@ def run_command(words):
     if fault:
         say('try: a file could not be had: %s.' % fault)
         return 6
+    before()
     say(given_texts.said(words, './try'))
     status, rows = program.run_here([*start_of(Options()), *words])
     say(explaining.explain(status, words, rows, explaining.Way(words, './try')))
@@ -204,22 +208,23 @@ def run_command(words):
 
 
 def main(words):
+    pages.require(Bad)
     if not words or words[0] in ('--help', '-h'):
         say(['try: runs the sources as they are, with no proof.', HELP, 'The commands are:'] + ['  ./try ' + ' '.join(form) for form in pages.forms()])
         return 0 if words else 64
-    words = list(words)
+    words, before = list(words), lambda: None
     if words[0] == '--anew':
-        kept.forget()
-        words = words[1:]
-    if words[:1] == ['--keep']:
-        words = words[1:]
+        before, words = kept.forget, words[1:]
+    if words[:1] == ['--keep'] and len(words) == 1:
+        words = []
     if not words:
+        before()
         start_of(Options())
         return 0
     heads = [command_words.literal(form)[0] for form in pages.forms()]
     if words[0] in heads:
-        return run_command(words)
+        return run_command(words, before)
     if not words[0].startswith('--') and not os.path.lexists(words[0]) and not os.path.sep in words[0]:
         near = command_words.nearest(words[0], heads)
         raise Bad("'%s' is neither a folder nor a command%s ./try --help lists the commands" % (words[0], ": did you mean '%s'?" % near if near else ';'))
-    return run_folders(words)
+    return run_folders(words, before)
