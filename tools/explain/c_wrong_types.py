@@ -139,10 +139,6 @@ class Place:
         return None, 0
 
 
-def declaration_of(name, kind):
-    return "'%s %s;'" % (kind, name)
-
-
 def of_assignment(place, node, text):
     """A right side of another type than the left one."""
     left, kind = place.left()
@@ -175,9 +171,9 @@ def of_argument(place, node, text):
         return None
     kind = kinds[number]
     function = place.source.functions.get(name)
-    called = " '%s'" % function.parameters[number][1] if function and number < len(function.parameters) else ''
+    called = ", '%s'," % function.parameters[number][1] if function and number < len(function.parameters) else ''
     more = ": write '%s'" % as_bool(node) if kind == 'bool' and node.how == 'number' else ": write '%d'" % (node.text == 'true') if kind == 'int' and node.how == 'truth' else ''
-    return "argument %d of '%s',%s is %s, and '%s' is %s%s" % (number + 1, name, called, named(kind), text, named(node.kind) if node.kind != 'null' else 'a pointer', more)
+    return "argument %d of '%s'%s is %s, and '%s' is %s%s" % (number + 1, name, called, named(kind), text, named(node.kind) if node.kind != 'null' else 'a pointer', more)
 
 
 def of_call(source, place, data, start, end):

@@ -8,7 +8,7 @@ sys.path.insert(0, os.path.dirname(os.path.dirname(os.path.abspath(__file__))))
 from explain import pages, status as explaining  # noqa: E402
 from running import kept, program  # noqa: E402
 from running.guard import say  # noqa: E402
-from tests import habit_rows  # noqa: E402
+from tests import followed_rows, habit_rows  # noqa: E402
 
 
 def cases():
@@ -22,6 +22,13 @@ def cases():
         yield 'kernel', (source.replace('@', '', 1) + habit_rows.DISPATCH).encode(), [32, source.index('@')], part
     for text, key, part in habit_rows.TEXTS:
         yield 'user', (text.replace('@', '', 1) + '\n').encode(), [key, text[:text.index('@')].count('\n') + 1], part
+
+
+def followed():
+    """Each row of followed_rows as a case, and as a source that has no fault."""
+    for source, key, part, after in followed_rows.ROWS:
+        at = len(source[:source.index('@')].encode())
+        yield (source.replace('@', '', 1).replace('~', '', 1) + habit_rows.DISPATCH).encode(), [key, at], part, (after + habit_rows.DISPATCH).encode()
 
 
 def page_programs():
@@ -58,11 +65,14 @@ def main():
     start = kept.program(say)
     with tempfile.TemporaryDirectory() as folder:
         wrong = [case for case in cases() if not is_so(start, folder, *case)]
+        wrong += [('kernel', data, numbers, part) for data, numbers, part, _ in followed() if not is_so(start, folder, 'kernel', data, numbers, part)]
+        wrong += [('kernel', source.encode(), [31], part) for source, part in followed_rows.HEADS if not is_so(start, folder, 'kernel', source.encode(), [31, 0], part)]
         refused = [data for kind, data in page_programs() if not is_taken(start, folder, kind, data)]
+        refused += [data for _, _, _, data in followed() if not is_taken(start, folder, 'kernel', data)]
     for kind, data, numbers, part in wrong:
         print('against_program: %s %r is to be refused with %s and %r' % (kind, data, numbers, part))
     for data in refused:
-        print('against_program: a page has this program, which is refused: %r' % data[:60])
+        print('against_program: a page or an advice has this program, which is refused: %r' % data[:90])
     return 1 if wrong or refused else 0
 
 
