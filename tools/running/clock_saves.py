@@ -44,6 +44,8 @@ class Saver:
         """The step at which the run ended, which is above a number of steps."""
         most = 1
         while not self.is_over(min(least + most, self.steps)):
+            if least + most >= self.steps:
+                raise Bad('the run does not come to its end again within %d steps, so no step is told' % self.steps, 70)
             most *= 2
         low, high = least + most // 2, min(least + most, self.steps)
         while low + 1 < high:

@@ -3,8 +3,9 @@ import os
 import stat
 import tempfile
 import unittest
+from unittest import mock
 
-from running import clock, guard, mixed, only, sharing, timer
+from running import clock, clock_saves, guard, mixed, only, sharing, timer
 from running.folder import BadFolder
 
 
@@ -59,6 +60,41 @@ class Clock(unittest.TestCase):
             with self.assertRaises(guard.Bad) as caught:
                 clock.beside(b'turn 0 cause 0 data 00000000 user 0 next 1\nhalted\n', told)
             self.assertEqual(caught.exception.status, 70)
+
+
+class Saver(clock_saves.Saver):
+    """One whose program has its turns complete at these steps, and is over at the last of them."""
+
+    def __init__(self, ends, steps):
+        self.ends, self.steps, self.asked = ends, steps, 0
+
+    def saved_at(self, turns):
+        return self.ends[turns - 1]
+
+    def is_over(self, steps):
+        self.asked += 1
+        return steps >= self.ends[-1]
+
+
+class Saves(unittest.TestCase):
+    ROWS = b'turn 0 cause 0 data 00000000 user 0 next 1\nturn 2 cause 6 data 0000000c user 1 next %s\n%s\nuser 1 pages 1 pc 00000000\n'
+
+    def told(self, saver, next, end):
+        with mock.patch.object(clock_saves, 'Saver', lambda *given: saver):
+            return clock_saves.told([], None, 10, saver.steps, self.ROWS % (next, end))
+
+    def test_the_last_step_is_the_least_with_which_the_run_ends(self):
+        for last in (101, 102, 103, 104, 120, 4096, 99999, 100000):
+            saver = Saver([100, 101, last], 100000)
+            self.assertEqual(clock.steps_of(self.told(saver, b'0', b'halted'))[1], [100, last])
+            self.assertLess(saver.asked, 40)
+
+    def test_a_run_that_stopped_is_saved_at_each_row(self):
+        self.assertEqual(clock.steps_of(self.told(Saver([100, 101, 500], 1000), b'1', b'stopped'))[1], [100, 500])
+
+    def test_a_run_that_is_not_over_again(self):
+        with self.assertRaises(guard.Bad):
+            self.told(Saver([100, 101, 2000], 1000), b'0', b'halted')
 
 
 class Mixed(unittest.TestCase):
