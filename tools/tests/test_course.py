@@ -10,7 +10,7 @@ from running import expected
 
 EXERCISES = os.path.join(pages.TOP, 'exercises')
 NAMES = sorted(name for name in os.listdir(EXERCISES) if os.path.isdir(os.path.join(EXERCISES, name)))
-MODEL = os.path.join(pages.TOP, 'bench', 'models', 'boot.py')
+MODEL = os.path.join(pages.TOP, 'oracle', 'model')
 
 
 def path(*names):
@@ -50,7 +50,7 @@ class Course(unittest.TestCase):
                 continue
             tried += 1
             for part in ('start', 'solution'):
-                ran = subprocess.run([sys.executable, MODEL, path(name, part), '100000'], capture_output=True, check=True)
+                ran = subprocess.run([sys.executable, MODEL, 'boot', path(name, part), '100000'], capture_output=True, check=True)
                 answer = expected.answer(files.content(path(name, 'expected')), ran.stdout, 0, [])
                 self.assertEqual(answer is None, part == 'solution', (name, part, answer))
         self.assertEqual(tried, 4)
@@ -67,5 +67,7 @@ class Course(unittest.TestCase):
 
     def test_tables_have_as_many_cells_in_each_row(self):
         for name in ('FROM_C.md', 'FROM_SPIM.md', 'TEACHING.md'):
-            rows = [pages.cells(line) for line in pages.page(name).split('\n') if line.startswith('|')]
-            self.assertEqual({len(row) for row in rows}, {3}, name)
+            tables = re.findall(r'(?:^\|.*\n)+', pages.page(name), re.MULTILINE)
+            self.assertTrue(tables, name)
+            for table in tables:
+                self.assertEqual(len({len(pages.cells(line)) for line in table.split('\n')[:-1]}), 1, (name, table))
