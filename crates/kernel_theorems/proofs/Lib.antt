@@ -13,3 +13,7 @@ mod MailboxTexts
 mod Loggings
 mod LoggingTexts
 pub mod UserRuns
+pub mod Tests
+pub mod Histories
+pub mod Callers
+pub mod OneKernel

@@ -10,3 +10,8 @@ OfDispatch = (past : List Dispatch) → Dispatch → Type 0
 abbrev pub EachHas : OfDispatch → (past these : List Dispatch) → Type 0
 EachHas P past [] = Unit {0}
 EachHas P past (d ∷ rest) = P past d × EachHas P (past ++ d ∷ []) rest
+
+-- what is known after these dispatches, where each changes it: as whether a user is inside
+abbrev pub told_by : {A : Type 0} → (A → Dispatch → A) → A → List Dispatch → A
+told_by f a [] = a
+told_by f a (d ∷ rest) = told_by f (f a d) rest

@@ -10,7 +10,7 @@ use Rattle.cvm_model.specs.Primitives.{user_of}
 use Rattle.cvm_model.specs.Cvm.{System, Cvm, IsCvm}
 use Rattle.cvm_model.specs.Invariant.{Dispatch, dispatches_of, HasEight, HasRoom, Holds}
 use Rattle.kernel_theorems.specs.Registers.{holds, calls}
-use Rattle.kernel_theorems.specs.History.{EachHas}
+use Rattle.kernel_theorems.specs.History.{EachHas, told_by}
 use Rattle.semaphore.specs.Tree.{kernel_tree}
 
 -- the values in its data
@@ -35,13 +35,9 @@ leaves user d = calls user d && int_eq (signed d.edata) (pos 76)
 abbrev pub inside_after : ℕ → Bool → Dispatch → Bool
 inside_after user was d = if asks user d then (int_eq (holds d.after user 2) (pos 1) || was) else (if leaves user d then false else was)
 
-abbrev pub still_inside : ℕ → Bool → List Dispatch → Bool
-still_inside user was [] = was
-still_inside user was (d ∷ rest) = still_inside user (inside_after user was d) rest
-
 -- WHETHER A USER IS INSIDE after these dispatches; nobody is at the start
 abbrev pub inside : ℕ → List Dispatch → Bool
-inside user past = still_inside user false past
+inside user past = told_by (inside_after user) false past
 
 -- no two users are inside
 abbrev pub AtMostOne : List Dispatch → Type 0

@@ -1,0 +1,1 @@
+"""What tools/theorem writes into the crate of a proof."""
