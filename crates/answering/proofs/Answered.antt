@@ -9,7 +9,7 @@ use Rattle.cvm_model.specs.Kernel.{Core, KernelMeaning}
 use Rattle.cvm_model.specs.KernelMeaning.{kernel_meaning}
 use Rattle.cvm_model.specs.Cvm.{System, Cvm, Running, Halted, IsCvm, first_flat, first_cvm}
 use Rattle.cvm_model.specs.Text.{rows_text, report_text}
-use Rattle.cvm_model.specs.Invariant.{Dispatch, rows_of, dispatches_of, HasUsers, IsSafe, RunsAreLawful}
+use Rattle.cvm_model.specs.Invariant.{Dispatch, dispatches_of, HasUsers, IsSafe, RunsAreLawful}
 use Rattle.cvm_model.specs.Systems.{status_after, SystemHolds}
 use Rattle.run_bounds.specs.Lines.{LinesTakenAreFew, RaisedLinesAreFew}
 use Rattle.run_bounds.specs.Steps.{BoundsAreSmall}
@@ -22,6 +22,7 @@ use Rattle.kernel_boots.specs.Boots.{turns_made}
 use Rattle.kernel_boots.specs.Systems.{EndsWithin, HasHalted, SystemShown}
 use Rattle.kernel_boots.proofs.Boots.{asked_read}
 use Rattle.kernel_boots.proofs.Systems.{asks_source, asked_users, systems_boot}
+use Rattle.kernel_theorems.proofs.Histories.{rows_length}
 use Rattle.answering.specs.Tree.{kernel_tree}
 use Rattle.answering.specs.Text.{text as kernel_text}
 use Rattle.answering.specs.Property.{AsksAndEnds, Runs, data_of, Phase, FirstAsks, FirstEnds, SecondAsks, SecondEnds, Over, traps_of, total_of, status_of_phase, most_of, gone_by, first_at, second_at, IsAnswering, Answering}
@@ -99,10 +100,6 @@ module _ (y : System) (a b c d v w : ℕ) (r : Runs y a b c d v w) (f g : Flat) 
 
   report : codes "halted\n" ++ report_text y.boot.meaning.names at ≡ report_of (v + w) (ended a b v f ∷ ended c d (v + w) g ∷ [])
   report = reported y.boot.meaning.names at (v + w) (ended a b v f ∷ ended c d (v + w) g ∷ []) names data_then log_then users_then
-
-rows_length : (past : List Dispatch) → length (rows_of past) ≡ length past
-rows_length [] = refl
-rows_length (d ∷ past) = ap suc (rows_length past)
 
 module _ (x : Outside) (y : System) (a b c d v w : ℕ) (r : Runs y a b c d v w) (f g : Flat) (s : State) (late raised turns steps : ℕ) (status : ExitStatus) (text : List ℕ)
     (h : SystemShown x y s late raised turns steps 100 (HasUsers y) (Answering y a b c d v w f g) status text) where

@@ -22,12 +22,12 @@ and_false false = refl
 
 -- A TEST, both ways
 pub by_test : {P : Type 0} → (b : Bool) → (b ≡ true → P) → (b ≡ false → P) → P
-by_test true yes no = yes refl
-by_test false yes no = no refl
+by_test true holds fails = holds refl
+by_test false holds fails = fails refl
 
 -- two numbers of definitions
 pub by_same : {P : Type 0} → (a b : ℕ) → ((a == b) ≡ true → a ≡ b → P) → ((a == b) ≡ false → a ≢ b → P) → P
-by_same a b yes no = by_test (a == b) (λ e. yes e (eqb-true a b e)) (λ e. no e (eqb-false a b e))
+by_same a b holds fails = by_test (a == b) (λ e. holds e (eqb-true a b e)) (λ e. fails e (eqb-false a b e))
 
 -- and of code
 pub test_is : (a b : ℕ) → int_eq (pos a) (pos b) ≡ (a == b)
@@ -38,7 +38,7 @@ test_is a b = by_test (nat_lt a b)
     (λ f. rw (e, f) (sym (eq-eqb a b (let h = ltb-false a b e in let g = ltb-false b a f in omega (arith, h, g))))))
 
 pub by_equal : {P : Type 0} → (a b : ℕ) → (int_eq (pos a) (pos b) ≡ true → a ≡ b → P) → (int_eq (pos a) (pos b) ≡ false → a ≢ b → P) → P
-by_equal a b yes no = by_same a b (λ e same. yes (test_is a b ∙ e) same) (λ e other. no (test_is a b ∙ e) other)
+by_equal a b holds fails = by_same a b (λ e same. holds (test_is a b ∙ e) same) (λ e other. fails (test_is a b ∙ e) other)
 
 -- SMALL NUMBERS are ints, and so is a sum that is small: the value that was found is known by an equation
 pub small_fits : (n : ℕ) → n < 2 ^ 31 → FitsSigned w32 (pos n)

@@ -5,8 +5,12 @@ use Rattle.std.proofs.lemmas.Bool.{cases_lt}
 use Rattle.mips_table.specs.declared.cause.Cause.{Cause}
 use Rattle.mips_table.specs.Flat.{Flat, VStep, Next as Goes, Trap, vstep}
 use Rattle.cvm_model.specs.Kernel.{Core}
+use Rattle.mips_table.specs.Machine.{number_of, Console}
+use Rattle.c0_meaning.specs.State.{State}
 use Rattle.cvm_model.specs.Primitives.{user_of, with_user}
-use Rattle.cvm_model.specs.Invariant.{machine_after, with_machine}
+use Rattle.cvm_model.specs.Cvm.{System}
+use Rattle.cvm_model.specs.Invariant.{Dispatch, IsTrapOf, machine_after, with_machine}
+use Rattle.cvm_model.specs.Systems.{SystemProperty, KeepsAll}
 use Rattle.kernel_theorems.specs.UserRuns.{after, IsGoes, TrapsAfter}
 
 not_trap : (v : VStep) (f : Flat) (cause : Cause) (edata : ℕ) → IsGoes v → v ≡ Trap f cause edata → ⊥
@@ -56,6 +60,62 @@ its_step c us u x users current e = sym (ap₂ (λ us u. vstep (user_of us u)) u
 
 pub put_in : (c : Core) (us : List Flat) (u : ℕ) (f g : Flat) → c.users ≡ us → c.current ≡ u → f ≡ g → (with_machine c f).users ≡ with_user us u g
 put_in c us u f g users current same = ap₂ (λ us u. with_user us u f) users current ∙ ap (with_user us u) same
+
+-- A CORE by its parts: dispatches that find known machines are best stated at one that is written out, since all tests on users compute then
+abbrev pub core_of_parts : State → List Flat → Console → ℕ → Core
+core_of_parts s us o u = record { c0 = s; users = us; console = o; current = u }
+
+core_is : (before : Core) (h g : Flat) (us : List Flat) (s : State) (o : Console) (u : ℕ) → before.users ≡ us → before.current ≡ u → before.c0 ≡ s → before.console ≡ o → h ≡ g
+    → with_machine before h ≡ core_of_parts s (with_user us u g) o u
+core_is before h g us s o u users current word console same =
+    ap (λ (s : State). core_of_parts s (with_user before.users before.current h) before.console before.current) word
+    ∙ ap (λ (o : Console). core_of_parts s (with_user before.users before.current h) o before.current) console
+    ∙ ap₂ (λ (us : List Flat) (u : ℕ). core_of_parts s (with_user us u h) o u) users current
+    ∙ ap (λ (g : Flat). core_of_parts s (with_user us u g) o u) same
+
+same_data : (g h : Flat) (cause by : Cause) (edata word : ℕ) → Trap g cause edata ≡ Trap h by word → edata ≡ word
+same_data g h cause by edata word e = cc
+
+-- THE CURRENT USER'S STEP, where its program is known (`g` is its machine behind the last trap, and t steps were made since): it is before the one that traps,
+-- and leads to the next machine
+pub record KnownStep (c : Core) (us : List Flat) (u : ℕ) (g : Flat) (steps t : ℕ) (f : Flat) : Type 0 where
+  pub before : t < steps
+  pub users : (with_machine c f).users ≡ with_user us u (after (suc t) g)
+
+pub known_step : (c : Core) (us : List Flat) (u : ℕ) (g : Flat) (steps : ℕ) (by : Cause) (h : TrapsAfter g steps by) (t : ℕ) → t ≤ steps → c.users ≡ us → c.current ≡ u → user_of us u ≡ after t g → (f : Flat)
+    → vstep (user_of c.users c.current) ≡ Goes f → KnownStep c us u g steps t f
+known_step c us u g steps by h t few users current is f e =
+    let goes : vstep (after t g) ≡ Goes f = sym (ap vstep is) ∙ its_step c us u (Goes f) users current e in
+    record { before = goes_before g steps by h t few f goes; users = put_in c us u f (after (suc t) g) users current (goes_next g steps by h t few f goes) }
+
+-- and its trap: it is that one, with its data, and leaves a state that is known
+pub record KnownTrap (at there : Core) (steps t : ℕ) (by : Cause) (word : ℕ) (cause : Cause) (edata : ℕ) : Type 0 where
+  pub last : t ≡ steps
+  pub cause_is : cause ≡ by
+  pub edata_is : edata ≡ word
+  pub core_is : at ≡ there
+
+pub known_trap : (before at : Core) (us : List Flat) (u : ℕ) (g : Flat) (steps : ℕ) (by : Cause) (h : TrapsAfter g steps by) (word : ℕ) (t : ℕ) (cause : Cause) (edata : ℕ) (s : State) (o : Console)
+    → h.edata ≡ word → t ≤ steps → before.users ≡ us → before.current ≡ u → user_of us u ≡ after t g → before.c0 ≡ s → before.console ≡ o → IsTrapOf before cause edata at
+    → KnownTrap at (core_of_parts s (with_user us u (after (suc steps) g)) o u) steps t by word cause edata
+known_trap before at us u g steps by h word t cause edata s o same few users current is data_is console came =
+    let e : vstep (after t g) ≡ Trap came.after cause edata = sym (ap vstep is) ∙ its_step before us u (Trap came.after cause edata) users current came.stepped in
+    let last : t ≡ steps = traps_last g steps by h t few came.after cause edata e in
+    record {
+      last = last;
+      cause_is = is_cause g steps by h t few came.after cause edata e;
+      edata_is = same_data came.after (after (suc steps) g) cause by edata h.edata
+          (sym e ∙ subst (λ j. vstep (after j g) ≡ Trap (after (suc steps) g) by h.edata) (sym last) h.traps) ∙ same;
+      core_is = came.left ∙ core_is before came.after (after (suc steps) g) us s o u users current data_is console (leaves_last g steps by h t few came.after cause edata e);
+    }
+
+-- the dispatch of such a trap is one at the state that is known
+pub arrives : {y : System} {n : ℕ} {I : SystemProperty} {k : ℕ} {past : List Dispatch} {at there : Core} {steps t word edata : ℕ} {by cause : Cause} → KnownTrap at there steps t by word cause edata
+    → KeepsAll y n I k (number_of by) word past there → KeepsAll y n I k (number_of cause) edata past at
+arrives {y} {n} {I} {k} {past} {at} {there} {steps} {t} {word} {edata} {by} {cause} h is =
+    subst (λ (z : Cause). KeepsAll y n I k (number_of z) edata past at) (sym h.cause_is)
+    (subst (λ (e : ℕ). KeepsAll y n I k (number_of by) e past at) (sym h.edata_is)
+    (subst (λ (z : Core). KeepsAll y n I k (number_of by) word past z) (sym h.core_is) is))
 
 -- WHETHER so many steps are untrapped, one after another: it computes, for words and registers that are known
 abbrev pub goes_from : VStep → (Flat → Bool) → Bool

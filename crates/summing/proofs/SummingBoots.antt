@@ -10,7 +10,7 @@ use Rattle.cvm_model.specs.Kernel.{Core, KernelMeaning}
 use Rattle.cvm_model.specs.KernelMeaning.{kernel_meaning}
 use Rattle.cvm_model.specs.Cvm.{System, Cvm, Running, Halted, IsCvm, first_flat, first_cvm}
 use Rattle.cvm_model.specs.Text.{rows_text, users_text, report_text}
-use Rattle.cvm_model.specs.Invariant.{Dispatch, rows_of, dispatches_of, HasUsers, IsSafe, RunsAreLawful}
+use Rattle.cvm_model.specs.Invariant.{Dispatch, dispatches_of, HasUsers, IsSafe, RunsAreLawful}
 use Rattle.cvm_model.specs.Systems.{status_after, SystemHolds}
 use Rattle.run_bounds.specs.Lines.{LinesTakenAreFew, RaisedLinesAreFew}
 use Rattle.run_bounds.specs.Steps.{BoundsAreSmall}
@@ -23,6 +23,7 @@ use Rattle.kernel_boots.specs.Boots.{turns_made}
 use Rattle.kernel_boots.specs.Systems.{EndsWithin, HasHalted, SystemShown}
 use Rattle.kernel_boots.proofs.Boots.{asked_read}
 use Rattle.kernel_boots.proofs.Systems.{asks_source, asked_users, systems_boot}
+use Rattle.kernel_theorems.proofs.Histories.{rows_length}
 use Rattle.summing.specs.Tree.{kernel_tree}
 use Rattle.summing.specs.Text.{text as kernel_text}
 use Rattle.kernel_theorems.specs.UserRuns.{after}
@@ -101,10 +102,6 @@ module _ (y : System) (m n v w : ℕ) (r : Runs y m n v w) (f g : Flat) (past : 
 
   report : codes "halted\n" ++ report_text y.boot.meaning.names c ≡ report_of (v + w) (after (suc m) f ∷ after (suc n) g ∷ [])
   report = reported y.boot.meaning.names c (v + w) (after (suc m) f ∷ after (suc n) g ∷ []) names data_then log_then users_then
-
-rows_length : (past : List Dispatch) → length (rows_of past) ≡ length past
-rows_length [] = refl
-rows_length (d ∷ past) = ap suc (rows_length past)
 
 module _ (x : Outside) (y : System) (m n v w : ℕ) (r : Runs y m n v w) (f g : Flat) (s : State) (late raised turns steps : ℕ) (status : ExitStatus) (text : List ℕ)
     (h : SystemShown x y s late raised turns steps 100 (HasUsers y) (Sums y m n v w f g) status text) where
