@@ -1,8 +1,10 @@
 """Examples that stand as data of programs of the gate in another form than as files, which examples/check compares."""
 import os
+import re
 import unittest
 
 from explain import pages
+from proving import assembler
 
 
 def stored(*path):
@@ -15,3 +17,37 @@ class Examples(unittest.TestCase):
         parts = dict(part.split('\n', 1) for part in ('\n' + stored('crates', 'saved_runs', 'data', 'messages.cases')).split('\n== ')[1:] if '\n' in part)
         for name in ('kernel.c0', 'params', 'user1.s', 'user2.s', 'user3.s'):
             self.assertEqual(parts['file ' + name].strip('\n'), stored('examples', 'messages', name).strip('\n'), name)
+
+
+class Proved(unittest.TestCase):
+    """The example folders of proved systems hold what their theorems name, and print what these state."""
+
+    def codes(self, path, name):
+        """The lines of a text that a file of specs/ defines."""
+        body = stored('crates', *path).split('%s =' % name)[1].split('\n\n')[0]
+        return re.findall(r'codes "([^"]*)"', body)
+
+    def test_kernels_are_those_of_the_theorems(self):
+        for example, crate in (('summing', 'summing'), ('compiled_sums', 'summing'), ('answering', 'answering')):
+            self.assertEqual('\n'.join(self.codes((crate, 'specs', 'Text.antt'), 'text')) + '\n', stored('examples', example, 'kernel.c0'), example)
+
+    def test_users_are_those_of_the_theorems(self):
+        specs = stored('crates', 'summing', 'specs', 'Users.antt')
+        for file, name in (('user1.s', 'user_one'), ('user2.s', 'user_two')):
+            words = [int(word, 16) for word in re.findall('0x[0-9a-f]+', re.search(r'^%s = .*$' % name, specs, re.M).group())]
+            self.assertEqual(assembler.words_of(stored('examples', 'summing', file)), words)
+        for example in ('compiled_sums', 'answering'):
+            for file, limit in (('user1.c0', '10'), ('user2.c0', '20')):
+                lines = self.codes(('program_systems', 'specs', 'AdderTexts.antt'), 'text_of limit')
+                first, last = lines[2], lines[3]
+                self.assertEqual('\n'.join(lines[:2] + [first + limit + last] + lines[4:]) + '\n', stored('examples', example, file))
+
+    def test_what_is_printed_is_what_the_theorem_states(self):
+        rows = self.codes(('summing', 'specs', 'Boots.antt'), 'report_lines')
+        printed = stored('examples', 'summing', 'printed').rstrip('\n').split('\n')
+        self.assertEqual(printed[-len(rows):], rows)
+        for example, report, most in (('summing', ['global total 30', 'global done true'], 3), ('compiled_sums', ['global total 265', 'global done true'], 3), ('answering', ['global total 265'], 5)):
+            printed = stored('examples', example, 'printed').split('\n')
+            over = printed.index('halted')
+            self.assertEqual(printed[over + 1:over + 1 + len(report)], report)
+            self.assertLessEqual(over, most + sum(row.startswith('line ') for row in stored('examples', example, 'schedule').split('\n')))

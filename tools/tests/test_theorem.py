@@ -1,4 +1,4 @@
-"""tools/theorem: the crate that it begins, and its sentences for what it can't read; and the words of the checks beside it."""
+"""tools/theorem: the crates that it begins, and its sentences for what it can't read; and the words of the checks beside it."""
 import importlib.machinery
 import importlib.util
 import io
@@ -60,12 +60,87 @@ class Theorem(unittest.TestCase):
         with open(os.path.join(self.room, 'crates', 'mine', 'src', 'lib.rt'), encoding='utf-8') as file:
             self.assertIn('    steps_tell();\n', file.read())
 
+    def written(self, *words):
+        """The files of the crate that these words begin, by their names, and what is printed."""
+        theorem = tool('theorem')
+        with mock.patch.object(theorem, 'TOP', self.room), mock.patch('sys.stdout', io.StringIO()) as out:
+            self.assertEqual(theorem.main(list(words)), 0)
+        folder, made = os.path.join(self.room, 'crates', words[-1]), {}
+        for at, _, names in os.walk(folder):
+            for name in names:
+                with open(os.path.join(at, name), encoding='utf-8') as file:
+                    made[os.path.relpath(os.path.join(at, name), folder)] = file.read()
+        return made, out.getvalue()
+
+    def test_the_shape_of_machines_is_an_option(self):
+        plain, _ = self.written(self.kernel(KERNEL), 'plain')
+        shaped, _ = self.written('--shaped', self.kernel(KERNEL), 'shaped')
+        self.assertIn('(HasUsers y) Between', plain['proofs/Property.antt'])
+        self.assertIn('IsInvariant y 200 (Shaped y) Between', shaped['proofs/Property.antt'])
+        self.assertIn('laws.shaped y kernel_tree r.meaning_is r.fit', shaped['proofs/Property.antt'])
+        self.assertIn('  pub fit : HasRoom y', shaped['specs/Property.antt'])
+        self.assertNotIn('HasUsers', shaped['proofs/Property.antt'])
+
+    def test_texts_of_any_bytes(self):
+        made, _ = self.written(self.kernel(KERNEL.replace('  turn', '\tturn').replace('int turn;', 'int turn; // a "word" \\ there') + '// the end'), 'bytes')
+        text = made['specs/Text.antt']
+        self.assertIn('9 ∷ codes "turn = turn + 1;"', text)
+        self.assertIn('codes "int turn; // a " ++ (34 ∷ codes "word" ++ (34 ∷ codes " " ++ (92 ∷ codes " there")))', text)
+        self.assertIn(') ++ (codes "// the end")', text)
+
+    def test_asm_functions(self):
+        made, _ = self.written(self.kernel('int sum(int a, int b) asm { addu r2, r4, r5 }\n' + KERNEL.replace('turn + 1;', 'turn; turn = sum(turn, 1);')), 'asm_sum')
+        self.assertIn('(asm (codes " addu r2, r4, r5 ") z (0x00851021 ∷ []))', made['specs/Tree.antt'])
+        self.assertIn("'foo' is no instruction", self.why('int sum(int a) asm { foo r2, r4 }\n' + KERNEL))
+        self.assertIn("'r32' of 'addu' is no register", self.why('int sum(int a) asm { addu r2, r4, r32 }\n' + KERNEL))
+
+    def folder(self, **files):
+        place = tempfile.mkdtemp(dir=self.room)
+        for name, text in files.items():
+            with open(os.path.join(place, name.replace('_', '.')), 'w', encoding='utf-8') as file:
+                file.write(text)
+        return place
+
+    def test_a_whole_system_is_written(self):
+        made, printed = self.written(os.path.join(TOP, 'examples', 'summing'), 'whole')
+        self.assertIn(' kernel_boots\n', printed)
+        self.assertIn('user_1 = 0x3405000a ∷ 0x24840001 ∷ 0x1485fffe ∷ 0x0000000c ∷ []', made['specs/Users.antt'])
+        self.assertIn('y.boot.users ≡ user_1 ∷ user_2 ∷ []', made['specs/Property.antt'])
+        self.assertIn('turns_are : k ≡ 1 + steps + traps + lines_taken past', made['specs/Property.antt'])
+        self.assertEqual(made['proofs/Property.antt'].count('rw has_room ?'), 3)
+        self.assertEqual(made['proofs/Boots.antt'].count(' in ?;'), 2)
+        for name, text in made.items():
+            self.assertNotIn('{{', text, name)
+        self.assertIn('must-fail/answers_always_one.edit', made)
+
+    def test_a_whole_system_with_programs_is_written(self):
+        made, printed = self.written('--shaped', os.path.join(TOP, 'examples', 'answering'), 'programs')
+        self.assertIn(' user_c0 ', printed)
+        self.assertIn('y.boot.users ≡ image_words unit_1 ∷ image_words unit_2 ∷ []', made['specs/Property.antt'])
+        self.assertIn('IsProgram unit_1 → IsUnitAs User text_1 unit_1', made['specs/Boots.antt'])
+        self.assertIn('IsTextAs User', made['src/lib.rt'])
+        self.assertIn('loop z main_test1 main_turn1', made['specs/Program1.antt'])
+        self.assertIn('(Shaped y)', made['proofs/Property.antt'])
+
+    def why_folder(self, **files):
+        status, said = run('tools/theorem', self.folder(**files))
+        self.assertEqual((status, said.startswith('theorem: ')), (64, True), said)
+        self.assertNotIn('Traceback', said)
+        return said
+
+    def test_folders_that_are_no_system(self):
+        self.assertIn("there is no file", self.why_folder())
+        self.assertIn('has no user1.s or user1.c0', self.why_folder(kernel_c0=KERNEL))
+        self.assertIn("'jump' is no instruction", self.why_folder(kernel_c0=KERNEL, user1_s='jump 0\n'))
+        self.assertIn('it has no int main()', self.why_folder(kernel_c0=KERNEL, user1_c0='int run() { return 0; }\n'))
+        self.assertIn('has both user1.s and user1.c0', self.why_folder(kernel_c0=KERNEL, user1_s='syscall\n', user1_c0='int main() { return 0; }\n'))
+
     def test_files_that_are_not_there(self):
         for words in (['missing.c0'], ['--tree', 'missing.c0']):
             self.assertEqual(run('tools/theorem', *words), (64, "theorem: there is no file 'missing.c0'\n"))
 
     def test_words_that_are_none(self):
-        for words in ([], ['--trees', 'a'], ['a', 'b', 'c'], [self.kernel(KERNEL), 'Mine']):
+        for words in ([], ['--trees', 'a'], ['--shaped'], ['a', 'b', 'c'], [self.kernel(KERNEL), 'Mine']):
             status, said = run('tools/theorem', *words)
             self.assertEqual((status, said.startswith('theorem: ')), (64, True), said)
 
