@@ -76,7 +76,7 @@ class Theorem(unittest.TestCase):
         plain, _ = self.written(self.kernel(KERNEL), 'plain')
         shaped, _ = self.written('--shaped', self.kernel(KERNEL), 'shaped')
         self.assertIn('(HasUsers y) Between', plain['proofs/Property.antt'])
-        self.assertIn('IsInvariant y 200 (Shaped y) Between', shaped['proofs/Property.antt'])
+        self.assertIn('IsInvariant y 300 (Shaped y) Between', shaped['proofs/Property.antt'])
         self.assertIn('laws.shaped y kernel_tree r.meaning_is r.fit', shaped['proofs/Property.antt'])
         self.assertIn('  pub fit : HasRoom y', shaped['specs/Property.antt'])
         self.assertNotIn('HasUsers', shaped['proofs/Property.antt'])
