@@ -16,7 +16,7 @@ def term(text):
     out = ''
     for part in reversed(parts):
         if isinstance(part, int):
-            out = '%d ∷ %s' % (part, out or '[]')
+            out = '%d ∷ %s' % (part, ('(%s)' % out if '++' in out else out) or '[]')
         else:
             out = 'codes "%s" ++ (%s)' % (part, out) if out else 'codes "%s"' % part
     return out

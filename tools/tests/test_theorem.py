@@ -85,7 +85,7 @@ class Theorem(unittest.TestCase):
         made, _ = self.written(self.kernel(KERNEL.replace('  turn', '\tturn').replace('int turn;', 'int turn; // a "word" \\ there') + '// the end'), 'bytes')
         text = made['specs/Text.antt']
         self.assertIn('9 ∷ codes "turn = turn + 1;"', text)
-        self.assertIn('codes "int turn; // a " ++ (34 ∷ codes "word" ++ (34 ∷ codes " " ++ (92 ∷ codes " there")))', text)
+        self.assertIn('codes "int turn; // a " ++ (34 ∷ (codes "word" ++ (34 ∷ (codes " " ++ (92 ∷ codes " there")))))', text)
         self.assertIn(') ++ (codes "// the end")', text)
 
     def test_asm_functions(self):
