@@ -17,3 +17,4 @@ pub mod Tests
 pub mod Histories
 pub mod Callers
 pub mod OneKernel
+pub mod ForKernels

@@ -6,25 +6,9 @@ use Rattle.std.specs.Int.{w32}
 use Rattle.std.specs.Ordering.{int_eq}
 use Rattle.std.proofs.lemmas.Bool.{le-ltb, eqb-true, eq-eqb, ne_eqb}
 use Rattle.std.proofs.lemmas.Int.{int_wrap_fits}
-use Rattle.mips_table.specs.Arith.{signed}
-use Rattle.mips_table.specs.declared.cause.Cause.{Cause}
 use Rattle.mips_table.specs.declared.cause.Cause.TheVariants as causes
-use Rattle.mips_table.specs.Machine.{number_of}
-use Rattle.c0_meaning.specs.Value.{int}
-use Rattle.cvm_model.specs.Kernel.{Core, KernelMeaning}
-use Rattle.cvm_model.specs.Primitives.{user_of}
-use Rattle.cvm_model.specs.Stands.{IsUser}
-use Rattle.cvm_model.specs.Cvm.{System, first_core}
-use Rattle.cvm_model.specs.declared.row.Next.{Next}
-use Rattle.cvm_model.specs.Invariant.{Dispatch, IsTrap, IsInvariant, Shaped, RunsAreLawful}
-use Rattle.cvm_model.proofs.Invariants.{invariants_hold}
-use Rattle.kernel_theorems.specs.Registers.{calls, set_in, SetsAreFound}
-use Rattle.kernel_theorems.specs.History.{EachHas}
-use Rattle.kernel_theorems.proofs.Answering.{each_more}
-use Rattle.kernel_theorems.proofs.Histories.{told_more}
-use Rattle.kernel_theorems.proofs.Tests.{not_both, left_of, and_false, by_test, by_same, by_equal, small_fits}
-use Rattle.kernel_theorems.proofs.Callers.{Caller, caller, the_caller, AnsweredCall, answered_call}
-use Rattle.kernel_theorems.proofs.OneKernel.{Does, keeps_from, to_user}
+use Rattle.kernel_theorems.proofs.ForKernels.{signed, Cause, number_of, int, Core, KernelMeaning, user_of, IsUser, System, first_core, Next, Dispatch, IsTrap, IsInvariant, Shaped, RunsAreLawful, invariants_hold}
+use Rattle.kernel_theorems.proofs.ForKernels.{calls, set_in, SetsAreFound, EachHas, each_more, told_more, not_both, left_of, and_false, by_test, by_same, by_equal, small_fits, Caller, caller, the_caller, AnsweredCall, answered_call, Does, keeps_from, to_user}
 use Rattle.semaphore.specs.Tree.{kernel_tree}
 use Rattle.semaphore.specs.Property.{data_of, asks, inside_after, inside, IsAnswered, Between, Runs, PropertyHolds}
 
@@ -35,23 +19,16 @@ InsideIs past who = (u : ℕ) → 1 ≤ u → inside u past ≡ (who == u)
 between : (past : List Dispatch) (d : Dispatch) (who new u : ℕ) → InsideIs past who → ((v : ℕ) → 1 ≤ v → inside_after v (who == v) d ≡ (new == v)) → EachHas IsAnswered [] past → IsAnswered past d
     → Between (past ++ d ∷ []) (data_of (record { owner = pos new })) u
 between past d who new u h now answered is =
-    let then_is : InsideIs (past ++ d ∷ []) new = λ v some. told_more (inside_after v) false past d ∙ ap (λ b. inside_after v b d) (h v some) ∙ now v some in record {
-      values = record { owner = pos new };
-      data_is = refl;
-      who = new;
-      held = refl;
-      inside_is = then_is;
-      one = λ v w some other in_v in_w. sym (eqb-true new v (sym (then_is v some) ∙ in_v)) ∙ eqb-true new w (sym (then_is w other) ∙ in_w);
-      answered = each_more IsAnswered [] past d answered is;
-    }
+    let then_is : InsideIs (past ++ d ∷ []) new = λ v some. told_more (inside_after v) false past d ∙ ap (λ b. inside_after v b d) (h v some) ∙ now v some in
+    let one = λ (v w : ℕ) (some : 1 ≤ v) (other : 1 ≤ w) (in_v : inside v (past ++ d ∷ []) ≡ true) (in_w : inside w (past ++ d ∷ []) ≡ true).
+    sym (eqb-true new v (sym (then_is v some) ∙ in_v)) ∙ eqb-true new w (sym (then_is w other) ∙ in_w) in
+    record { values = record { owner = pos new }; data_is = refl; who = new; held = refl; inside_is = then_is; one = one; answered = each_more IsAnswered [] past d answered is }
 
 -- where nobody asks, nobody is told anything
 unasked : (past : List Dispatch) (d : Dispatch) → ((v : ℕ) → asks v d ≡ false) → d.after.users ≡ d.before.users → IsAnswered past d
-unasked past d none same = record {
-  free = λ u some e nobody. absurd (not_both (asks u d) e (none u));
-  taken = λ u v some other e in_v. absurd (not_both (asks u d) e (none u));
-  others = λ u some e. ap (λ us. user_of us u) same;
-}
+unasked past d none same =
+    let nobody = λ (u : ℕ) (e : asks u d ≡ true). not_both (asks u d) e (none u) in
+    record { free = λ u some e out. absurd (nobody u e); taken = λ u v some other e in_v. absurd (nobody u e); others = λ u some e. ap (λ us. user_of us u) same }
 
 -- a dispatch of no system call, which changes no machine
 quiet : (past : List Dispatch) (d : Dispatch) (who u : ℕ) → InsideIs past who → EachHas IsAnswered [] past → (d.cause == 6) ≡ false → d.after.users ≡ d.before.users
@@ -74,32 +51,25 @@ module _ (sets : SetsAreFound) (y : System) (r : Runs y) where
     finds : (o : Core) (next : Next) (a : ℕ) → a ≤ 1 → o.users ≡ set_in at.users at.current 2 (pos a) → AnsweredCall (call o next) 2 (pos a)
     finds o next a few users = answered_call sets y (call o next) 2 (pos a) refl fits user (omega arith) (small_fits a (omega (arith, few))) users
 
-    own_is : (o : Core) (next : Next) (a : ℕ) → AnsweredCall (call o next) 2 (pos a) → int_eq (signed edata) (pos 12) ≡ true
-        → inside_after at.current (who == at.current) (call o next) ≡ (int_eq (pos a) (pos 1) || (who == at.current))
-    own_is o next a c e = let same = eq-eqb at.current at.current refl in let found = c.found at.current same in rw (same, e, found) refl
-
     -- nobody is inside: it is let in
     let_in : (o : Core) (next : Next) (u : ℕ) → int_eq (signed edata) (pos 12) ≡ true → who ≡ 0 → o.users ≡ set_in at.users at.current 2 (pos 1) → Between (past ++ call o next ∷ []) (data_of (record { owner = pos at.current })) u
     let_in o next u e none users =
         let c = finds o next 1 (omega arith) users in
+        let same = eq-eqb at.current at.current refl in
+        let found = c.found at.current same in
         let nobody : (v : ℕ) → 1 ≤ v → (who == v) ≡ false = λ v some. ne_eqb who v (λ s. omega (arith, s, none, some)) in
-        between past (call o next) who at.current u h
-        (now o next at.current (own_is o next 1 c e ∙ sym (eq-eqb at.current at.current refl)) (λ v some other. nobody v some ∙ sym (ne_eqb at.current v other))) answered (record {
-          free = λ v some asked none. c.found v (left_of (calls v (call o next)) _ asked);
-          taken = λ v w some other asked in_w. absurd (not_both (inside w past) in_w (h w other ∙ nobody w other));
-          others = c.others;
-        })
+        between past (call o next) who at.current u h (now o next at.current (rw (same, e, found) refl) (λ v some other. nobody v some ∙ sym (ne_eqb at.current v other))) answered
+        (record { free = λ v some asked out. c.found v (left_of (calls v (call o next)) _ asked); taken = λ v w some other asked in_w. absurd (not_both (inside w past) in_w (h w other ∙ nobody w other)); others = c.others })
 
     -- somebody is: it is not
     kept_out : (o : Core) (next : Next) (u : ℕ) → int_eq (signed edata) (pos 12) ≡ true → who ≢ 0 → o.users ≡ set_in at.users at.current 2 (pos 0) → Between (past ++ call o next ∷ []) (data_of (record { owner = pos who })) u
     kept_out o next u e some users =
         let c = finds o next 0 (omega arith) users in
+        let same = eq-eqb at.current at.current refl in
+        let found = c.found at.current same in
         let one : 1 ≤ who = omega (arith, some) in
-        between past (call o next) who who u h (now o next who (own_is o next 0 c e) (λ v few other. refl)) answered (record {
-          free = λ v few asked nobody. absurd (not_both (inside who past) (h who one ∙ eq-eqb who who refl) (nobody who one));
-          taken = λ v w some other asked in_w. c.found v (left_of (calls v (call o next)) _ asked);
-          others = c.others;
-        })
+        between past (call o next) who who u h (now o next who (rw (same, e, found) refl) (λ v few other. refl)) answered
+        (record { free = λ v few asked out. absurd (not_both (inside who past) (h who one ∙ eq-eqb who who refl) (out who one)); taken = λ v w few other asked in_w. c.found v (left_of (calls v (call o next)) _ asked); others = c.others })
 
     -- it doesn't ask
     unheard : (o : Core) (next : Next) (new u : ℕ) → int_eq (signed edata) (pos 12) ≡ false → (if int_eq (signed edata) (pos 76) then false else (who == at.current)) ≡ (new == at.current)
