@@ -4,6 +4,7 @@ use Rattle.std.specs.Int.{w32, cast_unsigned}
 use Rattle.std.proofs.Common.{◌≡◌, ℕ, suc, ◌+◌, ◌^◌, ◌<◌, ◌≤◌, List, [], ◌∷◌, ◌++◌, length, Option, Some, refl, sym, ap, ◌∙◌, subst, arith}
 use Rattle.mips_table.specs.Device.{Outside}
 use Rattle.mips_table.specs.Machine.{State}
+use Rattle.mips_table.specs.declared.cause.Cause.TheVariants.{Syscall}
 use Rattle.mips_table.specs.Flat.{Flat}
 use Rattle.c0_tree.specs.Tree.{CUnit}
 use Rattle.c0_meaning.specs.RunLaws.{HasEnded}
@@ -16,10 +17,11 @@ use Rattle.user_c0.specs.Events.{Event, step, call, other, replies, calls, other
 use Rattle.user_c0.specs.Program.{EndsBy, steps_of}
 use Rattle.user_c0.specs.Users.{HasCome, UsersGoOn, IntsAreTold}
 use Rattle.kernel_theorems.specs.UserRuns.{after}
-use Rattle.answering.specs.Property.{told}
+use Rattle.answering.specs.Property.{told, AsksAndEnds}
 use Rattle.answering.specs.Boots.{AnswersShown, AnyUsersAnswered}
 use Rattle.program_systems.specs.Coming.{CallsNext, CallsCome, EndsNext, EndsCome}
-use Rattle.program_systems.specs.Answered.{BringsAndEnds, AskedAndEnded, ProgramsAskAndEnd, ProgramsAnsweredShown, AnyProgramsAnswered}
+use Rattle.program_systems.specs.Answered.{BringsAndEnds, AskedAndEnded, ProgramsAskAndEnd, ProgramsAnsweredShown, AnyProgramsAnswered, AnyCountedProgramsAnswered}
+use Rattle.program_systems.specs.Counts.{AreCounted, CountsTell}
 use Rattle.program_systems.proofs.Programs.{fewer_turns}
 
 -- a call more
@@ -121,3 +123,18 @@ any_programs_answered does law one two n k v w first second fits words status ol
       printed,
       shown (around rows old) (booted s rows) (first_state session s rows before) (steps_before session.start (booted s rows)) (length rows.lines) session.turns session.steps one two n k v w c d status text shows,
     )
+
+-- WITH COUNTED STEPS: first those of the call, and then those behind the answer
+counted_end : CountsTell → (f : Flat) (v x a b m : ℕ) → AreCounted f x a b → AsksAndEnds f a m v x → AsksAndEnds f a b v x
+counted_end tell f v x a b m are r = subst (λ m. AsksAndEnds f a m v x) (tell.exactly (told (after (suc a) f) x) b m Syscall are.ends r.ends) r
+
+counted_run : CountsTell → (f : Flat) (most v x a b : ℕ) → AreCounted f x a b → AskedAndEnded f most v x → AsksAndEnds f a b v x
+counted_run tell f most v x a b are q =
+    counted_end tell f v x a b q.rest are (subst (λ m. AsksAndEnds f m q.rest v x) (tell.exactly f a q.steps Syscall are.asks q.runs.asks) q.runs)
+
+pub any_counted_programs_answered : ProgramsAskAndEnd → CountsTell → AnyUsersAnswered → AnyCountedProgramsAnswered
+any_counted_programs_answered does tell law one two n k v w a b c d first second fits counted also words status old new headlines session s rows before h some view system =
+    law (image_words one) (image_words two) a b c d v w
+    (counted_run tell (first_flat (image_words one)) (steps_of n) v v a b counted (does one n v v first (omega (arith, fits))))
+    (counted_run tell (first_flat (image_words two)) (steps_of k) w (v + w) c d also (does two k w (v + w) second fits))
+    fits words status old new headlines session s rows before h some view system

@@ -47,11 +47,11 @@ due_at u n es due =
     subst (λ rs. (length rs < length (prog u (map answer_of rs) n).arguments) ⊎ HasEnded (prog u (map answer_of rs) n).ending) (sym (replies_step es)) due
 
 -- a machine that traps at once, and one that traps behind a step
-at_once : (f g : Flat) (cause : Cause) (edata : ℕ) → vstep f ≡ Trap g cause edata → TrapsAfter f 0 cause
+pub at_once : (f g : Flat) (cause : Cause) (edata : ℕ) → vstep f ≡ Trap g cause edata → TrapsAfter f 0 cause
 at_once f g cause edata e =
     record { goes = λ t lt. absurd (omega (arith, lt)); edata = edata; traps = e ∙ ap (λ h. Trap h cause edata) (sym (ap machine_after e)) }
 
-one_more : (f g : Flat) (m : ℕ) (cause : Cause) → vstep f ≡ Goes g → TrapsAfter g m cause → TrapsAfter f (suc m) cause
+pub one_more : (f g : Flat) (m : ℕ) (cause : Cause) → vstep f ≡ Goes g → TrapsAfter g m cause → TrapsAfter f (suc m) cause
 one_more f g m cause e r =
     record { goes = goes; edata = r.edata; traps = ap vstep (front m f g e) ∙ r.traps ∙ ap (λ h. Trap h cause r.edata) (sym (front (suc m) f g e)) }
   where

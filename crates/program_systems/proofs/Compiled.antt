@@ -1,7 +1,7 @@
 -- From the texts to each boot.
 use Rattle.std.specs.Prelude.{Result, codes, pos, nat_eq, ◌%◌, if◌then◌else◌, slice_get}
 use Rattle.std.specs.Fmt.{digits, signed_decimal}
-use Rattle.std.proofs.Common.{◌≡◌, ℕ, suc, ◌+◌, List, [], ◌∷◌, ◌++◌, length, Bool, true, false, Option, Some, Ok, Err, refl, sym, ap, ◌∙◌, arith}
+use Rattle.std.proofs.Common.{◌≡◌, ℕ, suc, ◌+◌, List, [], ◌∷◌, ◌++◌, length, Bool, true, false, Option, Some, Ok, Err, refl, sym, ap, ◌∙◌, subst, arith}
 use Rattle.cvm_words.specs.Bytes.{words_of}
 use Rattle.system_files.specs.declared.fault.FileFault.{FileFault}
 use Rattle.system_files.specs.declared.fault.FileFault.TheVariants.{UserTorn}
@@ -34,10 +34,11 @@ use Rattle.kernel_boots.specs.Systems.{AsksSystem, HasSystem}
 use Rattle.kernel_boots.proofs.Boots.{of_image}
 use Rattle.real_layer.specs.Image.{layer_image}
 use Rattle.summing.specs.Text.{text as kernel_text}
-use Rattle.summing.specs.Boots.{report_of}
-use Rattle.program_systems.specs.Adders.{adder, AddersCall}
+use Rattle.summing.specs.Boots.{report_of, SumShown}
+use Rattle.program_systems.specs.Adders.{adder, AddersCall, AddersAreCounted}
 use Rattle.program_systems.specs.AdderTexts.{text_ten, text_twenty}
-use Rattle.program_systems.specs.Boots.{Brings, ProgramSumShown, AnyProgramsSum, IsLinkedOf, AddersShown, CompiledSumsBoot}
+use Rattle.program_systems.specs.Boots.{Brings, AnyCountedProgramsSum, IsLinkedOf, AddersShown, CompiledSumsBoot}
+use Rattle.program_systems.specs.Counts.{IsCounted, AreCounted, ImagesIgnorePlaces}
 
 -- files have as many users' words as there are files
 words_length : (first : ℕ) (files words : List (List ℕ)) → words_from first files ≡ Ok words → length words ≡ length files
@@ -112,28 +113,41 @@ total = refl
 with_total : (users : List Flat) → report_of 265 users ≡ codes "halted\nglobal total 265\nglobal done true\n" ++ users_text 1 users
 with_total users = rw total refl
 
-module _ (x : Outside) (y : System) (s : State) (late raised turns steps : ℕ) (status : ExitStatus) (text : List ℕ) (one two : CUnit) (one_is : IsUnitAs User text_ten one) (two_is : IsUnitAs User text_twenty two)
-    (h : ProgramSumShown x y s late raised turns steps one two 200 400 55 210 status text) where
-  shown : AddersShown x y s late raised turns steps status text
-  shown = record {
-    one = one;
-    two = two;
-    one_is = one_is;
-    two_is = two_is;
+module _ (x : Outside) (y : System) (s : State) (late raised turns steps : ℕ) (status : ExitStatus) (text : List ℕ) where
+  shown : (f g : Flat) → SumShown x y s late raised turns steps 123 223 55 210 f g status text → AddersShown x y s late raised turns steps f g status text
+  shown f g h = record {
     shows = h;
-    no_fault = h.shows.no_fault;
-    halted = λ enough long. let e = h.halted enough long in (e.0, e.2, e.3 ∙ ap (λ (t : List ℕ). rows_text h.shows.shown.stands.state.rows ++ t) (with_total (after (suc h.first_steps) (first_flat (image_words one)) ∷ after (suc h.second_steps) (first_flat (image_words two)) ∷ [])));
+    no_fault = h.no_fault;
+    halted = λ enough long. let e = h.halted enough long in (e.0, e.2, e.3 ∙ ap (λ (t : List ℕ). rows_text h.shown.stands.state.rows ++ t) (with_total (after 124 f ∷ after 224 g ∷ [])));
   }
 
-pub compiled_sums_boot : AcceptedAreOfImages → LinkedPrograms → MeansProgram text_ten (adder 10) → MeansProgram text_twenty (adder 20) → AddersCall → AnyProgramsSum → CompiledSumsBoot
-compiled_sums_boot images linked ten twenty calls law words status old new headlines session s rows before h some view asks layer l =
+  -- of the machines of other images with the same words
+  shown_of : (a b c d : List ℕ) → a ≡ c → b ≡ d → SumShown x y s late raised turns steps 123 223 55 210 (first_flat a) (first_flat b) status text
+      → AddersShown x y s late raised turns steps (first_flat c) (first_flat d) status text
+  shown_of a b c d e k h =
+      shown (first_flat c) (first_flat d) (subst (λ w. SumShown x y s late raised turns steps 123 223 55 210 (first_flat c) (first_flat w) status text) k
+      (subst (λ w. SumShown x y s late raised turns steps 123 223 55 210 (first_flat w) (first_flat b) status text) e h))
+
+-- the image of a text's unit is that of its tree
+pub image_is : ImagesIgnorePlaces → (text : List ℕ) (tree : CUnit) → MeansProgram text tree → (u : CUnit) → IsUnitAs User text u → image_words u ≡ image_words tree
+image_is ignore text tree means u is = sym (ignore u) ∙ ap image_words (means.tree_is u is)
+
+counted_as : (a b : List ℕ) (x n m : ℕ) → a ≡ b → AreCounted (first_flat b) x n m → IsCounted (first_flat a) n
+counted_as a b x n m e are = subst (λ w. IsCounted (first_flat w) n) (sym e) are.asks
+
+pub compiled_sums_boot : AcceptedAreOfImages → LinkedPrograms → MeansProgram text_ten (adder 10) → MeansProgram text_twenty (adder 20) → AddersCall → ImagesIgnorePlaces → AddersAreCounted
+    → AnyCountedProgramsSum → CompiledSumsBoot
+compiled_sums_boot images linked ten twenty calls ignore count law words status old new headlines session s rows before h some view asks layer l =
     let t = are_there images linked layer text_ten text_twenty s l in
-    let (text, printed, shows) = law t.one t.two 200 400 55 210
+    let e : image_words t.one ≡ image_words (adder 10) = image_is ignore text_ten (adder 10) ten t.one t.one_is in
+    let k : image_words t.two ≡ image_words (adder 20) = image_is ignore text_twenty (adder 20) twenty t.two t.two_is in
+    let (text, printed, shows) = law t.one t.two 200 400 55 210 123 223
     (brings text_ten (adder 10) ten s 1 t.one t.one_is t.first 200 55 _ calls.ten refl) (brings text_twenty (adder 20) twenty s 2 t.two t.two_is t.second 400 210 _ calls.twenty refl) (omega arith)
+    (counted_as (image_words t.one) (image_words (adder 10)) 0 123 8 e (count.ten 0)) (counted_as (image_words t.two) (image_words (adder 20)) 0 223 8 k (count.twenty 0))
     words status old new headlines session s rows before h some view
     (asks_system images kernel_text (image_words t.one ∷ image_words t.two ∷ []) words old.shelf.file session s rows h.asked t.users_are asks) in (
       text,
       printed,
-      shown (around rows old) (booted s rows) (first_state session s rows before) (steps_before session.start (booted s rows)) (length rows.lines) session.turns session.steps status text
-          t.one t.two t.one_is t.two_is shows,
+      shown_of (around rows old) (booted s rows) (first_state session s rows before) (steps_before session.start (booted s rows)) (length rows.lines) session.turns session.steps status text
+          (image_words t.one) (image_words t.two) (image_words (adder 10)) (image_words (adder 20)) e k shows,
     )

@@ -1,7 +1,7 @@
 -- From the texts to each boot, of users that are answered.
 use Rattle.std.specs.Prelude.{codes, pos, slice_get}
 use Rattle.std.specs.Fmt.{digits, signed_decimal}
-use Rattle.std.proofs.Common.{◌≡◌, ℕ, List, [], ◌∷◌, ◌++◌, length, Some, refl, ap, ◌∙◌, arith}
+use Rattle.std.proofs.Common.{◌≡◌, ℕ, List, [], ◌∷◌, ◌++◌, length, Some, refl, sym, ap, ◌∙◌, subst, arith}
 use Rattle.mips_table.specs.Device.{Outside}
 use Rattle.mips_table.specs.Machine.{State}
 use Rattle.mips_table.specs.Flat.{Flat}
@@ -19,11 +19,12 @@ use Rattle.cvm_shell.specs.Boot.{booted, around, first_state, steps_before}
 use Rattle.cvm_shell.specs.Programs.{HasProgram, LinkedPrograms}
 use Rattle.kernel_theorems.specs.Text.{MeansProgram}
 use Rattle.answering.specs.Text.{text as kernel_text}
-use Rattle.answering.specs.Boots.{report_of, ended}
-use Rattle.program_systems.specs.Adders.{adder, AddersCall}
+use Rattle.answering.specs.Boots.{report_of, ended, AnswersShown}
+use Rattle.program_systems.specs.Adders.{adder, AddersCall, AddersAreCounted}
+use Rattle.program_systems.specs.Counts.{AreCounted, ImagesIgnorePlaces}
 use Rattle.program_systems.specs.AdderTexts.{text_ten, text_twenty}
-use Rattle.program_systems.specs.Answered.{BringsAndEnds, ProgramsAnsweredShown, AnyProgramsAnswered, AddersAnswered, CompiledAnswersBoot}
-use Rattle.program_systems.proofs.Compiled.{AreThere, are_there, asks_system}
+use Rattle.program_systems.specs.Answered.{BringsAndEnds, AnyCountedProgramsAnswered, AddersAnswered, CompiledAnswersBoot}
+use Rattle.program_systems.proofs.Compiled.{AreThere, are_there, asks_system, image_is}
 
 -- a program of a text whose tree is known to call and to end
 brings : (text : List ℕ) (tree : CUnit) → MeansProgram text tree → (s : ImageSystem) (i : ℕ) (u : CUnit) → IsUnitAs User text u → HasProgram u s i → (n v x : ℕ) (seen : Seen)
@@ -42,34 +43,38 @@ total = refl
 with_total : (users : List Flat) → report_of 265 users ≡ codes "halted\nglobal total 265\n" ++ users_text 1 users
 with_total users = rw total refl
 
-module _ (x : Outside) (y : System) (s : State) (late raised turns steps : ℕ) (status : ExitStatus) (text : List ℕ) (one two : CUnit) (one_is : IsUnitAs User text_ten one) (two_is : IsUnitAs User text_twenty two)
-    (h : ProgramsAnsweredShown x y s late raised turns steps one two 200 400 55 210 status text) where
-  shown : AddersAnswered x y s late raised turns steps status text
-  shown = record {
-    one = one;
-    two = two;
-    one_is = one_is;
-    two_is = two_is;
+module _ (x : Outside) (y : System) (s : State) (late raised turns steps : ℕ) (status : ExitStatus) (text : List ℕ) where
+  shown : (f g : Flat) → AnswersShown x y s late raised turns steps 123 8 223 8 55 210 f g status text → AddersAnswered x y s late raised turns steps f g status text
+  shown f g h = record {
     shows = h;
-    no_fault = h.shows.no_fault;
-    halted = λ enough long. let e = h.halted enough long in (
-      e.0,
-      e.2,
-      e.3 ∙ ap (λ (t : List ℕ). rows_text h.shows.shown.stands.state.rows ++ t)
-          (with_total (ended h.first.steps h.first.rest 55 (first_flat (image_words one)) ∷ ended h.second.steps h.second.rest 265 (first_flat (image_words two)) ∷ [])),
-    );
+    no_fault = h.no_fault;
+    halted = λ enough long. let e = h.halted enough long in (e.0, e.2, e.3 ∙ ap (λ (t : List ℕ). rows_text h.shown.stands.state.rows ++ t) (with_total (ended 123 8 55 f ∷ ended 223 8 265 g ∷ [])));
   }
 
-pub compiled_answers_boot : AcceptedAreOfImages → LinkedPrograms → MeansProgram text_ten (adder 10) → MeansProgram text_twenty (adder 20) → AddersCall → AnyProgramsAnswered → CompiledAnswersBoot
-compiled_answers_boot images linked ten twenty calls law words status old new headlines session s rows before h some view asks layer l =
+  -- of the machines of other images with the same words
+  shown_of : (a b c d : List ℕ) → a ≡ c → b ≡ d → AnswersShown x y s late raised turns steps 123 8 223 8 55 210 (first_flat a) (first_flat b) status text
+      → AddersAnswered x y s late raised turns steps (first_flat c) (first_flat d) status text
+  shown_of a b c d e k h =
+      shown (first_flat c) (first_flat d) (subst (λ w. AnswersShown x y s late raised turns steps 123 8 223 8 55 210 (first_flat c) (first_flat w) status text) k
+      (subst (λ w. AnswersShown x y s late raised turns steps 123 8 223 8 55 210 (first_flat w) (first_flat b) status text) e h))
+
+counted_as : (a b : List ℕ) (x n m : ℕ) → a ≡ b → AreCounted (first_flat b) x n m → AreCounted (first_flat a) x n m
+counted_as a b x n m e are = subst (λ w. AreCounted (first_flat w) x n m) (sym e) are
+
+pub compiled_answers_boot : AcceptedAreOfImages → LinkedPrograms → MeansProgram text_ten (adder 10) → MeansProgram text_twenty (adder 20) → AddersCall → ImagesIgnorePlaces → AddersAreCounted
+    → AnyCountedProgramsAnswered → CompiledAnswersBoot
+compiled_answers_boot images linked ten twenty calls ignore count law words status old new headlines session s rows before h some view asks layer l =
     let t : AreThere s text_ten text_twenty = are_there images linked layer text_ten text_twenty s l in
-    let (text, printed, shows) = law t.one t.two 200 400 55 210
+    let e : image_words t.one ≡ image_words (adder 10) = image_is ignore text_ten (adder 10) ten t.one t.one_is in
+    let k : image_words t.two ≡ image_words (adder 20) = image_is ignore text_twenty (adder 20) twenty t.two t.two_is in
+    let (text, printed, shows) = law t.one t.two 200 400 55 210 123 8 223 8
     (brings text_ten (adder 10) ten s 1 t.one t.one_is t.first 200 55 55 _ calls.ten refl (calls.ten_ends (pos 55)))
     (brings text_twenty (adder 20) twenty s 2 t.two t.two_is t.second 400 210 265 _ calls.twenty refl (calls.twenty_ends (pos 265))) (omega arith)
+    (counted_as (image_words t.one) (image_words (adder 10)) 55 123 8 e (count.ten 55)) (counted_as (image_words t.two) (image_words (adder 20)) 265 223 8 k (count.twenty 265))
     words status old new headlines session s rows before h some view
     (asks_system images kernel_text (image_words t.one ∷ image_words t.two ∷ []) words old.shelf.file session s rows h.asked t.users_are asks) in (
       text,
       printed,
-      shown (around rows old) (booted s rows) (first_state session s rows before) (steps_before session.start (booted s rows)) (length rows.lines) session.turns session.steps status text
-          t.one t.two t.one_is t.two_is shows,
+      shown_of (around rows old) (booted s rows) (first_state session s rows before) (steps_before session.start (booted s rows)) (length rows.lines) session.turns session.steps status text
+          (image_words t.one) (image_words t.two) (image_words (adder 10)) (image_words (adder 20)) e k shows,
     )

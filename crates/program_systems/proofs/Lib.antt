@@ -1,4 +1,7 @@
 mod Coming
+mod Counting
+mod Places
+mod AdderCounts
 mod Adders
 mod AdderTexts
 mod Programs

@@ -1,9 +1,11 @@
 -- What is known of any two users that call serves two programs, whose calls come within the steps of their units.
 use Rattle.std.specs.Prelude.{pos}
-use Rattle.std.proofs.Common.{ℕ, ◌+◌, ◌*◌, ◌≤◌, List, [], length, arith}
+use Rattle.std.proofs.Common.{ℕ, ◌+◌, ◌*◌, ◌≤◌, List, length, subst, arith}
 use Rattle.std.proofs.lemmas.Nat.{mul-le}
 use Rattle.mips_table.specs.Device.{Outside}
 use Rattle.mips_table.specs.Machine.{State}
+use Rattle.mips_table.specs.declared.cause.Cause.TheVariants.{Syscall}
+use Rattle.mips_table.specs.Flat.{Flat}
 use Rattle.c0_tree.specs.Tree.{CUnit}
 use Rattle.cvm_model.specs.Cvm.{System, first_flat, map_of, reset_steps, turn_steps, enter_steps, leave_steps, run_steps}
 use Rattle.run_bounds.specs.Steps.{steps_for}
@@ -11,9 +13,11 @@ use Rattle.cvm_shell.specs.declared.exit_status.ExitStatus.{ExitStatus}
 use Rattle.cvm_shell.specs.Boot.{booted, around, first_state, steps_before}
 use Rattle.user_c0.specs.Image.{image_words}
 use Rattle.user_c0.specs.Program.{steps_of}
+use Rattle.summing.specs.Property.{CallsAfter}
 use Rattle.summing.specs.Boots.{SumShown, AnyUsersSum}
+use Rattle.program_systems.specs.Counts.{IsCounted, CountsTell}
 use Rattle.program_systems.specs.Coming.{ComesToCall, FirstCallsCome}
-use Rattle.program_systems.specs.Boots.{Brings, ProgramSumShown, AnyProgramsSum}
+use Rattle.program_systems.specs.Boots.{Brings, ProgramSumShown, AnyProgramsSum, AnyCountedProgramsSum}
 
 -- more turns want more steps
 sums : (r d a b late steps : ℕ) → a ≤ b → r + b + d + late ≤ steps → r + a + d + late ≤ steps
@@ -55,3 +59,14 @@ any_programs_sum comes law one two n k v w first second fits words status old ne
       shown (around rows old) (booted s rows) (first_state session s rows before) (steps_before session.start (booted s rows)) (length rows.lines) session.turns session.steps
           one two n k v w c.steps d.steps c.few d.few status text shows,
     )
+
+-- WITH COUNTED STEPS: the call comes behind just these
+counted_call : CountsTell → (f : Flat) (most a v : ℕ) → ComesToCall f most (pos v) → IsCounted f a → CallsAfter f a v
+counted_call tell f most a v c is = subst (λ m. CallsAfter f m v) (tell.exactly f a c.steps Syscall is c.traps) (record { calls = c.traps; value_is = c.argument })
+
+pub any_counted_programs_sum : FirstCallsCome → CountsTell → AnyUsersSum → AnyCountedProgramsSum
+any_counted_programs_sum comes tell law one two n k v w a b first second fits counted also words status old new headlines session s rows before h some view system =
+    law (image_words one) (image_words two) a b v w
+    (counted_call tell (first_flat (image_words one)) (steps_of n) a v (calls_after one n v comes first) counted)
+    (counted_call tell (first_flat (image_words two)) (steps_of k) b w (calls_after two k w comes second) also)
+    fits words status old new headlines session s rows before h some view system

@@ -5,16 +5,16 @@ use Rattle.program_systems.specs.Boots.{CompiledStepsAreFew}
 
 -- over plain numbers: users, pages, frames and the longest busy time
 counted : (raised users pages frames longest : ℕ) → users ≡ 2 → pages ≡ 20 → frames ≡ 48 → longest ≡ 0
-    → 20000 + 64 * (users * pages + frames) + (364003 + raised) * (1 + 2 * (200000 + 32 * (users * pages) + 6 * longest)) + (3 + raised) * (1000 + 1000 + (600 * 100 + (200000 + 32 * (users * pages) + 6 * longest) * 0))
-    ≡ 146533623315 + 464561 * raised
+    → 20000 + 64 * (users * pages + frames) + (349 + raised) * (1 + 2 * (200000 + 32 * (users * pages) + 6 * longest)) + (3 + raised) * (1000 + 1000 + (600 * 100 + (200000 + 32 * (users * pages) + 6 * longest) * 0))
+    ≡ 140705421 + 464561 * raised
 counted raised users pages frames longest u p f l = rw (u, p, f, l) (omega arith)
 
 pub steps_are_few : CompiledStepsAreFew
 steps_are_few s rows raised pages frames users busy = counted raised _ _ _ _ users pages frames busy
 
 answered : (raised users pages frames longest : ℕ) → users ≡ 2 → pages ≡ 20 → frames ≡ 48 → longest ≡ 0
-    → 20000 + 64 * (users * pages + frames) + (364005 + raised) * (1 + 2 * (200000 + 32 * (users * pages) + 6 * longest)) + (5 + raised) * (1000 + 1000 + (600 * 100 + (200000 + 32 * (users * pages) + 6 * longest) * 0))
-    ≡ 146534552437 + 464561 * raised
+    → 20000 + 64 * (users * pages + frames) + (367 + raised) * (1 + 2 * (200000 + 32 * (users * pages) + 6 * longest)) + (5 + raised) * (1000 + 1000 + (600 * 100 + (200000 + 32 * (users * pages) + 6 * longest) * 0))
+    ≡ 148075519 + 464561 * raised
 answered raised users pages frames longest u p f l = rw (u, p, f, l) (omega arith)
 
 pub answered_steps_are_few : AnsweredStepsAreFew

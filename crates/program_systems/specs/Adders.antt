@@ -6,6 +6,9 @@ use Rattle.c0_tree.specs.Tree.{assign, call, loop, binary, code, CUnit}
 use Rattle.c0_tree.specs.Tree as tree
 use Rattle.c0_meaning.specs.UserProgram.{prog, done, not_yet}
 use Rattle.worked_rows.specs.Kernels.{z, name, decl, local, number, block, function}
+use Rattle.cvm_model.specs.Cvm.{first_flat}
+use Rattle.user_c0.specs.Image.{image_words}
+use Rattle.program_systems.specs.Counts.{AreCounted}
 
 -- int main() { int i; int s; int a; while (i < LIMIT) { i = i + 1; s = s + i; } a = trap(s); return 0; }
 abbrev pub adder : ℕ → CUnit
@@ -27,3 +30,8 @@ pub record AddersCall : Type 0 where
   pub twenty : prog (adder 20) [] 400 ≡ record { arguments = pos 210 ∷ []; ending = not_yet }
   pub ten_ends : (x : ℤ) → prog (adder 10) (x ∷ []) 200 ≡ record { arguments = pos 55 ∷ []; ending = done }
   pub twenty_ends : (x : ℤ) → prog (adder 20) (x ∷ []) 400 ≡ record { arguments = pos 210 ∷ []; ending = done }
+
+-- A LAW: their images call behind 123 steps and behind 223, and end behind 8 more, whatever they are answered
+pub record AddersAreCounted : Type 0 where
+  pub ten : (x : ℕ) → AreCounted (first_flat (image_words (adder 10))) x 123 8
+  pub twenty : (x : ℕ) → AreCounted (first_flat (image_words (adder 20))) x 223 8

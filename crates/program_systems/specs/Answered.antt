@@ -6,10 +6,8 @@ use Rattle.mips_table.specs.Device.{Outside}
 use Rattle.mips_table.specs.Machine.{State}
 use Rattle.mips_table.specs.Flat.{Flat}
 use Rattle.layer_map.specs.Map.{Map}
-use Rattle.c0_tree.specs.declared.primitive.Program.TheVariants.{User}
 use Rattle.c0_tree.specs.Tree.{CUnit}
 use Rattle.c0_meaning.specs.UserProgram.{prog, done}
-use Rattle.c0_types.specs.Front.{IsUnitAs}
 use Rattle.boot_turns.specs.declared.answers.View.TheVariants.{Boot}
 use Rattle.cvm_model.specs.Cvm.{System, Halted, first_flat}
 use Rattle.cvm_model.specs.Text.{rows_text, users_text}
@@ -29,6 +27,8 @@ use Rattle.kernel_boots.specs.Systems.{AsksSystem}
 use Rattle.answering.specs.Text.{text as kernel_text}
 use Rattle.answering.specs.Property.{AsksAndEnds}
 use Rattle.answering.specs.Boots.{report_of, ended, AnswersShown}
+use Rattle.program_systems.specs.Counts.{AreCounted}
+use Rattle.program_systems.specs.Adders.{adder}
 use Rattle.program_systems.specs.AdderTexts.{text_ten, text_twenty}
 use Rattle.program_systems.specs.Boots.{IsLinkedOf}
 
@@ -70,17 +70,24 @@ AnyProgramsAnswered = (one two : CUnit) (n k v w : ℕ) → BringsAndEnds one n 
     × ProgramsAnsweredShown (around rows old) (booted s rows) (first_state session s rows before) (steps_before session.start (booted s rows)) (length rows.lines) session.turns session.steps
     one two n k v w status text
 
--- THE TWO ADDERS, as in Boots, but answered and run to their ends: with 364,005 turns and L more for L `line` rows
-pub record AddersAnswered (x : Outside) (y : System) (s : State) (late raised turns steps : ℕ) (status : ExitStatus) (text : List ℕ) : Type 0 where
-  pub one : CUnit
-  pub two : CUnit
-  pub one_is : IsUnitAs User text_ten one
-  pub two_is : IsUnitAs User text_twenty two
-  pub shows : ProgramsAnsweredShown x y s late raised turns steps one two 200 400 55 210 status text
+-- AND WHERE THEIR STEPS ARE COUNTED, a and c up to their calls, b and d from their answers to their ends, it shows what it shows of users that take just these
+abbrev pub AnyCountedProgramsAnswered : Type 0
+AnyCountedProgramsAnswered = (one two : CUnit) (n k v w a b c d : ℕ) → BringsAndEnds one n v v → BringsAndEnds two k w (v + w) → v + w < 2 ^ 31
+    → AreCounted (first_flat (image_words one)) v a b → AreCounted (first_flat (image_words two)) (v + w) c d
+    → (words : List (List ℕ)) (status : ExitStatus) (old new : Host) → Headlines (λ (o : Host). o) words status old new
+    → (session : Session) (s : ImageSystem) (rows : Rows) (before : List (List ℕ)) → (h : IsHonest words session s rows before old new)
+    → status ≢ Memory → session.view ≡ Boot → AsksSystem kernel_text (image_words one ∷ image_words two ∷ []) h.asked
+    → (text : List ℕ) × (new.sink.text ≡ append_known old.sink.text text)
+    × AnswersShown (around rows old) (booted s rows) (first_state session s rows before) (steps_before session.start (booted s rows)) (length rows.lines) session.turns session.steps
+    a b c d v w (first_flat (image_words one)) (first_flat (image_words two)) status text
+
+-- THE TWO ADDERS, as in Boots, but answered and run to their ends: with 367 turns and L more for L `line` rows
+pub record AddersAnswered (x : Outside) (y : System) (s : State) (late raised turns steps : ℕ) (f g : Flat) (status : ExitStatus) (text : List ℕ) : Type 0 where
+  pub shows : AnswersShown x y s late raised turns steps 123 8 223 8 55 210 f g status text
   pub no_fault : status ≢ KernelFault
-  pub halted : 364005 + raised ≤ turns → steps_for y (364005 + raised) (5 + raised) 100 0 + late ≤ steps
-      → (status ≡ Done) × (length shows.shows.shown.stands.state.rows ≤ 5 + raised)
-      × (text ≡ rows_text shows.shows.shown.stands.state.rows ++ (codes "halted\nglobal total 265\n" ++ users_text 1 (ended shows.first.steps shows.first.rest 55 (first_flat (image_words one)) ∷ ended shows.second.steps shows.second.rest 265 (first_flat (image_words two)) ∷ [])))
+  pub halted : 367 + raised ≤ turns → steps_for y (367 + raised) (5 + raised) 100 0 + late ≤ steps
+      → (status ≡ Done) × (length shows.shown.stands.state.rows ≤ 5 + raised)
+      × (text ≡ rows_text shows.shown.stands.state.rows ++ (codes "halted\nglobal total 265\n" ++ users_text 1 (ended 123 8 55 f ∷ ended 223 8 265 g ∷ [])))
 
 -- EACH BOOT of an image with the kernel's text whose users are compiled of the two texts, under every schedule
 abbrev pub CompiledAnswersBoot : Type 0
@@ -88,9 +95,10 @@ CompiledAnswersBoot = (words : List (List ℕ)) (status : ExitStatus) (old new :
     → (session : Session) (s : ImageSystem) (rows : Rows) (before : List (List ℕ)) → (h : IsHonest words session s rows before old new)
     → status ≢ Memory → session.view ≡ Boot → AsksSource kernel_text h.asked → (layer : Map → List ℕ → List ℕ) → IsLinkedOf layer text_ten text_twenty s
     → (text : List ℕ) × (new.sink.text ≡ append_known old.sink.text text)
-    × AddersAnswered (around rows old) (booted s rows) (first_state session s rows before) (steps_before session.start (booted s rows)) (length rows.lines) session.turns session.steps status text
+    × AddersAnswered (around rows old) (booted s rows) (first_state session s rows before) (steps_before session.start (booted s rows)) (length rows.lines) session.turns session.steps
+    (first_flat (image_words (adder 10))) (first_flat (image_words (adder 20))) status text
 
 -- THE STEPS in numbers: with 20 pages for each user, 48 frames and no busy times, so many for L `line` rows, before those of a ROM
 abbrev pub AnsweredStepsAreFew : Type 0
 AnsweredStepsAreFew = (s : ImageSystem) (rows : Rows) (raised : ℕ) → s.params.pages ≡ 20 → s.params.frames ≡ 48 → length s.users ≡ 2 → longest rows ≡ 0
-    → steps_for (booted s rows) (364005 + raised) (5 + raised) 100 0 ≡ 146534552437 + 464561 * raised
+    → steps_for (booted s rows) (367 + raised) (5 + raised) 100 0 ≡ 148075519 + 464561 * raised

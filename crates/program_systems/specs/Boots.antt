@@ -4,11 +4,10 @@ use Rattle.std.specs.Io.KnownBytes.{append_known}
 use Rattle.schedule_file.specs.Rows.{Rows, longest}
 use Rattle.mips_table.specs.Device.{Outside}
 use Rattle.mips_table.specs.Machine.{State}
+use Rattle.mips_table.specs.Flat.{Flat}
 use Rattle.layer_map.specs.Map.{Map}
-use Rattle.c0_tree.specs.declared.primitive.Program.TheVariants.{User}
 use Rattle.c0_tree.specs.Tree.{CUnit}
 use Rattle.c0_meaning.specs.UserProgram.{prog}
-use Rattle.c0_types.specs.Front.{IsUnitAs}
 use Rattle.boot_image.specs.Reading.{answer as image_of}
 use Rattle.boot_turns.specs.declared.answers.View.TheVariants.{Boot}
 use Rattle.cvm_model.specs.Cvm.{System, Halted, first_flat}
@@ -31,6 +30,8 @@ use Rattle.kernel_boots.specs.Boots.{AsksSource}
 use Rattle.kernel_boots.specs.Systems.{AsksSystem}
 use Rattle.summing.specs.Text.{text as kernel_text}
 use Rattle.summing.specs.Boots.{report_of, SumShown}
+use Rattle.program_systems.specs.Counts.{IsCounted}
+use Rattle.program_systems.specs.Adders.{adder}
 use Rattle.program_systems.specs.AdderTexts.{text_ten, text_twenty}
 
 -- a program whose first call brings this number, and is made within n units
@@ -61,6 +62,17 @@ AnyProgramsSum = (one two : CUnit) (n k v w : ℕ) → Brings one n v → Brings
     × ProgramSumShown (around rows old) (booted s rows) (first_state session s rows before) (steps_before session.start (booted s rows)) (length rows.lines) session.turns session.steps
     one two n k v w status text
 
+-- AND WHERE THEIR STEPS ARE COUNTED, a and b up to their calls, it shows what it shows of users that call behind just these
+abbrev pub AnyCountedProgramsSum : Type 0
+AnyCountedProgramsSum = (one two : CUnit) (n k v w a b : ℕ) → Brings one n v → Brings two k w → v + w < 2 ^ 31
+    → IsCounted (first_flat (image_words one)) a → IsCounted (first_flat (image_words two)) b
+    → (words : List (List ℕ)) (status : ExitStatus) (old new : Host) → Headlines (λ (o : Host). o) words status old new
+    → (session : Session) (s : ImageSystem) (rows : Rows) (before : List (List ℕ)) → (h : IsHonest words session s rows before old new)
+    → status ≢ Memory → session.view ≡ Boot → AsksSystem kernel_text (image_words one ∷ image_words two ∷ []) h.asked
+    → (text : List ℕ) × (new.sink.text ≡ append_known old.sink.text text)
+    × SumShown (around rows old) (booted s rows) (first_state session s rows before) (steps_before session.start (booted s rows)) (length rows.lines) session.turns session.steps
+    a b v w (first_flat (image_words one)) (first_flat (image_words two)) status text
+
 -- A SYSTEM IS LINKED of programs with these texts: `compile program` puts the files of the texts, and the system is that of an image that was linked of an
 -- object, parameters and the files
 pub record IsLinkedOf (layer : Map → List ℕ → List ℕ) (first_text second_text : List ℕ) (s : ImageSystem) : Type 0 where
@@ -76,29 +88,27 @@ pub record IsLinkedOf (layer : Map → List ℕ → List ℕ) (first_text second
   pub linked : AreAcceptedAs layer object params (first_file ∷ second_file ∷ []) image
   pub accepted : Accepts layer (image_of image) (Ok s)
 
--- THE TWO ADDERS: whatever the programs' trees are, with their places in the text, the status is no kernel's fault; and under a schedule of L `line` rows, with
--- 364,003 turns and L more, and the steps of the machine for them, it is done, has halted, and its text is at most 3 + L rows and then the report, which says
--- the total of 265 and each user's machine behind its call
-pub record AddersShown (x : Outside) (y : System) (s : State) (late raised turns steps : ℕ) (status : ExitStatus) (text : List ℕ) : Type 0 where
-  pub one : CUnit
-  pub two : CUnit
-  pub one_is : IsUnitAs User text_ten one
-  pub two_is : IsUnitAs User text_twenty two
-  pub shows : ProgramSumShown x y s late raised turns steps one two 200 400 55 210 status text
+-- THE TWO ADDERS, whose machines at the start are f and g: the status is no kernel's fault; and under a schedule of L `line` rows, with 349 turns and L more,
+-- and the steps of the machine for them, it is done, has halted, and its text is at most 3 + L rows and then the report, which says the total of 265 and each
+-- user's machine behind its call
+pub record AddersShown (x : Outside) (y : System) (s : State) (late raised turns steps : ℕ) (f g : Flat) (status : ExitStatus) (text : List ℕ) : Type 0 where
+  pub shows : SumShown x y s late raised turns steps 123 223 55 210 f g status text
   pub no_fault : status ≢ KernelFault
-  pub halted : 364003 + raised ≤ turns → steps_for y (364003 + raised) (3 + raised) 100 0 + late ≤ steps
-      → (status ≡ Done) × (length shows.shows.shown.stands.state.rows ≤ 3 + raised)
-      × (text ≡ rows_text shows.shows.shown.stands.state.rows ++ (codes "halted\nglobal total 265\nglobal done true\n" ++ users_text 1 (after (suc shows.first_steps) (first_flat (image_words one)) ∷ after (suc shows.second_steps) (first_flat (image_words two)) ∷ [])))
+  pub halted : 349 + raised ≤ turns → steps_for y (349 + raised) (3 + raised) 100 0 + late ≤ steps
+      → (status ≡ Done) × (length shows.shown.stands.state.rows ≤ 3 + raised)
+      × (text ≡ rows_text shows.shown.stands.state.rows ++ (codes "halted\nglobal total 265\nglobal done true\n" ++ users_text 1 (after 124 f ∷ after 224 g ∷ [])))
 
--- EACH BOOT of an image with the kernel's text whose users are compiled of the two texts, under every schedule
+-- EACH BOOT of an image with the kernel's text whose users are compiled of the two texts, under every schedule; their machines at the start are those of the
+-- images of the two trees, whatever places the texts' own trees have
 abbrev pub CompiledSumsBoot : Type 0
 CompiledSumsBoot = (words : List (List ℕ)) (status : ExitStatus) (old new : Host) → Headlines (λ (o : Host). o) words status old new
     → (session : Session) (s : ImageSystem) (rows : Rows) (before : List (List ℕ)) → (h : IsHonest words session s rows before old new)
     → status ≢ Memory → session.view ≡ Boot → AsksSource kernel_text h.asked → (layer : Map → List ℕ → List ℕ) → IsLinkedOf layer text_ten text_twenty s
     → (text : List ℕ) × (new.sink.text ≡ append_known old.sink.text text)
-    × AddersShown (around rows old) (booted s rows) (first_state session s rows before) (steps_before session.start (booted s rows)) (length rows.lines) session.turns session.steps status text
+    × AddersShown (around rows old) (booted s rows) (first_state session s rows before) (steps_before session.start (booted s rows)) (length rows.lines) session.turns session.steps
+    (first_flat (image_words (adder 10))) (first_flat (image_words (adder 20))) status text
 
 -- THE STEPS in numbers: with 20 pages for each user, 48 frames and no busy times, so many for L `line` rows, before those of a ROM
 abbrev pub CompiledStepsAreFew : Type 0
 CompiledStepsAreFew = (s : ImageSystem) (rows : Rows) (raised : ℕ) → s.params.pages ≡ 20 → s.params.frames ≡ 48 → length s.users ≡ 2 → longest rows ≡ 0
-    → steps_for (booted s rows) (364003 + raised) (3 + raised) 100 0 ≡ 146533623315 + 464561 * raised
+    → steps_for (booted s rows) (349 + raised) (3 + raised) 100 0 ≡ 140705421 + 464561 * raised

@@ -1,4 +1,5 @@
 pub mod Coming
+pub mod Counts
 pub mod Adders
 pub mod AdderTexts
 pub mod Boots

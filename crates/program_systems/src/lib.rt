@@ -3,10 +3,11 @@
 #![tactic(auto)]
 
 ghost use Rattle.program_systems.specs.AdderTexts.{TextsAreAdders};
-ghost use Rattle.program_systems.specs.Adders.{AddersCall};
-ghost use Rattle.program_systems.specs.Answered.{AnsweredStepsAreFew, AnyProgramsAnswered, CompiledAnswersBoot, ProgramsAskAndEnd};
-ghost use Rattle.program_systems.specs.Boots.{AnyProgramsSum, CompiledStepsAreFew, CompiledSumsBoot};
+ghost use Rattle.program_systems.specs.Adders.{AddersAreCounted, AddersCall};
+ghost use Rattle.program_systems.specs.Answered.{AnsweredStepsAreFew, AnyCountedProgramsAnswered, AnyProgramsAnswered, CompiledAnswersBoot, ProgramsAskAndEnd};
+ghost use Rattle.program_systems.specs.Boots.{AnyCountedProgramsSum, AnyProgramsSum, CompiledStepsAreFew, CompiledSumsBoot};
 ghost use Rattle.program_systems.specs.Coming.{CallsCome, EndsCome, FirstCallsCome, ProgramsCome};
+ghost use Rattle.program_systems.specs.Counts.{CountsTell, ImagesIgnorePlaces};
 
 use answering::any_users_answered;
 use cvm_shell::laws::linked_users_have_their_programs;
@@ -51,9 +52,24 @@ pub fn first_calls_come()
     calls_come();
 }
 
+/// A law: where the steps of a machine are counted up to its next trap, that trap comes behind just these.
+pub fn counts_tell()
+    ensures { CountsTell }
+{}
+
+/// A law: a program's image doesn't depend on the places of its parts in the source, so it is the image of the tree that its text means.
+pub fn images_ignore_places()
+    ensures { ImagesIgnorePlaces }
+{}
+
 /// A law: the two programs call, with 55 and with 210, and then end, whatever they are answered.
 pub fn adders_call()
     ensures { AddersCall }
+{}
+
+/// A law: their images call behind 123 and behind 223 steps, and end behind 8 more.
+pub fn adders_are_counted()
+    ensures { AddersAreCounted }
 {}
 
 /// A law: the texts are those of the trees.
@@ -71,8 +87,17 @@ pub fn any_programs_sum()
     any_users_sum();
 }
 
-/// A law: so it is of each boot of an image that was linked of what `compile program` put of the two texts, with a total of 265, and with 364,003 turns more
-/// than the schedule has `line` rows.
+/// A law: where the programs' steps up to their calls are counted, it halts with as many turns as these, three, and the schedule's `line` rows.
+pub fn any_counted_programs_sum()
+    ensures { AnyCountedProgramsSum }
+{
+    first_calls_come();
+    counts_tell();
+    any_users_sum();
+}
+
+/// A law: so it is of each boot of an image that was linked of what `compile program` put of the two texts, with a total of 265, and with 349 turns more than
+/// the schedule has `line` rows, which are those that it takes without them.
 pub fn compiled_sums_boot()
     ensures { CompiledSumsBoot }
 {
@@ -81,10 +106,12 @@ pub fn compiled_sums_boot()
     program_texts_mean_trees();
     texts_are_adders();
     adders_call();
-    any_programs_sum();
+    images_ignore_places();
+    adders_are_counted();
+    any_counted_programs_sum();
 }
 
-/// A law: with 20 pages for each user, 48 frames and no busy times the steps that `compiled_sums_boot` asks for are 146,533,623,315, and 464,561 more for each
+/// A law: with 20 pages for each user, 48 frames and no busy times the steps that `compiled_sums_boot` asks for are 140,705,421, and 464,561 more for each
 /// `line` row.
 pub fn steps_are_few()
     ensures { CompiledStepsAreFew }
@@ -110,8 +137,18 @@ pub fn any_programs_answered()
     any_users_answered();
 }
 
-/// A law: so it is of each boot of an image that was linked of what `compile program` put of the two texts, with a total of 265, and with 364,005 turns more
-/// than the schedule has `line` rows.
+/// A law: where the programs' steps up to their calls, and from their answers to their ends, are counted, it halts with as many turns as these, five, and the
+/// schedule's `line` rows.
+pub fn any_counted_programs_answered()
+    ensures { AnyCountedProgramsAnswered }
+{
+    programs_ask_and_end();
+    counts_tell();
+    any_users_answered();
+}
+
+/// A law: so it is of each boot of an image that was linked of what `compile program` put of the two texts, with a total of 265, and with 367 turns more than
+/// the schedule has `line` rows.
 pub fn compiled_answers_boot()
     ensures { CompiledAnswersBoot }
 {
@@ -120,10 +157,12 @@ pub fn compiled_answers_boot()
     program_texts_mean_trees();
     texts_are_adders();
     adders_call();
-    any_programs_answered();
+    images_ignore_places();
+    adders_are_counted();
+    any_counted_programs_answered();
 }
 
-/// A law: and these, with the same numbers, are 146,534,552,437, and 464,561 more for each `line` row.
+/// A law: and these, with the same numbers, are 148,075,519, and 464,561 more for each `line` row.
 pub fn answered_steps_are_few()
     ensures { AnsweredStepsAreFew }
 {}
