@@ -1,0 +1,5 @@
+mod Texts
+mod Dispatching
+mod Following
+mod Property
+mod Ending

@@ -1,0 +1,5 @@
+use Rattle.mailing.proofs.Ending.{mail_ends}
+use Rattle.mailing.proofs.mail_ends.Goals as goal
+
+pub returns : goal.returns
+returns c = mail_ends

@@ -1,0 +1,5 @@
+use Rattle.mailing.proofs.Texts.{is_text}
+use Rattle.mailing.proofs.text_is_tree.Goals as goal
+
+pub returns : goal.returns
+returns c = is_text

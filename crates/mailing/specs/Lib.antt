@@ -1,0 +1,4 @@
+pub mod Tree
+pub mod Text
+pub mod Users
+pub mod Property
