@@ -12,7 +12,7 @@ use Rattle.mailing.specs.Users.{Leg, ended, steps_of, before_trap, Place, Runs, 
 use Rattle.mailing.specs.Property.{Message, sends, receives, numbers, ints, data_of, held, calls_left, over_of, status_of_places, stand, unsent, sent, StandsSo, IsMailing, IsCarried, IsFinished, turns_for, dispatches_for, MailEnds}
 
 -- WHAT IS ON ITS WAY: a sender that waits has sent one more
-asked : Place → List Message → List Message
+abbrev asked : Place → List Message → List Message
 asked Waits [] = []
 asked Waits (m ∷ ms) = m ∷ []
 asked (Runs t) ms = []

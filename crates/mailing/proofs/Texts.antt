@@ -6,6 +6,6 @@ use Rattle.kernel_theorems.specs.Text.{IsTextOf}
 use Rattle.mailing.specs.Text.{text}
 use Rattle.mailing.specs.Tree.{kernel_tree}
 
-pub is_text : IsTextOf 21000 text kernel_tree
+pub is_text : IsTextOf 80000 text kernel_tree
 unfolding mark_cut word_lexeme words marks
 is_text = record { short = omega arith; reads = refl; faultless = refl; is = refl }

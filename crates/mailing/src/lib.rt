@@ -23,5 +23,5 @@ pub fn mail_ends()
 
 /// A law: the text is that of the tree.
 pub fn text_is_tree()
-    ensures { IsTextOf 40000 text kernel_tree }
+    ensures { IsTextOf 80000 text kernel_tree }
 {}

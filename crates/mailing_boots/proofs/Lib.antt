@@ -1,0 +1,6 @@
+mod Through
+mod Boots
+mod Mailers
+mod ProgramTexts
+mod Programs
+mod Compiled

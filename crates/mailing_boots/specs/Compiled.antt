@@ -1,0 +1,91 @@
+-- What each boot of the system with a mailbox prints where its users are compiled of C0.
+use Rattle.std.specs.Prelude.{◌≡◌, ◌≢◌, ℕ, ◌+◌, ◌*◌, ◌≤◌, List, [], ◌∷◌, ◌++◌, length, codes}
+use Rattle.std.specs.Io.KnownBytes.{append_known}
+use Rattle.schedule_file.specs.Rows.{Rows, longest}
+use Rattle.mips_table.specs.Device.{Outside}
+use Rattle.mips_table.specs.Machine.{State}
+use Rattle.layer_map.specs.Map.{Map}
+use Rattle.c0_tree.specs.declared.primitive.Program.TheVariants.{User}
+use Rattle.c0_tree.specs.Tree.{CUnit}
+use Rattle.c0_types.specs.Front.{IsUnitAs}
+use Rattle.boot_turns.specs.declared.answers.View.TheVariants.{Boot}
+use Rattle.cvm_model.specs.Cvm.{System, Halted, first_flat}
+use Rattle.cvm_model.specs.Text.{rows_text, users_text}
+use Rattle.run_bounds.specs.Steps.{steps_for}
+use Rattle.kernel_linker.specs.Accept.{ImageSystem}
+use Rattle.user_c0.specs.Image.{image_words}
+use Rattle.user_c0.specs.Program.{steps_of as most_steps}
+use Rattle.cvm_shell.specs.declared.exit_status.ExitStatus.{ExitStatus}
+use Rattle.cvm_shell.specs.declared.exit_status.ExitStatus.TheVariants.{Done, KernelFault, Memory}
+use Rattle.cvm_shell.specs.declared.boot.Session.{Session}
+use Rattle.cvm_shell.specs.Host.{Host}
+use Rattle.cvm_shell.specs.Boot.{booted, around, first_state, steps_before, IsHonest}
+use Rattle.cvm_shell.specs.CommandEnds.{Headlines}
+use Rattle.kernel_boots.specs.Boots.{AsksSource}
+use Rattle.kernel_boots.specs.Systems.{AsksSystem}
+use Rattle.program_systems.specs.Boots.{IsLinkedOf}
+use Rattle.mailing.specs.Text.{text as kernel_text}
+use Rattle.mailing.specs.Users.{ended}
+use Rattle.mailing.specs.Property.{Message, sends, receives, numbers}
+use Rattle.mailing_boots.specs.Through.{untrapped_in}
+use Rattle.mailing_boots.specs.Boots.{report_of, MailShown}
+use Rattle.mailing_boots.specs.Mailers.{AreMailers, one_to_ten}
+use Rattle.mailing_boots.specs.Texts.{sender_text, receiver_text}
+
+-- the turns of programs that send and receive so many messages within n units and within k: the first, the steps of these units, and each trap
+abbrev pub turns_by : (n k messages : ℕ) → ℕ
+turns_by n k messages = 3 + 3 * messages + most_steps n + most_steps k
+
+-- WHAT A RUN SHOWS of programs that send and receive these numbers within n units and within k: they are messages, with some steps between, within the steps of
+-- these units; the run shows what it shows of such users, so the status is no kernel's fault; and with as many turns as these steps, each trap, the schedule's
+-- `line` rows and one, and the steps of the machine for them, it is done, has halted, and reports the numbers in order
+pub record ProgramMailShown (x : Outside) (y : System) (s : State) (late raised turns steps : ℕ) (one two : CUnit) (n k : ℕ) (ns : List ℕ) (status : ExitStatus) (text : List ℕ) : Type 0 where
+  pub messages : List Message
+  pub numbers_are : numbers messages ≡ ns
+  pub sender_last : ℕ
+  pub receiver_last : ℕ
+  pub few_sending : untrapped_in (sends messages) sender_last ≤ most_steps n
+  pub few_receiving : untrapped_in (receives messages) receiver_last ≤ most_steps k
+  pub shows : MailShown x y s late raised turns steps messages sender_last receiver_last (first_flat (image_words one)) (first_flat (image_words two)) status text
+  pub halted : turns_by n k (length ns) + raised ≤ turns → steps_for y (turns_by n k (length ns) + raised) (3 + 3 * length ns + raised) 200 0 + late ≤ steps
+      → (status ≡ Done) × (shows.shown.stands.state.status ≡ Halted) × (length shows.shown.stands.state.rows ≤ 3 + 3 * length ns + raised)
+      × (text ≡ rows_text shows.shown.stands.state.rows
+      ++ report_of ns (ended (first_flat (image_words one)) (sends messages) sender_last ∷ ended (first_flat (image_words two)) (receives messages) receiver_last ∷ []))
+
+-- EACH BOOT of an image with the kernel's text and the images of two such programs shows this, under every schedule
+abbrev pub AnyProgramsMail : Type 0
+AnyProgramsMail = (one two : CUnit) (n k : ℕ) (ns : List ℕ) → AreMailers one two n k ns
+    → (words : List (List ℕ)) (status : ExitStatus) (old new : Host) → Headlines (λ (o : Host). o) words status old new
+    → (session : Session) (s : ImageSystem) (rows : Rows) (before : List (List ℕ)) → (h : IsHonest words session s rows before old new)
+    → status ≢ Memory → session.view ≡ Boot → AsksSystem kernel_text (image_words one ∷ image_words two ∷ []) h.asked
+    → (text : List ℕ) × (new.sink.text ≡ append_known old.sink.text text)
+    × ProgramMailShown (around rows old) (booted s rows) (first_state session s rows before) (steps_before session.start (booted s rows)) (length rows.lines) session.turns session.steps
+    one two n k ns status text
+
+-- what is printed of the kernel's data and of the console
+abbrev pub mail_lines : List ℕ
+mail_lines =
+    codes "halted\nglobal box 0\nglobal waits 0\nglobal over 3\ncon 00000001\ncon 00000002\ncon 00000003\ncon 00000004\ncon 00000005\ncon 00000006\ncon 00000007\ncon 00000008\ncon 00000009\ncon 0000000a\n"
+
+-- THE NAMED SYSTEM: whatever the programs' trees are, with their places in the text, what was sent was printed, once and in order, but for three messages at most;
+-- the status is no kernel's fault; and under a schedule of L `line` rows, with 604,033 turns and L more, and the steps of the machine for them, it is done, has
+-- halted, and its text is at most 33 + L rows and then the report: the numbers from 1 to 10 on the console, and each user's machine behind its end
+pub record NamedMailShown (x : Outside) (y : System) (s : State) (late raised turns steps : ℕ) (status : ExitStatus) (text : List ℕ) : Type 0 where
+  pub one : CUnit
+  pub two : CUnit
+  pub one_is : IsUnitAs User sender_text one
+  pub two_is : IsUnitAs User receiver_text two
+  pub shows : ProgramMailShown x y s late raised turns steps one two 400 600 one_to_ten status text
+  pub no_fault : status ≢ KernelFault
+  pub halted : 604033 + raised ≤ turns → steps_for y (604033 + raised) (33 + raised) 200 0 + late ≤ steps
+      → (status ≡ Done) × (length shows.shows.shown.stands.state.rows ≤ 33 + raised)
+      × (text ≡ rows_text shows.shows.shown.stands.state.rows ++ (mail_lines
+      ++ users_text 1 (ended (first_flat (image_words one)) (sends shows.messages) shows.sender_last ∷ ended (first_flat (image_words two)) (receives shows.messages) shows.receiver_last ∷ [])))
+
+-- EACH BOOT of an image with the kernel's text whose users are compiled of the two texts, under every schedule
+abbrev pub CompiledMailBoots : Type 0
+CompiledMailBoots = (words : List (List ℕ)) (status : ExitStatus) (old new : Host) → Headlines (λ (o : Host). o) words status old new
+    → (session : Session) (s : ImageSystem) (rows : Rows) (before : List (List ℕ)) → (h : IsHonest words session s rows before old new)
+    → status ≢ Memory → session.view ≡ Boot → AsksSource kernel_text h.asked → (layer : Map → List ℕ → List ℕ) → IsLinkedOf layer sender_text receiver_text s
+    → (text : List ℕ) × (new.sink.text ≡ append_known old.sink.text text)
+    × NamedMailShown (around rows old) (booted s rows) (first_state session s rows before) (steps_before session.start (booted s rows)) (length rows.lines) session.turns session.steps status text
