@@ -88,7 +88,7 @@ module _ (y : System) (ms : List Message) (one two : ℕ) (f g : Flat) (k : ℕ)
     is_over : status_after past ≡ Halted → IsOver h.printed h.hand h.box h.rest h.sender_place
     is_over e = over h.printed h.hand h.box h.rest h.sender_from h.receiver_from h.sender_place h.receiver_place h.so (sym h.so.status_is ∙ e)
 
-    way : List Message
+    abbrev way : List Message
     way = held h.hand (held h.box (asked h.sender_place h.rest))
 
     parts : ms ≡ (h.printed ++ way) ++ unsent h.sender_place h.rest

@@ -27,7 +27,7 @@ use Rattle.kernel_theorems.specs.UserRuns.{after}
 use Rattle.kernel_theorems.proofs.UserRuns.{goes_before, goes_next, its_step, put_in}
 use Rattle.mailing.specs.Tree.{kernel_tree}
 use Rattle.mailing.specs.Users.{Leg, behind, told, CallsInTurn, before_trap, Place, Runs, Waits, Ended, machine_at, IsRunning, Follows}
-use Rattle.mailing.specs.Property.{Message, sends, receives, asks, prints, numbers, ints, AreSmall, Mails, data_of, held, number_in, IsFull, IsEmpty, calls_left, waits_by, over_by, over_of, status_of_places, Standing, stand, unsent, sent_by, sent, StandsSo, IsMailing, Mailing, MailIsPrinted}
+use Rattle.mailing.specs.Property.{Message, sends, receives, asks, prints, numbers, ints, AreSmall, Mails, data_of, held, number_in, IsFull, IsEmpty, calls_left, waits_by, over_by, over_of, status_of_places, Standing, stand, unsent, sent_by, sent, StandsSo, IsMailing, Mailing, MailIsKept, MailIsPrinted}
 use Rattle.mailing.proofs.Dispatching.{core_of, Gives, Code}
 use Rattle.mailing.proofs.Dispatching as code
 use Rattle.mailing.proofs.Following.{goes_on, is_answered, is_waiting, is_answered_late, is_over, word_of, TrapsSo, its_trap, IsThat, is_that}
@@ -657,7 +657,7 @@ module _ (y : System) (ms : List Message) (one two : ℕ) (r : Mails y ms one tw
       (λ t so here. first_steps k past h.printed h.hand h.box h.rest h.sender_from h.receiver_from c f e t h.receiver_place so here)
       (λ t so here. second_steps k past h.printed h.hand h.box h.rest h.sender_from h.receiver_from c f e h.sender_place t so here)
 
-  pub invariant : IsSystemInvariant y 200 (HasUsers y) J
+  invariant : IsSystemInvariant y 200 (HasUsers y) J
   invariant = record {
     start = λ fit. started;
     line = λ k mask past c some few fit is on h. lined (suc k) mask past c on h.1 h.0;
@@ -665,6 +665,9 @@ module _ (y : System) (ms : List Message) (one two : ℕ) (r : Mails y ms one tw
     step = λ k past c f e fit is fits on h. (stepped (suc k) past c f e on h.0, h.1);
   }
 
-pub mail_is_printed : RunsAreLawful → MailIsPrinted
-mail_is_printed laws y ms one two r lines eight k =
-    systems_hold laws y kernel_tree 200 (HasUsers y) (Mailing y ms one two (first_flat r.sender) (first_flat r.receiver)) r.meaning_is (laws.counted y kernel_tree r.meaning_is) (invariant y ms one two r) lines eight k
+pub mail_is_kept : MailIsKept
+mail_is_kept y ms one two r = invariant y ms one two r
+
+pub mail_is_printed : RunsAreLawful → MailIsKept → MailIsPrinted
+mail_is_printed laws kept y ms one two r lines eight k =
+    systems_hold laws y kernel_tree 200 (HasUsers y) (Mailing y ms one two (first_flat r.sender) (first_flat r.receiver)) r.meaning_is (laws.counted y kernel_tree r.meaning_is) (kept y ms one two r) lines eight k

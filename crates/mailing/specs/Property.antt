@@ -13,7 +13,7 @@ use Rattle.cvm_model.specs.KernelMeaning.{kernel_meaning}
 use Rattle.cvm_model.specs.Primitives.{user_of}
 use Rattle.cvm_model.specs.Cvm.{System, Cvm, Status, Running, Halted, first_flat, first_core, cvm, IsCvm}
 use Rattle.cvm_model.specs.Invariant.{Dispatch, dispatches_of, HasEight, HasUsers, IsSafe}
-use Rattle.cvm_model.specs.Systems.{SystemProperty, status_after, lines_taken, UsePages, SystemHolds}
+use Rattle.cvm_model.specs.Systems.{SystemProperty, status_after, lines_taken, UsePages, IsSystemInvariant, SystemHolds}
 use Rattle.mailing.specs.Tree.{kernel_tree}
 use Rattle.mailing.specs.Users.{Leg, CallsInTurn, ended, steps_of, Place, Runs, Waits, Ended, machine_at, IsRunning, Follows}
 
@@ -184,6 +184,11 @@ abbrev pub MailIsPrinted : Type 0
 MailIsPrinted = (y : System) (ms : List Message) (one two : ℕ) (r : Mails y ms one two) (lines : ℕ → ℕ) → HasEight lines → (k : ℕ)
     → ((c : Cvm) × (cvm y lines 200 k ≡ Some c))
     × ((c : Cvm) → IsCvm y lines (suc k) c → SystemHolds (HasUsers y) (Mailing y ms one two (first_flat r.sender) (first_flat r.receiver)) (suc k) (dispatches_of y lines 200 (suc k)) c)
+
+-- A LAW: it is an invariant of such a system, in the rule for whole systems
+abbrev pub MailIsKept : Type 0
+MailIsKept = (y : System) (ms : List Message) (one two : ℕ) (r : Mails y ms one two)
+    → IsSystemInvariant y 200 (HasUsers y) (Mailing y ms one two (first_flat r.sender) (first_flat r.receiver))
 
 -- EVERY MESSAGE THAT WAS SENT was printed, once and in order, but for three at most that are on their way; and where the system has halted none is
 pub record IsCarried (past : List Dispatch) (at : Core) : Type 0 where

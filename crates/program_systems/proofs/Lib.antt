@@ -5,7 +5,7 @@ mod AdderCounts
 mod Adders
 mod AdderTexts
 mod Programs
-mod Compiled
+pub mod Compiled
 mod StepCounts
 mod Asking
 mod CompiledAnswers

@@ -1,0 +1,91 @@
+-- From the texts to each boot.
+use Rattle.std.specs.Prelude.{codes, pos}
+use Rattle.std.specs.Fmt.{digits}
+use Rattle.std.proofs.Common.{◌≡◌, ℕ, ◌+◌, ◌*◌, ◌≤◌, List, [], ◌∷◌, ◌++◌, length, refl, ap, ◌∙◌, arith}
+use Rattle.mips_table.specs.Device.{Outside}
+use Rattle.mips_table.specs.Machine.{State}
+use Rattle.mips_table.specs.Flat.{Flat}
+use Rattle.c0_tree.specs.declared.primitive.Program.TheVariants.{User}
+use Rattle.c0_tree.specs.Tree.{CUnit}
+use Rattle.c0_meaning.specs.UserProgram.{prog, done}
+use Rattle.c0_types.specs.Front.{IsUnitAs}
+use Rattle.cvm_model.specs.Cvm.{System, first_flat}
+use Rattle.cvm_model.specs.Text.{rows_text, users_text}
+use Rattle.kernel_linker.specs.Accept.{ImageSystem}
+use Rattle.kernel_linker.specs.Sources.{AcceptedAreOfImages}
+use Rattle.user_c0.specs.Image.{image_words}
+use Rattle.cvm_shell.specs.declared.exit_status.ExitStatus.{ExitStatus}
+use Rattle.cvm_shell.specs.Boot.{booted, around, first_state, steps_before}
+use Rattle.cvm_shell.specs.Programs.{HasProgram, LinkedPrograms}
+use Rattle.kernel_theorems.specs.Text.{MeansProgram}
+use Rattle.program_systems.proofs.Compiled.{AreThere, are_there, asks_system}
+use Rattle.mailing.specs.Text.{text as kernel_text}
+use Rattle.mailing.specs.Users.{ended}
+use Rattle.mailing.specs.Property.{sends, receives}
+use Rattle.mailing_boots.specs.Through.{ints, AreInts, CallsAndReturns}
+use Rattle.mailing_boots.specs.Boots.{report_of}
+use Rattle.mailing_boots.specs.Mailers.{zeros, asked_for, told_for, CanBeSent, AreMailers, sender, receiver, one_to_ten, MailersCall}
+use Rattle.mailing_boots.specs.Texts.{sender_text, receiver_text}
+use Rattle.mailing_boots.specs.Compiled.{mail_lines, ProgramMailShown, AnyProgramsMail, NamedMailShown, CompiledMailBoots}
+
+-- a program of a text whose tree is known to call so
+calls_so : (text : List ℕ) (tree : CUnit) → MeansProgram text tree → (s : ImageSystem) (i : ℕ) (u : CUnit) → IsUnitAs User text u → HasProgram u s i → (n : ℕ) (arguments answers : List ℕ)
+    → prog tree (ints answers) n ≡ record { arguments = ints arguments; ending = done } → length arguments ≡ length answers → AreInts answers → CallsAndReturns u n arguments answers
+calls_so text tree means s i u is has n arguments answers computed as_many small = record {
+  program = record { checked = has.checked; small = has.small };
+  runs = means.program_is u is (ints answers) n ∙ computed;
+  as_many = as_many;
+  small = small;
+}
+
+small_zeros : AreInts (zeros one_to_ten)
+small_zeros = (omega arith, omega arith, omega arith, omega arith, omega arith, omega arith, omega arith, omega arith, omega arith, omega arith, tt)
+
+small_told : AreInts (told_for one_to_ten)
+small_told = (omega arith, omega arith, omega arith, omega arith, omega arith, omega arith, omega arith, omega arith, omega arith, omega arith,
+omega arith, omega arith, omega arith, omega arith, omega arith, omega arith, omega arith, omega arith, omega arith, omega arith, tt)
+
+can_be_sent : CanBeSent one_to_ten
+can_be_sent = (omega arith, omega arith, omega arith, omega arith, omega arith, omega arith, omega arith, omega arith, omega arith, omega arith,
+omega arith, omega arith, omega arith, omega arith, omega arith, omega arith, omega arith, omega arith, omega arith, omega arith, tt)
+
+-- the report, letter by letter
+lines_are : (users : List Flat) → report_of one_to_ten users ≡ mail_lines ++ users_text 1 users
+unfolding digits
+lines_are users = refl
+
+module _ (x : Outside) (y : System) (s : State) (late raised turns steps : ℕ) (status : ExitStatus) (text : List ℕ) (one two : CUnit) (one_is : IsUnitAs User sender_text one) (two_is : IsUnitAs User receiver_text two)
+    (h : ProgramMailShown x y s late raised turns steps one two 400 600 one_to_ten status text) where
+  shown : NamedMailShown x y s late raised turns steps status text
+  shown = record {
+    one = one;
+    two = two;
+    one_is = one_is;
+    two_is = two_is;
+    shows = h;
+    no_fault = h.shows.no_fault;
+    halted = λ enough long. let e = h.halted enough long in (
+      e.0,
+      e.2,
+      e.3 ∙ ap (λ (t : List ℕ). rows_text h.shows.shown.stands.state.rows ++ t)
+          (lines_are (ended (first_flat (image_words one)) (sends h.messages) h.sender_last ∷ ended (first_flat (image_words two)) (receives h.messages) h.receiver_last ∷ [])),
+    );
+  }
+
+pub compiled_mail_boots : AcceptedAreOfImages → LinkedPrograms → MeansProgram sender_text sender → MeansProgram receiver_text receiver → MailersCall → AnyProgramsMail → CompiledMailBoots
+compiled_mail_boots images linked means_one means_two calls law words status old new headlines session s rows before h some view asks layer l =
+    let t : AreThere s sender_text receiver_text = are_there images linked layer sender_text receiver_text s l in
+    let (text, printed, shows) = law t.one t.two 400 600 one_to_ten
+    (record {
+      sender = calls_so sender_text sender means_one s 1 t.one t.one_is t.first 400 one_to_ten (zeros one_to_ten) calls.sends refl small_zeros;
+      receiver = calls_so receiver_text receiver means_two s 2 t.two t.two_is t.second 600 (asked_for one_to_ten) (told_for one_to_ten) calls.receives refl small_told;
+      small = can_be_sent;
+      few = omega arith;
+    })
+    words status old new headlines session s rows before h some view
+    (asks_system images kernel_text (image_words t.one ∷ image_words t.two ∷ []) words old.shelf.file session s rows h.asked t.users_are asks) in (
+      text,
+      printed,
+      shown (around rows old) (booted s rows) (first_state session s rows before) (steps_before session.start (booted s rows)) (length rows.lines) session.turns session.steps status text
+          t.one t.two t.one_is t.two_is shows,
+    )

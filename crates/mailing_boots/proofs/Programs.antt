@@ -1,0 +1,163 @@
+-- What is known of any sender and receiver serves two programs, whose calls are known and come within the steps of their units.
+use Rattle.std.specs.Prelude.{map}
+use Rattle.std.proofs.Common.{◌≡◌, ℕ, suc, ◌+◌, ◌*◌, ◌≤◌, List, [], ◌∷◌, ◌++◌, length, refl, sym, ap, ap₂, ◌∙◌, subst, arith}
+use Rattle.std.proofs.lemmas.Nat.{mul-le}
+use Rattle.mips_table.specs.Device.{Outside}
+use Rattle.mips_table.specs.Machine.{State, LOG_ROOM}
+use Rattle.mips_table.specs.Flat.{Flat}
+use Rattle.c0_tree.specs.Tree.{CUnit}
+use Rattle.cvm_model.specs.Cvm.{System, first_flat, map_of, reset_steps, turn_steps, enter_steps, leave_steps, run_steps}
+use Rattle.cvm_model.specs.Text.{rows_text}
+use Rattle.run_bounds.specs.Steps.{steps_for}
+use Rattle.cvm_shell.specs.declared.exit_status.ExitStatus.{ExitStatus}
+use Rattle.cvm_shell.specs.Boot.{booted, around, first_state, steps_before}
+use Rattle.user_c0.specs.Image.{image_words}
+use Rattle.user_c0.specs.Program.{steps_of as most_steps}
+use Rattle.mailing.specs.Users.{Leg, CallsInTurn, ended, steps_of}
+use Rattle.mailing.specs.Property.{Message, sends, receives, numbers, AreSmall, turns_for, dispatches_for}
+use Rattle.mailing_boots.specs.Through.{untrapped_in, ComesThrough, ProgramsComeThrough}
+use Rattle.mailing_boots.specs.Boots.{report_of, MailShown, AnyUsersMail}
+use Rattle.mailing_boots.specs.Mailers.{zeros, asked_for, told_for, CanBeSent, AreMailers}
+use Rattle.mailing_boots.specs.Compiled.{turns_by, ProgramMailShown, AnyProgramsMail}
+
+-- TWO USERS' CALLS are those of messages
+record AreOf (ns : List ℕ) (sending receiving : List Leg) : Type 0 where
+  messages : List Message
+  numbers_are : numbers messages ≡ ns
+  sends_are : sends messages ≡ sending
+  receives_are : receives messages ≡ receiving
+
+abbrev arguments_of : List Leg → List ℕ
+arguments_of legs = map (λ (leg : Leg). leg.argument) legs
+
+abbrev answers_of : List Leg → List ℕ
+answers_of legs = map (λ (leg : Leg). leg.answer) legs
+
+leg_is : (a : Leg) (i j : ℕ) → a.argument ≡ i → a.answer ≡ j → record { steps = a.steps; argument = i; answer = j } ≡ a
+leg_is a i j e h = ap₂ (λ (i j : ℕ). record { steps = a.steps; argument = i; answer = j }) (sym e) (sym h)
+
+head_is : (a b : ℕ) (as bs : List ℕ) → a ∷ as ≡ b ∷ bs → a ≡ b
+head_is a b as bs e = cc
+
+tail_is : (a b : ℕ) (as bs : List ℕ) → a ∷ as ≡ b ∷ bs → as ≡ bs
+tail_is a b as bs e = cc
+
+one_more : (n : ℕ) (ns : List ℕ) (a b c : Leg) (sending receiving : List Leg) → a.argument ≡ n → a.answer ≡ 0 → b.argument ≡ 0 → b.answer ≡ n → c.argument ≡ n → c.answer ≡ 0 → AreOf ns sending receiving
+    → AreOf (n ∷ ns) (a ∷ sending) (b ∷ c ∷ receiving)
+one_more n ns a b c sending receiving a_says a_hears b_says b_hears c_says c_hears r = record {
+  messages = record { number = n; sending = a.steps; asking = b.steps; printing = c.steps } ∷ r.messages;
+  numbers_are = ap (λ l. n ∷ l) r.numbers_are;
+  sends_are = ap₂ (λ (leg : Leg) (l : List Leg). leg ∷ l) (leg_is a n 0 a_says a_hears) r.sends_are;
+  receives_are = ap₂ (λ (leg : Leg) (l : List Leg). leg ∷ l) (leg_is b 0 n b_says b_hears) (ap₂ (λ (leg : Leg) (l : List Leg). leg ∷ l) (leg_is c n 0 c_says c_hears) r.receives_are);
+}
+
+are_of : (ns : List ℕ) (sending receiving : List Leg) → arguments_of sending ≡ ns → answers_of sending ≡ zeros ns → arguments_of receiving ≡ asked_for ns → answers_of receiving ≡ told_for ns → AreOf ns sending receiving
+are_of [] [] [] says hears asks told = record { messages = []; numbers_are = refl; sends_are = refl; receives_are = refl }
+are_of [] (a ∷ sending) receiving says hears asks told = absurd (cc)
+are_of [] [] (b ∷ receiving) says hears asks told = absurd (cc)
+are_of (n ∷ ns) [] receiving says hears asks told = absurd (cc)
+are_of (n ∷ ns) (a ∷ sending) [] says hears asks told = absurd (cc)
+are_of (n ∷ ns) (a ∷ sending) (b ∷ []) says hears asks told = absurd (let z = tail_is b.argument 0 [] (n ∷ asked_for ns) asks in cc)
+are_of (n ∷ ns) (a ∷ sending) (b ∷ c ∷ receiving) says hears asks told =
+    let asks_then = tail_is b.argument 0 (c.argument ∷ arguments_of receiving) (n ∷ asked_for ns) asks in
+    let told_then = tail_is b.answer n (c.answer ∷ answers_of receiving) (0 ∷ told_for ns) told in
+    one_more n ns a b c sending receiving
+    (head_is a.argument n (arguments_of sending) ns says) (head_is a.answer 0 (answers_of sending) (zeros ns) hears)
+    (head_is b.argument 0 (c.argument ∷ arguments_of receiving) (n ∷ asked_for ns) asks) (head_is b.answer n (c.answer ∷ answers_of receiving) (0 ∷ told_for ns) told)
+    (head_is c.argument n (arguments_of receiving) (asked_for ns) asks_then) (head_is c.answer 0 (answers_of receiving) (told_for ns) told_then)
+    (are_of ns sending receiving
+    (tail_is a.argument n (arguments_of sending) ns says) (tail_is a.answer 0 (answers_of sending) (zeros ns) hears)
+    (tail_is c.argument n (arguments_of receiving) (asked_for ns) asks_then) (tail_is c.answer 0 (answers_of receiving) (told_for ns) told_then))
+
+-- COUNTS: of steps, and of messages
+steps_are : (legs : List Leg) (last : ℕ) → steps_of legs last ≡ suc (length legs) + untrapped_in legs last
+steps_are [] last = omega arith
+steps_are (leg ∷ legs) last = let h = steps_are legs last in omega (arith, h)
+
+sends_count : (ms : List Message) → length (sends ms) ≡ length ms
+sends_count [] = refl
+sends_count (m ∷ ms) = ap suc (sends_count ms)
+
+receives_count : (ms : List Message) → length (receives ms) ≡ 2 * length ms
+receives_count [] = omega arith
+receives_count (m ∷ ms) = let h = receives_count ms in omega (arith, h)
+
+numbers_count : (ms : List Message) → length (numbers ms) ≡ length ms
+numbers_count [] = refl
+numbers_count (m ∷ ms) = ap suc (numbers_count ms)
+
+are_small : (ms : List Message) → CanBeSent (numbers ms) → AreSmall ms
+are_small [] h = tt
+are_small (m ∷ ms) h = (h.0, h.1, are_small ms h.2)
+
+-- MORE TURNS want more steps
+sums : (r d a b late steps : ℕ) → a ≤ b → r + b + d + late ≤ steps → r + a + d + late ≤ steps
+sums r d a b late steps le h = omega (arith, le, h)
+
+fewer_turns : (y : System) (j k d n p late steps : ℕ) → j ≤ k → steps_for y k d n p + late ≤ steps → steps_for y j d n p + late ≤ steps
+fewer_turns y j k d n p late steps le h =
+    sums (reset_steps (map_of y.boot)) (d * (enter_steps + leave_steps + run_steps (map_of y.boot) y.longest n p)) _ _ late steps
+    (mul-le j (turn_steps (map_of y.boot) y.longest) k (turn_steps (map_of y.boot) y.longest) le (omega arith)) h
+
+module _ (ns : List ℕ) (ms : List Message) (same : numbers ms ≡ ns) where
+  count : length ms ≡ length ns
+  count = sym (numbers_count ms) ∙ ap length same
+
+  dispatches_are : (raised : ℕ) → dispatches_for ms + raised ≡ 3 + 3 * length ns + raised
+  dispatches_are raised =
+      let a = sends_count ms in
+      let b = receives_count ms in
+      let c = count in
+      omega (arith, a, b, c)
+
+  turns_are_few : (n k one two raised : ℕ) → untrapped_in (sends ms) one ≤ most_steps n → untrapped_in (receives ms) two ≤ most_steps k → turns_for ms one two + raised ≤ turns_by n k (length ns) + raised
+  turns_are_few n k one two raised few_one few_two =
+      let a = sends_count ms in
+      let b = receives_count ms in
+      let c = count in
+      let d = steps_are (sends ms) one in
+      let e = steps_are (receives ms) two in
+      omega (arith, a, b, c, d, e, few_one, few_two)
+
+module _ (x : Outside) (y : System) (s : State) (late raised turns steps : ℕ) (one two : CUnit) (n k : ℕ) (ns : List ℕ) (ms : List Message) (same : numbers ms ≡ ns) (a b : ℕ)
+    (few_a : untrapped_in (sends ms) a ≤ most_steps n) (few_b : untrapped_in (receives ms) b ≤ most_steps k) (status : ExitStatus) (text : List ℕ)
+    (h : MailShown x y s late raised turns steps ms a b (first_flat (image_words one)) (first_flat (image_words two)) status text) where
+  shown : ProgramMailShown x y s late raised turns steps one two n k ns status text
+  shown = record {
+    messages = ms;
+    numbers_are = same;
+    sender_last = a;
+    receiver_last = b;
+    few_sending = few_a;
+    few_receiving = few_b;
+    shows = h;
+    halted = λ enough long.
+        let le = turns_are_few ns ms same n k a b raised few_a few_b in
+        let rows = dispatches_are ns ms same raised in
+        let then_long = subst (λ (d : ℕ). steps_for y (turns_by n k (length ns) + raised) d 200 0 + late ≤ steps) (sym rows) long in
+        let e = h.halted (omega (arith, le, enough)) (fewer_turns y (turns_for ms a b + raised) (turns_by n k (length ns) + raised) (dispatches_for ms + raised) 200 0 late steps le then_long) in
+        let fit = e.2 in (
+          e.0,
+          e.1,
+          omega (arith, fit, rows),
+          e.3 ∙ ap (λ (ns : List ℕ). rows_text h.shown.stands.state.rows
+          ++ report_of ns (ended (first_flat (image_words one)) (sends ms) a ∷ ended (first_flat (image_words two)) (receives ms) b ∷ [])) same,
+        );
+  }
+
+pub any_programs_mail : ProgramsComeThrough → AnyUsersMail → AnyProgramsMail
+any_programs_mail through law one two n k ns m words status old new headlines session s rows before h some view system =
+    let c : ComesThrough (first_flat (image_words one)) (most_steps n) ns (zeros ns) = through one n ns (zeros ns) m.sender in
+    let d : ComesThrough (first_flat (image_words two)) (most_steps k) (asked_for ns) (told_for ns) = through two k (asked_for ns) (told_for ns) m.receiver in
+    let z : AreOf ns c.legs d.legs = are_of ns c.legs d.legs c.arguments_are c.answers_are d.arguments_are d.answers_are in
+    let long = count ns z.messages z.numbers_are in
+    let few = m.few in
+    let (text, printed, shows) = law (image_words one) (image_words two) z.messages c.last d.last
+    (subst (λ legs. CallsInTurn (first_flat (image_words one)) legs c.last) (sym z.sends_are) c.calls)
+    (subst (λ legs. CallsInTurn (first_flat (image_words two)) legs d.last) (sym z.receives_are) d.calls)
+    (are_small z.messages (subst CanBeSent (sym z.numbers_are) m.small)) (omega (arith, long, few)) words status old new headlines session s rows before h some view system in (
+      text,
+      printed,
+      shown (around rows old) (booted s rows) (first_state session s rows before) (steps_before session.start (booted s rows)) (length rows.lines) session.turns session.steps one two n k ns z.messages z.numbers_are
+          c.last d.last (subst (λ legs. untrapped_in legs c.last ≤ most_steps n) (sym z.sends_are) c.few) (subst (λ legs. untrapped_in legs d.last ≤ most_steps k) (sym z.receives_are) d.few) status text shows,
+    )

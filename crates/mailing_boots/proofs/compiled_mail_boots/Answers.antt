@@ -1,0 +1,7 @@
+use Rattle.mailing_boots.proofs.Compiled.{compiled_mail_boots}
+use Rattle.mailing_boots.proofs.compiled_mail_boots.Goals as goal
+
+pub returns : goal.returns
+returns c = compiled_mail_boots c.accepted_systems_are_of_their_images.ensures c.linked_users_have_their_programs.ensures
+    (c.program_texts_mean_trees.ensures _ _ _ c.texts_are_mailers.ensures.sends) (c.program_texts_mean_trees.ensures _ _ _ c.texts_are_mailers.ensures.receives)
+    c.mailers_call.ensures c.any_programs_mail.ensures

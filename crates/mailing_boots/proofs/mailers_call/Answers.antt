@@ -1,0 +1,5 @@
+use Rattle.mailing_boots.proofs.Mailers.{mailers_call}
+use Rattle.mailing_boots.proofs.mailers_call.Goals as goal
+
+pub returns : goal.returns
+returns c = mailers_call
