@@ -2,7 +2,7 @@
 use Rattle.std.specs.Prelude.{◌≡◌, ℕ, ◌≤◌, ◌<◌, ◌^◌, List, [], ◌∷◌, length, map, codes}
 use Rattle.mips_table.specs.Machine.{LOG_ROOM}
 use Rattle.c0_tree.specs.declared.tree.Kind.TheVariants.{Local, Primitive}
-use Rattle.c0_tree.specs.declared.tree.BinaryOp.TheVariants.{Add, Lt}
+use Rattle.c0_tree.specs.declared.tree.BinaryOp.TheVariants.{Add, Lt, Ne}
 use Rattle.c0_tree.specs.Tree.{assign, call, loop, binary, code, CUnit}
 use Rattle.c0_tree.specs.Tree as tree
 use Rattle.c0_meaning.specs.UserProgram.{prog, done}
@@ -47,25 +47,24 @@ sender = record {
       call z (local (codes "ok") 1) z (name (codes "trap") Primitive 0) (local (codes "i") 0 ∷ []) ∷ [])) ∷ [])) (number 0)) ∷ [];
 }
 
--- int main() { int i; int message; int ok; while (i < 10) { i = i + 1; message = trap(0); ok = trap(message); } return 0; }
+-- int main() { int message; int ok; while (message != 10) { message = trap(0); ok = trap(message); } return 0; }
 abbrev pub receiver : CUnit
 receiver = record {
   length = 0;
   structs = [];
   globals = [];
   functions =
-      function tree.int (codes "main") 0 [] (code (decl tree.int (codes "i") Local 0 ∷ decl tree.int (codes "message") Local 1 ∷ decl tree.int (codes "ok") Local 2 ∷ []) (block (
-      loop z (binary z Lt (local (codes "i") 0) (number 10)) (block (
-      assign z (local (codes "i") 0) (binary z Add (local (codes "i") 0) (number 1)) ∷
-      call z (local (codes "message") 1) z (name (codes "trap") Primitive 0) (number 0 ∷ []) ∷
-      call z (local (codes "ok") 2) z (name (codes "trap") Primitive 0) (local (codes "message") 1 ∷ []) ∷ [])) ∷ [])) (number 0)) ∷ [];
+      function tree.int (codes "main") 0 [] (code (decl tree.int (codes "message") Local 0 ∷ decl tree.int (codes "ok") Local 1 ∷ []) (block (
+      loop z (binary z Ne (local (codes "message") 0) (number 10)) (block (
+      call z (local (codes "message") 0) z (name (codes "trap") Primitive 0) (number 0 ∷ []) ∷
+      call z (local (codes "ok") 1) z (name (codes "trap") Primitive 0) (local (codes "message") 0 ∷ []) ∷ [])) ∷ [])) (number 0)) ∷ [];
 }
 
 abbrev pub one_to_ten : List ℕ
 one_to_ten = 1 ∷ 2 ∷ 3 ∷ 4 ∷ 5 ∷ 6 ∷ 7 ∷ 8 ∷ 9 ∷ 10 ∷ []
 
 -- A LAW: within 400 units the sender calls with the numbers from 1 to 10, and returns; and within 600 the receiver asks ten times, has what it is told printed
--- each time, and returns
+-- each time, and returns behind 10
 pub record MailersCall : Type 0 where
   pub sends : prog sender (ints (zeros one_to_ten)) 400 ≡ record { arguments = ints one_to_ten; ending = done }
   pub receives : prog receiver (ints (told_for one_to_ten)) 600 ≡ record { arguments = ints (asked_for one_to_ten); ending = done }

@@ -16,8 +16,8 @@ sender_text = by_lines (
 abbrev pub receiver_text : List ℕ
 receiver_text = by_lines (
     codes "int main() {"
-    ∷ codes "  int i; int message; int ok;"
-    ∷ codes "  while (i < 10) { i = i + 1; message = trap(0); ok = trap(message); }"
+    ∷ codes "  int message; int ok;"
+    ∷ codes "  while (message != 10) { message = trap(0); ok = trap(message); }"
     ∷ codes "  return 0;"
     ∷ codes "}" ∷ [])
 
