@@ -15,8 +15,8 @@ from oracle.generate.writing import EXAMPLES, ROOM, STEPS, BrokenRule, Writer, l
 NOTE = '''The examples, from copies of their files: data/examples/NAME has those of examples/NAME, but for the pages. Written by bench/models/gen_examples.py.
 
 At which turns the lines of round_robin are taken hangs on the physical machine alone: as in lines.cases that text is the program's own, checked by
-that script. So are the texts of services, whose users are compiled: of these the script checks all that the compiled code has no part in. All others
-are worked out apart.'''
+that script. So are the texts of mailing and services, whose users are compiled: of these the script checks all that the compiled code has no part in.
+All others are worked out apart.'''
 
 
 def names_of(folder, ending):
@@ -116,6 +116,7 @@ class Examples(Folders):
             self.example(name)
             if name == 'messages':
                 self.saved_example(name, 50)
+        self.program_example('mailing')
         self.program_example('services')
 
 

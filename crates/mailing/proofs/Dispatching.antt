@@ -1,5 +1,5 @@
 -- What the kernel's code comes to, for each call that there is: with two users' machines, and data that are known as far as the code looks at them.
-use Rattle.std.proofs.Common.{◌≡◌, ℕ, zero, suc, ◌+◌, ◌≤◌, List, [], ◌∷◌, ◌++◌, length, true, false, nat_lt, Some, refl, sym, ap, ◌∙◌, subst, arith}
+use Rattle.std.proofs.Common.{◌≡◌, ℕ, ◌≤◌, [], ◌∷◌, ◌++◌, true, false, nat_lt, Some, refl, arith}
 use Rattle.std.specs.Prelude.{pos, slice_index}
 use Rattle.std.specs.Ordering.{int_eq}
 use Rattle.std.proofs.lemmas.Bool.{le-ltb, lt-ltb}

@@ -1,15 +1,15 @@
 -- What follows of a state of the system: what was sent is carried, how long it runs, and what it has come to where it has halted.
-use Rattle.std.proofs.Common.{◌≡◌, ◌⊎◌, ℕ, zero, suc, ◌+◌, ◌≤◌, ◌<◌, List, [], ◌∷◌, ◌++◌, length, Option, Some, None, Bool, true, false, refl, sym, ap, ap₂, ◌∙◌, subst, inl, inr, ⊎_elim, append_assoc, arith}
-use Rattle.std.specs.Prelude.{◌==◌, if◌then◌else◌, ℤ, pos, map}
+use Rattle.std.proofs.Common.{◌≡◌, ℕ, suc, ◌+◌, ◌≤◌, ◌<◌, List, [], ◌∷◌, ◌++◌, length, Option, Some, None, Bool, true, false, refl, sym, ap, ap₂, ◌∙◌, subst, ⊎_elim, append_assoc, arith}
+use Rattle.std.specs.Prelude.{◌==◌, if◌then◌else◌, pos, map}
 use Rattle.std.proofs.lemmas.List.{append_cancel_right}
 use Rattle.mips_table.specs.Flat.{Flat}
 use Rattle.cvm_model.specs.Kernel.{Core}
-use Rattle.cvm_model.specs.Cvm.{System, Running, Halted}
+use Rattle.cvm_model.specs.Cvm.{Running, Halted}
 use Rattle.cvm_model.specs.Invariant.{Dispatch, IsSafe}
 use Rattle.cvm_model.specs.Systems.{status_after, lines_taken}
 use Rattle.cvm_model.proofs.Systems.{append_none}
-use Rattle.mailing.specs.Users.{Leg, ended, steps_of, before_trap, Place, Runs, Waits, Ended, IsAt, steps_at, traps_at, IsRunning, Follows}
-use Rattle.mailing.specs.Property.{Message, sends, receives, numbers, ints, data_of, held, calls_left, over_of, status_of_places, stand, unsent, sent, StandsSo, IsMailing, IsCarried, IsFinished, turns_for, dispatches_for, MailEnds}
+use Rattle.mailing.specs.Users.{Leg, steps_of, before_trap, Place, Runs, Waits, Ended, IsAt, steps_at, traps_at, IsRunning}
+use Rattle.mailing.specs.Property.{Message, sends, numbers, ints, held, calls_left, over_of, status_of_places, stand, unsent, sent, StandsSo, IsMailing, IsCarried, IsFinished, turns_for, dispatches_for, MailEnds}
 
 -- WHAT IS ON ITS WAY: a sender that waits has sent one more
 abbrev asked : Place → List Message → List Message
@@ -51,9 +51,9 @@ few_held None xs n h = omega (arith, h)
 few_held (Some m) xs n h = omega (arith, h)
 
 -- A SYSTEM THAT HAS HALTED
-module _ (y : System) (ms : List Message) (one two : ℕ) (f g : Flat) (k : ℕ) (past : List Dispatch) (at : Core) where
+module _ (ms : List Message) (one two : ℕ) (f g : Flat) (k : ℕ) (past : List Dispatch) (at : Core) where
   abbrev So : (printed : List Message) → (hand box : Option Message) → (rest : List Message) → (a b : Flat) → (p q : Place) → Type 0
-  So printed hand box rest a b p q = StandsSo y ms one two f g k past at (stand printed hand box rest a b p q)
+  So printed hand box rest a b p q = StandsSo ms one two f g k past at (stand printed hand box rest a b p q)
 
   record IsOver (printed : List Message) (hand box : Option Message) (rest : List Message) (p : Place) : Type 0 where
     none_left : numbers (held hand (held box (asked p rest))) ≡ []
@@ -84,7 +84,7 @@ module _ (y : System) (ms : List Message) (one two : ℕ) (f g : Flat) (k : ℕ)
   over printed hand box rest a b Ended (Runs s) so e = not_halted (IsOver printed hand box rest Ended) e
   over printed hand box rest a b Ended Waits so e = not_halted (IsOver printed hand box rest Ended) e
 
-  module _ (h : IsMailing y ms one two f g k past at) where
+  module _ (h : IsMailing ms one two f g k past at) where
     is_over : status_after past ≡ Halted → IsOver h.printed h.hand h.box h.rest h.sender_place
     is_over e = over h.printed h.hand h.box h.rest h.sender_from h.receiver_from h.sender_place h.receiver_place h.so (sym h.so.status_is ∙ e)
 
@@ -135,7 +135,7 @@ safe_if : (b : Bool) → IsSafe (if b then Halted else Running)
 safe_if true = tt
 safe_if false = tt
 
-module _ (y : System) (ms : List Message) (one two : ℕ) (f g : Flat) (k : ℕ) (past : List Dispatch) (at : Core) (h : IsMailing y ms one two f g k past at) where
+module _ (ms : List Message) (one two : ℕ) (f g : Flat) (k : ℕ) (past : List Dispatch) (at : Core) (h : IsMailing ms one two f g k past at) where
   abbrev left : List Leg
   left = calls_left h.hand (held h.box h.rest)
 
@@ -165,9 +165,9 @@ module _ (y : System) (ms : List Message) (one two : ℕ) (f g : Flat) (k : ℕ)
 
 pub mail_ends : MailEnds
 mail_ends = record {
-  carried = λ y ms one two f g k past at h. is_carried y ms one two f g k past at h;
-  below = λ y ms one two f g k past at h on. below y ms one two f g k past at h on;
-  few = λ y ms one two f g k past at h. few y ms one two f g k past at h;
-  safe = λ y ms one two f g k past at h. safe y ms one two f g k past at h;
-  finished = λ y ms one two f g k past at h e. (is_over y ms one two f g k past at h e).finished;
+  carried = λ ms one two f g k past at h. is_carried ms one two f g k past at h;
+  below = λ ms one two f g k past at h on. below ms one two f g k past at h on;
+  few = λ ms one two f g k past at h. few ms one two f g k past at h;
+  safe = λ ms one two f g k past at h. safe ms one two f g k past at h;
+  finished = λ ms one two f g k past at h e. (is_over ms one two f g k past at h e).finished;
 }

@@ -1,11 +1,11 @@
 -- A user that follows its calls: with a step more, a call that is answered at once or later, and its end.
-use Rattle.std.proofs.Common.{◌≡◌, ℕ, zero, suc, ◌+◌, ◌≤◌, ◌<◌, List, [], ◌∷◌, length, refl, sym, ◌∙◌, subst, arith}
+use Rattle.std.proofs.Common.{◌≡◌, ℕ, suc, ◌≤◌, ◌<◌, List, [], ◌∷◌, sym, ◌∙◌, subst, arith}
 use Rattle.mips_table.specs.declared.cause.Cause.{Cause}
 use Rattle.mips_table.specs.declared.cause.Cause.TheVariants.{Syscall}
 use Rattle.mips_table.specs.Flat.{Flat, Trap, vstep}
 use Rattle.kernel_theorems.specs.UserRuns.{after, TrapsAfter}
 use Rattle.kernel_theorems.proofs.UserRuns.{traps_last, is_cause, leaves_last}
-use Rattle.mailing.specs.Users.{Leg, behind, CallsInTurn, ended, steps_of, before_trap, Place, Runs, Waits, Ended, Follows}
+use Rattle.mailing.specs.Users.{Leg, behind, CallsInTurn, before_trap, Runs, Waits, Ended, Follows}
 
 module _ (first : Flat) (all : List Leg) (last : ℕ) (f : Flat) where
   abbrev pub goes_on : (left : List Leg) (t : ℕ) → t < before_trap left last → Follows first all last f left (Runs t) → Follows first all last f left (Runs (suc t))

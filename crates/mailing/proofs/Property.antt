@@ -1,10 +1,9 @@
 -- Each dispatch, and each step of a user, keeps `IsMailing`.
-use Rattle.std.proofs.Common.{◌≡◌, ◌⊎◌, ℕ, zero, suc, ◌+◌, ◌≤◌, ◌<◌, ◌^◌, List, [], ◌∷◌, ◌++◌, length, Option, Some, None, Bool, true, false, nat_lt, refl, sym, ap, ap₂, ◌∙◌, subst, inl, inr, ⊎_elim, append_assoc, arith}
-use Rattle.std.specs.Prelude.{◌==◌, if◌then◌else◌, ℤ, pos, slice_index, map}
+use Rattle.std.proofs.Common.{◌≡◌, ◌⊎◌, ℕ, suc, ◌+◌, ◌≤◌, ◌<◌, ◌^◌, List, [], ◌∷◌, ◌++◌, length, Option, Some, None, true, false, nat_lt, refl, sym, ap, ap₂, ◌∙◌, subst, inl, inr, ⊎_elim, append_assoc, arith}
+use Rattle.std.specs.Prelude.{◌==◌, if◌then◌else◌, ℤ, pos, map}
 use Rattle.std.specs.Int.{w32, cast_unsigned}
 use Rattle.std.proofs.lemmas.Bool.{le-ltb, lt-ltb}
 use Rattle.std.proofs.lemmas.Int.{of_z-to_z, to_z_pos}
-use Rattle.mips_table.specs.Arith.{signed}
 use Rattle.mips_table.specs.Machine.{number_of, Console, LOG_ROOM, log_has_room}
 use Rattle.mips_table.specs.declared.cause.Cause.{Cause}
 use Rattle.mips_table.specs.declared.cause.Cause.TheVariants.{Syscall}
@@ -14,7 +13,7 @@ use Rattle.c0_meaning.specs.State.{State}
 use Rattle.c0_meaning.specs.World.{Configuration}
 use Rattle.c0_meaning.specs.Execution as c0_run
 use Rattle.cvm_model.specs.Kernel.{Core, Changes, KernelMeaning}
-use Rattle.cvm_model.specs.KernelMeaning.{Machines, setting_of, machines_of}
+use Rattle.cvm_model.specs.KernelMeaning.{Machines}
 use Rattle.cvm_model.specs.Primitives.{user_of, with_user}
 use Rattle.cvm_model.specs.Cvm.{System, Running, Halted, first_flat, first_core, status_of}
 use Rattle.cvm_model.specs.declared.row.Next.{Next}
@@ -26,11 +25,11 @@ use Rattle.cvm_model.proofs.KeptAll.{ComesWithin, keeps_within_by, all_user, all
 use Rattle.kernel_theorems.specs.UserRuns.{after}
 use Rattle.kernel_theorems.proofs.UserRuns.{goes_before, goes_next, its_step, put_in}
 use Rattle.mailing.specs.Tree.{kernel_tree}
-use Rattle.mailing.specs.Users.{Leg, behind, told, CallsInTurn, before_trap, Place, Runs, Waits, Ended, machine_at, IsRunning, Follows}
-use Rattle.mailing.specs.Property.{Message, sends, receives, asks, prints, numbers, ints, AreSmall, Mails, data_of, held, number_in, IsFull, IsEmpty, calls_left, waits_by, over_by, over_of, status_of_places, Standing, stand, unsent, sent_by, sent, StandsSo, IsMailing, Mailing, MailIsKept, MailIsPrinted}
+use Rattle.mailing.specs.Users.{Leg, told, before_trap, Place, Runs, Waits, Ended, machine_at, IsRunning, Follows}
+use Rattle.mailing.specs.Property.{Message, sends, receives, asks, prints, numbers, ints, AreSmall, Mails, data_of, held, number_in, IsFull, IsEmpty, calls_left, waits_by, over_of, status_of_places, Standing, stand, unsent, sent_by, sent, StandsSo, IsMailing, Mailing, MailIsKept, MailIsPrinted}
 use Rattle.mailing.proofs.Dispatching.{core_of, Gives, Code}
 use Rattle.mailing.proofs.Dispatching as code
-use Rattle.mailing.proofs.Following.{goes_on, is_answered, is_waiting, is_answered_late, is_over, word_of, TrapsSo, its_trap, IsThat, is_that}
+use Rattle.mailing.proofs.Following.{goes_on, is_answered, is_waiting, is_answered_late, is_over, TrapsSo, its_trap, IsThat, is_that}
 
 -- HISTORY with a dispatch more
 one_more : (past : List Dispatch) (d : Dispatch) → length (past ++ d ∷ []) ≡ suc (length past)
@@ -108,13 +107,13 @@ module _ (y : System) (ms : List Message) (one two : ℕ) (r : Mails y ms one tw
   p = y.boot.params
 
   abbrev I : SystemProperty
-  I = IsMailing y ms one two F G
+  I = IsMailing ms one two F G
 
   abbrev J : SystemProperty
   J = Mailing y ms one two F G
 
   abbrev So : ℕ → List Dispatch → Core → Standing → Type 0
-  So k past at s = StandsSo y ms one two F G k past at s
+  So k past at s = StandsSo ms one two F G k past at s
 
   has_room : nat_lt y.boot.params.stack 11 ≡ false
   has_room = le-ltb y.boot.params.stack 11 (let room = r.room in omega (arith, room))
@@ -298,9 +297,11 @@ module _ (y : System) (ms : List Message) (one two : ℕ) (r : Mails y ms one tw
       first_traps box rest f g t q so here =
           let us = after t f ∷ machine_at g (calls_left hand (held box rest)) two q ∷ [] in
           let is : IsThat f (sends rest) one t came.after cause edata = is_that f (sends rest) one so.sender.calls t so.sender.is_at came.after cause edata
-          (its_step c (after t f ∷ machine_at g (calls_left hand (held box rest)) two q ∷ []) 1 (Trap came.after cause edata) so.users_are here came.stepped) in
-          (is, came.left ∙ core_is c came.after (after (suc (before_trap (sends rest) one)) f) (after t f ∷ machine_at g (calls_left hand (held box rest)) two q ∷ [])
-          (data_of (number_in box) (waits_by 1 (Runs t) + waits_by 2 q) (over_of (Runs t) q)) 1 so.users_are here so.data_is is.left)
+          (its_step c (after t f ∷ machine_at g (calls_left hand (held box rest)) two q ∷ []) 1 (Trap came.after cause edata) so.users_are here came.stepped) in (
+            is,
+            came.left ∙ core_is c came.after (after (suc (before_trap (sends rest) one)) f) (after t f ∷ machine_at g (calls_left hand (held box rest)) two q ∷ [])
+                (data_of (number_in box) (waits_by 1 (Runs t) + waits_by 2 q) (over_of (Runs t) q)) 1 so.users_are here so.data_is is.left,
+          )
 
       puts : (m : Message) (rest : List Message) (f g : Flat) (t s : ℕ) → So k past c (stand printed hand None (m ∷ rest) f g (Runs t) (Runs s)) → c.current ≡ 1 → KeepsAll y 200 J k (number_of cause) edata past at
       puts m rest f g t s so here =
@@ -359,9 +360,11 @@ module _ (y : System) (ms : List Message) (one two : ℕ) (r : Mails y ms one tw
           × (at ≡ core_of (number_in box) (waits_by 1 q + waits_by 2 (Runs s)) (over_of q (Runs s)) (machine_at f (sends rest) one q) (after (suc (before_trap (calls_left hand (held box rest)) two)) g) c.console 2)
       second_traps box rest f g q s so here =
           let is : IsThat g (calls_left hand (held box rest)) two s came.after cause edata = is_that g (calls_left hand (held box rest)) two so.receiver.calls s so.receiver.is_at came.after cause edata
-          (its_step c (machine_at f (sends rest) one q ∷ after s g ∷ []) 2 (Trap came.after cause edata) so.users_are here came.stepped) in
-          (is, came.left ∙ core_is c came.after (after (suc (before_trap (calls_left hand (held box rest)) two)) g) (machine_at f (sends rest) one q ∷ after s g ∷ [])
-          (data_of (number_in box) (waits_by 1 q + waits_by 2 (Runs s)) (over_of q (Runs s))) 2 so.users_are here so.data_is is.left)
+          (its_step c (machine_at f (sends rest) one q ∷ after s g ∷ []) 2 (Trap came.after cause edata) so.users_are here came.stepped) in (
+            is,
+            came.left ∙ core_is c came.after (after (suc (before_trap (calls_left hand (held box rest)) two)) g) (machine_at f (sends rest) one q ∷ after s g ∷ [])
+                (data_of (number_in box) (waits_by 1 q + waits_by 2 (Runs s)) (over_of q (Runs s))) 2 so.users_are here so.data_is is.left,
+          )
 
   -- those of a receiver with nothing in its hand
   module _ (k : ℕ) (past : List Dispatch) (touch : UsePages y 200 0 past) (printed : List Message) (c at : Core) (cause : Cause) (edata : ℕ) (came : IsTrapOf c cause edata at) where

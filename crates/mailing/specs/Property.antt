@@ -11,7 +11,7 @@ use Rattle.c0_meaning.specs.State.{State}
 use Rattle.cvm_model.specs.Kernel.{Core}
 use Rattle.cvm_model.specs.KernelMeaning.{kernel_meaning}
 use Rattle.cvm_model.specs.Primitives.{user_of}
-use Rattle.cvm_model.specs.Cvm.{System, Cvm, Status, Running, Halted, first_flat, first_core, cvm, IsCvm}
+use Rattle.cvm_model.specs.Cvm.{System, Cvm, Status, Running, Halted, first_flat, cvm, IsCvm}
 use Rattle.cvm_model.specs.Invariant.{Dispatch, dispatches_of, HasEight, HasUsers, IsSafe}
 use Rattle.cvm_model.specs.Systems.{SystemProperty, status_after, lines_taken, UsePages, IsSystemInvariant, SystemHolds}
 use Rattle.mailing.specs.Tree.{kernel_tree}
@@ -149,7 +149,7 @@ ints ms = map (λ (m : Message). pos m.number) ms
 -- WHAT IS SO after k turns, whatever lines came. The messages are those that were printed, then that in the receiver's hand, that in the mailbox, and those that
 -- are left; they are those that were sent, and then those that were not yet. Each user follows its calls; who waits, waits for the mailbox; and each turn was
 -- the first, a step of a user, or lines that were taken.
-pub record StandsSo (y : System) (ms : List Message) (one two : ℕ) (f g : Flat) (k : ℕ) (past : List Dispatch) (at : Core) (s : Standing) : Type 0 where
+pub record StandsSo (ms : List Message) (one two : ℕ) (f g : Flat) (k : ℕ) (past : List Dispatch) (at : Core) (s : Standing) : Type 0 where
   pub sender : Follows f (sends ms) one s.f (sends s.rest) s.sender
   pub receiver : Follows g (receives ms) two s.g (calls_left s.hand (held s.box s.rest)) s.receiver
   pub all : ms ≡ s.printed ++ held s.hand (held s.box s.rest)
@@ -164,7 +164,7 @@ pub record StandsSo (y : System) (ms : List Message) (one two : ℕ) (f g : Flat
   pub turns_are : k ≡ 1 + sender.steps + receiver.steps + lines_taken past
   pub length_is : length past ≡ 1 + sender.traps + receiver.traps + lines_taken past
 
-pub record IsMailing (y : System) (ms : List Message) (one two : ℕ) (f g : Flat) (k : ℕ) (past : List Dispatch) (at : Core) : Type 0 where
+pub record IsMailing (ms : List Message) (one two : ℕ) (f g : Flat) (k : ℕ) (past : List Dispatch) (at : Core) : Type 0 where
   pub printed : List Message
   pub hand : Option Message
   pub box : Option Message
@@ -173,11 +173,11 @@ pub record IsMailing (y : System) (ms : List Message) (one two : ℕ) (f g : Fla
   pub receiver_from : Flat
   pub sender_place : Place
   pub receiver_place : Place
-  pub so : StandsSo y ms one two f g k past at (stand printed hand box rest sender_from receiver_from sender_place receiver_place)
+  pub so : StandsSo ms one two f g k past at (stand printed hand box rest sender_from receiver_from sender_place receiver_place)
 
 -- and no dispatch touches a page of a user
 abbrev pub Mailing : System → (ms : List Message) → (one two : ℕ) → (f g : Flat) → SystemProperty
-Mailing y ms one two f g k past at = IsMailing y ms one two f g k past at × UsePages y 200 0 past
+Mailing y ms one two f g k past at = IsMailing ms one two f g k past at × UsePages y 200 0 past
 
 -- THE THEOREM: whatever lines are raised, each turn ends within 200 units of its dispatch, and each state from the first turn on is such
 abbrev pub MailIsPrinted : Type 0
@@ -213,11 +213,11 @@ dispatches_for ms = 3 + length (sends ms) + length (receives ms)
 -- A LAW, of each such state: what was sent is carried; the system is running below so many turns alone, and for each dispatch that took lines one more; so
 -- many dispatches there are at most; no dispatch has faulted; and where it has halted it is finished
 pub record MailEnds : Type 0 where
-  pub carried : (y : System) (ms : List Message) (one two : ℕ) (f g : Flat) (k : ℕ) (past : List Dispatch) (at : Core) → IsMailing y ms one two f g k past at → IsCarried past at
-  pub below : (y : System) (ms : List Message) (one two : ℕ) (f g : Flat) (k : ℕ) (past : List Dispatch) (at : Core) → IsMailing y ms one two f g k past at
+  pub carried : (ms : List Message) (one two : ℕ) (f g : Flat) (k : ℕ) (past : List Dispatch) (at : Core) → IsMailing ms one two f g k past at → IsCarried past at
+  pub below : (ms : List Message) (one two : ℕ) (f g : Flat) (k : ℕ) (past : List Dispatch) (at : Core) → IsMailing ms one two f g k past at
       → status_after past ≡ Running → k < turns_for ms one two + lines_taken past
-  pub few : (y : System) (ms : List Message) (one two : ℕ) (f g : Flat) (k : ℕ) (past : List Dispatch) (at : Core) → IsMailing y ms one two f g k past at
+  pub few : (ms : List Message) (one two : ℕ) (f g : Flat) (k : ℕ) (past : List Dispatch) (at : Core) → IsMailing ms one two f g k past at
       → length past ≤ dispatches_for ms + lines_taken past
-  pub safe : (y : System) (ms : List Message) (one two : ℕ) (f g : Flat) (k : ℕ) (past : List Dispatch) (at : Core) → IsMailing y ms one two f g k past at → IsSafe (status_after past)
-  pub finished : (y : System) (ms : List Message) (one two : ℕ) (f g : Flat) (k : ℕ) (past : List Dispatch) (at : Core) → IsMailing y ms one two f g k past at
+  pub safe : (ms : List Message) (one two : ℕ) (f g : Flat) (k : ℕ) (past : List Dispatch) (at : Core) → IsMailing ms one two f g k past at → IsSafe (status_after past)
+  pub finished : (ms : List Message) (one two : ℕ) (f g : Flat) (k : ℕ) (past : List Dispatch) (at : Core) → IsMailing ms one two f g k past at
       → status_after past ≡ Halted → IsFinished ms one two f g at

@@ -1,6 +1,6 @@
 -- Each boot of the system with a mailbox shows its messages.
-use Rattle.std.proofs.Common.{◌≡◌, ℕ, zero, suc, ◌+◌, ◌^◌, ◌<◌, ◌≤◌, List, [], ◌∷◌, ◌++◌, length, refl, sym, ap, ◌∙◌, subst, arith}
-use Rattle.std.specs.Prelude.{codes, pos}
+use Rattle.std.proofs.Common.{◌≡◌, ℕ, zero, suc, ◌+◌, ◌≤◌, List, [], ◌∷◌, ◌++◌, length, refl, sym, ap, ◌∙◌, subst, arith}
+use Rattle.std.specs.Prelude.{codes}
 use Rattle.mips_table.specs.Device.{Outside}
 use Rattle.mips_table.specs.Machine.{State, LOG_ROOM}
 use Rattle.mips_table.specs.Turns.{lines_of, TurnLaws}
@@ -10,7 +10,7 @@ use Rattle.cvm_model.specs.KernelMeaning.{kernel_meaning}
 use Rattle.cvm_model.specs.Cvm.{System, Cvm, Running, Halted, IsCvm, first_flat, first_cvm}
 use Rattle.cvm_model.specs.Text.{rows_text, report_text}
 use Rattle.cvm_model.specs.Invariant.{Dispatch, rows_of, dispatches_of, HasUsers, RunsAreLawful}
-use Rattle.cvm_model.specs.Systems.{status_after, SystemHolds, IsSystemInvariant}
+use Rattle.cvm_model.specs.Systems.{status_after, SystemHolds}
 use Rattle.run_bounds.specs.Lines.{LinesTakenAreFew, RaisedLinesAreFew}
 use Rattle.run_bounds.specs.Steps.{BoundsAreSmall}
 use Rattle.kernel_linker.specs.Sources.{AcceptedAreOfImages}
@@ -38,10 +38,10 @@ module _ (law : MailEnds) (y : System) (ms : List Message) (one two : ℕ) (f g 
   ends : EndsWithin y 200 (Mailing y ms one two f g) lines (turns_for ms one two + lines) (dispatches_for ms + lines) 0
   ends = record {
     some = omega arith;
-    below = λ k past at h on few. let b = law.below y ms one two f g k past at h.0 on in omega (arith, b, few);
-    few = λ k past at h few. let b = law.few y ms one two f g k past at h.0 in omega (arith, b, few);
+    below = λ k past at h on few. let b = law.below ms one two f g k past at h.0 on in omega (arith, b, few);
+    few = λ k past at h few. let b = law.few ms one two f g k past at h.0 in omega (arith, b, few);
     touch = λ k past at h. h.1;
-    safe = λ k past at h. law.safe y ms one two f g k past at h.0;
+    safe = λ k past at h. law.safe ms one two f g k past at h.0;
   }
 
 -- THE REPORT of a state that has halted
@@ -70,10 +70,10 @@ module _ (law : MailEnds) (x : Outside) (y : System) (ms : List Message) (one tw
   by_turns halted (suc k) e =
       let held : SystemHolds (HasUsers y) (Mailing y ms one two f g) (suc k) (dispatches_of y (lines_of x s) 200 (suc k)) h.stands.state = h.holds k e in
       let over : status_after (dispatches_of y (lines_of x s) 200 (suc k)) ≡ Halted = sym held.status ∙ halted.halted in
-      let long = law.few y ms one two f g held.made (dispatches_of y (lines_of x s) 200 (suc k)) h.stands.state.core held.kept.0 in
+      let long = law.few ms one two f g held.made (dispatches_of y (lines_of x s) 200 (suc k)) h.stands.state.core held.kept.0 in
       let few = h.few_lines k in
       let rows : length h.stands.state.rows ≡ length (dispatches_of y (lines_of x s) 200 (suc k)) = ap length held.rows ∙ rows_length (dispatches_of y (lines_of x s) 200 (suc k)) in
-      let done : IsFinished ms one two f g h.stands.state.core = law.finished y ms one two f g held.made (dispatches_of y (lines_of x s) 200 (suc k)) h.stands.state.core held.kept.0 over in (
+      let done : IsFinished ms one two f g h.stands.state.core = law.finished ms one two f g held.made (dispatches_of y (lines_of x s) 200 (suc k)) h.stands.state.core held.kept.0 over in (
         halted.status_is,
         halted.halted,
         omega (arith, long, few, rows),
@@ -84,7 +84,7 @@ module _ (law : MailEnds) (x : Outside) (y : System) (ms : List Message) (one tw
   carried : (k : ℕ) → turns_made x s turns steps ≡ suc k → IsCarried (dispatches_of y (lines_of x s) 200 (suc k)) h.stands.state.core
   carried k e =
       let held : SystemHolds (HasUsers y) (Mailing y ms one two f g) (suc k) (dispatches_of y (lines_of x s) 200 (suc k)) h.stands.state = h.holds k e in
-      law.carried y ms one two f g held.made (dispatches_of y (lines_of x s) 200 (suc k)) h.stands.state.core held.kept.0
+      law.carried ms one two f g held.made (dispatches_of y (lines_of x s) 200 (suc k)) h.stands.state.core held.kept.0
 
   shown : MailShown x y s late raised turns steps ms one two f g status text
   shown = record {

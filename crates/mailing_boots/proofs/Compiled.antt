@@ -1,7 +1,6 @@
 -- From the texts to each boot.
-use Rattle.std.specs.Prelude.{codes, pos}
 use Rattle.std.specs.Fmt.{digits}
-use Rattle.std.proofs.Common.{◌≡◌, ℕ, ◌+◌, ◌*◌, ◌≤◌, List, [], ◌∷◌, ◌++◌, length, refl, ap, ◌∙◌, arith}
+use Rattle.std.proofs.Common.{◌≡◌, ℕ, List, [], ◌∷◌, ◌++◌, length, refl, ap, ◌∙◌, arith}
 use Rattle.mips_table.specs.Device.{Outside}
 use Rattle.mips_table.specs.Machine.{State}
 use Rattle.mips_table.specs.Flat.{Flat}
@@ -24,7 +23,7 @@ use Rattle.mailing.specs.Users.{ended}
 use Rattle.mailing.specs.Property.{sends, receives}
 use Rattle.mailing_boots.specs.Through.{ints, AreInts, CallsAndReturns}
 use Rattle.mailing_boots.specs.Boots.{report_of}
-use Rattle.mailing_boots.specs.Mailers.{zeros, asked_for, told_for, CanBeSent, AreMailers, sender, receiver, one_to_ten, MailersCall}
+use Rattle.mailing_boots.specs.Mailers.{zeros, asked_for, told_for, CanBeSent, sender, receiver, one_to_ten, MailersCall}
 use Rattle.mailing_boots.specs.Texts.{sender_text, receiver_text}
 use Rattle.mailing_boots.specs.Compiled.{mail_lines, ProgramMailShown, AnyProgramsMail, NamedMailShown, CompiledMailBoots}
 
@@ -42,12 +41,54 @@ small_zeros : AreInts (zeros one_to_ten)
 small_zeros = (omega arith, omega arith, omega arith, omega arith, omega arith, omega arith, omega arith, omega arith, omega arith, omega arith, tt)
 
 small_told : AreInts (told_for one_to_ten)
-small_told = (omega arith, omega arith, omega arith, omega arith, omega arith, omega arith, omega arith, omega arith, omega arith, omega arith,
-omega arith, omega arith, omega arith, omega arith, omega arith, omega arith, omega arith, omega arith, omega arith, omega arith, tt)
+small_told = (
+  omega arith,
+  omega arith,
+  omega arith,
+  omega arith,
+  omega arith,
+  omega arith,
+  omega arith,
+  omega arith,
+  omega arith,
+  omega arith,
+  omega arith,
+  omega arith,
+  omega arith,
+  omega arith,
+  omega arith,
+  omega arith,
+  omega arith,
+  omega arith,
+  omega arith,
+  omega arith,
+  tt,
+)
 
 can_be_sent : CanBeSent one_to_ten
-can_be_sent = (omega arith, omega arith, omega arith, omega arith, omega arith, omega arith, omega arith, omega arith, omega arith, omega arith,
-omega arith, omega arith, omega arith, omega arith, omega arith, omega arith, omega arith, omega arith, omega arith, omega arith, tt)
+can_be_sent = (
+  omega arith,
+  omega arith,
+  omega arith,
+  omega arith,
+  omega arith,
+  omega arith,
+  omega arith,
+  omega arith,
+  omega arith,
+  omega arith,
+  omega arith,
+  omega arith,
+  omega arith,
+  omega arith,
+  omega arith,
+  omega arith,
+  omega arith,
+  omega arith,
+  omega arith,
+  omega arith,
+  tt,
+)
 
 -- the report, letter by letter
 lines_are : (users : List Flat) → report_of one_to_ten users ≡ mail_lines ++ users_text 1 users

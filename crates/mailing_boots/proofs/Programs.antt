@@ -3,8 +3,7 @@ use Rattle.std.specs.Prelude.{map}
 use Rattle.std.proofs.Common.{◌≡◌, ℕ, suc, ◌+◌, ◌*◌, ◌≤◌, List, [], ◌∷◌, ◌++◌, length, refl, sym, ap, ap₂, ◌∙◌, subst, arith}
 use Rattle.std.proofs.lemmas.Nat.{mul-le}
 use Rattle.mips_table.specs.Device.{Outside}
-use Rattle.mips_table.specs.Machine.{State, LOG_ROOM}
-use Rattle.mips_table.specs.Flat.{Flat}
+use Rattle.mips_table.specs.Machine.{State}
 use Rattle.c0_tree.specs.Tree.{CUnit}
 use Rattle.cvm_model.specs.Cvm.{System, first_flat, map_of, reset_steps, turn_steps, enter_steps, leave_steps, run_steps}
 use Rattle.cvm_model.specs.Text.{rows_text}
@@ -17,7 +16,7 @@ use Rattle.mailing.specs.Users.{Leg, CallsInTurn, ended, steps_of}
 use Rattle.mailing.specs.Property.{Message, sends, receives, numbers, AreSmall, turns_for, dispatches_for}
 use Rattle.mailing_boots.specs.Through.{untrapped_in, ComesThrough, ProgramsComeThrough}
 use Rattle.mailing_boots.specs.Boots.{report_of, MailShown, AnyUsersMail}
-use Rattle.mailing_boots.specs.Mailers.{zeros, asked_for, told_for, CanBeSent, AreMailers}
+use Rattle.mailing_boots.specs.Mailers.{zeros, asked_for, told_for, CanBeSent}
 use Rattle.mailing_boots.specs.Compiled.{turns_by, ProgramMailShown, AnyProgramsMail}
 
 -- TWO USERS' CALLS are those of messages
@@ -36,11 +35,11 @@ answers_of legs = map (λ (leg : Leg). leg.answer) legs
 leg_is : (a : Leg) (i j : ℕ) → a.argument ≡ i → a.answer ≡ j → record { steps = a.steps; argument = i; answer = j } ≡ a
 leg_is a i j e h = ap₂ (λ (i j : ℕ). record { steps = a.steps; argument = i; answer = j }) (sym e) (sym h)
 
-head_is : (a b : ℕ) (as bs : List ℕ) → a ∷ as ≡ b ∷ bs → a ≡ b
-head_is a b as bs e = cc
+head_is : (a b : ℕ) (xs ys : List ℕ) → a ∷ xs ≡ b ∷ ys → a ≡ b
+head_is a b xs ys e = cc
 
-tail_is : (a b : ℕ) (as bs : List ℕ) → a ∷ as ≡ b ∷ bs → as ≡ bs
-tail_is a b as bs e = cc
+tail_is : (a b : ℕ) (xs ys : List ℕ) → a ∷ xs ≡ b ∷ ys → xs ≡ ys
+tail_is a b xs ys e = cc
 
 one_more : (n : ℕ) (ns : List ℕ) (a b c : Leg) (sending receiving : List Leg) → a.argument ≡ n → a.answer ≡ 0 → b.argument ≡ 0 → b.answer ≡ n → c.argument ≡ n → c.answer ≡ 0 → AreOf ns sending receiving
     → AreOf (n ∷ ns) (a ∷ sending) (b ∷ c ∷ receiving)
@@ -141,7 +140,7 @@ module _ (x : Outside) (y : System) (s : State) (late raised turns steps : ℕ) 
           e.1,
           omega (arith, fit, rows),
           e.3 ∙ ap (λ (ns : List ℕ). rows_text h.shown.stands.state.rows
-          ++ report_of ns (ended (first_flat (image_words one)) (sends ms) a ∷ ended (first_flat (image_words two)) (receives ms) b ∷ [])) same,
+              ++ report_of ns (ended (first_flat (image_words one)) (sends ms) a ∷ ended (first_flat (image_words two)) (receives ms) b ∷ [])) same,
         );
   }
 

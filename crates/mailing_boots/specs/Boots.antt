@@ -1,12 +1,11 @@
 -- What each boot of the system with a mailbox prints: of the kernel with its text, a sender and a receiver of known messages, under every schedule.
-use Rattle.std.specs.Prelude.{◌≡◌, ◌≢◌, ℕ, suc, pos, ◌+◌, ◌*◌, ◌≤◌, List, [], ◌∷◌, ◌++◌, length, codes}
+use Rattle.std.specs.Prelude.{◌≡◌, ◌≢◌, ℕ, suc, pos, ◌+◌, ◌≤◌, List, [], ◌∷◌, ◌++◌, length, codes}
 use Rattle.std.specs.Io.KnownBytes.{append_known}
 use Rattle.schedule_file.specs.Rows.{Rows}
 use Rattle.mips_table.specs.Device.{Outside}
 use Rattle.mips_table.specs.Machine.{State, LOG_ROOM}
 use Rattle.mips_table.specs.Turns.{lines_of}
 use Rattle.mips_table.specs.Flat.{Flat}
-use Rattle.c0_tree.specs.Tree.{CUnit}
 use Rattle.c0_meaning.specs.Value.{int, empty, part}
 use Rattle.boot_turns.specs.declared.answers.View.TheVariants.{Boot}
 use Rattle.cvm_model.specs.Cvm.{System, Halted, first_flat}
@@ -14,8 +13,6 @@ use Rattle.cvm_model.specs.Text.{rows_text, globals_text, log_text, users_text}
 use Rattle.cvm_model.specs.Invariant.{HasUsers, dispatches_of}
 use Rattle.run_bounds.specs.Steps.{steps_for}
 use Rattle.kernel_linker.specs.Accept.{ImageSystem}
-use Rattle.user_c0.specs.Image.{image_words}
-use Rattle.user_c0.specs.Program.{steps_of as most_steps}
 use Rattle.cvm_shell.specs.declared.exit_status.ExitStatus.{ExitStatus}
 use Rattle.cvm_shell.specs.declared.exit_status.ExitStatus.TheVariants.{Done, KernelFault, Memory}
 use Rattle.cvm_shell.specs.declared.boot.Session.{Session}
@@ -27,7 +24,6 @@ use Rattle.kernel_boots.specs.Systems.{AsksSystem, SystemShown}
 use Rattle.mailing.specs.Text.{text as kernel_text}
 use Rattle.mailing.specs.Users.{CallsInTurn, ended}
 use Rattle.mailing.specs.Property.{Message, sends, receives, numbers, AreSmall, Mailing, IsCarried, turns_for, dispatches_for}
-use Rattle.mailing_boots.specs.Through.{CallsAndReturns, untrapped_in}
 
 -- the report of the system once it has halted: the kernel's data, the messages' numbers in order, and these machines
 abbrev pub report_of : (messages : List ℕ) → List Flat → List ℕ

@@ -1,7 +1,7 @@
 -- What each boot of the system with a mailbox prints where its users are compiled of C0.
 use Rattle.std.specs.Prelude.{◌≡◌, ◌≢◌, ℕ, ◌+◌, ◌*◌, ◌≤◌, List, [], ◌∷◌, ◌++◌, length, codes}
 use Rattle.std.specs.Io.KnownBytes.{append_known}
-use Rattle.schedule_file.specs.Rows.{Rows, longest}
+use Rattle.schedule_file.specs.Rows.{Rows}
 use Rattle.mips_table.specs.Device.{Outside}
 use Rattle.mips_table.specs.Machine.{State}
 use Rattle.layer_map.specs.Map.{Map}
