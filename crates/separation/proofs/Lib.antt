@@ -1,0 +1,4 @@
+mod Readers
+mod OwnRuns
+mod Blocks
+mod Separate

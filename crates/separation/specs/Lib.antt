@@ -1,0 +1,3 @@
+pub mod Kernels
+pub mod Runs
+pub mod Boots
