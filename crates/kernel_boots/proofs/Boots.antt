@@ -84,7 +84,7 @@ module _ (x : Surroundings) (y : System) (one : RunsAreOne y) (s : State) (held 
   text_of t SinkFault text h = h
   text_of t NoMemory text h = h
 
-  stands : (e : Ending) (text : List ℕ) → RanFrom x y s held old now Boot turns steps e text → StandsAt x y s turns steps (ended_as e) text
+  pub stands : (e : Ending) (text : List ℕ) → RanFrom x y s held old now Boot turns steps e text → StandsAt x y s turns steps (ended_as e) text
   stands e text h =
       let t = text_of (end_within x s turns steps) e text h.text_is in
       let same : t.0 ≡ h.past = one (lines_of x s) (complete x s (end_within x s turns steps)) t.0 h.past t.1 h.cvm in

@@ -1,6 +1,7 @@
 pub mod EightLines
 pub mod Room
 pub mod Boots
+mod Stands
 pub mod Systems
 mod RoundRobins
 mod Guardeds

@@ -1,4 +1,5 @@
 pub mod Boots
+pub mod Stands
 pub mod Systems
 pub mod RoundRobins
 pub mod Guardeds

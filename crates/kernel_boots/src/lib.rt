@@ -6,9 +6,11 @@ ghost use Rattle.kernel_boots.specs.Boots.{BootsStand, RunsItsSource};
 ghost use Rattle.kernel_boots.specs.Guardeds.{GuardedKernelsBoot};
 ghost use Rattle.kernel_boots.specs.Mailboxes.{MailboxesBoot};
 ghost use Rattle.kernel_boots.specs.RoundRobins.{RoundRobinsBoot};
+ghost use Rattle.kernel_boots.specs.Stands.{ResumesStand, SavesStand, TracesStand};
 ghost use Rattle.kernel_boots.specs.Systems.{BootsAreChains};
 
 use cvm_model::reasoning::{runs_are_chains, runs_are_lawful};
+use cvm_model::{units_replay, users_are_isolated};
 use kernel_linker::laws::accepted_systems_are_of_their_images;
 use kernel_theorems::guarded::{guarded_never_faults, text_is_guarded};
 use kernel_theorems::mailbox::{messages_are_delivered, text_is_mailbox};
@@ -26,6 +28,31 @@ pub fn boots_run_their_source()
 /// rests as that state says.
 pub fn boots_show_their_states()
     ensures { BootsStand }
+{
+    runs_are_lawful();
+}
+
+/// A law: each trace with no failed call printed the user's journal, and the user's machine, of the state of its own run at the step where it ended; its
+/// status is by that state, and the machine rests as that state says.
+pub fn traces_show_their_states()
+    ensures { TracesStand }
+{
+    runs_are_lawful();
+    units_replay();
+    users_are_isolated();
+}
+
+/// A law: each save with no failed call printed the text of the state of its own run as its boot does; or where its run was saved, the rows of the running
+/// state behind all turns that were asked for, in which the machine rests.
+pub fn saves_show_their_states()
+    ensures { SavesStand }
+{
+    runs_are_lawful();
+}
+
+/// A law: each resume of a saved run, with no failed call, printed behind what that run had printed the rest of the text of the state of the whole run.
+pub fn resumes_show_their_states()
+    ensures { ResumesStand }
 {
     runs_are_lawful();
 }

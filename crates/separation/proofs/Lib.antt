@@ -1,4 +1,3 @@
-mod Readers
 mod OwnRuns
 mod Blocks
 mod Separate

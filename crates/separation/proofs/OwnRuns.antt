@@ -13,7 +13,7 @@ use Rattle.cvm_model.specs.Cvm.{System, Cvm, Status, Running, Halted, Faulted, B
 use Rattle.cvm_model.specs.Invariant.{machine_after}
 use Rattle.cvm_model.specs.Journal.{changes_of, begin_entries, running_entries, turn_entries, journal, replay_step, replay_trap, replay_entry, replay, KernelReplays, Isolated}
 use Rattle.kernel_theorems.specs.UserRuns.{after}
-use Rattle.separation.specs.Kernels.{LeavesAlone}
+use Rattle.called_primitives.specs.Kernels.{LeavesAlone}
 use Rattle.separation.specs.Runs.{own_steps, entry_of, own_journal, OwnRun, RunsAreOwn}
 
 -- AN ENTRY OF ITS OWN is a step or a trap

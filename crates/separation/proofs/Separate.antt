@@ -29,9 +29,9 @@ use Rattle.cvm_shell.specs.Isolation.{IsolatedTrace, lines_met}
 use Rattle.kernel_boots.specs.Boots.{turns_made, BootStands, AsksSource, RunsItsSource}
 use Rattle.kernel_boots.specs.Systems.{BootIsChain, BootsAreChains}
 use Rattle.kernel_boots.proofs.Boots.{of_image}
-use Rattle.separation.specs.Kernels.{LeavesAlone, ChangesNoMachine, SourceChangesNone, ReadersChangeNone}
+use Rattle.called_primitives.specs.Kernels.{LeavesAlone, ChangesNoMachine, ReadersChangeNone}
 use Rattle.separation.specs.Runs.{own_steps, own_journal, OwnRun, RunsAreOwn}
-use Rattle.separation.specs.Boots.{DoneBoot, system_of, met, made, in_front, behind, PrintsUser, HasUser, AsksUser, Boots, own_block, BlocksAreOwn, BootsPrintOwn, Agree, BootsAgree, own_trace, TracesAreOwn, TextsChangeNone}
+use Rattle.separation.specs.Boots.{SourceChangesNone, DoneBoot, system_of, met, made, in_front, behind, PrintsUser, HasUser, AsksUser, Boots, own_block, BlocksAreOwn, BootsPrintOwn, Agree, BootsAgree, own_trace, TracesAreOwn, TextsChangeNone}
 use Rattle.separation.proofs.Blocks.{IsReported, cut_boot, there, mapped}
 
 -- THE USER'S WORDS are those of the image

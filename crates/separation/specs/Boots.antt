@@ -6,13 +6,18 @@ use Rattle.mips_table.specs.Turns.{lines_of}
 use Rattle.boot_image.specs.Parts.{Parts as Image}
 use Rattle.boot_image.specs.Reading.{answer as image_of}
 use Rattle.boot_turns.specs.declared.answers.View.TheVariants.{Boot}
+use Rattle.layer_map.specs.declared.params.Params.{Params}
 use Rattle.c0_tree.specs.Tree.{CUnit}
+use Rattle.c0_types.specs.Front.{IsUnitOf}
 use Rattle.cvm_model.specs.Kernel.{parts_of}
+use Rattle.cvm_model.specs.KernelMeaning.{kernel_meaning}
 use Rattle.cvm_model.specs.Primitives.{user_of}
 use Rattle.cvm_model.specs.Cvm.{System, Cvm, Status, first_flat, cvm}
 use Rattle.cvm_model.specs.Journal.{journal}
 use Rattle.cvm_model.specs.Text.{rows_text, end_text, globals_text, log_text, user_text, users_text, trace_text}
 use Rattle.kernel_linker.specs.Accept.{ImageSystem}
+use Rattle.called_primitives.specs.Calls.{calls_only}
+use Rattle.called_primitives.specs.Kernels.{ChangesNoMachine, only_reads}
 use Rattle.kernel_theorems.specs.Text.{IsTextOf}
 use Rattle.kernel_theorems.specs.UserRuns.{after}
 use Rattle.cvm_shell.specs.declared.exit_status.ExitStatus.{ExitStatus}
@@ -23,8 +28,11 @@ use Rattle.cvm_shell.specs.Boot.{booted, around, first_state, AskFor, by_boot, b
 use Rattle.cvm_shell.specs.CommandEnds.{Headlines}
 use Rattle.cvm_shell.specs.Isolation.{IsolatedTrace}
 use Rattle.kernel_boots.specs.Boots.{turns_made, AsksSource}
-use Rattle.separation.specs.Kernels.{SourceChangesNone, only_reads}
 use Rattle.separation.specs.Runs.{own_steps, own_journal}
+
+-- A SOURCE THAT CHANGES NO MACHINE: whatever kernel has it, with whatever parameters, changes none
+abbrev pub SourceChangesNone : List ℕ → Type 0
+SourceChangesNone source = (u : CUnit) (p : Params) → IsUnitOf source u → ChangesNoMachine (kernel_meaning u p)
 
 -- A BOOT THAT IS DONE: a `boot`, `rom` or `sample` under the headline's premises, whose status is 0, so that it printed its report
 pub record DoneBoot : Type 0 where
@@ -116,7 +124,7 @@ TracesAreOwn = (source : List ℕ) → SourceChangesNone source → (given : Lis
 
 -- A LAW: a text that is read by computation as a tree that only reads machines changes none
 abbrev pub TextsChangeNone : Type 0
-TextsChangeNone = (n : ℕ) (text : List ℕ) (tree : CUnit) → IsTextOf n text tree → IsTrue (only_reads tree) → SourceChangesNone text
+TextsChangeNone = (n : ℕ) (text : List ℕ) (tree : CUnit) → IsTextOf n text tree → IsTrue (calls_only only_reads tree) → SourceChangesNone text
 
 -- SO IT IS OF A NAMED SOURCE: of any two boots of it
 abbrev pub SourceSeparates : List ℕ → Type 0

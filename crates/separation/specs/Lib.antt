@@ -1,3 +1,2 @@
-pub mod Kernels
 pub mod Runs
 pub mod Boots

@@ -8,7 +8,7 @@ use Rattle.cvm_model.specs.Cvm.{System, Cvm, first_core, cvm}
 use Rattle.cvm_model.specs.Invariant.{machine_after}
 use Rattle.cvm_model.specs.Journal.{KernelReplays, journal}
 use Rattle.kernel_theorems.specs.UserRuns.{after}
-use Rattle.separation.specs.Kernels.{LeavesAlone}
+use Rattle.called_primitives.specs.Kernels.{LeavesAlone}
 
 -- how many steps of its own a user made: those in its journal, the trapped ones too
 abbrev pub own_steps : List JournalEntry → ℕ

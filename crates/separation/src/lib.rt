@@ -4,12 +4,12 @@
 
 ghost use Rattle.kernel_theorems.specs.RoundRobinText.{text as round_robin};
 ghost use Rattle.summing.specs.Text.{text as summing};
-ghost use Rattle.separation.specs.Kernels.{ReadersChangeNone, SourceChangesNone};
 ghost use Rattle.separation.specs.Runs.{RunsAreOwn};
 ghost use Rattle.separation.specs.Boots.{
-    BootsAgree, BootsPrintOwn, SourceSeparates, TextsChangeNone, TracesAreOwn,
+    BootsAgree, BootsPrintOwn, SourceChangesNone, SourceSeparates, TextsChangeNone, TracesAreOwn,
 };
 
+use called_primitives::readers_change_none;
 use cvm_model::{units_replay, users_are_isolated};
 use kernel_boots::{boots_are_chains, boots_run_their_source};
 use kernel_linker::laws::accepted_systems_are_of_their_images;
@@ -17,12 +17,7 @@ use kernel_theorems::round_robin::text_is_round_robin;
 use kernel_theorems::texts_mean_trees;
 use summing::text_is_tree;
 
-/// A law: a unit that calls no `vm_set`, `vm_resize`, `vm_put` or `vm_copy` is a kernel that changes no machine.
-pub fn readers_change_none()
-    ensures { ReadersChangeNone }
-{}
-
-/// A law: so is each kernel of a text whose tree calls none of them.
+/// A law: each kernel of a text whose tree calls no `vm_set`, `vm_resize`, `vm_put` or `vm_copy` changes no machine.
 pub fn texts_change_none()
     ensures { TextsChangeNone }
 {

@@ -1,0 +1,5 @@
+use Rattle.called_primitives.proofs.Readers.{readers_change_none}
+use Rattle.called_primitives.proofs.readers_change_none.Goals as goal
+
+pub returns : goal.returns
+returns c = readers_change_none

@@ -1,0 +1,246 @@
+-- Traces, saves and resumes print the text of the state where their run stands.
+use Rattle.std.proofs.Common.{◌≡◌, inl, inr, ℕ, zero, suc, ◌≤◌, List, [], ◌++◌, length, Bool, true, false, Option, Some, None, refl, sym, ap, ◌∙◌, subst}
+use Rattle.std.specs.Prelude.{◌≢◌, ◌⊎◌, if◌then◌else◌, option_map, codes}
+use Rattle.std.specs.Io.KnownBytes.{append_known}
+use Rattle.schedule_file.specs.Rows.{Rows}
+use Rattle.mips_table.specs.Device.{Outside as Surroundings}
+use Rattle.mips_table.specs.Machine.{State, run}
+use Rattle.mips_table.specs.Turns.{complete, end_within, lines_of, is_end}
+use Rattle.mips_table.specs.Flat.{Flat}
+use Rattle.cvm_model.specs.Kernel.{JournalEntry}
+use Rattle.cvm_model.specs.KernelMeaning.{UnitsReplay}
+use Rattle.cvm_model.specs.Primitives.{user_of}
+use Rattle.cvm_model.specs.Cvm.{System, Cvm, Status, Running, Halted, Faulted, first_cvm, IsCvm, cvm}
+use Rattle.cvm_model.specs.Invariant.{HasEight, RunsAreLawful}
+use Rattle.cvm_model.specs.Journal.{journal, replay, Isolated}
+use Rattle.cvm_model.specs.Text.{rows_text, start_row, open_journal_rows, trace_text}
+use Rattle.layer_contract.specs.Layer.{Rests}
+use Rattle.boot_turns.specs.declared.answers.View.{View}
+use Rattle.boot_turns.specs.declared.answers.View.TheVariants as view
+use Rattle.boot_turns.specs.Headline.{Ending, Done as IsDone, KernelFaulted, OutOfSteps, ending_of, ending, TextAt, RanFrom}
+use Rattle.boot_turns.specs.Headline as headline
+use Rattle.boot_turns.specs.Trace.{Shown}
+use Rattle.boot_turns.specs.TurnEnds.{first_of, RestsAfter, Stood, Printed, IsOver}
+use Rattle.boot_run.specs.RunEnds.{SeesUser, CallsFrom, ending_of_end}
+use Rattle.boot_run.specs.SavedRuns.{SavedAt, GoesOnAs}
+use Rattle.boot_run.specs.declared.whole.RunEnd.{RunEnd}
+use Rattle.boot_run.specs.declared.whole.RunEnd.TheVariants as ends
+use Rattle.kernel_linker.specs.Accept.{ImageSystem}
+use Rattle.cvm_shell.specs.declared.exit_status.ExitStatus.{ExitStatus}
+use Rattle.cvm_shell.specs.declared.exit_status.ExitStatus.TheVariants as statuses
+use Rattle.cvm_shell.specs.declared.boot.Session.{Session}
+use Rattle.cvm_shell.specs.Command.{Save, save_session}
+use Rattle.cvm_shell.specs.Host.{Host, counts}
+use Rattle.cvm_shell.specs.Boot.{booted, around, first_state, sectors_needed, ended_as, SessionRan, AreFilesOf, Headline}
+use Rattle.cvm_shell.specs.CommandEnds.{Headlines, Isolates}
+use Rattle.cvm_shell.specs.Isolation.{IsolatedTrace}
+use Rattle.cvm_shell.specs.Saves.{saved_row, Stopped, IsSavedIn, SaveHolds, as_boot, is_saved}
+use Rattle.cvm_shell.specs.Resumes.{ResumeHolds, IsSavedRun}
+use Rattle.kernel_boots.specs.Boots.{turns_made, StandsAt, SessionStands, BootStands}
+use Rattle.kernel_boots.specs.Stands.{lines_met, under_way, TraceTextOf, TraceStandsAt, TraceStands, TracesStand, SavedStands, SaveStands, SavesStand, ResumeStands, ResumesStand}
+use Rattle.kernel_boots.proofs.EightLines.{eight_of, turns_have_eight}
+use Rattle.kernel_boots.proofs.Boots.{RunsAreOne, ones, stands, asked_eight}
+
+-- THE STATUS of a run with no failed call
+abbrev Allowed : ExitStatus → Type 0
+Allowed statuses.Done = Unit {0}
+Allowed statuses.KernelFault = Unit {0}
+Allowed statuses.StepLimit = Unit {0}
+Allowed other = ⊥
+
+allowed : (b : Bool) (s : Status) → Allowed (ended_as (if b then ending_of s else OutOfSteps))
+allowed true Running = tt
+allowed true Halted = tt
+allowed true (Faulted f) = tt
+allowed false s = tt
+
+-- where the steps ran out the text is what was shown so far
+spent_text : (x : Surroundings) (y : System) (s : State) (v : View) (t : ℕ) (e : Ending) (text : List ℕ) → ended_as e ≡ statuses.StepLimit → TextAt x y s v t e text → Printed x y s v t text
+spent_text x y s v t OutOfSteps text e h = h
+spent_text x y s v t IsDone text e h = absurd (cc)
+spent_text x y s v t KernelFaulted text e h = absurd (cc)
+spent_text x y s v t headline.DiskFault text e h = absurd (cc)
+spent_text x y s v t headline.SinkFault text e h = absurd (cc)
+spent_text x y s v t headline.NoMemory text e h = absurd (cc)
+
+-- a status other than that has the whole text
+whole_text : (u : ℕ) (first : Flat) (entries more : List JournalEntry) (status : ExitStatus) (c : Cvm) (text : List ℕ) → status ≢ statuses.StepLimit → text ≡ trace_text u first entries (user_of c.core.users u) c.status
+    → TraceTextOf u first entries more status c text
+whole_text u first entries more statuses.StepLimit c text isnt e = absurd (isnt refl)
+whole_text u first entries more statuses.Done c text isnt e = e
+whole_text u first entries more statuses.KernelFault c text isnt e = e
+whole_text u first entries more other c text isnt e = e
+
+some_same : {A : Type 0} (a b : A) → Some a ≡ Some b → a ≡ b
+some_same a b e = cc
+
+-- A TRACE
+module _ (laws : RunsAreLawful) (replays : UnitsReplay) (isolated : Isolated) (session : Session) (u : ℕ) (s : ImageSystem) (rows : Rows) (before : List (List ℕ)) (status : ExitStatus) (old new : Host)
+    (user : (1 ≤ u) × (u ≤ length s.users)) (h : Headline session s rows before old new status) where
+  abbrev x : Surroundings
+  x = around rows old
+
+  abbrev y : System
+  y = booted s rows
+
+  abbrev m : State
+  m = first_state session s rows before
+
+  abbrev t : ℕ
+  t = end_within x m session.turns session.steps
+
+  abbrev Stands : List ℕ → Type 0
+  Stands text = TraceStandsAt x y m session.turns session.steps u status text
+
+  made : (c : Cvm) (units : ℕ) → cvm y (lines_of x m) units (complete x m t) ≡ Some c → (text : List ℕ)
+      → TraceTextOf u (first_of y u) (journal y (lines_of x m) units u (complete x m t)) (under_way x y m units u t) status c text → Stands text
+  made c units is text text_is =
+      let same : h.ran.past ≡ c = ones laws s rows (lines_of x m) (complete x m t) h.ran.past c h.ran.cvm (record { units = units; is = is }) in
+      record {
+        state = c;
+        units = units;
+        run = is;
+        status_is = h.status_is ∙ ap ended_as (h.ran.status ∙ ap (ending x m session.turns session.steps) same);
+        replayed = isolated y (lines_of x m) units (complete x m t) u c (replays s.unit s.params) user.0 user.1 is;
+        text_is = text_is;
+        over = λ e. subst (IsOver x y m session.turns t) same (h.ran.over e);
+      }
+
+  spent : session.view ≡ view.Trace u → status ≡ statuses.StepLimit → Stands h.text
+  spent traced e =
+      let so : Printed x y m session.view t h.text = spent_text x y m session.view t h.ending h.text (sym h.status_is ∙ e) h.ran.text_is in
+      let (j, shown, text) = subst (λ (v : View). Printed x y m v t h.text) traced so in
+      made shown.past shown.units shown.cvm h.text
+          (subst (λ (z : ExitStatus). TraceTextOf u (first_of y u) (journal y (lines_of x m) shown.units u (complete x m t)) (under_way x y m shown.units u t) z shown.past h.text) (sym e)
+          (text ∙ ap (λ (k : List JournalEntry). start_row u (first_of y u) ++ open_journal_rows k) shown.is))
+
+  whole : status ≢ statuses.StepLimit → (a : IsolatedTrace session u s rows before old new status) → Stands a.text
+  whole isnt a =
+      let is : cvm y (lines_of x m) a.units (complete x m t) ≡ Some a.last = subst (λ k. cvm y (lines_of x m) a.units k ≡ Some a.last) a.turns_are a.run in
+      let entries : a.entries ≡ journal y (lines_of x m) a.units u (complete x m t) = a.entries_are ∙ ap (journal y (lines_of x m) a.units u) a.turns_are in
+      let last : replay (first_of y u) (journal y (lines_of x m) a.units u (complete x m t)) ≡ Some (user_of a.last.core.users u) = isolated y (lines_of x m) a.units (complete x m t) u a.last (replays s.unit s.params) user.0 user.1 is in
+      let told : option_map (λ last. trace_text u (first_of y u) (journal y (lines_of x m) a.units u (complete x m t)) last a.last.status) (replay (first_of y u) (journal y (lines_of x m) a.units u (complete x m t))) ≡ Some a.text =
+      subst (λ j. option_map (λ last. trace_text u (first_of y u) j last a.last.status) (replay (first_of y u) j) ≡ Some a.text) entries a.text_is in
+      let text : trace_text u (first_of y u) (journal y (lines_of x m) a.units u (complete x m t)) (user_of a.last.core.users u) a.last.status ≡ a.text =
+      some_same _ _ (sym (ap (option_map (λ last. trace_text u (first_of y u) (journal y (lines_of x m) a.units u (complete x m t)) last a.last.status)) last) ∙ told) in
+      made a.last a.units is a.text (whole_text u (first_of y u) (journal y (lines_of x m) a.units u (complete x m t)) (under_way x y m a.units u t) status a.last a.text isnt (sym text))
+
+  abbrev Shows : Type 0
+  Shows = (text : List ℕ) × (new.sink.text ≡ append_known old.sink.text text) × Stands text
+
+  shows : session.view ≡ view.Trace u → ((status ≡ statuses.Done) ⊎ (status ≡ statuses.KernelFault) → IsolatedTrace session u s rows before old new status) → Shows
+  shows traced isolates = by status refl (subst Allowed (sym (h.status_is ∙ ap ended_as h.ran.status)) (allowed (is_end x m session.turns t) h.ran.past.status))
+    where
+      other : (z : ExitStatus) → status ≡ z → (z ≡ statuses.StepLimit → ⊥) → status ≢ statuses.StepLimit
+      other z e isnt limit = isnt (sym e ∙ limit)
+
+      by : (z : ExitStatus) → status ≡ z → Allowed z → Shows
+      by statuses.Done e ok = let a = isolates (inl e) in (a.text, a.printed, whole (other statuses.Done e (λ i. absurd (cc))) a)
+      by statuses.KernelFault e ok = let a = isolates (inr e) in (a.text, a.printed, whole (other statuses.KernelFault e (λ i. absurd (cc))) a)
+      by statuses.StepLimit e ok = (h.text, h.printed, spent traced e)
+      by z e ok = absurd ok
+
+pub traces_stand : RunsAreLawful → UnitsReplay → Isolated → TracesStand
+traces_stand laws replays isolated words status old new headlines isolates session u s rows before honest some traced =
+    let h : Headline session s rows before old new status = headlines session s rows before honest some in
+    let user : (1 ≤ u) × (u ≤ length s.users) = subst (λ (v : View). SeesUser v (length s.users)) traced honest.user in
+    let (text, printed, stands) = shows laws replays isolated session u s rows before status old new user h traced (λ ended. isolates session u s rows before honest traced ended) in
+    record {
+      text = text;
+      printed = printed;
+      stands = stands;
+      eight = turns_have_eight (around rows old) (first_state session s rows before) (asked_eight words old.shelf.file session s rows honest.asked old);
+      goes_on = h.goes_on;
+    }
+
+-- A SAVE
+files_eight : (file : List ℕ → Option (List ℕ)) (c : Save) (s : ImageSystem) (rows : Rows) (before : List (List ℕ)) (old : Host) → AreFilesOf file c.boot s rows → HasEight (lines_met (save_session c) s rows before old)
+files_eight file c s rows before old files = turns_have_eight (around rows old) (first_state (save_session c) s rows before) (eight_of files.schedule rows files.valid)
+
+-- a machine that is on rests in a running state
+on_runs : (x : Surroundings) (s : State) (t : ℕ) (z : Status) → (run x s t).off ≡ None → Rests z (run x s t) → z ≡ Running
+on_runs x s t Running on h = refl
+on_runs x s t Halted on h = absurd (cc)
+on_runs x s t (Faulted f) on h = absurd (cc)
+
+stood_runs : (x : Surroundings) (y : System) (s : State) (k t : ℕ) (c : Cvm) → (run x s t).off ≡ None → Stood x y s k t c → c.status ≡ Running
+stood_runs x y s zero t c on h = let is = h.cvm.is in let same : first_cvm y ≡ c = cc in sym (ap (λ (c : Cvm). c.status) same)
+stood_runs x y s (suc k) t c on h = on_runs x s t c.status on h.rests.0
+
+-- a headline of a boot stands
+boot_stands : RunsAreLawful → (session : Session) (s : ImageSystem) (rows : Rows) (before : List (List ℕ)) (status : ExitStatus) (old new : Host) → session.view ≡ view.Boot
+    → Headline session s rows before old new status → BootStands session s rows before status old new
+boot_stands laws session s rows before status old new seen h =
+    let x = around rows old in
+    let y = booted s rows in
+    let first = first_state session s rows before in
+    let held = sectors_needed session s rows in
+    let ran = subst (λ v. RanFrom x y first held before h.after v session.turns session.steps h.ending h.text) seen h.ran in
+    record {
+      text = h.text;
+      printed = h.printed;
+      stands = subst (λ (z : ExitStatus). SessionStands session s rows before old z h.text) (sym h.status_is) (stands x y (ones laws s rows) first held before h.after session.turns session.steps h.ending h.text ran);
+      goes_on = h.goes_on;
+    }
+
+saved_stands : (c : Save) (s : ImageSystem) (rows : Rows) (before : List (List ℕ)) (old new : Host) → Stopped (save_session c) s rows before old new (IsSavedIn c.file old new) → SavedStands c s rows before old new
+saved_stands c s rows before old new h =
+    let w : SavedAt (around rows old) (booted s rows) (first_state (save_session c) s rows before) c.boot.turns c.boot.steps h.words h.after h.shown = h.saved_at in
+    record {
+      state = w.past;
+      is = w.stood.cvm;
+      running = stood_runs (around rows old) (booted s rows) (first_state (save_session c) s rows before) c.boot.turns w.at w.past w.on w.stood;
+      at = w.at;
+      within = w.within;
+      first = w.end;
+      stood = w.stood;
+      on = w.on;
+      printed = h.left.1 ∙ ap (λ text. append_known old.sink.text (text ++ saved_row)) w.shown_is;
+    }
+
+save_stands : RunsAreLawful → (c : Save) (s : ImageSystem) (rows : Rows) (before : List (List ℕ)) (status : ExitStatus) (old new : Host) → AreFilesOf old.shelf.file c.boot s rows → SaveHolds c s rows before old new status
+    → SaveStands c s rows before status old new
+save_stands laws c s rows before status old new files (as_boot h halted others) =
+    record { shows = inl (boot_stands laws (save_session c) s rows before status old new refl h); eight = files_eight old.shelf.file c s rows before old files }
+save_stands laws c s rows before status old new files (is_saved done others stopped) =
+    record { shows = inr (done, saved_stands c s rows before old new stopped); eight = files_eight old.shelf.file c s rows before old files }
+
+pub saves_stand : RunsAreLawful → SavesStand
+saves_stand laws words status old new saves c s rows before honest some = save_stands laws c s rows before status old new honest.files (saves c s rows before honest some)
+
+-- A RESUME
+module _ (laws : RunsAreLawful) (c : Save) (s : ImageSystem) (rows : Rows) (machine : List ℕ) (left before : List (List ℕ)) (shown : List ℕ) (status : ExitStatus) (old new : Host)
+    (files : AreFilesOf old.shelf.file c.boot s rows) (w : IsSavedRun c s rows machine left before shown old) (h : ResumeHolds c s rows machine left old new status) where
+  abbrev around_it : Surroundings
+  around_it = around rows old
+
+  abbrev first : State
+  first = first_state (save_session c) s rows before
+
+  abbrev GoesOn : Ending → Type 0
+  GoesOn e = GoesOnAs around_it (booted s rows) before h.went.now c.boot.turns c.boot.steps (CallsFrom (run around_it first w.saved_at.at) (counts old.disk) (counts new.disk)) shown old.sink.text new.sink.text e
+
+  resumed : (e : Ending) → status ≡ ended_as e → (text : List ℕ) × (new.sink.text ≡ append_known old.sink.text text) × SessionRan (save_session c) s rows old before h.went.now e (shown ++ text)
+      → ResumeStands c s rows before shown status old new
+  resumed e is (text, printed, ran) = record {
+    text = text;
+    printed = printed;
+    stands = subst (λ (z : ExitStatus). SessionStands (save_session c) s rows before old z (shown ++ text)) (sym is)
+        (stands around_it (booted s rows) (ones laws s rows) first (sectors_needed (save_session c) s rows) before h.went.now c.boot.turns c.boot.steps e (shown ++ text) ran);
+    eight = files_eight old.shelf.file c s rows before old files;
+    goes_on = h.went.goes_on before w.disk;
+  }
+
+  by_end : (e : RunEnd) → h.end ≡ e → GoesOn (ending_of_end e) → ResumeStands c s rows before shown status old new
+  by_end ends.Done e j = resumed IsDone (h.status_is ∙ ap (λ i. ended_as (ending_of_end i)) e) j
+  by_end ends.KernelFaulted e j = resumed KernelFaulted (h.status_is ∙ ap (λ i. ended_as (ending_of_end i)) e) j
+  by_end ends.OutOfSteps e j = resumed OutOfSteps (h.status_is ∙ ap (λ i. ended_as (ending_of_end i)) e) j
+  by_end ends.DiskFault e j = absurd (h.no_disk e)
+  by_end ends.SinkFault e j = absurd (h.no_sink e)
+
+  resume_stands : ResumeStands c s rows before shown status old new
+  resume_stands = by_end h.end refl (h.went.joins before w.turns w.steps shown w.disk w.fewer w.saved_at)
+
+pub resumes_stand : RunsAreLawful → ResumesStand
+resumes_stand laws words status old new resumes c s rows machine left before shown honest some w =
+    resume_stands laws c s rows machine left before shown status old new honest.files w (resumes c s rows machine left honest some)

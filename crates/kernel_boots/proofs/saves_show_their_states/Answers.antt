@@ -1,0 +1,5 @@
+use Rattle.kernel_boots.proofs.Stands.{saves_stand}
+use Rattle.kernel_boots.proofs.saves_show_their_states.Goals as goal
+
+pub returns : goal.returns
+returns c = saves_stand c.runs_are_lawful.ensures

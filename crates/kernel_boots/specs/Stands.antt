@@ -1,0 +1,107 @@
+-- Where the run of a trace, of a save and of a resume stands, and what is printed of that state: as specs/Boots says it of a boot. What was proved of each state of
+-- a system's run holds of these, whatever lines their schedules raise: of `state` by `is` or `run`, and by `eight`.
+use Rattle.std.specs.Prelude.{◌≡◌, ◌≢◌, ◌⊎◌, ◌≤◌, ℕ, true, None, nat_lt, if◌then◌else◌, List, [], ◌++◌, Some, codes}
+use Rattle.std.specs.Io.KnownBytes.{append_known}
+use Rattle.schedule_file.specs.Rows.{Rows}
+use Rattle.mips_table.specs.Device.{Outside}
+use Rattle.mips_table.specs.Machine.{State, run}
+use Rattle.mips_table.specs.Turns.{turn_of, complete, lines_of, is_end, IsEnd, end_within}
+use Rattle.mips_table.specs.Flat.{Flat}
+use Rattle.cvm_model.specs.Kernel.{JournalEntry}
+use Rattle.cvm_model.specs.Primitives.{user_of}
+use Rattle.cvm_model.specs.Cvm.{System, Cvm, Running, IsCvm, cvm}
+use Rattle.cvm_model.specs.Invariant.{HasEight}
+use Rattle.cvm_model.specs.Journal.{journal, replay}
+use Rattle.cvm_model.specs.Text.{rows_text, start_row, open_journal_rows, trace_text}
+use Rattle.boot_turns.specs.declared.answers.View.TheVariants as view
+use Rattle.boot_turns.specs.Headline.{ending}
+use Rattle.boot_turns.specs.Trace.{entries_so_far}
+use Rattle.boot_turns.specs.TurnEnds.{first_of, IsOver, Stood}
+use Rattle.kernel_linker.specs.Accept.{ImageSystem}
+use Rattle.cvm_shell.specs.declared.exit_status.ExitStatus.{ExitStatus}
+use Rattle.cvm_shell.specs.declared.exit_status.ExitStatus.TheVariants.{Done, StepLimit, Memory}
+use Rattle.cvm_shell.specs.declared.boot.Session.{Session}
+use Rattle.cvm_shell.specs.Command.{Save, save_session}
+use Rattle.cvm_shell.specs.Host.{Host}
+use Rattle.cvm_shell.specs.Boot.{booted, around, first_state, ended_as, SessionGoesOn, IsHonest}
+use Rattle.cvm_shell.specs.CommandEnds.{Headlines, Isolates}
+use Rattle.cvm_shell.specs.Saves.{saved_row, IsHonestSave, Saves}
+use Rattle.cvm_shell.specs.Resumes.{IsHonestResume, IsSavedRun, Resumes}
+use Rattle.kernel_boots.specs.Boots.{turns_made, SessionStands, BootStands}
+
+-- the lines that the machine of a session's run met
+abbrev pub lines_met : Session → ImageSystem → Rows → (before : List (List ℕ)) → Host → ℕ → ℕ
+lines_met session s rows before old = lines_of (around rows old) (first_state session s rows before)
+
+-- what the turn that goes on at step t has done to user u so far: nothing where all turns that began are complete
+abbrev pub under_way : Outside → System → State → (units u t : ℕ) → List JournalEntry
+under_way x y s units u t = if nat_lt (complete x s t) (turn_of x s t) then entries_so_far x s y units u t else []
+
+-- THE TEXT OF A TRACE, by the status: where the steps ran out the rows of its journal over the complete turns and of what the turn under way has done, else
+-- the whole trace, whose last machine and status are those of the state
+abbrev pub TraceTextOf : (u : ℕ) → (first : Flat) → (entries more : List JournalEntry) → ExitStatus → Cvm → List ℕ → Type 0
+TraceTextOf u first entries more StepLimit c text = text ≡ start_row u first ++ open_journal_rows (entries ++ more)
+TraceTextOf u first entries more other c text = text ≡ trace_text u first entries (user_of c.core.users u) c.status
+
+-- WHERE A RUN STANDS whose user u is traced, with the lines that its machine met, at the headline's step: as `StandsAt` says of a boot, and the journal is
+-- that of the user over the complete turns, whose replay over its first machine is its machine there
+pub record TraceStandsAt (x : Outside) (y : System) (s : State) (turns steps u : ℕ) (status : ExitStatus) (text : List ℕ) : Type 0 where
+  pub state : Cvm
+  pub units : ℕ
+  pub run : cvm y (lines_of x s) units (turns_made x s turns steps) ≡ Some state
+  pub status_is : status ≡ ended_as (ending x s turns steps state)
+  pub replayed : replay (first_of y u) (journal y (lines_of x s) units u (turns_made x s turns steps)) ≡ Some (user_of state.core.users u)
+  pub text_is : TraceTextOf u (first_of y u) (journal y (lines_of x s) units u (turns_made x s turns steps)) (under_way x y s units u (end_within x s turns steps)) status state text
+  pub over : is_end x s turns (end_within x s turns steps) ≡ true → IsOver x y s turns (end_within x s turns steps) state
+
+-- A TRACE STANDS SO: what it printed is the text of the state where its run stands
+pub record TraceStands (session : Session) (u : ℕ) (s : ImageSystem) (rows : Rows) (before : List (List ℕ)) (status : ExitStatus) (old new : Host) : Type 0 where
+  pub text : List ℕ
+  pub printed : new.sink.text ≡ append_known old.sink.text text
+  pub stands : TraceStandsAt (around rows old) (booted s rows) (first_state session s rows before) session.turns session.steps u status text
+  pub eight : HasEight (lines_met session s rows before old)
+  pub goes_on : SessionGoesOn session old s rows before
+
+-- a law: so does each trace with no failed call, by the clauses `headline` and `isolated` of `run`
+abbrev pub TracesStand : Type 0
+TracesStand = (words : List (List ℕ)) (status : ExitStatus) (old new : Host) → Headlines (λ (o : Host). o) words status old new → Isolates (λ (o : Host). o) words status old new
+    → (session : Session) (u : ℕ) (s : ImageSystem) (rows : Rows) (before : List (List ℕ)) → IsHonest words session s rows before old new
+    → status ≢ Memory → session.view ≡ view.Trace u → TraceStands session u s rows before status old new
+
+-- A RUN WAS SAVED: all turns that were asked for are complete, the state behind them is running, and the machine rests in it at its first step there; what is
+-- printed are its rows and `saved`
+pub record SavedStands (c : Save) (s : ImageSystem) (rows : Rows) (before : List (List ℕ)) (old new : Host) : Type 0 where
+  pub state : Cvm
+  pub is : IsCvm (booted s rows) (lines_met (save_session c) s rows before old) c.boot.turns state
+  pub running : state.status ≡ Running
+  pub at : ℕ
+  pub within : at ≤ c.boot.steps
+  pub first : IsEnd (around rows old) (first_state (save_session c) s rows before) c.boot.turns at
+  pub stood : Stood (around rows old) (booted s rows) (first_state (save_session c) s rows before) c.boot.turns at state
+  pub on : (run (around rows old) (first_state (save_session c) s rows before) at).off ≡ None
+  pub printed : new.sink.text ≡ append_known old.sink.text (rows_text state.rows ++ saved_row)
+
+-- A SAVE STANDS SO: as a boot, or where its run was saved
+pub record SaveStands (c : Save) (s : ImageSystem) (rows : Rows) (before : List (List ℕ)) (status : ExitStatus) (old new : Host) : Type 0 where
+  pub shows : BootStands (save_session c) s rows before status old new ⊎ ((status ≡ Done) × SavedStands c s rows before old new)
+  pub eight : HasEight (lines_met (save_session c) s rows before old)
+
+-- a law: so does each save with no failed call, by the clause `saves` of `run`
+abbrev pub SavesStand : Type 0
+SavesStand = (words : List (List ℕ)) (status : ExitStatus) (old new : Host) → Saves (λ (o : Host). o) words status old new
+    → (c : Save) (s : ImageSystem) (rows : Rows) (before : List (List ℕ)) → IsHonestSave words c s rows before old new → status ≢ Memory
+    → SaveStands c s rows before status old new
+
+-- A RESUME STANDS SO, of a run that had printed `shown` when it was saved: what both printed is the text of the state where the whole run stands, from its start
+pub record ResumeStands (c : Save) (s : ImageSystem) (rows : Rows) (before : List (List ℕ)) (shown : List ℕ) (status : ExitStatus) (old new : Host) : Type 0 where
+  pub text : List ℕ
+  pub printed : new.sink.text ≡ append_known old.sink.text text
+  pub stands : SessionStands (save_session c) s rows before old status (shown ++ text)
+  pub eight : HasEight (lines_met (save_session c) s rows before old)
+  pub goes_on : SessionGoesOn (save_session c) old s rows before
+
+-- a law: so does each resume of a saved run, with no failed call, by the clause `resumes` of `run`
+abbrev pub ResumesStand : Type 0
+ResumesStand = (words : List (List ℕ)) (status : ExitStatus) (old new : Host) → Resumes (λ (o : Host). o) words status old new
+    → (c : Save) (s : ImageSystem) (rows : Rows) (machine : List ℕ) (left before : List (List ℕ)) (shown : List ℕ) → IsHonestResume words c s rows machine left old new → status ≢ Memory
+    → IsSavedRun c s rows machine left before shown old → ResumeStands c s rows before shown status old new

@@ -1,5 +1,0 @@
-use Rattle.separation.proofs.Readers.{readers_change_none}
-use Rattle.separation.proofs.readers_change_none.Goals as goal
-
-pub returns : goal.returns
-returns c = readers_change_none
