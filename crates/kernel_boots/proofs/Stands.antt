@@ -111,8 +111,8 @@ module _ (laws : RunsAreLawful) (replays : UnitsReplay) (isolated : Isolated) (s
       let so : Printed x y m session.view t h.text = spent_text x y m session.view t h.ending h.text (sym h.status_is ∙ e) h.ran.text_is in
       let (j, shown, text) = subst (λ (v : View). Printed x y m v t h.text) traced so in
       made shown.past shown.units shown.cvm h.text
-          (subst (λ (z : ExitStatus). TraceTextOf u (first_of y u) (journal y (lines_of x m) shown.units u (complete x m t)) (under_way x y m shown.units u t) z shown.past h.text) (sym e)
-          (text ∙ ap (λ (k : List JournalEntry). start_row u (first_of y u) ++ open_journal_rows k) shown.is))
+      (subst (λ (z : ExitStatus). TraceTextOf u (first_of y u) (journal y (lines_of x m) shown.units u (complete x m t)) (under_way x y m shown.units u t) z shown.past h.text) (sym e)
+      (text ∙ ap (λ (k : List JournalEntry). start_row u (first_of y u) ++ open_journal_rows k) shown.is))
 
   whole : status ≢ statuses.StepLimit → (a : IsolatedTrace session u s rows before old new status) → Stands a.text
   whole isnt a =

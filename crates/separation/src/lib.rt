@@ -6,7 +6,12 @@ ghost use Rattle.kernel_theorems.specs.RoundRobinText.{text as round_robin};
 ghost use Rattle.summing.specs.Text.{text as summing};
 ghost use Rattle.separation.specs.Runs.{RunsAreOwn};
 ghost use Rattle.separation.specs.Boots.{
-    BootsAgree, BootsPrintOwn, SourceChangesNone, SourceSeparates, TextsChangeNone, TracesAreOwn,
+  BootsAgree,
+  BootsPrintOwn,
+  SourceChangesNone,
+  SourceSeparates,
+  TextsChangeNone,
+  TracesAreOwn,
 };
 
 use called_primitives::readers_change_none;
