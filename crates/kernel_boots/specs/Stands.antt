@@ -1,5 +1,5 @@
--- Where the run of a trace, of a save and of a resume stands, and what is printed of that state: as specs/Boots says it of a boot. What was proved of each state of
--- a system's run holds of these, whatever lines their schedules raise: of `state` by `is` or `run`, and by `eight`.
+-- Where the run of a trace, of a save and of a resume stands, and what is printed of that state: as specs/Boots says it of a boot. What was proved of each
+-- state of a system's run holds of these, whatever lines their schedules raise: of `state` by `is` or `run`, and by `eight`.
 use Rattle.std.specs.Prelude.{◌≡◌, ◌≢◌, ◌⊎◌, ◌≤◌, ℕ, true, None, nat_lt, if◌then◌else◌, List, [], ◌++◌, Some, codes}
 use Rattle.std.specs.Io.KnownBytes.{append_known}
 use Rattle.schedule_file.specs.Rows.{Rows}
@@ -51,11 +51,13 @@ pub record TraceStandsAt (x : Outside) (y : System) (s : State) (turns steps u :
   pub run : cvm y (lines_of x s) units (turns_made x s turns steps) ≡ Some state
   pub status_is : status ≡ ended_as (ending x s turns steps state)
   pub replayed : replay (first_of y u) (journal y (lines_of x s) units u (turns_made x s turns steps)) ≡ Some (user_of state.core.users u)
-  pub text_is : TraceTextOf u (first_of y u) (journal y (lines_of x s) units u (turns_made x s turns steps)) (under_way x y s units u (end_within x s turns steps)) status state text
+  pub text_is : TraceTextOf u (first_of y u) (journal y (lines_of x s) units u (turns_made x s turns steps))
+      (under_way x y s units u (end_within x s turns steps)) status state text
   pub over : is_end x s turns (end_within x s turns steps) ≡ true → IsOver x y s turns (end_within x s turns steps) state
 
 -- A TRACE STANDS SO: what it printed is the text of the state where its run stands
-pub record TraceStands (session : Session) (u : ℕ) (s : ImageSystem) (rows : Rows) (before : List (List ℕ)) (status : ExitStatus) (old new : Host) : Type 0 where
+pub record TraceStands (session : Session) (u : ℕ) (s : ImageSystem) (rows : Rows) (before : List (List ℕ)) (status : ExitStatus) (old new : Host) :
+    Type 0 where
   pub text : List ℕ
   pub printed : new.sink.text ≡ append_known old.sink.text text
   pub stands : TraceStandsAt (around rows old) (booted s rows) (first_state session s rows before) session.turns session.steps u status text
@@ -64,9 +66,9 @@ pub record TraceStands (session : Session) (u : ℕ) (s : ImageSystem) (rows : R
 
 -- a law: so does each trace with no failed call, by the clauses `headline` and `isolated` of `run`
 abbrev pub TracesStand : Type 0
-TracesStand = (words : List (List ℕ)) (status : ExitStatus) (old new : Host) → Headlines (λ (o : Host). o) words status old new → Isolates (λ (o : Host). o) words status old new
-    → (session : Session) (u : ℕ) (s : ImageSystem) (rows : Rows) (before : List (List ℕ)) → IsHonest words session s rows before old new
-    → status ≢ Memory → session.view ≡ view.Trace u → TraceStands session u s rows before status old new
+TracesStand = (words : List (List ℕ)) (status : ExitStatus) (old new : Host) → Headlines (λ (o : Host). o) words status old new
+    → Isolates (λ (o : Host). o) words status old new → (session : Session) (u : ℕ) (s : ImageSystem) (rows : Rows) (before : List (List ℕ))
+    → IsHonest words session s rows before old new → status ≢ Memory → session.view ≡ view.Trace u → TraceStands session u s rows before status old new
 
 -- A RUN WAS SAVED: all turns that were asked for are complete, the state behind them is running, and the machine rests in it at its first step there; what is
 -- printed are its rows and `saved`
@@ -92,8 +94,10 @@ SavesStand = (words : List (List ℕ)) (status : ExitStatus) (old new : Host) �
     → (c : Save) (s : ImageSystem) (rows : Rows) (before : List (List ℕ)) → IsHonestSave words c s rows before old new → status ≢ Memory
     → SaveStands c s rows before status old new
 
--- A RESUME STANDS SO, of a run that had printed `shown` when it was saved: what both printed is the text of the state where the whole run stands, from its start
-pub record ResumeStands (c : Save) (s : ImageSystem) (rows : Rows) (before : List (List ℕ)) (shown : List ℕ) (status : ExitStatus) (old new : Host) : Type 0 where
+-- A RESUME STANDS SO, of a run that had printed `shown` when it was saved: what both printed is the text of the state where the whole run stands, from its
+-- start
+pub record ResumeStands (c : Save) (s : ImageSystem) (rows : Rows) (before : List (List ℕ)) (shown : List ℕ) (status : ExitStatus) (old new : Host) :
+    Type 0 where
   pub text : List ℕ
   pub printed : new.sink.text ≡ append_known old.sink.text text
   pub stands : SessionStands (save_session c) s rows before old status (shown ++ text)
@@ -103,5 +107,5 @@ pub record ResumeStands (c : Save) (s : ImageSystem) (rows : Rows) (before : Lis
 -- a law: so does each resume of a saved run, with no failed call, by the clause `resumes` of `run`
 abbrev pub ResumesStand : Type 0
 ResumesStand = (words : List (List ℕ)) (status : ExitStatus) (old new : Host) → Resumes (λ (o : Host). o) words status old new
-    → (c : Save) (s : ImageSystem) (rows : Rows) (machine : List ℕ) (left before : List (List ℕ)) (shown : List ℕ) → IsHonestResume words c s rows machine left old new → status ≢ Memory
-    → IsSavedRun c s rows machine left before shown old → ResumeStands c s rows before shown status old new
+    → (c : Save) (s : ImageSystem) (rows : Rows) (machine : List ℕ) (left before : List (List ℕ)) (shown : List ℕ)
+    → IsHonestResume words c s rows machine left old new → status ≢ Memory → IsSavedRun c s rows machine left before shown old → ResumeStands c s rows before shown status old new

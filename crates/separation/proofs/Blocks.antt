@@ -21,12 +21,16 @@ cut_users k (suc n) (f ∷ us) lt =
     ∙ sym (append_assoc (user_text k f) (users_text (k + 1) (take n us)) (user_text (k + suc n) (slice_index_or us n no_flat) ++ users_text (k + suc n + 1) (drop (suc n) us)))
 
 cut_user : (u : ℕ) (us : List Flat) → 1 ≤ u → u ≤ length us → users_text 1 us ≡ users_text 1 (take (u - 1) us) ++ (user_text u (user_of us u) ++ users_text (u + 1) (drop u us))
-cut_user zero us some few = absurd (omega (arith, some))
-cut_user (suc n) us some few = cut_users 1 n us (omega (arith, few)) ∙ ap (λ i. users_text 1 (take n us) ++ (user_text i (slice_index_or us n no_flat) ++ users_text (i + 1) (drop (suc n) us))) (omega arith)
+cut_user u us some few =
+    let one : 1 + (u - 1) ≡ u = omega (arith, some) in
+    let next : suc (u - 1) ≡ u = omega (arith, some) in
+    cut_users 1 (u - 1) us (omega (arith, few, some))
+    ∙ ap (λ i. users_text 1 (take (u - 1) us) ++ (user_text i (user_of us u) ++ users_text (i + 1) (drop (suc (u - 1)) us))) one
+    ∙ ap (λ i. users_text 1 (take (u - 1) us) ++ (user_text u (user_of us u) ++ users_text (u + 1) (drop i us))) next
 
-regroup : (a b c d e x : List ℕ) → a ++ (b ++ (c ++ (d ++ (e ++ x)))) ≡ (a ++ (b ++ (c ++ (d ++ e)))) ++ x
-regroup a b c d e x =
-    ap (λ t. a ++ (b ++ (c ++ t))) (sym (append_assoc d e x)) ∙ ap (λ t. a ++ (b ++ t)) (sym (append_assoc c (d ++ e) x)) ∙ ap (λ t. a ++ t) (sym (append_assoc b (c ++ (d ++ e)) x)) ∙ sym (append_assoc a (b ++ (c ++ (d ++ e))) x)
+regroup : (a b c d x : List ℕ) → a ++ (b ++ (c ++ (d ++ x))) ≡ (a ++ (b ++ (c ++ d))) ++ x
+regroup a b c d x =
+    ap (λ t. a ++ (b ++ t)) (sym (append_assoc c d x)) ∙ ap (λ t. a ++ t) (sym (append_assoc b (c ++ d) x)) ∙ sym (append_assoc a (b ++ (c ++ d)) x)
 
 -- a status that is no fault
 abbrev pub IsReported : Status → Type 0
@@ -40,11 +44,10 @@ closes y c (Faulted f) h = absurd h
 
 pub cut_boot : (y : System) (c : Cvm) (u : ℕ) → IsReported c.status → 1 ≤ u → u ≤ length c.core.users → boot_text y c ≡ in_front y c u ++ (user_text u (user_of c.core.users u) ++ behind c u)
 cut_boot y c u reported some few =
-    let g : List ℕ = globals_text y.boot.meaning.names (parts_of c.core.c0.global_values) in
-    let l : List ℕ = log_text c.core.console.log in
+    let k : List ℕ = globals_text y.boot.meaning.names (parts_of c.core.c0.global_values) ++ log_text c.core.console.log in
     ap (λ t. rows_text c.rows ++ t) (closes y c c.status reported)
-    ∙ ap (λ t. rows_text c.rows ++ (end_text c.status ++ (g ++ (l ++ t)))) (cut_user u c.core.users some few)
-    ∙ regroup (rows_text c.rows) (end_text c.status) g l (users_text 1 (take (u - 1) c.core.users)) (user_text u (user_of c.core.users u) ++ behind c u)
+    ∙ ap (λ t. rows_text c.rows ++ (end_text c.status ++ (k ++ t))) (cut_user u c.core.users some few)
+    ∙ regroup (rows_text c.rows) (end_text c.status) k (users_text 1 (take (u - 1) c.core.users)) (user_text u (user_of c.core.users u) ++ behind c u)
 
 -- A USER'S WORDS
 pub there : {A : Type 0} (xs : List A) (n : ℕ) (x : A) → slice_get xs n ≡ Some x → n < length xs

@@ -59,7 +59,8 @@ made b = turns_made (around b.rows b.old) (first_state b.session b.system b.rows
 
 -- what a report of a state has before user u: the rows of dispatches, the end, the globals, the log, and the users before it; and behind it the other users
 abbrev pub in_front : System → Cvm → ℕ → List ℕ
-in_front y c u = rows_text c.rows ++ (end_text c.status ++ (globals_text y.boot.meaning.names (parts_of c.core.c0.global_values) ++ (log_text c.core.console.log ++ users_text 1 (take (u - 1) c.core.users))))
+in_front y c u = rows_text c.rows ++ (end_text c.status
+    ++ (globals_text y.boot.meaning.names (parts_of c.core.c0.global_values) ++ log_text c.core.console.log ++ users_text 1 (take (u - 1) c.core.users)))
 
 abbrev pub behind : Cvm → ℕ → List ℕ
 behind c u = users_text (u + 1) (drop u c.core.users)
@@ -78,8 +79,8 @@ abbrev pub HasUser : (u : ℕ) → (words : List ℕ) → List ℕ → Type 0
 HasUser u words bytes = (i : Image) × (image_of bytes ≡ Ok i) × (slice_get i.users (u - 1) ≡ Some words)
 
 -- words and files ask for a run of such an image: the file that is named, or what a sample is linked to
-abbrev pub AsksUser : (u : ℕ) → (words : List ℕ) → {given : List (List ℕ)} → {file : List ℕ → Option (List ℕ)} → {session : Session} → {s : ImageSystem} → {rows : Rows}
-    → AskFor given file session s rows → Type 0
+abbrev pub AsksUser : (u : ℕ) → (words : List ℕ) → {given : List (List ℕ)} → {file : List ℕ → Option (List ℕ)} → {session : Session}
+    → {s : ImageSystem} → {rows : Rows} → AskFor given file session s rows → Type 0
 AsksUser u words (by_boot b is same files) = HasUser u words files.image
 AsksUser u words (by_trace t is same files) = HasUser u words files.image
 AsksUser u words (by_sample x is same parts) = HasUser u words parts.image
@@ -102,14 +103,15 @@ pub record BlocksAreOwn (source : List ℕ) (u : ℕ) (words : List ℕ) (b : Do
 abbrev pub BootsPrintOwn : Type 0
 BootsPrintOwn = (source : List ℕ) → SourceChangesNone source → (u : ℕ) (words : List ℕ) (b : DoneBoot) → Boots source u words b → BlocksAreOwn source u words b
 
--- SEPARATION, a law on TWO BOOTS in which user u has the same words and made as many steps of its own: they print the same block of it, which is the user's own.
--- Its other users, the parameters, the schedules and the disks of the two are any, and even the kernels, where neither changes a machine.
+-- SEPARATION, a law on TWO BOOTS in which user u has the same words and made as many steps of its own: they print the same block of it, and it is the user's
+-- own. The other users, the parameters, the schedules and the disks of the two are any, and even the kernels, where neither changes a machine.
 pub record Agree (u : ℕ) (words : List ℕ) (steps : ℕ) (one two : List ℕ) : Type 0 where
   pub same : one ≡ two
   pub own : one ≡ own_block u words steps
 
 abbrev pub BootsAgree : Type 0
-BootsAgree = (source another : List ℕ) → SourceChangesNone source → SourceChangesNone another → (u : ℕ) (words : List ℕ) (a b : DoneBoot) → Boots source u words a → Boots another u words b
+BootsAgree = (source another : List ℕ) → SourceChangesNone source → SourceChangesNone another
+    → (u : ℕ) (words : List ℕ) (a b : DoneBoot) → Boots source u words a → Boots another u words b
     → (steps : ℕ) (one two : List ℕ) → PrintsUser a u steps one → PrintsUser b u steps two → Agree u words steps one two
 
 -- the trace of user u with these words by itself, for so many steps, of a run that ended so
@@ -118,8 +120,9 @@ own_trace u words steps status = trace_text u (first_flat words) (own_journal st
 
 -- A LAW: so is what each trace of the user prints, with its journal's steps and with how its run ended
 abbrev pub TracesAreOwn : Type 0
-TracesAreOwn = (source : List ℕ) → SourceChangesNone source → (given : List (List ℕ)) (session : Session) (u : ℕ) (words : List ℕ) (s : ImageSystem) (rows : Rows) (before : List (List ℕ))
-    (old new : Host) (status : ExitStatus) → (h : IsHonest given session s rows before old new) → AsksSource source h.asked → 1 ≤ u → AsksUser u words h.asked
+TracesAreOwn = (source : List ℕ) → SourceChangesNone source → (given : List (List ℕ)) (session : Session) (u : ℕ) (words : List ℕ)
+    (s : ImageSystem) (rows : Rows) (before : List (List ℕ)) (old new : Host) (status : ExitStatus)
+    → (h : IsHonest given session s rows before old new) → AsksSource source h.asked → 1 ≤ u → AsksUser u words h.asked
     → (a : IsolatedTrace session u s rows before old new status) → a.text ≡ own_trace u words (own_steps a.entries) a.last.status
 
 -- A LAW: a text that is read by computation as a tree that only reads machines changes none
