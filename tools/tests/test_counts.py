@@ -1,4 +1,6 @@
 """The numbers of cases that docs/promises/tests.md tells, counted in the data and in what the programs of cases print."""
+import importlib.machinery
+import importlib.util
 import os
 import re
 import unittest
@@ -71,3 +73,32 @@ class Counts(unittest.TestCase):
         self.assertEqual({(crate, what) for crate, what, _ in rows}, set(COUNTED))
         for crate, what, number in rows:
             self.assertEqual(int(number.replace(',', '')), COUNTED[crate, what](crate), '%s: %s' % (crate, what))
+
+
+class Believed(unittest.TestCase):
+    """tools/believed counts the laws that README speaks of."""
+
+    def setUp(self):
+        loader = importlib.machinery.SourceFileLoader('believed', os.path.join(pages.TOP, 'tools', 'believed'))
+        self.believed = importlib.util.module_from_spec(importlib.util.spec_from_loader('believed', loader))
+        loader.exec_module(self.believed)
+
+    def test_laws_are_public_functions_with_a_clause(self):
+        named = {'%s::%s' % (crate, name) for _, laws in self.believed.LAWS for crate, _, name in laws}
+        for law in ('kernel_linker::linked_images_are_accepted', 'cvm_shell::stack_out_is_not_printed', 'cvm_shell::booted_programs_run', 'cvm_shell::saved_and_resumed_are_booted',
+                    'kernel_boots::round_robins_boot', 'summing::summing_boots', 'program_systems::compiled_sums_boot', 'program_systems::compiled_answers_boot'):
+            self.assertIn(law, named)
+        for _, laws in self.believed.LAWS:
+            for crate, path, name in laws:
+                self.assertTrue(self.believed.clauses(crate, path, 'pub fn %s(' % name)[1], name)
+
+    def test_totals_are_the_sums_of_the_tables(self):
+        specs, came, beside = self.believed.reach()
+        printed = self.believed.of_laws(specs, beside)
+        total = int(re.search(r'with ([\d,]+) lines beside', printed).group(1).replace(',', ''))
+        groups = [int(it.replace(',', '')) for it in re.findall(r'^\*\*Beside .* \(([\d,]+) lines\)$', printed, re.M)]
+        self.assertEqual((len(groups), sum(groups)), (len(self.believed.LAWS), total))
+        self.assertEqual(sum(int(it) for it in re.findall(r'(?<=[a-z]) (\d+)(?=,| \|)', printed)), total)
+        counted = [it for _, more in beside for it in more]
+        self.assertEqual(len(counted), len(set(counted)))
+        self.assertFalse(set(counted) & set(came))
