@@ -1,6 +1,6 @@
 -- What is known of any two users that call serves two programs, whose calls come within the steps of their units.
 use Rattle.std.specs.Prelude.{pos}
-use Rattle.std.proofs.Common.{ℕ, ◌+◌, ◌*◌, ◌≤◌, List, length, subst, arith}
+use Rattle.std.proofs.Common.{ℕ, ◌+◌, ◌*◌, ◌≤◌, List, [], length, subst, arith}
 use Rattle.std.proofs.lemmas.Nat.{mul-le}
 use Rattle.mips_table.specs.Device.{Outside}
 use Rattle.mips_table.specs.Machine.{State}
