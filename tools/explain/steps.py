@@ -3,6 +3,9 @@ import re
 
 from explain import files
 
+# From so many steps on more of them are no first guess.
+MANY = 1000000000
+
 
 def first_words(name, count):
     """The first words of a file, little-endian; fewer where it is shorter."""
@@ -37,13 +40,15 @@ def advice(steps, turns, image, schedule, way):
     """What to say where the steps were spent before the turns were complete."""
     tenfold = min(max(10 * steps, 1000000), 2**64 - 1)
     total, page, rom = enough(image, schedule, turns)
-    said = ['the steps were spent before the turns were complete.']
-    if 10 * steps >= 1000000 and steps < 2**64 - 1:
+    said = ['the %d steps were spent before the turns were complete.' % steps]
+    if steps >= MANY:
+        said.append('Few runs take so many: look first for a loop that does not end, in the kernel or in a user that makes no call.')
+    elif 10 * steps >= 1000000:
         said.append('Try ten times as many first: %s in place of %d.' % (way.steps(tenfold), steps))
-    elif steps < 2**64 - 1:
+    else:
         said.append('Try a million first: %s in place of %d.' % (way.steps(tenfold), steps))
     said.append('%d are always enough for %d turns that don\'t call the kernel%s; for each turn that does, add 2000, and in it 600 for each node, statement, call, '
                 'test, zeroed or asm word, and each word or page that a primitive touches, and %d more for each of these pages.'
                 % (total + (rom if way.first == 'rom' else 0), turns, ' (with the way from the disk)' if way.first == 'rom' else '', page))
-    said.append('Most runs take far fewer. A dispatch that never ends has no such number: look for a loop in the kernel that does not end.')
+    said.append('Most runs take far fewer. A dispatch that never ends has no such number%s.' % ('' if steps >= MANY else ': look for a loop in the kernel that does not end'))
     return ' '.join(said)

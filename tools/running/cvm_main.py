@@ -1,6 +1,6 @@
 """./cvm: runs the proved program with the words given, in the current folder, and explains on standard error any status but 0, and the answer of a check."""
 from explain import given_texts, pages, status as explaining, words as command_words
-from running import program, proved
+from running import program, proved, released
 from running.guard import Bad, say
 
 
@@ -18,8 +18,12 @@ def bad_words(lines):
 def main(words):
     pages.require(Bad)
     if not words or words[0] in ('--help', '-h'):
-        return bad_words(['cvm: compiles kernels and boots them. The commands are:', *forms(), 'docs/FORMATS.md says what each takes and prints.'])
-    if not proved.is_current() and command_words.fault(words):
+        return bad_words(['cvm: compiles kernels and boots them. The commands are:', *forms(),
+                          'docs/FORMATS.md says what each takes and prints, and ./cvm --version which program runs.'])
+    if words == ['--version']:
+        program.put_line('cvm: ' + released.version('the proved program of crates/cvm/out, which is built of these sources'))
+        return 0
+    if command_words.fault(words) and not proved.is_there():
         return bad_words(explaining.explain(1, words, ['bad words']))
     say(given_texts.said(words, './cvm'))
     status, rows = program.run_here([*proved.program(), *words])

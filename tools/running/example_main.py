@@ -2,7 +2,7 @@
 import os
 
 from explain import files, pages, words as command_words
-from running import kept, program, proved, try_main
+from running import program, try_main
 from running.folder import Folder
 from running.guard import Bad, say
 
@@ -17,7 +17,7 @@ def options_of(words):
     """The example's folder, and the options of a run."""
     words = list(words)
     options = try_main.Options()
-    options.proved = '--try' not in words
+    options.proved, options.checked = '--try' not in words, '--try' in words
     words = [word for word in words if word != '--try']
     usage = 'examples/run NAME [trace USER] [--try], NAME one of: ' + ' '.join(names())
     if len(words) not in (1, 3) or (len(words) == 3 and words[1] != 'trace'):
@@ -55,9 +55,6 @@ def main(words):
         text.append(part)
         program.put(part)
 
-    try:
-        start = proved.program() if options.proved else kept.program(say)
-    except kept.NoBuild as why:
-        raise Bad(str(why), 70) from None
+    start = try_main.start_of(options)
     status = try_main.run_folder(start, folder, options, put, say)
     return status or compare(folder, options, b''.join(text))

@@ -113,7 +113,8 @@ def ended(status, had, said):
     """Why a run with this status did not come to its end, in one line."""
     if status == 4:
         last = next((row for row in reversed(had) if row.startswith('turn ')), None)
-        return 'status 4, the steps were spent before the turns were complete%s' % (": the last row is '%s'" % last if last else ': no turn is complete')
+        spent = next(filter(None, (re.match(r'cvm: the (\d+ )steps were spent', line) for line in said)), None)
+        return 'status 4, the %ssteps were spent before the turns were complete%s' % (spent[1] if spent else '', ": the last row is '%s'" % last if last else ': no turn is complete')
     place = said[0].partition('\n')[0] + ': ' if said and not said[0].startswith('cvm: ') else ''
     why = next((line[len('cvm: '):].partition('. What to do')[0] for line in said if line.startswith('cvm: ')), '')
     return 'status %d, %s%s' % (status, place, why.rstrip('.'))

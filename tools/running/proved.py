@@ -1,10 +1,11 @@
-"""The proved program: crates/cvm/out/cvm, which `rt run` builds after it has proved every crate below it."""
+"""The proved program: the released one, or crates/cvm/out/cvm, which `rt run` builds after it has proved every crate below it."""
 import os
 import shutil
 import subprocess
 import tempfile
 
 from explain import pages
+from running import released
 from running.guard import Bad, say
 
 TOP = pages.TOP
@@ -34,7 +35,7 @@ def build():
     if rt is None:
         raise Bad("the Rattle toolchain's command, rt, is not on the path", 70)
     say('cvm: building the program. A build proves every crate below it first, which takes some 25 minutes or more on four processors; '
-        './try runs the sources at once, without a proof.')
+        './try FOLDER runs the sources at once, without a proof.')
     with tempfile.NamedTemporaryFile(prefix='cvm-build-', suffix='.log', delete=False) as log:
         try:
             subprocess.run([rt, 'run'], cwd=os.path.dirname(os.path.dirname(PROGRAM)), stdin=subprocess.DEVNULL, stdout=subprocess.DEVNULL, stderr=log)
@@ -49,8 +50,17 @@ def build():
     raise Bad('the build failed; its whole log is ' + log.name, 70)
 
 
+def is_there():
+    """Whether a proved program of these sources is there."""
+    return released.is_to_be_run() or is_current()
+
+
 def program():
-    """The words that start the proved program, which is built where it is not current."""
+    """The words that start the proved program, which is built where neither the released one is to be run nor one is current."""
+    path, why = released.asked()
+    if path:
+        return [path]
+    say(released.sentence('cvm', why))
     if not is_current():
         build()
     return [PROGRAM]

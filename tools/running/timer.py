@@ -7,6 +7,8 @@ from running.guard import Bad
 
 # The most rows that are added: the copy stays far below the bytes that a file may have, and is read within seconds.
 MOST = 1000000
+# So many are added at most where nothing is said of steps.
+USUAL = 100000
 NUMBER = rb'(0|[1-9][0-9]*)'
 FORMS = [(re.compile(rb'line %s %s' % (NUMBER, NUMBER)), 7), (re.compile(rb'busy %s %s' % (NUMBER, NUMBER)), 65535), (re.compile(rb'input %s' % NUMBER), 2**32 - 1)]
 
@@ -27,6 +29,10 @@ class Timer:
     def count(self, steps):
         """How many rows there are up to a step."""
         return steps // self.period
+
+    def usual_steps(self):
+        """How many steps are run at most where nothing is said."""
+        return USUAL * self.period
 
     def check(self, steps):
         if self.count(steps) > MOST:

@@ -1,20 +1,22 @@
-"""./try: a command, or whole systems from their sources, by the program as the sources are, with no proof."""
+"""./try: a command, or whole systems from their sources, by the released program, or by the sources as they are with no proof."""
 import os
 
 from explain import files, given_texts, pages, status as explaining, words as command_words
-from running import expected, extras, kept, program, proved, rooms, sharing, system
+from running import expected, extras, kept, program, proved, released, rooms, sharing, system
 from running.folder import BadFolder, Folder
 from running.guard import Bad, say
 
 HELP = '''./try FOLDER..        compiles, links and boots the system of each folder: kernel.c0, params, schedule, user1.s or user1.c0, user2.s ..
   --trace USER        prints what this user saw in place of the boot
   --turns N           so many turns at most, in place of 100000
-  --steps N           so many steps of the machine at most, in place of 1000000 (a quarter of a minute), and of 100000000 with --proved
+  --steps N           so many steps of the machine at most, in place of 1000000000 (some five seconds), and of 1000000 with --checked (some four)
   --picture FILE      draws the run, too, as an SVG
 %s
-  --proved            by the proved program, which ./cvm builds
-./try COMMAND WORD..  one command of the program, as ./cvm COMMAND WORD..
-./try --keep          builds the program and runs nothing. Each ./try keeps its build until a source changes; ./try --anew FOLDER.. builds again''' % extras.HELP
+  --proved            by the proved program, which ./cvm builds where the released one is not of these sources
+  --checked           by the sources as they are, built with checks and no proof, as it is done by itself where the released program isn't of them
+./try COMMAND WORD..  one command of the program, as ./cvm COMMAND WORD..; ./try --checked COMMAND WORD.. by the sources as they are
+./try --version       says which program is run
+./try --keep          builds the sources and runs nothing. Each build is kept until a source changes; ./try --anew FOLDER.. builds again''' % extras.HELP
 
 
 class Options:
@@ -22,15 +24,17 @@ class Options:
 
     def __init__(self):
         self.folders, self.turns, self.given_steps = [], 100000, None
-        self.trace, self.picture, self.proved = None, None, False
+        self.trace, self.picture, self.proved, self.checked = None, None, False, False
         self.extras = extras.Extras()
 
     @property
     def steps(self):
-        """How many steps are run at most. The program as `rt try` builds it, with its checks, makes some 60,000 in a second; the proved one far more."""
+        """How many steps are run at most. The program as `rt try` builds it, with its checks, makes some 300,000 in a second; the proved one 200,000,000."""
         if self.given_steps is not None:
             return self.given_steps
-        return 100000000 if self.proved else 1000000
+        # the steps beside turns are told by a program with checks, too
+        most = 1000000 if self.checked or self.extras.clock else 1000000000
+        return min(most, self.extras.timer.usual_steps()) if self.extras.timer else most
 
 
 def number_of(word, name, least, most):
@@ -49,8 +53,8 @@ def options_of(words):
              '--picture': lambda word: setattr(options, 'picture', word), **options.extras.taken()}
     while left:
         word = left.pop(0)
-        if word == '--proved':
-            options.proved = True
+        if word in ('--proved', '--checked'):
+            setattr(options, word[2:], True)
         elif word in extras.FLAGS:
             options.extras.set_flag(word)
         elif word in taken:
@@ -62,7 +66,7 @@ def options_of(words):
         elif word == '--keep':
             raise Bad("'--keep' stands alone: ./try --keep builds the program and runs nothing. Each ./try FOLDER keeps its build by itself")
         elif word.startswith('--'):
-            near = command_words.nearest(word, [*taken, *extras.FLAGS, '--proved', '--keep', '--anew'])
+            near = command_words.nearest(word, [*taken, *extras.FLAGS, '--proved', '--checked', '--keep', '--anew', '--version'])
             raise Bad("'%s' is no option%s ./try --help lists them" % (word, ": did you mean '%s'?" % near if near else ';'))
         else:
             options.folders.append(word)
@@ -76,6 +80,8 @@ def checked(options):
     drawn, graded = options.picture is not None, options.extras.expect is not None
     if len(options.folders) > 1 and (drawn or options.trace):
         raise Bad('--trace and --picture are for one folder')
+    if options.proved and options.checked:
+        raise Bad('--proved and --checked are two programs: leave one out')
     if drawn and (options.trace or graded):
         raise Bad('--picture goes with the boot alone: leave out --trace and --expect')
     fault = drawn and files.put_fault(options.picture)
@@ -129,9 +135,15 @@ def draw(run, folder, options):
 
 
 def start_of(options):
-    """The words that start the program."""
+    """The words that start the program. Where the released one isn't to be run and none is asked for, it is the checked one."""
     if options.proved:
         return proved.program()
+    path, why = (None, None) if options.checked else released.asked()
+    if path:
+        return [path]
+    if why:
+        say(released.sentence('try', why))
+    options.checked = True
     try:
         return kept.program(say)
     except kept.NoBuild as why:
@@ -186,7 +198,7 @@ def run_folders(words, before):
     return run_one(start, folders[0], options) if len(folders) == 1 else run_many(start, folders, options)
 
 
-def run_command(words, before):
+def run_command(words, options, before):
     """Runs one command; what is to be done before the program is looked for is done once all words are read. What is wrong with its words and files is said before the toolchain starts, as the program would."""
     if command_words.fault(words):
         program.put(b'bad words\n')
@@ -194,7 +206,7 @@ def run_command(words, before):
         return 1
     gets, puts = command_words.files(words)
     fault = next((fault for fault in map(files.get_fault, gets) if fault and 'more than' not in fault), None)
-    if not fault and not kept.is_kept():
+    if not fault and (options.checked or not released.is_to_be_run()) and not kept.is_kept():
         # a build would be spent on a command whose file can't be put
         fault = next(filter(None, map(files.put_fault, puts)), None)
     if fault:
@@ -202,7 +214,7 @@ def run_command(words, before):
         return 6
     before()
     say(given_texts.said(words, './try'))
-    status, rows = program.run_here([*start_of(Options()), *words])
+    status, rows = program.run_here([*start_of(options), *words])
     say(explaining.explain(status, words, rows, explaining.Way(words, './try')))
     return status if status >= 0 else 128 - status
 
@@ -210,21 +222,25 @@ def run_command(words, before):
 def main(words):
     pages.require(Bad)
     if not words or words[0] in ('--help', '-h'):
-        say(['try: runs the sources as they are, with no proof.', HELP, 'The commands are:'] + ['  ./try ' + ' '.join(form) for form in pages.forms()])
+        say(['try: runs systems and commands by the proved program, or by the sources as they are.', HELP, 'The commands are:'] + ['  ./try ' + ' '.join(form) for form in pages.forms()])
         return 0 if words else 64
-    words, before = list(words), lambda: None
-    if words[0] == '--anew':
-        before, words = kept.forget, words[1:]
-    if words[:1] == ['--keep'] and len(words) == 1:
-        words = []
+    if list(words) == ['--version']:
+        program.put_line('try: ' + released.version('the program that the toolchain builds of these sources with checks and no proof'))
+        return 0
+    words, before, options = list(words), lambda: None, Options()
+    while words[:1] in (['--anew'], ['--checked']):
+        before = kept.forget if words[0] == '--anew' else before
+        options.checked, words = True, words[1:]
+    if words == ['--keep']:
+        options.checked, words = True, []
     if not words:
         before()
-        start_of(Options())
+        start_of(options)
         return 0
     heads = [command_words.literal(form)[0] for form in pages.forms()]
     if words[0] in heads:
-        return run_command(words, before)
+        return run_command(words, options, before)
     if not words[0].startswith('--') and not os.path.lexists(words[0]) and not os.path.sep in words[0]:
         near = command_words.nearest(words[0], heads)
         raise Bad("'%s' is neither a folder nor a command%s ./try --help lists the commands" % (words[0], ": did you mean '%s'?" % near if near else ';'))
-    return run_folders(words, before)
+    return run_folders(['--checked'] * options.checked + words, before)

@@ -1,4 +1,5 @@
-"""Compares the rows of habit_rows with what the program itself refuses, by the build that ./try keeps. No test of the kind that needs no toolchain."""
+"""Compares the rows of habit_rows with what the program itself refuses: the one that ./try runs, or with the word --checked the one that is built with checks.
+No test of the kind that needs no program."""
 import os
 import sys
 import tempfile
@@ -6,8 +7,7 @@ import tempfile
 sys.dont_write_bytecode = True
 sys.path.insert(0, os.path.dirname(os.path.dirname(os.path.abspath(__file__))))
 from explain import pages, status as explaining  # noqa: E402
-from running import kept, program  # noqa: E402
-from running.guard import say  # noqa: E402
+from running import program, try_main  # noqa: E402
 from tests import followed_rows, habit_rows  # noqa: E402
 
 
@@ -62,7 +62,9 @@ def is_so(start, folder, kind, data, numbers, part):
 
 
 def main():
-    start = kept.program(say)
+    options = try_main.Options()
+    options.checked = '--checked' in sys.argv[1:]
+    start = try_main.start_of(options)
     with tempfile.TemporaryDirectory() as folder:
         wrong = [case for case in cases() if not is_so(start, folder, *case)]
         wrong += [('kernel', data, numbers, part) for data, numbers, part, _ in followed() if not is_so(start, folder, 'kernel', data, numbers, part)]

@@ -58,8 +58,8 @@ class Expected(unittest.TestCase):
     def test_a_mark_is_one_line(self):
         said = ['k.c0:1:2\n  x\n  ^', 'cvm: a call needs its answer taken.', 'cvm: refusal 12 with 5, unexpected.']
         self.assertEqual(answer(['halted'], ['refused 12 5'], 2, said), 'status 2, k.c0:1:2: a call needs its answer taken')
-        self.assertEqual(answer(['halted'], RUN[:2], 4, ['cvm: the steps were spent before the turns were complete. Try ..']),
-                         "status 4, the steps were spent before the turns were complete: the last row is 'turn 7 cause 6 data 0000004c user 1 next 1'")
+        self.assertEqual(answer(['halted'], RUN[:2], 4, ['cvm: the 70 steps were spent before the turns were complete. Try ..']),
+                         "status 4, the 70 steps were spent before the turns were complete: the last row is 'turn 7 cause 6 data 0000004c user 1 next 1'")
         self.assertEqual(answer(['halted'], [], 4), 'status 4, the steps were spent before the turns were complete: no turn is complete')
         self.assertNotIn('\n', answer(['halted'], ['a\tb'], 2, ['a\nb', 'cvm: c\x07d.']))
 

@@ -7,8 +7,8 @@ import tempfile
 import unittest
 from unittest import mock
 
-from explain import files, pages
-from running import guard, program, try_main
+from explain import files, pages, status as explaining
+from running import guard, kept, program, released, try_main
 from running.folder import BadFolder, Folder
 
 
@@ -119,10 +119,27 @@ class Folders(unittest.TestCase):
         picture = os.path.join(self.room, 'run.svg')
         for name in ('mailbox', 'services'):
             folder = os.path.join(pages.TOP, 'examples', name)
-            for more in ([], ['--proved']):
+            for more in ([], ['--proved'], ['--checked']):
                 self.assertEqual(self.tried(folder, '--picture', picture, *more), (0, files.content(os.path.join(folder, 'printed'))))
                 self.assertEqual(files.content(picture), files.content(os.path.join(folder, 'run.svg')))
             self.assertEqual(self.tried(folder, '--trace', '1'), (0, files.content(os.path.join(folder, 'trace1'))))
+
+
+class Steps(unittest.TestCase):
+    def test_the_default_is_of_the_program(self):
+        steps = lambda words: try_main.options_of(['folder', *words]).steps
+        self.assertEqual([steps(words) for words in ([], ['--proved'], ['--checked'], ['--checked', '--steps', '7'])], [1000000000, 1000000000, 1000000, 7])
+        self.assertEqual([steps(words) for words in (['--clock'], ['--timer', '100'], ['--timer', '50000:1'], ['--timer', '100', '--checked'])], [1000000, 10000000, 1000000000, 1000000])
+        options = try_main.Options()
+        with mock.patch.object(released, 'asked', lambda: (None, 'none')), mock.patch.object(try_main, 'say', lambda line: None), mock.patch.object(kept, 'program', lambda say: ['it']):
+            self.assertEqual((try_main.start_of(options), options.steps), (['it'], 1000000))
+        with mock.patch.object(released, 'asked', lambda: ('that', None)):
+            self.assertEqual((try_main.start_of(try_main.Options()), try_main.Options().steps), (['that'], 1000000000))
+
+    def test_many_steps_that_were_spent_are_said(self):
+        for steps, first in (('1000000000', 'Few runs take so many'), ('1000000', 'Try ten times as many first'), ('10', 'Try a million first')):
+            said = explaining.explain(4, ['boot', 'none', 'none', '100000', steps], [])
+            self.assertIn('the %s steps were spent before the turns were complete. %s' % (steps, first), said[0])
 
 
 class Full(unittest.TestCase):
@@ -133,10 +150,10 @@ class Full(unittest.TestCase):
             self.assertEqual((ran.returncode, 'Traceback' in ran.stderr, 'standard output could not be written' in ran.stderr), (7, False, True))
 
     def test_a_closed_output_changes_nothing(self):
-        for words in (['try', 'sample', '5'], ['try', 'compile', 'user', 'examples/adder/user1.s', 'out.img'], ['cvm', 'sample', '5']):
+        for words in (['try', 'sample', '5'], ['try', 'compile', 'user', 'examples/adder/user1.s', 'out.img'], ['tools/cvm', 'sample', '5'], ['cvm', 'sample', '5']):
             with tempfile.TemporaryDirectory() as room:
                 words = [os.path.join(pages.TOP, word) if '/' in word or word in ('try', 'cvm') else word for word in words]
-                ran = subprocess.run([sys.executable, *words], cwd=room, stderr=subprocess.PIPE, text=True, preexec_fn=lambda: os.close(1))
+                ran = subprocess.run(words, cwd=room, stderr=subprocess.PIPE, text=True, preexec_fn=lambda: os.close(1))
                 self.assertEqual((ran.returncode, 'there is no standard output' in ran.stderr, os.listdir(room)), (7, True, []))
 
 
@@ -164,7 +181,7 @@ class BadInput(unittest.TestCase):
                                     (['tools/picture'], 64, 'tools/picture BOOT.txt'), (['tools/picture', 'README.md'], 64, "'README.md' can't be drawn: line 1"),
                                     (['tools/picture', 'none'], 64, "there is no file 'none'"), (['tools/picture', 'examples/adder/printed', '--turns', 'x'], 64, 'is to be a number'),
                                     (['tools/picture', 'examples/adder/printed', 'examples/adder/printed'], 64, 'none of a trace'),
-                                    (['examples/run', 'message'], 64, "did you mean 'messages'"), (['examples/run', 'adder', 'trace', '2'], 64, 'out of its range'), (['cvm'], 1, 'The commands are')):
+                                    (['examples/run', 'message'], 64, "did you mean 'messages'"), (['examples/run', 'adder', 'trace', '2'], 64, 'out of its range'), (['try', 'examples/adder', '--proved', '--checked'], 64, 'are two programs'), (['tools/cvm'], 1, 'The commands are')):
             ran = self.run_tool(*words)
             self.assertEqual((ran.returncode, part in ran.stderr), (status, True), (words, ran.stdout, ran.stderr))
             self.assertIn(ran.stdout, ('', 'bad words\n'))
