@@ -23,6 +23,7 @@ class Program(Meaning):
     def __init__(self, source, most=MOST):
         Meaning.__init__(self, Unit(Parser(source)), ROOM, ROOM, most)
         self.trap, self.ending = None, None     # the call that waits for its answer, and how it ended
+        self.given = 0      # how many answers were given to it
         self.begin_main()
 
     def begin_main(self):
