@@ -55,7 +55,14 @@ class Recorder(Seen):
 
     def __init__(self, source, meaning, take, by=0):
         self.source, self.meaning, self.take, self.by = source, meaning, take, by
-        self.turn, self.depth = 0, 0
+        self.turn, self.depth, self.stops = 0, 0, {}
+
+    def reached(self, at):
+        """At a line that `stops` has, what it has is called with the line."""
+        if self.stops:
+            line = self.source.line(at)
+            if line in self.stops:
+                self.stops[line](line)
 
     def event(self, kind, node, **fields):
         at = node.span[0] if isinstance(node, Node) else node
@@ -272,7 +279,7 @@ class Replay:
             node = program.trap[0]
         line = source.line(node.span[0]) if node else None
         return Event('trap', call.turn, user=user, file=source.name, line=line, text=source.part(node.span) if node else '',
-                     argument=program.trap[1][0] if node else None, ended=None if node else TRAPS.get(call.data, 'its end'), fault=program.ending)
+                     argument=program.trap[1][0] if node else None, ended=None if node else TRAPS.get(call.data, 'its end'), fault=program.ending, program=program)
 
     # ---- a fault of the kernel
     def of_fault(self, call):

@@ -207,12 +207,16 @@ class Meaning:
             self.test(item)
         elif kind == 'finish':
             self.frames[-1].at = item
+            if self.seen is not None:
+                self.seen.finishing(item.span[0])
             self.assigned(item, item.parts[0], value)
         else:
             self.leave(item)
 
     def tick(self, item):
         self.frames[-1].at = item
+        if self.seen is not None:
+            self.seen.reached(item.span[0])
         self.units += 1
         self.left -= 1
         if self.left < 0:
@@ -300,6 +304,8 @@ class Meaning:
 
     def leave(self, f):
         self.frames[-1].at = f
+        if self.seen is not None:
+            self.seen.reached(f.return_at)
         answer = self.value(f.result)[1]
         frame = self.frames.pop()
         self.used -= frame.size
@@ -354,6 +360,12 @@ def asm_line(r, line):
 
 class Seen:
     """Who is told of a run. Each of these is called in the order in which things happen; a place is (type, location)."""
+
+    def reached(self, at):
+        """The statement, test of a loop or return that begins at a byte is about to be done."""
+
+    def finishing(self, at):
+        """The answer of the call, or of the `new`, that begins at a byte is about to be stored."""
 
     def entered(self, f, args):
         """A function was called; of an asm function `returned` follows at once."""

@@ -5,6 +5,7 @@ from explain import files, given_texts, pages, status as explaining, words as co
 from running import expected, extras, kept, program, proved, released, rooms, sharing, system
 from running.folder import BadFolder, Folder
 from running.guard import Bad, say
+from showing import looking, unasked, wanted
 
 HELP = '''./try FOLDER..        compiles, links and boots the system of each folder: kernel.c0, params, schedule, user1.s or user1.c0, user2.s ..
   --trace USER        prints what this user saw in place of the boot
@@ -16,7 +17,7 @@ HELP = '''./try FOLDER..        compiles, links and boots the system of each fol
   --checked           by the sources as they are, built with checks and no proof, as it is done by itself where the released program isn't of them
 ./try COMMAND WORD..  one command of the program, as ./cvm COMMAND WORD..; ./try --checked COMMAND WORD.. by the sources as they are
 ./try --version       says which program is run
-./try --keep          builds the sources and runs nothing. Each build is kept until a source changes; ./try --anew FOLDER.. builds again''' % extras.HELP
+./try --keep          builds the sources and runs nothing. Each build is kept until a source changes; ./try --anew FOLDER.. builds again''' % (extras.HELP + '\n' + wanted.HELP)
 
 
 class Options:
@@ -25,7 +26,7 @@ class Options:
     def __init__(self):
         self.folders, self.turns, self.given_steps = [], 100000, None
         self.trace, self.picture, self.proved, self.checked = None, None, False, False
-        self.extras = extras.Extras()
+        self.extras, self.looking = extras.Extras(), wanted.Wanted()
 
     @property
     def steps(self):
@@ -61,12 +62,14 @@ def options_of(words):
             if not left:
                 raise Bad('behind %s a word is missing' % word)
             taken[word](left.pop(0))
+        elif word in wanted.OPTIONS:
+            options.looking.take(word, left)
         elif word == '--anew':
             raise Bad("'--anew' stands first: ./try --anew FOLDER..")
         elif word == '--keep':
             raise Bad("'--keep' stands alone: ./try --keep builds the program and runs nothing. Each ./try FOLDER keeps its build by itself")
         elif word.startswith('--'):
-            near = command_words.nearest(word, [*taken, *extras.FLAGS, '--proved', '--checked', '--keep', '--anew', '--version'])
+            near = command_words.nearest(word, [*taken, *extras.FLAGS, *wanted.OPTIONS, '--proved', '--checked', '--keep', '--anew', '--version'])
             raise Bad("'%s' is no option%s ./try --help lists them" % (word, ": did you mean '%s'?" % near if near else ';'))
         else:
             options.folders.append(word)
@@ -84,7 +87,7 @@ def checked(options):
         raise Bad('--proved and --checked are two programs: leave one out')
     if drawn and (options.trace or graded):
         raise Bad('--picture goes with the boot alone: leave out --trace and --expect')
-    fault = drawn and files.put_fault(options.picture)
+    fault = options.looking.fault(options) or (drawn and files.put_fault(options.picture))
     if fault:
         raise Bad(fault)
     options.extras.check(options)
@@ -113,9 +116,15 @@ def run_folder(start, folder, options, put, say_of):
         if status:
             return status
         options.extras.prepare(run, options, say_of)
+        if options.looking.anything:
+            return looking.look(run, folder, options)
+        run.says_spent = bool(options.trace) or options.extras.expect is not None
         if options.trace:
-            return run.trace(options.turns, options.steps, options.trace)
-        status = options.extras.boot(run, options, clock_start)
+            status = run.trace(options.turns, options.steps, options.trace)
+        else:
+            status = options.extras.boot(run, options, clock_start)
+        if options.extras.expect is None:
+            unasked.say_why(run, folder, options, status)
         if options.picture is not None and status in (0, 3, 4):
             draw(run, folder, options)
         return status

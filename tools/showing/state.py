@@ -1,0 +1,37 @@
+"""The whole state of a run as rows: the calls with their variables, the globals, the users."""
+from oracle import values
+from oracle.faults import chain
+from oracle.words import signed
+
+
+def kernel_rows(given, kernel):
+    """The functions that run, each with its variables, and the globals."""
+    rows = []
+    for (name, _, line), frame in zip(chain(given.kernel, kernel), kernel.frames):
+        variables = ', '.join('%s = %s' % (n, v) for n, _, v in values.frame_values(kernel, frame))
+        rows.append('  %s, at %s: %s' % (name, given.kernel.where(line), variables or 'no variables'))
+    return rows + global_rows(kernel)
+
+
+def global_rows(kernel):
+    found = ['%s = %s' % (n, v) for n, _, v in values.global_values(kernel)]
+    rows = [] if found else ['  no globals']
+    while found:
+        row = found.pop(0)
+        while found and len(row) + len(found[0]) < 120:
+            row += ', ' + found.pop(0)
+        rows.append('  ' + row)
+    return rows
+
+
+def user_rows(given, users):
+    rows = []
+    for number, (user, flat) in enumerate(zip(given.users, users), 1):
+        line = user.line(flat.pc)
+        registers = ', '.join('r%d = %d' % (i, signed(flat.r[i])) for i in range(1, 32) if flat.r[i]) or 'all registers 0'
+        rows.append('  user %d: %d pages, pc %08x%s, %s' % (number, flat.pages(), flat.pc, ', ' + user.source.where(line) if line else '', registers))
+    return rows
+
+
+def rows(given, replay):
+    return kernel_rows(given, replay.kernel) + user_rows(given, replay.users)
