@@ -4,6 +4,7 @@ from oracle.assembler import line_numbers
 from oracle.c0.meaning import Seen
 from oracle.c0.tree import Node, Parser
 from oracle.disassembler import instruction
+from oracle.faults import explained
 from oracle.printed import Printed
 from oracle.programs import CALL, Program
 from oracle.run import Run, System, report_rows
@@ -239,7 +240,7 @@ class Replay:
         line = given.line(pc)
         text = written(given, line, word)
         return [Event('step', self.turn - 1, user=user, pc=pc, word=word, file=given.source.name, line=line, text=text, changes=changes, taken=taken, trap=trap,
-                      is_program=given.kind == 'c0')]
+                      by_source=given.kind == 'c0' and user not in self.run.changed)]
 
     # ---- users in C0
     def program(self, user):
@@ -274,16 +275,19 @@ class Replay:
         return events + [self.of_trap(user, call, program)]
 
     def of_trap(self, user, call, program):
-        source, node = self.given.users[user - 1].source, None
-        if program.trap is not None:
-            node = program.trap[0]
-        line = source.line(node.span[0]) if node else None
-        return Event('trap', call.turn, user=user, file=source.name, line=line, text=source.part(node.span) if node else '',
-                     argument=program.trap[1][0] if node else None, ended=None if node else TRAPS.get(call.data, 'its end'), fault=program.ending, program=program)
+        """The trap of a user in C0: its call of `trap`, its end, or its fault."""
+        source, node = self.given.users[user - 1].source, program.trap[0] if program.trap is not None else None
+        line, text, why = source.line(node.span[0]) if node else None, source.part(node.span) if node else '', None
+        if program.ending is not None:
+            about = explained(source, program, program.ending)
+            line, text, why = about['line'], about['text'], 'fault %s: %s' % (program.ending.name, about['why'])
+        elif node is None:
+            why = TRAPS.get(call.data, 'its end')
+        return Event('trap', call.turn, user=user, file=source.name, line=line, text=text, argument=program.trap[1][0] if node else None, ended=why,
+                     fault=program.ending, program=program)
 
     # ---- a fault of the kernel
     def of_fault(self, call):
-        from oracle.faults import explained
         return Event('fault', call.turn, fault=call.fault, **explained(self.given.kernel, self.kernel, self.run.fault))
 
 

@@ -198,12 +198,13 @@ class Meaning:
 
     def act(self):
         """Does one work item: a statement, a test of a loop, the store of an answer, or a return."""
-        kind, item, value = self.work.pop()
+        kind, item, value = self.work[-1]
+        if kind in ('do', 'again'):
+            self.tick(item)     # where no more may come, the item stays what is to be done
+        self.work.pop()
         if kind == 'do':
-            self.tick(item)
             self.doing[item.kind](item)
         elif kind == 'again':
-            self.tick(item)
             self.test(item)
         elif kind == 'finish':
             self.frames[-1].at = item
@@ -214,13 +215,13 @@ class Meaning:
             self.leave(item)
 
     def tick(self, item):
+        if self.left <= 0:
+            raise TooLong()
         self.frames[-1].at = item
         if self.seen is not None:
             self.seen.reached(item.span[0])
         self.units += 1
         self.left -= 1
-        if self.left < 0:
-            raise TooLong()
 
     def push(self, block):
         self.work.extend([('do', s, None) for s in reversed(block)])

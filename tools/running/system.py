@@ -13,6 +13,7 @@ class Run:
     def __init__(self, start, folder, work, put, say):
         self.start, self.folder, self.work, self.put, self.say = start, folder, work, put, say
         self.schedule = folder.schedule
+        self.says_spent = True      # whether this says what helps where the steps were spent
         self.names = {os.path.abspath(name): name for name in [folder.kernel, folder.params, folder.schedule, *folder.users]}
         self.names[self.made('system.img')] = 'the image of ' + folder.path
         self.names[self.made('kernel.obj')] = 'the object of ' + folder.kernel
@@ -41,7 +42,7 @@ class Run:
         status, rows = program.run_to([*self.start, *words], self.made(text), self.work)
         with open(self.made(text), 'rb') as file:
             self.put(file.read())
-        if status:
+        if status and (status != 4 or self.says_spent):
             self.say(explaining.explain(status, words, rows, explaining.FolderWay(words, self.names)))
         return status
 

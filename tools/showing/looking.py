@@ -3,7 +3,7 @@ import re
 
 from running import program
 from running.guard import Bad, say
-from showing import made, state
+from showing import made, state, unasked
 from showing.rows import Rows
 from oracle import values
 from oracle.replay import Differs, Replay
@@ -37,7 +37,7 @@ def turns_made(given, turns):
 def look(run, folder, options):
     """Shows what is asked of a run that was booted. Gives the status to end with: that of the boot, or 70 where the models and the program differ."""
     wanted, quiet = options.looking, run.put
-    run.put = lambda text: None
+    run.put, run.says_spent = (lambda text: None), False
     status = run.boot(options.turns, options.steps)
     run.put = quiet
     if status not in (0, 3, 4):
@@ -48,6 +48,7 @@ def look(run, folder, options):
     except Differs as differs:
         say('try: %s. The program is what is proved.' % differs)
         return 70
+    unasked.say_why(run, folder, options, status)
     if not shown:
         say('try: %s' % nothing_shown(given, wanted, turns_made(given, options.turns)))
     return status
@@ -92,6 +93,7 @@ def showing_rows(replay, wanted, put):
     def to(turns):
         while replay.turn < turns and replay.end is None:
             rows.take(replay.next_turn())
+        rows.end()
     return to
 
 

@@ -15,7 +15,7 @@ class Rows:
 
     def __init__(self, put, user=None, kernel=False):
         self.put, self.user, self.kernel = put, user, kernel
-        self.waits, self.head = None, None
+        self.waits, self.head, self.under_way = None, None, None
 
     def take(self, events):
         for event in events:
@@ -34,6 +34,11 @@ class Rows:
             return event.user == self.user
         return getattr(event, 'by', 0) == self.user or (event.kind == 'primitive' and self.user in changed_users(event))
 
+    def end(self):
+        """The end of the rows, where a user in C0 may be between two traps."""
+        if self.under_way:
+            self.put('turn %d  user %d  is between two calls of trap in %s: its statements stand at the turn of the next one' % self.under_way)
+
     def flush(self):
         if self.waits:
             event, more = self.waits
@@ -45,11 +50,12 @@ class Rows:
             self.head = event.turn, event.by
             self.put('turn %d  user %d  in %s since its last trap' % (event.turn, event.by, event.file))
         lead = '' if not self.user or event.by else 'turn %d  ' % event.turn
-        self.put('%s%s%-14s  %-36s  %s' % (lead, '  ' * max(1, event.depth), place(event), event.text, what))
+        self.put(('%s%s%-14s  %-36s  %s' % (lead, '  ' * max(1, event.depth), place(event), event.text, what)).rstrip())
 
     # ---- one method a kind of event
     def step(self, event):
-        if event.is_program and event.trap:
+        if event.by_source:
+            self.under_way = event.turn, event.user, event.file
             return
         what = ['taken' if event.taken else 'not taken'] if event.taken is not None else []
         what += [change(*one) for one in signed_words(event.changes)]
@@ -57,10 +63,8 @@ class Rows:
         self.put(('turn %d  user %d  %08x  %-12s  %-24s  %s' % (event.turn, event.user, event.pc, place(event), event.text, ', '.join(what))).rstrip())
 
     def trap(self, event):
-        if event.line:
-            what = 'trap(%d) calls the kernel' % event.argument
-        else:
-            what = event.ended if event.fault is None else 'fault %s' % event.fault.name
+        self.under_way = None
+        what = event.ended or 'trap(%d) calls the kernel' % event.argument
         self.put('turn %d  user %d  %-14s  %-36s  %s' % (event.turn, event.user, place(event), event.text, what))
 
     def dispatch(self, event):

@@ -1,0 +1,151 @@
+"""Looking into a run: rows with source lines, what changes, lines that are reached, and what is said of faults and of too few steps."""
+import io
+import os
+import tempfile
+import unittest
+from unittest import mock
+
+from explain import files, pages
+from running import program
+from running.guard import Bad
+from showing import looking, made, spent, unasked, wanted
+from oracle import run as running
+from oracle.assembler import assemble
+from oracle.c0.tree import Parser
+from oracle.replay import Differs, Given, User
+
+PARAMS = 'pages 2\nframes 4\nheap 64\nstack 64\n'
+FAULTY = '''int[4] queue;
+int tail;
+
+int put(int user) {
+  queue[tail] = user;
+  tail = tail + 1;
+  return tail;
+}
+
+int dispatch(int cause, int data, int user) {
+  int place;
+  bool ok;
+  if (cause == 6) {
+    place = put(user);
+    ok = vm_set(user, 40, place);
+  }
+  return 1;
+}
+'''
+ASKS = 'ori r1, r0, 5\nloop: syscall 2   # asks\naddiu r1, r1, -1\nbne r1, r0, loop\nsw r1, 64(r0)\nstay: j stay\n'
+
+
+def given_of(kernel, users, turns=100000, lines=(), cut=None, schedule=''):
+    """What a run is made of, where the model stands in for the program; `cut` leaves so many rows of the text."""
+    words = [assemble(text) for text in users]
+    printed = '\n'.join(running.boot_rows(running.System(Parser(kernel), words, PARAMS, schedule), turns, dict(lines))[:cut]) + '\n'
+    return Given(kernel, [User('user%d.s' % n, text, w) for n, (text, w) in enumerate(zip(users, words), 1)], PARAMS, schedule, printed)
+
+
+def shown(given, *words, turns=100000):
+    """The rows that are shown."""
+    asked, left, out = wanted.Wanted(), list(words), io.BytesIO()
+    while left:
+        asked.take(left.pop(0), left)
+    with mock.patch.object(program, 'write', out.write):
+        looking.show(given, asked, looking.turns_made(given, turns))
+    return out.getvalue().decode().split('\n')
+
+
+class Rows(unittest.TestCase):
+    def test_steps_and_statements(self):
+        rows = shown(given_of(FAULTY, [ASKS]), '--show', '3..5')
+        self.assertEqual([' '.join(row.split()) for row in rows], [
+            'turn 3 user 1 00000008 user1.s:3 addiu r1, r1, -1 r1 = 4 (was 5)', 'turn 4 user 1 0000000c user1.s:4 bne r1, r0, loop taken',
+            'turn 5 user 1 00000004 user1.s:2 syscall 2 traps', 'turn 5 dispatch(6, 140, 1) syscall 2 of user 1',
+            'kernel.c0:10 dispatch(cause = 6, data = 140, user = 1)', 'kernel.c0:13 if (cause == 6) true', 'kernel.c0:4 put(user = 1)',
+            'kernel.c0:5 queue[tail] = user; queue[1] = 1 (was 0)', 'kernel.c0:6 tail = tail + 1; tail = 2 (was 1)', 'kernel.c0:7 return tail; put is 2',
+            'kernel.c0:14 place = put(user); place = 2 (was 0)',
+            'kernel.c0:15 ok = vm_set(user, 40, place); vm_set(1, 40, 2) is false: register 40 is none of 1 to 31, nor 32 for the pc; ok = false',
+            'kernel.c0:17 return 1; dispatch is 1', 'next 1', ''])
+
+    def test_narrowed(self):
+        given = given_of(FAULTY, [ASKS])
+        self.assertFalse(any('user1.s' in row for row in shown(given, '--show', '0..5', '--kernel')))
+        self.assertEqual([row.split()[1] for row in shown(given, '--show', '0..5', '--user', '1') if row], ['1', '2', '3', '4', '5'])
+
+    def test_what_changes(self):
+        rows = shown(given_of(FAULTY, [ASKS]), '--watch', 'tail', '--watch', 'queue[1]', '--watch', 'user1.r1', '--watch', 'user1.pc')
+        rows = [' '.join(row.split()) for row in rows if '.pc' not in row]
+        self.assertEqual(rows[:5], ['turn 1 user1.s:1 user1.r1: 0 -> 5 ori r1, r0, 5', 'turn 2 kernel.c0:6 tail: 0 -> 1 tail = tail + 1;',
+                                    'turn 3 user1.s:3 user1.r1: 5 -> 4 addiu r1, r1, -1', 'turn 5 kernel.c0:5 queue[1]: 0 -> 1 queue[tail] = user;',
+                                    'turn 5 kernel.c0:6 tail: 1 -> 2 tail = tail + 1;'])
+
+    def test_a_call_s_answer_changes_at_the_call(self):
+        rows = shown(given_of('int n; int f() { return 7; } int dispatch(int a, int b, int c) {\n n = f();\n return 0; }', []), '--watch', 'n')
+        self.assertEqual(rows[0].split()[2:6], ['kernel.c0:2', 'n:', '0', '->'])
+
+    def test_lines_that_are_reached(self):
+        rows = shown(given_of(FAULTY, [ASKS]), '--break', 'kernel.c0:6')
+        self.assertEqual(rows[:5], ['turn 2  kernel.c0:6 is reached: tail = tail + 1;',
+                                    '  dispatch, at kernel.c0:14: cause = 6, data = 140, user = 1, place = 0, ok = false', '  put, at kernel.c0:6: user = 1',
+                                    '  queue = {1, 0, 0, 0}, tail = 0', '  user 1: 1 pages, pc 00000008, user1.s:3, r1 = 5'])
+        self.assertEqual(shown(given_of(FAULTY, [ASKS]), '--break', 'user1.s:3')[0], 'turn 3  user1.s:3 is reached: addiu r1, r1, -1')
+
+    def test_bad_words(self):
+        given = given_of(FAULTY, [ASKS])
+        for words, part in ((['--watch', 'tial'], "no global 'tial'"), (['--watch', 'queue[4]'], "no part '[4]'"), (['--watch', 'user2.r1'], 'there are 1 users'),
+                            (['--watch', 'user1.r32'], 'r1 to r31'), (['--watch', 'user1.mem[2]'], 'multiple of 4'), (['--break', 'kernel.c0:2'], 'nearest that is run is 5'),
+                            (['--break', 'user1.s:99'], 'nothing is run'), (['--break', 'k:1'], 'a line of kernel.c0'), (['--break', '12'], 'FILE:LINE'),
+                            (['--show', '5..2'], 'ends before it begins'), (['--show', '..2'], "behind --show, ''"), (['--user', '2', '--show'], 'there are 1 users')):
+            with self.assertRaises(Bad) as caught:
+                shown(given, *words)
+            self.assertIn(part, str(caught.exception))
+
+    def test_a_row_that_is_another_is_told(self):
+        given = given_of(FAULTY, [ASKS])
+        given.printed.by_turn[2] = given.printed.by_turn[2].replace('next 1', 'next 0')
+        with self.assertRaises(Differs):
+            shown(given, '--show')
+
+    def test_examples_agree_with_what_is_printed(self):
+        for name in ('adder', 'faults', 'mailbox', 'messages', 'sharing', 'round_robin'):
+            text = lambda part: files.content(os.path.join(pages.TOP, 'examples', name, part)).decode()
+            users = sorted(part for part in os.listdir(os.path.join(pages.TOP, 'examples', name)) if part.startswith('user'))
+            given = Given(text('kernel.c0'), [User(part, text(part), assemble(text(part))) for part in users], text('params'), text('schedule'), text('printed'))
+            self.assertGreater(len(shown(given, '--show')), 20)
+
+
+class Unasked(unittest.TestCase):
+    def test_a_fault_of_the_kernel(self):
+        said = unasked.kernel_fault(given_of(FAULTY, [ASKS]))
+        self.assertIn('fault Bounds in turn 14: `queue[tail]`: the index, tail, is 4, and the length is 4.', said)
+        self.assertIn('called: dispatch(cause = 6, data = 140, user = 1) at line 14, put(user = 1) at line 5', said)
+        self.assertEqual(said[0], 'kernel.c0:5:3')
+        self.assertEqual(said[-1], '  queue = {1, 1, 1, 1}, tail = 4')
+
+    def test_each_kind_of_fault(self):
+        head = 'struct s { int a; }; struct s* p; int n; int f(int a) { int r; r = f(a + 1); return r; } int dispatch(int cause, int data, int user) { '
+        for body, part in (('n = p->a; return 0; }', '`p->a`: p is null.'), ('n = 7 / n; return 0; }', '`7 / n`: the divisor, n, is 0.'),
+                           ('n = f(1); return 0; }', 'the frame of f has 5 words, and 61 of the 64 of the stack are used.'), ('return 3; }', 'dispatch answers 3, and users are 1 to 1.')):
+            self.assertTrue(any(part in line for line in unasked.kernel_fault(given_of(head + body, ['syscall']))), body)
+
+    def test_loops_polls_and_numbers(self):
+        spins = 'int n; int dispatch(int cause, int data, int user) { if (cause == 6) {\n while (n < 5) { n = n % 3 + 1; } } return 1; }'
+        self.assertIn('kernel.c0:2: the kernel, called in turn 2, has not come back after 1000 statements and tests: `while (n < 5)` goes round',
+                      spent.lines(given_of(spins, [ASKS], turns=2, cut=1), 100, 1000)[0])
+        polls = 'int n; int dispatch(int cause, int data, int user) { n = n + 1; return 1; }'
+        said = spent.lines(given_of(polls, ['again: syscall 3\nj again\n'], turns=60, cut=25), 100000, 9000)
+        self.assertEqual((len(said), 'user1.s:1: `again: syscall 3` of user 1 traps at the same pc again and again' in said[0]), (2, True))
+        said = spent.lines(given_of(polls, [ASKS], turns=9, cut=3), 100000, 9000)
+        self.assertEqual((len(said), 'steps a turn' in said[0], '--steps ' in said[1]), (2, True, True))
+
+
+class Program(unittest.TestCase):
+    def test_words_of_a_user_that_are_others_are_told(self):
+        with tempfile.TemporaryDirectory() as room:
+            path = os.path.join(room, 'user1.s')
+            with open(path, 'w', encoding='utf-8') as file:
+                file.write('syscall\n')
+            with open(os.path.join(room, 'user1.img'), 'wb') as file:
+                file.write(bytes(4))
+            run = mock.Mock(image=lambda name: os.path.join(room, 'user1.img'))
+            with self.assertRaises(Differs):
+                made.user_of(run, path)
