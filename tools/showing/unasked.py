@@ -9,7 +9,7 @@ from oracle.faults import explained, parts_of
 from oracle.replay import Differs, Replay
 
 PROGRAM_FAULT = re.compile(rb'^turn \d+ cause 6 data 0000(?:008c|00cc|010c|014c) user (\d+) ', re.M)
-STATEMENTS = ('tested', 'stored', 'primitive', 'call', 'returned')
+STATEMENTS = ('tested', 'stored', 'primitive', 'returned')
 LAST = 4
 
 
