@@ -1,6 +1,8 @@
 """A run that is made again, turn by turn, with what happens in it: README.md, "Looking into a run"."""
 from oracle import values
 from oracle.assembler import line_numbers
+from oracle.c0.code import FarDisplacement
+from oracle.c0.cut import START, Cut, places
 from oracle.c0.meaning import Seen
 from oracle.c0.tree import Node, Parser
 from oracle.disassembler import instruction
@@ -34,12 +36,22 @@ class User:
     """A user of a system: its source, its kind `s` or `c0`, and the words of its image."""
 
     def __init__(self, name, text, words):
-        self.source, self.kind, self.words = Source(name, text), name.rpartition('.')[2], words
-        self.lines = line_numbers(text) if self.kind == 's' else []
+        self.source, self.kind, self.words, self.numbers = Source(name, text), name.rpartition('.')[2], words, None
 
     def line(self, pc):
-        """The line of a user in assembler at an address; None where the address is none of its text's words."""
-        return self.lines[pc // 4] if self.kind == 's' and pc % 4 == 0 and pc // 4 < len(self.lines) else None
+        """The line that the word at an address was made of; None where the address is none of its text's words, or its code isn't cut."""
+        if self.numbers is None:
+            self.numbers = line_numbers(self.source.text) if self.kind == 's' else self.lines_of_code()
+        at = pc // 4 - (0 if self.kind == 's' else START // 4)
+        return self.numbers[at] if pc % 4 == 0 and 0 <= at < len(self.numbers) else None
+
+    def lines_of_code(self):
+        try:
+            cut = Cut(self.source.text)
+        except FarDisplacement:
+            return []
+        words = self.words[START // 4:START // 4 + cut.at]
+        return [None if place is None else self.source.line(place) for place in places(cut)] if cut.unfit(words) is None else []
 
 
 class Given:
@@ -238,7 +250,7 @@ class Replay:
         if word is not None and not trap and word >> 26 in (1, 4, 5, 6, 7):
             taken = f.pc != (pc + 4) & M or word & 0xffff == 0
         line = given.line(pc)
-        text = written(given, line, word)
+        text = written(given, line if given.kind == 's' else None, word)
         return [Event('step', self.turn - 1, user=user, pc=pc, word=word, file=given.source.name, line=line, text=text, changes=changes, taken=taken, trap=trap,
                       by_source=given.kind == 'c0' and user not in self.run.changed)]
 

@@ -5,7 +5,7 @@ from explain import files, given_texts, pages, status as explaining, words as co
 from running import expected, extras, kept, program, proved, released, rooms, sharing, system
 from running.folder import BadFolder, Folder
 from running.guard import Bad, say
-from showing import looking, unasked, wanted
+from showing import listing, looking, unasked, wanted
 
 HELP = '''./try FOLDER..        compiles, links and boots the system of each folder: kernel.c0, params, schedule, user1.s or user1.c0, user2.s ..
   --trace USER        prints what this user saw in place of the boot
@@ -116,6 +116,8 @@ def run_folder(start, folder, options, put, say_of):
         if status:
             return status
         options.extras.prepare(run, options, say_of)
+        if options.looking.listing:
+            return listing.put_listing(run, folder)
         if options.looking.anything:
             return looking.look(run, folder, options)
         run.says_spent = bool(options.trace) or options.extras.expect is not None

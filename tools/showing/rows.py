@@ -37,7 +37,7 @@ class Rows:
     def end(self):
         """The end of the rows, where a user in C0 may be between two traps."""
         if self.under_way:
-            self.put('turn %d  user %d  is between two calls of trap in %s: its statements stand at the turn of the next one' % self.under_way)
+            self.put('turn %d  user %d  is between two calls of trap, at %s: its statements stand at the turn of the next one' % self.under_way)
 
     def flush(self):
         if self.waits:
@@ -55,7 +55,7 @@ class Rows:
     # ---- one method a kind of event
     def step(self, event):
         if event.by_source:
-            self.under_way = event.turn, event.user, event.file
+            self.under_way = event.turn, event.user, place(event)
             return
         what = ['taken' if event.taken else 'not taken'] if event.taken is not None else []
         what += [change(*one) for one in signed_words(event.changes)]

@@ -4,11 +4,12 @@ import re
 from explain import words as command_words
 from running.guard import Bad
 
-OPTIONS = ('--show', '--user', '--kernel', '--watch', '--break')
+OPTIONS = ('--show', '--user', '--kernel', '--watch', '--break', '--listing')
 HELP = '''  --show [A..B]       in place of the boot, what each turn from A to B did, with its source lines; without A..B the last 40 turns
   --user U, --kernel  of that the steps of this user alone, or the kernel's calls alone
   --watch NAME        in place of the boot, each change of a global (ticks, queue[2], slots[1].user) or of user1.r4, user1.pc, user1.mem[64]
-  --break FILE:LINE   in place of the boot, the whole state each time that this line of the kernel or of a user is reached'''
+  --break FILE:LINE   in place of the boot, the whole state each time that this line of the kernel or of a user is reached
+  --listing           runs nothing, and prints the lines of the kernel and of the users with the words that they became'''
 MOST = 2**32 - 1
 
 
@@ -16,16 +17,18 @@ class Wanted:
     """What is asked of a run: `turns` is None, `last` or a pair; the others are lists, a user's number or None, and a flag."""
 
     def __init__(self):
-        self.turns, self.user, self.kernel, self.watch, self.breaks = None, None, False, [], []
+        self.turns, self.user, self.kernel, self.watch, self.breaks, self.listing = None, None, False, [], [], False
 
     @property
     def anything(self):
-        return bool(self.turns or self.watch or self.breaks)
+        return bool(self.turns or self.watch or self.breaks or self.listing)
 
     def take(self, word, left):
         """Takes an option with the words behind it."""
         if word == '--kernel':
             self.kernel = True
+        elif word == '--listing':
+            self.listing = True
         elif word == '--show':
             self.turns = turns_of(left.pop(0)) if left and re.match(r'-?\d+(\.\.|$)|\.\.', left[0]) else 'last'
         elif not left:
@@ -48,6 +51,8 @@ class Wanted:
             return "'--user' and '--kernel' are for one of both: without them '--show' shows all"
         if bool(self.turns) + bool(self.watch) + bool(self.breaks) > 1 and not (self.turns and self.turns != 'last'):
             return "'--watch' and '--break' go with '--show A..B', which says of which turns; '--show' alone is for itself, and so is each of them"
+        if self.listing and (self.turns or self.watch or self.breaks):
+            return "'--listing' runs nothing: leave out --show, --watch and --break"
         if self.watch and self.breaks:
             return "'--watch' and '--break' are for one run each"
         return None

@@ -1,0 +1,126 @@
+"""The words of a source's code, cut by what they were made of: which words the entry, the routines, each function's head and end and each statement
+became. It counts by `code.Words`, after docs/COMPILER.md; `unfit` compares the cut with words that were compiled."""
+from collections import namedtuple
+
+from oracle.c0.code import Words
+from oracle.c0.meaning import NUMBERS
+from oracle.c0.tree import is_scalar
+
+START = 0x10000         # the address of the code
+ENTRY, ROUTINES = 8, (('new', 18), ('multiply', 3), ('divide', 5), ('remainder', 5))
+PRIMITIVES, EXITS = 0x2000, 0x2028
+EXIT_NAMES = ('fault NullUse', 'fault Bounds', 'fault DivZero', 'fault StackOut', 'the end')
+RETURN, STACK_OUT = 0x03e00008, 2 << 26 | 0x2034 >> 2
+
+# first: the number of its first word; place: a byte of the source, None where no part of the source has it; node: the statement, if it is one
+Part = namedtuple('Part', 'first count what place node')
+
+
+class Cut(Words):
+    """The parts of a source's code, in the order of their words; `starts` has the first word of each function, `functions` their order."""
+
+    def __init__(self, text):
+        Words.__init__(self, text)
+        self.parts, self.at, self.starts, self.ends = [], 0, {}, {}
+        self.add(ENTRY, 'entry', None)
+        for name, count in ROUTINES:
+            self.add(count, 'routine ' + name, None)
+        for f in self.tree.functions:
+            self.starts[f.name] = self.at
+            self.cut_function(f)
+            self.ends[f.name] = self.at
+
+    def add(self, count, what, place, node=None):
+        if count:
+            self.parts.append(Part(self.at, count, what, place, node))
+            self.at += count
+
+    def cut_function(self, f):
+        head = f.name_span[0]
+        if f.asm is not None:
+            self.add(10, 'head of %s' % f.name, head)
+            at = f.asm[1][0] + 1
+            for line in f.asm[0].split('\n'):
+                self.add(1 if line.split('#')[0].strip() else 0, 'instruction', at + len(line) - len(line.lstrip()))
+                at += len(line) + 1
+            return self.add(1, 'end of %s' % f.name, f.asm[1][1] - 1)
+        kinds, local = self.kinds(f.body), self.sizes.layout(f)[1]
+        self.in_registers = 'call' not in kinds and all(is_scalar(t) for t, _ in f.names) and len(f.names) <= 8
+        self.variables = {}
+        for t, name in f.names:
+            self.variables.setdefault(name, t)
+        calling = 1 if kinds & {'call', 'new'} else 0
+        self.add(4 + calling + (len(f.locals) if self.in_registers else len(f.params) + (local if local <= 8 else 4)), 'head of %s' % f.name, head)
+        self.cut_block(f.body)
+        self.add(self.node(f.result).value(False), 'return', f.return_at)
+        return self.add(calling + (1 if self.in_registers else 2), 'end of %s' % f.name, f.return_at)
+
+    def cut_block(self, statements):
+        for s in statements:
+            if s.kind not in ('if', 'while'):
+                self.add(self.statement(s), s.kind, s.span[0], s)
+                continue
+            test, yes, no = s.parts
+            if s.kind == 'while':
+                self.add(1, 'to the test', s.span[0], s)
+                self.cut_block(yes)
+                self.add(self.test(test), 'test', s.span[0], s)
+            else:
+                self.add(self.test(test), 'test', s.span[0], s)
+                self.cut_block(yes)
+                if no:
+                    self.add(1, 'over the else', s.span[0], s)
+                    self.cut_block(no)
+
+    # ---- whether words fit
+    def unfit(self, words):
+        """The first word, by its number, at which words are not those that were cut, and why, in words; None where nothing is odd."""
+        if len(words) != self.at:
+            return min(len(words), self.at), 'there are %d words, and the model counts %d' % (len(words), self.at)
+        for f in self.tree.functions:
+            first, last = self.starts[f.name], self.ends[f.name] - 1
+            if words[last] != RETURN:
+                return last, '%s does not end with jr r31 here' % f.name
+            if words[first + 3] != STACK_OUT:
+                return first + 3, 'the test of the stack of %s does not end here' % f.name
+        for part in self.parts:
+            why = self.odd(part, words)
+            if why:
+                return part.first + part.count - 1, why
+        return None
+
+    def odd(self, part, words):
+        """Why the words of a part are not what it is made of: of a call the jal, and of a loop the jump to its test."""
+        its = words[part.first:part.first + part.count]
+        if part.what == 'to the test' or part.what == 'over the else':
+            return None if its[0] >> 16 == 0x1000 else 'no jump stands here'
+        if part.what in ('call', 'new'):
+            name = part.node.parts[1][0] if part.what == 'call' else None
+            wanted = 3 << 26 | self.entry_of(name) >> 2
+            return None if wanted in its else 'the call of %s is not here' % (name or 'the routine new')
+        return None
+
+    def entry_of(self, name):
+        """The address that a call of a name goes to; None is the routine `new`."""
+        if name is None:
+            return START + 4 * ENTRY
+        if name in self.starts and name not in self.primitive_numbers():
+            return START + 4 * self.starts[name]
+        return PRIMITIVES + 4 * self.primitive_numbers()[name]
+
+    def primitive_numbers(self):
+        return NUMBERS if 'dispatch' in self.starts else {'trap': 0}
+
+    # ---- what stands at an address
+    def names(self):
+        """The names of the addresses that code jumps to."""
+        found = {PRIMITIVES + 4 * number: name for name, number in self.primitive_numbers().items()}
+        found.update({EXITS + 4 * number: name for number, name in enumerate(EXIT_NAMES)})
+        found.update({START + 4 * part.first: part.what[len('routine '):] for part in self.parts if part.what.startswith('routine ')})
+        found.update({START + 4 * first: name for name, first in self.starts.items()})
+        return found
+
+
+def places(cut):
+    """For each word of the code, the byte of the source of which it was made."""
+    return [part.place for part in cut.parts for _ in range(part.count)]
