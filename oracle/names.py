@@ -11,19 +11,29 @@ WRITERS = ('bounds', 'checks', 'examples', 'exercises', 'lines', 'programs', 'ro
 MODULES.update({'write_' + name: 'oracle.generate.' + name for name in WRITERS})
 
 
+def usage(module):
+    return 'usage: ' + module.__doc__.partition('usage: ')[2].partition('\n\n')[0]
+
+
+def failed(why, status):
+    print('oracle/model: %s' % why, file=sys.stderr)
+    return status
+
+
 def main(words):
-    """Runs a module's main function with the words behind its name. Gives 64 where the words are none of it, and 70 where it fails."""
+    """Runs a module's main function with the words behind its name. Gives 64 where the words are none of it, and 70 where its work fails."""
     if not words or words[0] not in MODULES:
-        print('oracle/model NAME WORD.., NAME one of: %s' % ' '.join(MODULES), file=sys.stderr)
-        return 64
+        return failed('NAME is one of: %s' % ' '.join(MODULES), 64)
     module = importlib.import_module(MODULES[words[0]])
+    least = getattr(module, 'LEAST_WORDS', 1)
+    if len(words) - 1 < least:
+        return failed('%s needs %d words or more. %s' % (words[0], least, usage(module)), 64)
     sys.setrecursionlimit(100000)
     try:
         return module.main(words[1:])
-    except (ValueError, IndexError) as error:
-        usage = (module.__doc__ or '').partition('usage: ')[2].partition('\n\n')[0]
-        print('oracle/model: the words are not understood (%s). usage: %s' % (error, usage), file=sys.stderr)
-        return 64
-    except (OSError, NoTree) as error:
-        print('oracle/model: %s' % error, file=sys.stderr)
-        return 70
+    except NoTree as none:
+        return failed('a source has %s' % none, 70)
+    except OSError as error:
+        return failed('%s%s' % (error.strerror, ": '%s'" % error.filename if error.filename else ''), 70)
+    except ValueError as error:     # a number that is none, or a rule or a bound that is broken, which says so
+        return failed('%s. %s' % (str(error).rstrip('.'), usage(module)), 70)

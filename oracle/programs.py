@@ -163,6 +163,9 @@ def tells(kernel, programs, par):
     return system.rows + [system.end] + global_rows(system.kernel) + console_rows(system.kernel)
 
 
+LEAST_WORDS = 3
+
+
 def main(words):
     read = lambda path: open(path, encoding='latin-1').read()
     given = [read(path) for path in words[2:]]

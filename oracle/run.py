@@ -161,6 +161,9 @@ def of_folder(folder):
     return of_texts(read(folder, 'kernel.c0'), [read(folder, n) for n in names], read(folder, 'params'), read(folder, 'schedule'))
 
 
+LEAST_WORDS = 2
+
+
 def main(words):
     folder, turns, words = words[0], int(words[1]), words[2:]
     traced = 0

@@ -100,6 +100,9 @@ def run_system(rest, source, told):
     return out + [lines_row, 'turns %d %s' % (run.turn, told_steps)]
 
 
+LEAST_WORDS = 2
+
+
 def main(words):
     with open(words[0], encoding='utf-8') as file:
         told = file.read().split('\n== ')

@@ -48,6 +48,9 @@ def check(source, stack):
     return text(names, stack, *answer(names.index('dispatch'), frames, calls))
 
 
+LEAST_WORDS = 2
+
+
 def main(words):
     with open(words[0], encoding='latin-1') as file:
         print(check(file.read(), int(words[1])), end='')

@@ -138,6 +138,9 @@ class Graph:
         return text(self.names, ROOM, *answer(self.first, self.frames, self.calls)).split('\n')[:2]
 
 
+LEAST_WORDS = 2
+
+
 def main(words):
     folder, stdout = words
     told = []

@@ -168,5 +168,8 @@ class Checks(Writer):
         self.no_objects()
 
 
+LEAST_WORDS = 2
+
+
 def main(words):
     return main_of(Checks, words)

@@ -120,5 +120,8 @@ class Examples(Folders):
         self.program_example('services')
 
 
+LEAST_WORDS = 2
+
+
 def main(words):
     return main_of(Examples, words)

@@ -51,5 +51,8 @@ class Exercises(Folders):
                 (self.exercise if names_of(os.path.join(EXERCISES, name, 'solution'), 's') else self.program_exercise)(name)
 
 
+LEAST_WORDS = 2
+
+
 def main(words):
     return main_of(Exercises, words)

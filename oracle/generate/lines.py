@@ -162,5 +162,8 @@ class Lines(Writer):
         self.products_and_quotients()
 
 
+LEAST_WORDS = 2
+
+
 def main(words):
     return main_of(Lines, words)

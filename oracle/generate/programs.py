@@ -366,5 +366,8 @@ def run_all(cvm):
     return 70 if wrong else 0
 
 
+LEAST_WORDS = 2
+
+
 def main(words):
     return run_all(words[1]) if words[:1] == ['run'] else main_of(Programs, words)

@@ -207,5 +207,8 @@ class Roms(Rows):
             own()
 
 
+LEAST_WORDS = 2
+
+
 def main(words):
     return main_of(Roms, words)

@@ -346,5 +346,8 @@ mem 00000018 0000000c
         self.objects_and_parameters()
 
 
+LEAST_WORDS = 2
+
+
 def main(words):
     return main_of(Rows, words)

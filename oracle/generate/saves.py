@@ -352,5 +352,8 @@ class Saves(Writer):
         self.examples()
 
 
+LEAST_WORDS = 2
+
+
 def main(words):
     return main_of(Saves, words)

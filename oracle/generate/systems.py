@@ -189,6 +189,9 @@ def system(r, k):
     print(KERNEL.replace('USERS', str(users)), end='')
 
 
+LEAST_WORDS = 2
+
+
 def main(words):
     r = random.Random(int(words[0]))
     print('Random systems.')

@@ -317,5 +317,8 @@ class Traces(Writer):
         self.samples()
 
 
+LEAST_WORDS = 2
+
+
 def main(words):
     return main_of(Traces, words)

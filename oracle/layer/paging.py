@@ -255,6 +255,9 @@ class Machine:
             assert [self.m[p.counts + 8 * f + k] for k in range(1 + n)] == row[:1 + n], (f, row)
 
 
+LEAST_WORDS = 0
+
+
 def main(words):
     rounds, seed = (list(map(int, words)) + [2000, 1][len(words):])[:2]
     random.seed(seed)

@@ -8,9 +8,10 @@ from unittest import mock
 from explain import files, pages
 from running import program
 from running.guard import Bad
-from showing import looking, made, spent, unasked, wanted
+from showing import listing, looking, made, spent, unasked, wanted
 from oracle import run as running
 from oracle.assembler import assemble
+from oracle.c0.said import code_case
 from oracle.c0.tree import Parser
 from oracle.replay import Differs, Given, User
 
@@ -136,6 +137,34 @@ class Unasked(unittest.TestCase):
         self.assertEqual((len(said), 'user1.s:1: `again: syscall 3` of user 1 traps at the same pc again and again' in said[0]), (2, True))
         said = spent.lines(given_of(polls, [ASKS], turns=9, cut=3), 100000, 9000)
         self.assertEqual((len(said), 'steps a turn' in said[0], '--steps ' in said[1]), (2, True, True))
+
+
+class Listings(unittest.TestCase):
+    def test_each_word_has_its_line(self):
+        source, rows = pages.page('COMPILER.md').split('```')[1].strip('\n'), []
+        words = [int(row.split()[1], 16) for row in code_case(source)]
+        made_listing = listing.Listing(rows.append)
+        made_listing.code('kernel.c0', source, words, 'the code of a kernel')
+        self.assertEqual(([' '.join(row.split()) for row in rows[-9:]], made_listing.unfit), ([
+            '000100a8 0800080d j 2061 -> fault StackOut', 'kernel.c0:2 x = x + 1;', '000100ac 8f880000 lw r8, 0(r28)', '000100b0 25080001 addiu r8, r8, 1',
+            '000100b4 af880000 sw r8, 0(r28)', 'kernel.c0:2 int dispatch(int cause, int data, int user) { x = x + 1; return 0; } (return)',
+            '000100b8 34020000 ori r2, r0, 0', 'kernel.c0:2 int dispatch(int cause, int data, int user) { x = x + 1; return 0; } (end of dispatch)',
+            '000100bc 03e00008 jr r31'], []))
+        self.assertIn('0c004027  jal 16423                   -> dispatch', rows[8])
+
+    def test_words_that_do_not_fit_are_told(self):
+        rows, source = [], pages.page('COMPILER.md').split('```')[1].strip('\n')
+        made_listing = listing.Listing(rows.append)
+        made_listing.code('kernel.c0', source, [0] * 48, 'the code of a kernel')
+        made_listing.text('user1.s', 'syscall\n.zero 3\n', [12, 0, 0, 1])
+        self.assertEqual((len(made_listing.unfit), sum('.word' in row or 'sll r0' in row for row in rows)), (2, 51))
+
+    def test_words_of_users(self):
+        rows = []
+        listing.Listing(rows.append).text('user1.s', 'a: syscall # x\n.zero 3\nj a\n', [12, 0, 0, 0, 2 << 26])
+        self.assertEqual([' '.join(row.split()) for row in rows[1:]], [
+            'user1.s:1 a: syscall # x', '00000000 0000000c syscall', 'user1.s:2 .zero 3', '00000004 00000000 sll r0, r0, 0', '.. and so on, 3 words in all',
+            'user1.s:3 j a', '00000010 08000000 j 0 -> 00000000'])
 
 
 class Program(unittest.TestCase):

@@ -1,0 +1,126 @@
+"""Tokens, tree, checks, meaning, code and stack of C0."""
+import os
+import unittest
+
+from oracle import values
+from oracle.c0 import checks, code, cut, meaning, said, stack
+from oracle.c0.tokens import NoTree, line_of, tokens
+from oracle.c0.tree import Parser, unit_nodes
+from oracle.sources import Source
+
+KERNEL = '''int n;
+int dispatch(int cause, int data, int user) {
+  int next;
+  next = 1;
+  if (cause == 3) { n = n + 1; if (n == 2) { next = 0; } }
+  return next;
+}
+'''
+TOP = os.path.join(os.path.dirname(os.path.abspath(__file__)), '..', '..')
+
+
+def read(*path):
+    with open(os.path.join(TOP, *path), encoding='latin-1') as file:
+        return file.read()
+
+
+class Reading(unittest.TestCase):
+    def test_tokens_have_places(self):
+        self.assertEqual([tuple(t) for t in tokens('a<=b // c\n->12ab')],
+                         [('a', 0, 1), ('<=', 1, 3), ('b', 3, 4), ('->', 10, 12), ('12', 12, 14), ('ab', 14, 16)])
+        self.assertEqual([t.text for t in tokens('int f() asm // {\n { addu r2, r0, r0 # } x')][4:], ['asm', '{ addu r2, r0, r0 # ', 'x'])
+        self.assertEqual(line_of('a\nb', 2), 2)
+
+    def test_what_has_no_tree(self):
+        for source in ('int x; @', 'int[007] x;', 'int f() { return 2147483648; }', 'int f() { return ' + '(' * 64 + '1', 'int f(', 'int f() { a = b = c; return 0; }',
+                       'int f() { return 12ab; }', 'int f() asm int x;', 'int' + '*' * 511):
+            with self.assertRaises(NoTree):
+                Parser(source)
+
+    def test_places_of_parts(self):
+        source = 'int f(int a, int b) { int x; x = ((a)) + (b); return x; }'
+        s = Parser(source).functions[0].body[0]
+        self.assertEqual([source[at:end] for at, end in (s.span, s.parts[1].span, s.parts[1].parts[1].span)], ['x = ((a)) + (b);', '((a)) + (b)', 'a'])
+        self.assertEqual(unit_nodes(Parser('int f(int a) { int b; b = a + 1; return b; }')), 1 + 1 + 1 + 5 + 1)
+
+    def test_checks(self):
+        for source, answer in ((KERNEL, 'typed'), ('int x; bool x;', '31 at 0-14'), ('int f() { return 1 + true; }' + KERNEL, '22 at 17-25'),
+                               ('int* p; int f() { int[2] a; p = &a[1]; return 0; }' + KERNEL, '25 at 33-37')):
+            self.assertEqual(checks.answer(source, 'kernel'), answer)
+        self.assertEqual(checks.answer('int main() { int r; r = trap(1); return r; }', 'user'), 'typed')
+
+    def test_lines_of_sources(self):
+        source = Source('k', 'ab\n  c d \n')
+        self.assertEqual((source.line(0), source.line(2), source.line(3), source.line_text(2), source.part((0, 7))), (1, 1, 2, 'c d', 'ab c'))
+
+
+class Meaning(unittest.TestCase):
+    def run_of(self, source, heap=10, room=64, most=1000):
+        return said.StandIns(Parser(source), heap, room, most)
+
+    def test_units(self):
+        run = self.run_of(KERNEL)
+        self.assertEqual((run.call('dispatch', [3, 0, 1]), run.units), (1, 19))
+        loop = self.run_of('int dispatch(int a, int b, int c) { int i; while (i < 2) { i = i + 1; } return i; }')
+        # call and local; the statement; three tests of four units; two times the body's five; the answer
+        self.assertEqual((loop.call('dispatch', [0, 0, 0]), loop.units), (2, 2 + 1 + 3 * 4 + 2 * 5 + 1))
+
+    def test_faults_have_their_places(self):
+        for body, kind, text in (('n = a[3]; return 0; }', 'bounds', 'a[3]'), ('n = *p; return 0; }', 'null', '*p'), ('n = 1 % n; return 0; }', 'zero', '1 % n'),
+                                 ('n = dispatch(0, 0, 0); return 0; }', 'stack', 'n = dispatch(0, 0, 0);')):
+            source = 'int n; int[3] a; int* p; int dispatch(int x, int y, int z) { ' + body
+            with self.assertRaises(meaning.Fault) as caught:
+                self.run_of(source).call('dispatch', [0, 0, 0])
+            at, end = caught.exception.node.span
+            self.assertEqual((caught.exception.kind, source[at:end]), (kind, text))
+
+    def test_a_run_can_be_gone_on_with(self):
+        run = self.run_of('int n; int dispatch(int a, int b, int c) { while (n < 9) { n = n + 1; } return n; }', most=5)
+        with self.assertRaises(meaning.TooLong):
+            run.call('dispatch', [0, 0, 0])
+        run.left = 1000
+        while run.work:
+            run.act()
+        self.assertEqual(run.answer, 9)
+
+    def test_values_as_texts(self):
+        run = self.run_of('struct s { int a; struct s* next; }; struct s[2] t; struct s* p; bool[2] b; int dispatch(int x, int y, int z) { p = new struct s; t[1].next = p; '
+                          'p->next = &t[1]; p->a = 7; b[1] = true; return 0; }')
+        run.call('dispatch', [0, 0, 0])
+        self.assertEqual([(n, v) for n, _, v in values.global_values(run)],
+                         [('t', '{{a: 0, next: null}, {a: 0, next: -> struct s #1}}'), ('p', '-> struct s #1'), ('b', '{false, true}')])
+        self.assertEqual(values.found(run.unit, 't[1].next'), (('ptr', ('struct', 's')), 3))
+        for name in ('u', 't[2]', 't.a', 't[0].b', 'p-'):
+            with self.assertRaises(values.BadName):
+                values.found(run.unit, name)
+
+
+class Code(unittest.TestCase):
+    def test_the_page_is_cut_as_it_stands(self):
+        page = read('docs', 'COMPILER.md')
+        example = page[page.index('\n## An example\n'):].split('```')[1].strip('\n')
+        made = cut.Cut(example)
+        words = [int(row.split()[1], 16) for row in said.code_case(example)]
+        self.assertEqual((made.at, made.unfit(words), code.code_words(example)), (len(words), None, len(words)))
+        self.assertEqual([(part.first, part.what) for part in made.parts], [
+            (0, 'entry'), (8, 'routine new'), (26, 'routine multiply'), (29, 'routine divide'), (34, 'routine remainder'), (39, 'head of dispatch'), (43, 'assign'),
+            (46, 'return'), (47, 'end of dispatch')])
+
+    def test_other_words_do_not_fit(self):
+        example = 'int x; int f() { return 1; } int dispatch(int a, int b, int c) { while (x < 9) { x = f(); } return 0; }'
+        made = cut.Cut(example)
+        self.assertIn('counts', made.unfit([0] * (made.at + 1))[1])
+        self.assertIn('does not end', made.unfit([0] * made.at)[1])
+
+    def test_all_sources_are_counted_alike(self):
+        for folder in ('adder', 'mailbox', 'messages', 'services', 'round_robin'):
+            text = read('examples', folder, 'kernel.c0')
+            self.assertEqual(cut.Cut(text).at, code.code_words(text))
+
+    def test_far_displacements_are_not_counted(self):
+        with self.assertRaises(code.FarDisplacement):
+            code.code_words('int[9000] a; ' + KERNEL)
+
+    def test_stack(self):
+        self.assertEqual(stack.check(read('examples', 'messages', 'kernel.c0'), 64), 'yes 15\nchain dispatch pick\n')
+        self.assertEqual(stack.check('int x; int dispatch(int a, int b, int c) { x = dispatch(0, 0, 0); return 0; }', 64), 'no cycle\ncycle dispatch dispatch\n')
