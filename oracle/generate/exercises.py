@@ -17,10 +17,18 @@ At which turns lines are taken hangs on the physical machine alone: as in lines.
 the texts of 7_service, whose user is compiled: of these the script checks all that the compiled code has no part in. All others are worked out apart.'''
 
 
+def fits(wanted, row):
+    """Whether a row is one that is wanted, where a `*` stands for any word."""
+    words, others = wanted.split(' '), row.split(' ')
+    return len(words) == len(others) and all(word in ('*', other) for word, other in zip(words, others))
+
+
 def expects(name, text):
-    """Whether the rows that the exercise expects come in a text, in their order; a text that isn't there yet is taken for one."""
+    """Whether the rows that the exercise expects come in a text, in their order; a text that isn't there yet is taken for one. That no others of their
+    kinds come is compared by exercises/check."""
     rows = iter(text.split('\n'))
-    return text.startswith('(') or all(row in rows for row in read(EXERCISES, name, 'expected').split('\n') if row)
+    wanted = [row for row in read(EXERCISES, name, 'expected').split('\n') if row and not row.endswith(' ..')]
+    return text.startswith('(') or all(any(fits(row, other) for other in rows) for row in wanted)
 
 
 class Exercises(Folders):
