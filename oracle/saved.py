@@ -150,7 +150,7 @@ def cases():
 
 def main(words):
     folder = words[0]
-    data, out = ['Files of saved machines, by bench/models/saved.py.', ''], []
+    data, out = ['Files of saved machines, by oracle/saved.py.', ''], []
     for wanted, name, source in cases():
         data += ['== %d %s' % (wanted, name), text(source)]
         out += ['== %d %s' % (wanted, name), answer(source, wanted)]

@@ -28,7 +28,7 @@ SHORT = HEAD + ' { return 0; }'
 
 
 class Checks(Writer):
-    note = 'How much stack the kernels of objects need. Written by bench/models/gen_checks.py.'
+    note = 'How much stack the kernels of objects need. Written by oracle/generate/checks.py.'
 
     def placed_object(self, kernel, name='o'):
         self.part('file k', kernel)

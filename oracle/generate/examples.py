@@ -12,7 +12,7 @@ from oracle import programs
 from oracle.c0.code import code_words
 from oracle.generate.writing import EXAMPLES, ROOM, STEPS, BrokenRule, Writer, lines_of, main_of, model, model_lines, read
 
-NOTE = '''The examples, from copies of their files: data/examples/NAME has those of examples/NAME, but for the pages. Written by bench/models/gen_examples.py.
+NOTE = '''The examples, from copies of their files: data/examples/NAME has those of examples/NAME, but for the pages. Written by oracle/generate/examples.py.
 
 At which turns the lines of round_robin are taken hangs on the physical machine alone: as in lines.cases that text is the program's own, checked by
 that script. So are the texts of mailing and services, whose users are compiled: of these the script checks all that the compiled code has no part in.

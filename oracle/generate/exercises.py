@@ -11,7 +11,7 @@ from oracle.generate.writing import STEPS, TOP, BrokenRule, main_of, read
 
 EXERCISES = os.path.abspath(os.path.join(TOP, 'exercises'))
 NOTE = '''The solutions of the exercises, from copies of their files: data/exercises/NAME has those of exercises/NAME/solution. Written by
-bench/models/gen_exercises.py.
+oracle/generate/exercises.py.
 
 At which turns lines are taken hangs on the physical machine alone: as in lines.cases those texts are the program's own, checked by that script. So are
 the texts of 7_service, whose user is compiled: of these the script checks all that the compiled code has no part in. All others are worked out apart.'''

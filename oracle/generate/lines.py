@@ -69,7 +69,7 @@ KEPT = 'int x; ' + HEAD + ' { int next; x = 100 / (cause + 3); if (cause < 2) { 
 PRODUCTS = ['ori r1, r0, 7\naddiu r2, r0, -3\nmult r1, r2\nmflo r3\ndiv r1, r2\ndiv r1, r0\nsyscall\n']
 TAKEN_AT = [(1 if turn > 1 else PRODUCTS_BEGINS, model_lines(KEPT, PRODUCTS, PARAMS, '', TURNS, [(str(turn), '20')])) for turn in range(1, 8)]
 
-NOTE = '''Lines at chosen steps, steps that are spent, and calls that fail. Written by bench/models/gen_lines.py.
+NOTE = '''Lines at chosen steps, steps that are spent, and calls that fail. Written by oracle/generate/lines.py.
 
 At which turns lines are taken (forty lines) hangs on the physical machine alone. This text is the program's own, checked by that script: with
 the turns of the lines as printed the model gives the same text. The steps of lines and of the last step of a run are measured. All else is worked

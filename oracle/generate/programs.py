@@ -60,7 +60,7 @@ REFUSED = [
     ('int main() { int x; x = trap(true); return x; }', '22 29 33'),
     ('int main() { return 0; ', '12 23'),
     ('int x; @', '10 7')]
-NOTE = '''User programs in C0: worked rows, kernels as programs, and random programs. Written by bench/models/gen_programs.py.
+NOTE = '''User programs in C0: worked rows, kernels as programs, and random programs. Written by oracle/generate/programs.py.
 
 Journals are worked out by the meaning of the programs alone. At which turns the boots of the first two rows call the kernel hangs on the compiled code:
 these are the program's own, checked by that script.'''

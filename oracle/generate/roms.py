@@ -45,7 +45,7 @@ ROM_OPTIONS = 'sectors 64\nroom 1000000'
 
 class Roms(Rows):
     files = False
-    note = 'Boots from a ROM: the systems of rows.cases and lines.cases, and what is its own. Written by bench/models/gen_roms.py.'
+    note = 'Boots from a ROM: the systems of rows.cases and lines.cases, and what is its own. Written by oracle/generate/roms.py.'
 
     def __init__(self, printed=None):
         Rows.__init__(self, None)

@@ -50,7 +50,7 @@ ZERO = HEAD + ' { return 0; }'
 
 class Rows(Writer):
     files = True
-    note = 'Whole systems: compiled, linked and booted, and what is refused. Written by bench/models/gen_rows.py.'
+    note = 'Whole systems: compiled, linked and booted, and what is refused. Written by oracle/generate/rows.py.'
 
     def kernels_alone(self):
         """Kernels with no users."""

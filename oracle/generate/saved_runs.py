@@ -125,7 +125,7 @@ class SavedRuns:
     """The cases, and what is printed of them."""
 
     def __init__(self):
-        self.cases = ['The example messages, saved and gone on with, and forged files of it. Written by bench/models/saved_runs.py.', '']
+        self.cases = ['The example messages, saved and gone on with, and forged files of it. Written by oracle/generate/saved_runs.py.', '']
         self.told = []
 
     def case(self, head, body=None):

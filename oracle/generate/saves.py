@@ -69,7 +69,7 @@ AT = next(f for f in range(16384, 1, -1) if map_frames(K1, ['syscall'], params(f
 
 
 class Saves(Writer):
-    note = 'Machines that are saved and gone on with. Written by bench/models/gen_saves.py, which says how each answer was worked out.'
+    note = 'Machines that are saved and gone on with. Written by oracle/generate/saves.py, which says how each answer was worked out.'
 
     def save(self, turns, whole, file='f', schedule='s', steps=STEPS):
         self.run('save img %s %d %d %s' % (schedule, turns, steps, file), early(whole, turns) + 'saved\n')

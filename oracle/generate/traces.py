@@ -136,7 +136,7 @@ def sampled(number):
 
 ZERO = sampled(0)[0]
 
-NOTE = '''Traces, samples, and images made anew. Written by bench/models/gen_traces.py.
+NOTE = '''Traces, samples, and images made anew. Written by oracle/generate/traces.py.
 
 As in lines.cases, two kinds of texts hang on the physical machine alone and are the program's own, checked by that script: at which turns the
 lines of a sample and of a kernel that faults are taken, and how much of a trace stands printed when the steps are spent. All else is worked out
