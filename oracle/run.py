@@ -91,6 +91,19 @@ class Run:
         if call.fault:
             self.end = 'fault ' + call.fault
 
+    def state(self):
+        """All that turns change, to be put back by `put_back`."""
+        k = self.kernel
+        users = [(f.pc, list(f.r), f.hi, f.lo, list(f.m)) for f in self.users]
+        return (users, list(k.globals), list(k.heap), list(k.objects), list(k.log), k.taken, k.units, self.pending, self.current, self.end, self.turn)
+
+    def put_back(self, state):
+        k = self.kernel
+        users, globals_, heap, objects, log, k.taken, k.units, self.pending, self.current, self.end, self.turn = state
+        k.globals[:], k.heap[:], k.objects[:], k.log[:] = globals_, heap, objects, log
+        for f, (f.pc, r, f.hi, f.lo, m) in zip(self.users, users):
+            f.r[:], f.m = r, list(m)
+
     def run(self, turns):
         """Makes turns up to so many, or to the end. Gives the calls."""
         calls = []

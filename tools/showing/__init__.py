@@ -5,3 +5,5 @@ import sys
 TOP = os.path.dirname(os.path.dirname(os.path.dirname(os.path.abspath(__file__))))
 if TOP not in sys.path:
     sys.path.append(TOP)
+# an expression may be nested as deeply as 512 tokens and 64 brackets go
+sys.setrecursionlimit(max(sys.getrecursionlimit(), 20000))

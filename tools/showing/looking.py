@@ -237,7 +237,7 @@ def breaking(replay, wanted, put):
             stops[line] = lambda number: tell(given.kernel.where(number), given.kernel.line_text(number))
         elif name in names and given.users[names[name] - 1].kind == 's':
             user = given.users[names[name] - 1]
-            check_line(user.source, line, {user.line(4 * n) for n in range(len(user.words))})
+            check_line(user.source, line, {user.line(4 * n) for n in range(len(user.words))} - {None})
             of_users.setdefault(names[name], set()).add(line)
         else:
             raise Bad("--break %s:%d: it is to be a line of kernel.c0 or of a user in assembler: %s" % (

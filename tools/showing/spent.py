@@ -7,21 +7,22 @@ from oracle.replay import Replay
 # A dispatch with more statements and tests than these is taken for one that does not come back; a statement takes a step of the machine at least.
 MOST = 200000
 ROUNDS = 20000
-FURTHEST = 2000000
+FURTHEST = 200000
 AGAIN = 8
 # about how many steps of the machine a turn takes: the way to the kernel and back, a unit of its meaning, and the first fetch or access of a page
 CALL, UNIT, PAGE = 400, 3, 2900
+# as this is reckoned, a call that comes a little later is looked at, too
+SLACK = 5000
 
 
 def lines(given, turns, steps):
     """Whether the kernel came back, which user traps again and again, or how many steps a turn took so far and which number would do."""
-    most = max(1000, min(steps, MOST))
-    found, turn = loop(given, turns, most)
+    way = Way(given, steps)
+    found = way.loop(turns)
     if found:
-        return found + [so_far(turn, turns, steps)]
-    complete = complete_turns(given, turns, steps)
-    traps = again(given)
-    return traps + [so_far(complete, turns, steps)] if traps else [so_far(complete, turns, steps), enough(complete, turns, steps)]
+        return found + [so_far(way.complete, turns, steps)]
+    traps = way.again()
+    return traps + [so_far(way.complete, turns, steps)] if traps else [so_far(way.complete, turns, steps), enough(way.complete, turns, steps)]
 
 
 def so_far(complete, turns, steps):
@@ -47,26 +48,71 @@ def rounded(number):
     return (number + unit - 1) // unit * unit
 
 
-def begun(given):
-    """The run with all turns that have a row."""
-    replay = Replay(given)
-    replay.quietly(given.printed.last + 1)
-    return replay
+class Way:
+    """The run up to its last row, with about how many steps it took, and what comes behind: `complete` is about how many turns were complete."""
 
+    def __init__(self, given, steps):
+        self.given, self.steps, self.most = given, steps, max(1000, min(steps, MOST))
+        self.replay = Replay(given)
+        self.used, self.touched, self.traps, self.by_line = 0, set(), [], False
+        while self.replay.turn <= given.printed.last and self.replay.end is None:
+            self.turn()
+        self.complete = self.replay.turn
 
-def loop(given, turns, most):
-    """The lines on a dispatch that does not come back, and its turn. It is called behind the last row, by a trap, or by a line that was not taken yet."""
-    for mask in [0] + ([1 << j for j in range(8)] if given.has_lines else []):
-        replay = begun(given)
-        replay.run.pending |= mask
+    def turn(self):
+        """Makes a turn, and adds its steps."""
+        run = self.replay.run
+        user, units = run.current, run.kernel.units
+        pc = run.users[user - 1].pc if user else 0
+        if user:
+            page = user, pc // 4096
+            self.used += 1 + (PAGE if page not in self.touched else 0)
+            self.touched.add(page)
+        call = run.go()
+        if call is not None:
+            self.used += CALL + UNIT * (run.kernel.units - units)
+            if call.cause > 1:
+                self.traps = (self.traps + [(user, pc, call.cause, call.data, call.turn)])[-AGAIN:]
+        return call
+
+    def loop(self, turns):
+        """The lines on a dispatch that does not come back, which is called behind the last row by a trap, or by a line that was not taken yet; None where
+        there is none."""
+        run, traps = self.replay.run, list(self.traps)
+        if run.end:
+            return None
+        state, furthest = run.state(), min(turns, run.turn + FURTHEST)
         try:
             call = None
-            while call is None and replay.end is None and replay.turn < min(turns, given.printed.last + FURTHEST):
-                replay.kernel.left = most
-                call = replay.run.go()
+            while call is None and run.turn < furthest and self.used < self.steps + SLACK:
+                self.complete = run.turn if self.used < self.steps else self.complete
+                run.kernel.left = self.most
+                call = self.turn()
+            self.traps = traps
+            # a user that calls nothing makes a turn a step
+            if call is None and run.turn == furthest:
+                self.complete = min(turns - 1, run.turn + max(0, self.steps - self.used))
+            for line in range(8 if self.given.has_lines else 0):
+                self.by_line = True
+                run.put_back(state)
+                run.pending |= 1 << line
+                run.kernel.left = self.most
+                run.go()
         except TooLong:
-            return loop_lines(given, replay, mask, most), replay.turn
-    return None, None
+            where = ', called %s,' % ('for a line behind turn %d' % (run.turn - 1) if self.by_line else 'in turn %d' % run.turn)
+            return loop_lines(self.given, self.replay, 'the kernel' + where, self.most)
+        return None
+
+    def again(self):
+        """The line on the user that traps at the same pc again and again, in the last turns that have a row; none where it is not so."""
+        if len(self.traps) < AGAIN or len({one[:4] for one in self.traps}) > 1:
+            return []
+        user, pc, cause, data, _ = self.traps[-1]
+        source, line = self.given.users[user - 1].source, self.given.users[user - 1].line(pc)
+        place = source.where(line) if line else '%s %08x' % (source.name, pc)
+        text = '`%s` of user %d' % (source.line_text(line).split('#')[0].strip(), user) if line else 'user %d' % user
+        return ['%s: %s traps at the same pc again and again (cause %d, data %08x), in turns %d to %d.' % (
+            place, text, cause, data, self.traps[0][4], self.traps[-1][4])]
 
 
 class Loops(Seen):
@@ -81,9 +127,9 @@ class Loops(Seen):
             self.rounds[key] = self.rounds.get(key, 0) + 1
 
 
-def loop_lines(given, replay, mask, most):
+def loop_lines(given, replay, called, most):
     """The line on which a dispatch goes round, with the values of its function; no line where it comes to an end after all."""
-    kernel, called = replay.kernel, 'the kernel, called in turn %d%s,' % (replay.turn, ' for a line' if mask else '')
+    kernel = replay.kernel
     kernel.left, kernel.seen = 10 * MOST, Loops(kernel)
     try:
         for _ in range(ROUNDS):
@@ -116,39 +162,3 @@ def find(unit, span):
         if s.kind in ('if', 'while'):
             todo += s.parts[1] + s.parts[2]
     return None
-
-
-def again(given):
-    """The line on the user that traps at the same pc again and again, in the last turns that have a row; none where it is not so."""
-    replay, last = Replay(given), []
-    while replay.turn <= given.printed.last and replay.end is None:
-        user = replay.run.current
-        pc = replay.users[user - 1].pc if user else 0
-        call = replay.run.go()
-        if call is not None and call.cause > 1:
-            last = (last + [(user, pc, call.cause, call.data, call.turn)])[-AGAIN:]
-    if len(last) < AGAIN or len({one[:4] for one in last}) > 1:
-        return []
-    user, pc, cause, data, _ = last[-1]
-    source, line = given.users[user - 1].source, given.users[user - 1].line(pc)
-    place = source.where(line) if line else '%s %08x' % (source.name, pc)
-    text = '`%s` of user %d' % (source.line_text(line).split('#')[0].strip(), user) if line else 'user %d' % user
-    return ['%s: %s traps at the same pc again and again (cause %d, data %08x), in turns %d to %d.' % (place, text, cause, data, last[0][4], last[-1][4])]
-
-
-def complete_turns(given, turns, steps):
-    """About how many turns were complete: at least those that have a row, and behind them as many as the steps were enough for."""
-    replay, used, touched = Replay(given), 0, set()
-    run = replay.run
-    while run.turn < turns and run.end is None and (used < steps or run.turn <= given.printed.last):
-        user, units = run.current, replay.kernel.units
-        if user:
-            page = user, run.users[user - 1].pc // 4096
-            used += 1 + (PAGE if page not in touched else 0)
-            touched.add(page)
-        call = run.go()
-        if call is not None:
-            if call.turn > given.printed.last:
-                return call.turn
-            used += CALL + UNIT * (replay.kernel.units - units)
-    return run.turn

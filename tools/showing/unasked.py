@@ -2,7 +2,7 @@
 import re
 
 from explain import places
-from running.guard import say
+from running.guard import Bad, say
 from showing import made, spent, state
 from oracle.c0.meaning import Fault
 from oracle.faults import explained, parts_of
@@ -28,6 +28,8 @@ def say_why(run, folder, options, status):
         lines = kernel_fault(given) if status == 3 else spent.lines(given, options.turns, options.steps) if status == 4 else program_faults(given, faulty)
     except Differs as differs:
         lines = ['%s. The program is what is proved.' % differs]
+    except Bad as bad:
+        lines = ['nothing more is said of it: %s' % bad]
     say(['try: ' + line if not line.startswith(' ') else line for line in lines])
 
 
