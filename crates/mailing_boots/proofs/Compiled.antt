@@ -37,58 +37,18 @@ calls_so text tree means s i u is has n arguments answers computed as_many small
   small = small;
 }
 
-small_zeros : AreInts (zeros one_to_ten)
-small_zeros = (omega arith, omega arith, omega arith, omega arith, omega arith, omega arith, omega arith, omega arith, omega arith, omega arith, tt)
+-- all answers of a sender are ints, and so is what a receiver is told of numbers that can be sent
+zeros_are_ints : (ns : List ℕ) → AreInts (zeros ns)
+zeros_are_ints [] = tt
+zeros_are_ints (n ∷ ns) = (omega arith, zeros_are_ints ns)
 
-small_told : AreInts (told_for one_to_ten)
-small_told = (
-  omega arith,
-  omega arith,
-  omega arith,
-  omega arith,
-  omega arith,
-  omega arith,
-  omega arith,
-  omega arith,
-  omega arith,
-  omega arith,
-  omega arith,
-  omega arith,
-  omega arith,
-  omega arith,
-  omega arith,
-  omega arith,
-  omega arith,
-  omega arith,
-  omega arith,
-  omega arith,
-  tt,
-)
+told_are_ints : (ns : List ℕ) → CanBeSent ns → AreInts (told_for ns)
+told_are_ints [] sent = tt
+told_are_ints (n ∷ ns) sent = (sent.1, (omega arith, told_are_ints ns sent.2))
 
 can_be_sent : CanBeSent one_to_ten
-can_be_sent = (
-  omega arith,
-  omega arith,
-  omega arith,
-  omega arith,
-  omega arith,
-  omega arith,
-  omega arith,
-  omega arith,
-  omega arith,
-  omega arith,
-  omega arith,
-  omega arith,
-  omega arith,
-  omega arith,
-  omega arith,
-  omega arith,
-  omega arith,
-  omega arith,
-  omega arith,
-  omega arith,
-  tt,
-)
+can_be_sent =
+    (omega arith, omega arith, (omega arith, omega arith, (omega arith, omega arith, (omega arith, omega arith, (omega arith, omega arith, (omega arith, omega arith, (omega arith, omega arith, (omega arith, omega arith, (omega arith, omega arith, (omega arith, omega arith, tt))))))))))
 
 -- the report, letter by letter
 lines_are : (users : List Flat) → report_of one_to_ten users ≡ mail_lines ++ users_text 1 users
@@ -118,8 +78,8 @@ compiled_mail_boots images linked means_one means_two calls law words status old
     let t : AreThere s sender_text receiver_text = are_there images linked layer sender_text receiver_text s l in
     let (text, printed, shows) = law t.one t.two 400 600 one_to_ten
     (record {
-      sender = calls_so sender_text sender means_one s 1 t.one t.one_is t.first 400 one_to_ten (zeros one_to_ten) calls.sends refl small_zeros;
-      receiver = calls_so receiver_text receiver means_two s 2 t.two t.two_is t.second 600 (asked_for one_to_ten) (told_for one_to_ten) calls.receives refl small_told;
+      sender = calls_so sender_text sender means_one s 1 t.one t.one_is t.first 400 one_to_ten (zeros one_to_ten) calls.sends refl (zeros_are_ints one_to_ten);
+      receiver = calls_so receiver_text receiver means_two s 2 t.two t.two_is t.second 600 (asked_for one_to_ten) (told_for one_to_ten) calls.receives refl (told_are_ints one_to_ten can_be_sent);
       small = can_be_sent;
       few = omega arith;
     })
