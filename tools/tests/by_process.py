@@ -59,6 +59,10 @@ def shown(data):
     return ''.join(chr(byte) if 32 <= byte <= 126 and byte != 92 else '\\x%02x' % byte for byte in data)
 
 
+# A word that may name a file.
+NAME = re.compile(r'[A-Za-z_][\w.]*')
+
+
 def text_of(data):
     """The text of a command, with a mark where its last line was cut off."""
     return data.decode('utf-8') + ('' if data.endswith(b'\n') or not data else ' ..\n')
@@ -105,7 +109,7 @@ class World:
     def keep_from_being_made(self, words):
         """A file that was not placed can be neither got nor put: a folder of its name stands there."""
         for word in words:
-            if re.fullmatch(r'[A-Za-z_][\w.]*', word) and not os.path.lexists(self.path(word)):
+            if NAME.fullmatch(word) and not os.path.lexists(self.path(word)):
                 os.mkdir(self.path(word))
 
     def run(self, line, folder=None):
@@ -149,11 +153,14 @@ class World:
         return out + 'status %d\n' % status
 
     def surely(self, line):
-        """The status of a command over copies of the files, and a new disk."""
+        """The status of a command over copies of the files, and a new disk. Where no call fails a file that isn't there is empty."""
         with tempfile.TemporaryDirectory() as room:
             for name in os.listdir(self.folder):
                 if os.path.isfile(self.path(name)) and name != 'cvm.disk':
                     shutil.copy(self.path(name), room)
+            for word in line.split(' '):
+                if NAME.fullmatch(word) and not os.path.lexists(os.path.join(room, word)):
+                    open(os.path.join(room, word), 'wb').close()
             return 'status %d\n' % self.run(line, room)[0]
 
     def show(self, name, at=0, count=None):
