@@ -4,6 +4,7 @@ import re
 from explain import places
 from running.guard import Bad, say
 from showing import made, spent, state
+from showing.rows import Rows
 from oracle.c0.meaning import Fault
 from oracle.faults import explained, parts_of
 from oracle.replay import Differs, Replay
@@ -43,8 +44,7 @@ def faulty_programs(run, folder):
 def kernel_fault(given):
     """The lines that say where and why the kernel met its fault."""
     replay = Replay(given)
-    replay.quietly(given.printed.last)
-    events = replay.next_turn()
+    events = with_the_call_before(given, replay)
     fault = replay.run.fault
     if fault is None:
         return bad_user(given, replay, events)
@@ -68,15 +68,24 @@ def fault_lines(source, meaning, fault, when):
     return said + (['called: ' + ', '.join(calls)] if calls else [])
 
 
+def with_the_call_before(given, replay):
+    """The events of the last turn that has a row, behind those of the call of the kernel before it."""
+    turns, events = [turn for turn, _ in given.printed.rows[-2:]], []
+    for turn in turns:
+        replay.quietly(turn)
+        events += replay.next_turn()
+    return events
+
+
 def last_statements(events, by=0):
-    """The last statements that were done, with what they came to."""
-    from showing.rows import Rows
-    rows = []
-    made_rows = Rows(rows.append)
-    made_rows.head = None
-    made_rows.take([event for event in events if event.kind in STATEMENTS and event.by == by])
+    """The last statements that were done, with what they came to; those of an earlier turn with its number."""
+    rows, last = [], events[-1].turn if events else 0
+    for turn in sorted({event.turn for event in events}):
+        mark = '' if turn == last else '    (turn %d)' % turn
+        made_rows = Rows(lambda row, mark=mark: rows.append(row.rstrip() + mark))
+        made_rows.take([event for event in events if event.turn == turn and event.kind in STATEMENTS and event.by == by])
     rows = [row for row in rows if not row.startswith('turn ')][-LAST:]
-    return ['the last statements before it:'] + [row.rstrip() for row in rows] if rows else []
+    return ['the last statements before it:'] + rows if rows else []
 
 
 def bad_user(given, replay, events):
