@@ -1,4 +1,5 @@
 """When each user ran and waited, by the dispatches of a boot."""
+from drawing.rows import BadText
 
 
 class Stretch:
@@ -20,6 +21,19 @@ def end_of(boot, turns, traces):
     return max(last, made - 1 if len(traces) == boot.users else last)
 
 
+def window(wanted, end):
+    """The first and the last turn of a window of a run that ends with this turn; BadText where it has none of the run."""
+    first, last = wanted[0] or 0, end if wanted[1] is None else min(wanted[1], end)
+    if first > last:
+        raise BadText('turns {:,} to {:,} are wanted, and the run has turns 0 to {:,}'.format(first, last if wanted[1] is None else wanted[1], end))
+    return first, last
+
+
+def clipped(parts, first, last):
+    """What of stretches lies within a window."""
+    return [Stretch(max(part.first, first), min(part.last, last)) for part in parts if part.first <= last and part.last >= first]
+
+
 def stretches(boot, last):
     """The stretches of each user, by its number."""
     found = {user: [] for user in range(1, boot.users + 1)}
@@ -36,9 +50,9 @@ def add(parts, first, last):
     parts.append(Stretch(first, last))
 
 
-def waits(parts, last):
+def waits(parts, last, first=0):
     """The stretches in which a user did not run: before, between and behind its own."""
-    found, free = [], 0
+    found, free = [], max(0, first - 1)
     for part in parts:
         if part.first > free + 1:
             found.append(Stretch(free + 1, part.first - 1))

@@ -12,6 +12,8 @@ HELP = '''./try FOLDER..        compiles, links and boots the system of each fol
   --turns N           so many turns at most, in place of 100000
   --steps N           so many steps of the machine at most, in place of 1000000000 (some five seconds), and of 1000000 with --checked (some four)
   --picture FILE      draws the run, too, as an SVG
+  --page FILE         puts a page of the run, too, to step through in a browser: one file, which needs no network
+  --from A, --to B    of the picture or the page: turns A to B alone
 %s
   --proved            by the proved program, which ./cvm builds where the released one is not of these sources
   --checked           by the sources as they are, built with checks and no proof, as it is done by itself where the released program isn't of them
@@ -26,6 +28,7 @@ class Options:
     def __init__(self):
         self.folders, self.turns, self.given_steps = [], 100000, None
         self.trace, self.picture, self.proved, self.checked = None, None, False, False
+        self.page, self.first, self.last = None, None, None
         self.extras, self.looking = extras.Extras(), wanted.Wanted()
 
     @property
@@ -51,7 +54,9 @@ def options_of(words):
     taken = {'--trace': lambda word: setattr(options, 'trace', number_of(word, '--trace', 1, 64)),
              '--turns': lambda word: setattr(options, 'turns', number_of(word, '--turns', 1, 2**32 - 1)),
              '--steps': lambda word: setattr(options, 'given_steps', number_of(word, '--steps', 0, 2**64 - 1)),
-             '--picture': lambda word: setattr(options, 'picture', word), **options.extras.taken()}
+             '--picture': lambda word: setattr(options, 'picture', word), '--page': lambda word: setattr(options, 'page', word),
+             '--from': lambda word: setattr(options, 'first', number_of(word, '--from', 0, 2**32 - 1)),
+             '--to': lambda word: setattr(options, 'last', number_of(word, '--to', 0, 2**32 - 1)), **options.extras.taken()}
     while left:
         word = left.pop(0)
         if word in ('--proved', '--checked'):
@@ -80,14 +85,9 @@ def checked(options):
     """The folders, each with its files, before the toolchain starts."""
     if not options.folders:
         raise Bad('no folder is given; ./try --help says what can be')
-    drawn, graded = options.picture is not None, options.extras.expect is not None
-    if len(options.folders) > 1 and (drawn or options.trace):
-        raise Bad('--trace and --picture are for one folder')
     if options.proved and options.checked:
         raise Bad('--proved and --checked are two programs: leave one out')
-    if drawn and (options.trace or graded):
-        raise Bad('--picture goes with the boot alone: leave out --trace and --expect')
-    fault = options.looking.fault(options) or (drawn and files.put_fault(options.picture))
+    fault = picture_fault(options) or options.looking.fault(options)
     if fault:
         raise Bad(fault)
     options.extras.check(options)
@@ -105,6 +105,24 @@ def checked(options):
         if options.trace and not isinstance(folder, str) and options.trace > len(folder.users):
             raise Bad('--trace %d: %s has %d users' % (options.trace, folder.path, len(folder.users)))
     return found
+
+
+def picture_fault(options):
+    """What is wrong with the words on a picture and a page, in a sentence; None where nothing is."""
+    names = [name for name in (options.picture, options.page) if name is not None]
+    if len(options.folders) > 1 and (names or options.trace):
+        return '--trace, --picture and --page are for one folder'
+    if names and (options.trace or options.extras.expect is not None):
+        return '--picture and --page go with the boot alone: leave out --trace and --expect'
+    if options.looking.anything and options.page is not None:
+        return '--page goes with the boot alone: leave out --show, --watch, --break and --listing'
+    if not names and (options.first is not None or options.last is not None):
+        return '--from and --to say which turns --picture or --page has: give one of them, too'
+    if options.first is not None and options.last is not None and options.first > options.last:
+        return '--from %d --to %d: the first turn is to come first' % (options.first, options.last)
+    if len(names) == 2 and os.path.abspath(names[0]) == os.path.abspath(names[1]):
+        return "'%s' is to be the picture and the page: give two names" % names[0]
+    return next(filter(None, map(files.put_fault, names)), None)
 
 
 def run_folder(start, folder, options, put, say_of):
@@ -127,6 +145,9 @@ def run_folder(start, folder, options, put, say_of):
             status = options.extras.boot(run, options, clock_start)
         if options.extras.expect is None:
             unasked.say_why(run, folder, options, status)
+        if options.page is not None and status in (0, 3, 4):
+            from paging import page
+            status = page.put_page(run, folder, options) or status
         if options.picture is not None and status in (0, 3, 4):
             draw(run, folder, options)
         return status
@@ -140,7 +161,8 @@ def draw(run, folder, options):
         run.trace(options.turns, options.steps, user)
     names = [run.made('trace%d' % user) for user in range(1, len(folder.users) + 1)]
     try:
-        drawn.draw_files(run.made('boot'), names, options.picture, title=program.text(os.path.basename(os.path.abspath(folder.path))), turns=options.turns)
+        drawn.draw_files(run.made('boot'), names, options.picture, title=program.text(os.path.basename(os.path.abspath(folder.path))), turns=options.turns,
+                         window=(options.first, options.last))
     except rows.BadText as bad:
         say("try: '%s' is not drawn: %s" % (options.picture, bad))
 

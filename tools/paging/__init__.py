@@ -1,0 +1,1 @@
+"""Makes a page of a run to step through. No part of what is proved."""
