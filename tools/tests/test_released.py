@@ -41,7 +41,8 @@ class Clones(unittest.TestCase):
         for name in ('cvm', 'try', 'release/path', 'release/build'):
             os.makedirs(os.path.dirname(self.path(name)), exist_ok=True)
             shutil.copy(os.path.join(pages.TOP, name), self.path(name))
-        shutil.copytree(os.path.join(pages.TOP, 'tools'), self.path('tools'), ignore=shutil.ignore_patterns('tests', '__pycache__'))
+        for name in ('tools', 'oracle'):
+            shutil.copytree(os.path.join(pages.TOP, name), self.path(name), ignore=shutil.ignore_patterns('tests', '__pycache__'))
         os.mkdir(self.rooms)
         for name in ('FORMATS.md', 'REFUSALS.md'):
             put(self.path('docs', name), pages.page(name))
