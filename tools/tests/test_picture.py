@@ -43,7 +43,7 @@ class Pictures(unittest.TestCase):
         for part in ('messages', 'kernel', 'user 3', 'halted', 'total 265', 'cause 6: system call', 'changed by the kernel', 'ran 6, longest wait 94'):
             self.assertIn(part, found)
         self.assertIn('prefers-color-scheme: dark', picture)
-        self.assertIn('0000002a (42)', texts(draw.draw(example('adder'), [], 'adder')))
+        self.assertIn("0000002a (42, '*')", texts(draw.draw(example('adder'), [], 'adder')))
 
     def test_the_times_of_messages(self):
         boot = rows.Boot(example('messages'))
@@ -65,7 +65,9 @@ class Pictures(unittest.TestCase):
 
     def test_ten_turns_and_ten_thousand(self):
         ten = draw.draw(FIRST + 'turn 4 cause 6 data 0000000c user 1 next 2\nturn 9 cause 1 data 00000001 user 2 fault Bounds\n', [], 'ten')
-        self.assertEqual([text for text in texts(ten) if text.isdigit()], [str(number) for number in range(10)])
+        numbers = [text for text in texts(ten) if text.isdigit()]
+        self.assertEqual(numbers[:10], [str(number) for number in range(10)])
+        self.assertEqual(numbers[10:], ['0', '0'])  # line 0 at its turn, and what its mark says
         self.assertIn('fault Bounds', texts(ten))
         many = draw.draw(random_boot(1, 10000), [], 'many', 10000)
         self.assertLessEqual(len([text for text in texts(many) if text.replace(',', '').isdigit()]), 13)
