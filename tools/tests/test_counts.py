@@ -98,7 +98,7 @@ class Believed(unittest.TestCase):
         total = int(re.search(r'with ([\d,]+) lines beside', printed).group(1).replace(',', ''))
         groups = [int(it.replace(',', '')) for it in re.findall(r'^\*\*Beside .* \(([\d,]+) lines\)$', printed, re.M)]
         self.assertEqual((len(groups), sum(groups)), (len(self.believed.LAWS), total))
-        self.assertEqual(sum(int(it) for it in re.findall(r'(?<=[a-z]) (\d+)(?=,| \|)', printed)), total)
+        self.assertEqual(sum(int(it) for it in re.findall(r'(?<=[a-z]) (\d+)(?=, | \|)', printed)), total)
         counted = [it for _, more in beside for it in more]
         self.assertEqual(len(counted), len(set(counted)))
         self.assertFalse(set(counted) & set(came))
