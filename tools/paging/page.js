@@ -8,6 +8,7 @@ const PC = 32, HI = 33, LO = 34, PAGES = 35;
 const STEP = 0, CALLED = 1, STATEMENT = 2, ANSWERED = 3;
 // slots of what is no register, word or value: who is next, a word more on the console, an object more
 const CURRENT = -1, CONSOLE = -2, OBJECT = -3;
+const NOTHING = [];
 const INT = 0, BOOL = 1, POINTER = 2, ARRAY = 3;
 
 const signed = word => word | 0;
@@ -61,9 +62,12 @@ class Run {
   layTurn(turn, row) {
     const [user, , changes, , call] = row;
     if (user) {
-      const pc = this.users[user - 1].r[PC];
-      const following = this.pairs(changes).some(([slot]) => this.slots[slot][0] === 'r' && this.slots[slot][2] === PC) ? [] : [this.slotOfPc(user), pc + 4 >>> 0];
-      this.add(turn, STEP, { row, pc }, user, this.lineOf(user, pc), [...following, ...changes]);
+      const pc = this.users[user - 1].r[PC], slot = this.slotOfPc(user);
+      // a step goes on to the following word where its row doesn't say another
+      let goesOn = true;
+      for (let at = 0; at < changes.length; at += 2) if (changes[at] === slot) goesOn = false;
+      if (goesOn) this.alter(slot, pc + 4 >>> 0);
+      this.add(turn, STEP, { row, pc }, user, this.lineOf(user, pc), changes);
     }
     if (!call) return;
     this.add(turn, CALLED, { row, call }, 0, 0, []);
@@ -78,18 +82,15 @@ class Run {
     this.events.push(event);
     this.files.push(file);
     this.atLines.push(line);
-    for (const [slot, value] of this.pairs(changes)) {
-      this.slotOf.push(slot);
-      this.to.push(value);
-      this.from.push(this.change(slot, value));
-    }
+    for (let at = 0; at < changes.length; at += 2) this.alter(changes[at], changes[at + 1]);
     this.begins.push(this.slotOf.length);
   }
 
-  pairs(changes) {
-    const found = [];
-    for (let at = 0; at < changes.length; at += 2) found.push([changes[at], changes[at + 1]]);
-    return found;
+  /** Changes the state for the first time, and keeps what stood there. */
+  alter(slot, value) {
+    this.slotOf.push(slot);
+    this.to.push(value);
+    this.from.push(this.change(slot, value));
   }
 
   slotOfPc(user) {
@@ -107,10 +108,11 @@ class Run {
 
   /** What an event of the kernel changes, as slots and values in turn. */
   changesOf(event) {
-    if (event[0] === 1) return [event[2], event[3], ...(event[4] ? [OBJECT, event[4]] : [])];
-    if (event[0] !== 2) return [];
-    const word = this.texts[event[2]] === 'con_put' && this.texts[event[4][0]] === 'true' ? [CONSOLE, event[3][0] >>> 0] : [];
-    return [...event[6], ...word, ...(event[7] ? this.changesOf(event[7]) : [])];
+    if (event[0] === 1) return event[4] ? [event[2], event[3], OBJECT, event[4]] : [event[2], event[3]];
+    if (event[0] !== 2) return NOTHING;
+    const changes = event[6].slice();
+    if (this.texts[event[2]] === 'con_put' && this.texts[event[4][0]] === 'true') changes.push(CONSOLE, event[3][0] >>> 0);
+    return event[7] ? changes.concat(this.changesOf(event[7])) : changes;
   }
 
   /** Changes the state, and gives what stood there. */
@@ -118,7 +120,7 @@ class Run {
     if (slot === CURRENT) { const old = this.current; this.current = value; return old; }
     if (slot === CONSOLE) { this.console.push(value); return null; }
     if (slot === OBJECT) { this.objects.push(value); return null; }
-    const [kind, user, at] = this.slots[slot];
+    const place = this.slots[slot], kind = place[0], user = place[1], at = place[2];
     if (kind === 'm') {
       const memory = this.users[user - 1].memory, old = memory.get(at) || 0;
       if (value) memory.set(at, value); else memory.delete(at);
