@@ -12,6 +12,7 @@ from running.only import letters, signed
 LEFT, WIDTH, RIGHT, TOP, BAND = 96, 780, 300, 66, 30
 # With more marks than these in one band, marks are thinned out.
 MOST_MARKS = 60
+NO_LINE = -1
 # The colours of Okabe and Ito, which the colour-blind can tell, yellow darkened on a light ground and all lightened on a dark one; and a shape for each,
 # so that no colour is needed.
 CAUSES = {0: ('start', 'c0', 'disc'), 1: ('lines', 'c1', 'up'), 2: ('fetch at no multiple of 4', 'c2', 'square'), 3: ('fetch past the memory', 'c2', 'box'),
@@ -269,13 +270,13 @@ def lettered(word):
 def kinds_of(dispatch):
     """The kinds of mark of a dispatch: its cause, and where that is 1 each line that was taken."""
     lines = [line for line in range(8) if int(dispatch.data, 16) >> line & 1] if dispatch.cause == 1 else []
-    return [(1, line) for line in lines] or [(dispatch.cause, None)]
+    return [(1, line) for line in lines] or [(dispatch.cause, NO_LINE)]
 
 
 def about(kind):
     """The name, the colour and the form of a kind of mark."""
     cause, line = kind
-    if line is not None:
+    if line != NO_LINE:
         return 'line %d' % line, 'c1', str(line)
     return CAUSES.get(cause, ('cause %d' % cause, 'c0', 'disc'))
 

@@ -73,7 +73,7 @@ class Run {
     this.add(turn, CALLED, { row, call }, 0, 0, []);
     for (const event of call[6]) this.add(turn, STATEMENT, event, 0, this.statement(event)[1], this.changesOf(event));
     const lastLine = call[6].length ? this.statement(call[6][call[6].length - 1])[1] : 0;
-    this.add(turn, ANSWERED, { row, call }, 0, lastLine, call[4] > 0 ? [CURRENT, call[4]] : []);
+    this.add(turn, ANSWERED, { row, call }, 0, lastLine, call[4] >= 0 ? [CURRENT, call[4]] : NOTHING);
   }
 
   add(turn, kind, event, file, line, changes) {
@@ -109,6 +109,7 @@ class Run {
   /** What an event of the kernel changes, as slots and values in turn. */
   changesOf(event) {
     if (event[0] === 1) return event[4] ? [event[2], event[3], OBJECT, event[4]] : [event[2], event[3]];
+    if (event[0] === 5) return event[4] ? [OBJECT, event[4]] : NOTHING;
     if (event[0] !== 2) return NOTHING;
     const changes = event[6].slice();
     if (this.texts[event[2]] === 'con_put' && this.texts[event[4][0]] === 'true') changes.push(CONSOLE, event[3][0] >>> 0);

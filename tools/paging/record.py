@@ -54,6 +54,7 @@ class Record:
             journal.rows = []
         self.told = {n: [] for n in self.journals}
         self.mirror = {n: {4 * at: w for at, w in enumerate(flat.m) if w} for n, flat in enumerate(self.users, 1)}
+        self.known = len(self.kernel.objects)
         self.replay.recorder.take = self.take
         self.record(last)
 
@@ -164,7 +165,8 @@ class Record:
             changes = self.stored(event)
         elif event.kind == 'primitive' and event.answer == 'true':
             changes = self.changed(event.name, event.args)
-        event.changes, event.objects = changes, len(self.kernel.objects)
+        event.changes, event.objects = changes, self.kernel.objects[self.known:]
+        self.known += len(event.objects)
         self.replay.events.append(event)
 
     def stored(self, event):
@@ -268,11 +270,10 @@ class Record:
         return [0, self.statement(event), int(event.answer)]
 
     def of_stored(self, event):
+        made = [] if event.by else [[first, self.type(t)] for first, t in event.objects]
         if event.location[0] == 'l' or event.by:
-            return [5, self.statement(event), self.text(event.name), self.answer(event.new)]
-        objects = [[first, self.type(t)] for first, t in self.kernel.objects[:event.objects]]
-        row = [1, self.statement(event), *event.changes]
-        return row + ([objects[-1]] if ' new ' in event.text.replace('=', ' ') and objects else [])
+            return [5, self.statement(event), self.text(event.name), self.answer(event.new), *made]
+        return [1, self.statement(event), *event.changes, *made]
 
     def of_primitive(self, event):
         return [2, self.statement(event), self.text(event.name), event.args, self.answer(event.answer), self.text(event.why or ''), getattr(event, 'changes', [])]

@@ -1,12 +1,12 @@
 """A page of an example: it is stepped through in a real browser where one is installed, and by node where not, and what it shows at ten turns is compared
-with what the program reports of a boot that ends there. `tools/tests/page_against_program.py [EXAMPLE..]`"""
+with what the program reports of a boot that ends there. `tools/tests/page_against_program.py [--checked] [EXAMPLE..]`"""
 import os
 import sys
 
 sys.dont_write_bytecode = True
 sys.path.insert(0, os.path.dirname(os.path.dirname(os.path.realpath(__file__))))
 from explain import pages  # noqa: E402
-from running import kept, rooms, system, try_main  # noqa: E402
+from running import guard, rooms, system, try_main  # noqa: E402
 from running.folder import Folder  # noqa: E402
 from running.guard import Bad, say  # noqa: E402
 from paging import page as paging  # noqa: E402
@@ -133,11 +133,13 @@ def main(words):
         say('no Chromium is installed, so pages are tested by %s' % ('node alone' if parts.has_node() else 'nothing: node is missing, too'))
         if not parts.has_node():
             return 0
-    start = kept.program(say)
+    options = try_main.Options()
+    options.checked, words = '--checked' in words, [word for word in words if word != '--checked']
+    start = try_main.start_of(options)
     said = [sentence for name in words or ['messages', 'services'] for sentence in compared(start, name)]
     say(said)
     return 1 if said else 0
 
 
 if __name__ == '__main__':
-    sys.exit(main(sys.argv[1:]))
+    sys.exit(guard.guarded('page_against_program', main, sys.argv[1:]))

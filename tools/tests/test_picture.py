@@ -1,7 +1,6 @@
 """Pictures: of each example, of ten turns, of ten thousand, and of texts that are none."""
 import os
 import random
-import re
 import unittest
 import xml.etree.ElementTree as ElementTree
 
@@ -18,6 +17,12 @@ def example(name, file='printed'):
 
 def texts(picture):
     return [text.text for text in ElementTree.fromstring(picture).iter(SVG + 'text')]
+
+
+def ticks(picture):
+    """The numbers of turns below the bands; those of lines are marks, of another class."""
+    small = [text.text for text in ElementTree.fromstring(picture).iter(SVG + 'text') if text.get('class') == 'small']
+    return [text for text in small if text.replace(',', '').isdigit()]
 
 
 def random_boot(seed, turns):
@@ -66,14 +71,37 @@ class Pictures(unittest.TestCase):
 
     def test_ten_turns_and_ten_thousand(self):
         ten = draw.draw(FIRST + 'turn 4 cause 6 data 0000000c user 1 next 2\nturn 9 cause 1 data 00000001 user 2 fault Bounds\n', [], 'ten')
-        numbers = [text for text in texts(ten) if text.isdigit()]
-        self.assertEqual(numbers[:10], [str(number) for number in range(10)])
-        self.assertEqual(numbers[10:], ['0', '0'])  # line 0 at its turn, and what its mark says
+        self.assertEqual(ticks(ten), [str(number) for number in range(10)])
         self.assertIn('fault Bounds', texts(ten))
         many = draw.draw(random_boot(1, 10000), [], 'many', 10000)
-        marks = len(re.findall('<text class="digit[ "]', many))
-        self.assertLessEqual(len([text for text in texts(many) if text.replace(',', '').isdigit()]) - marks, 13)
+        self.assertLessEqual(len(ticks(many)), 13)
         self.assertLess(len(many), 500000)
+
+    def test_a_window(self):
+        boot = example('messages')
+        whole, part = draw.draw(boot, [], 'm'), draw.draw(boot, [], 'm', None, (30, 95))
+        self.assertIn('halted in turn 100; the kernel was called in 4 turns. Here are turns 30 to 95, and in 2 turns of them', texts(part))
+        self.assertIn('ran 3, longest wait 63', texts(part))
+        self.assertIn('halted', texts(whole))
+        self.assertNotIn('halted', texts(part))
+        self.assertEqual(ticks(part), ['30', '40', '50', '60', '70', '80', '90'])
+        self.assertEqual(draw.draw(boot, [], 'm', None, (0, 100)), whole)
+        self.assertEqual(draw.draw(boot, [], 'm', None, (0, 5000)), whole)
+        for window in ((101, None), (200, 300)):
+            with self.assertRaises(rows.BadText):
+                draw.draw(boot, [], 'm', None, window)
+
+    def test_a_mark_per_line(self):
+        both = draw.draw(FIRST + 'turn 4 cause 1 data 00000009 user 1 next 2\nturn 9 cause 1 data 00000008 user 2 next 0\nhalted\n', [], 'lines')
+        self.assertIn('cause 1: line 0', texts(both))
+        self.assertIn('cause 1: line 3', texts(both))
+        self.assertEqual([texts(both).count(digit) for digit in ('0', '3')], [3, 4])     # tick, marks and legend
+
+    def test_it_says_where_marks_are_thinned_out(self):
+        self.assertFalse(any('side by side' in (text or '') for text in texts(draw.draw(random_boot(3, 100), [], 'few', 100))))
+        said = [text for text in texts(draw.draw(random_boot(3, 3000), [], 'many', 3000)) if text and 'side by side' in text]
+        self.assertEqual(len(said), 1)
+        self.assertIn('of user 1, user 2, user 3, user 4 and user 5 marks', said[0])
 
     def test_ticks(self):
         for turns in (1, 2, 9, 12, 13, 100, 9999, 10000, 4294967295):
