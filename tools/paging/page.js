@@ -315,7 +315,7 @@ class Run {
       what.push(this.slotName(slot) + ' = ' + this.slotValue(slot, this.to[at]) + ' (was ' + this.slotValue(slot, this.from[at]) + ')');
     }
     if (flags & 1) what.push('traps');
-    return 'user ' + user + '  ' + hex(pc) + '  ' + where + '  ' + (line ? this.lineText(user, line) : this.texts[text]) + (what.length ? '  ' + what.join(', ') : '');
+    return 'user ' + user + '  ' + hex(pc) + '  ' + where + '  ' + [line ? this.lineText(user, line) : '', this.texts[text]].filter(Boolean).join('  ') + (what.length ? '  ' + what.join(', ') : '');
   }
 
   /** What an event of C0 did, in words; `old` is the value before a store, where it is known. */

@@ -209,7 +209,7 @@ class Record:
         return [self.slot('m', user, at), value]
 
     def turn(self):
-        """A turn as a row: the user that made a step, flags, changes, a text where no line has the instruction, and the call of the kernel."""
+        """A turn as a row: the user that made a step, flags, changes, the instruction where no line has it, and the call of the kernel."""
         self.called = None
         events = list(self.replay.next_turn())
         step = next((event for event in events if event.kind == 'step'), None)
@@ -233,7 +233,9 @@ class Record:
         if after != following:
             changes += [self.slot('r', event.user, PC), after]
         flags = (1 if event.trap else 0) | (0 if event.taken is None else 2 if event.taken else 4)
-        return [event.user, flags, changes, 0 if event.line else self.text(event.text)]
+        # a line of a user in assembler is the instruction itself
+        is_line = event.line and self.given.users[event.user - 1].kind == 's'
+        return [event.user, flags, changes, 0 if is_line else self.text(event.text)]
 
     # ---- the kernel's calls
     def call(self, events, dispatch):
@@ -276,7 +278,8 @@ class Record:
         return [1, self.statement(event), *event.changes, *made]
 
     def of_primitive(self, event):
-        return [2, self.statement(event), self.text(event.name), event.args, self.answer(event.answer), self.text(event.why or ''), getattr(event, 'changes', [])]
+        answer, why = self.answer(event.answer), self.text(event.why or '')
+        return [2, self.statement(event), self.text(event.name), event.args, answer, why, getattr(event, 'changes', [])]
 
     def of_call(self, event):
         return [3, self.statements.number((event.by, event.line, self.text(event.name))), [[self.text(name), self.answer(value)] for name, value in event.args]]
