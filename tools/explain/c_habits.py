@@ -202,6 +202,10 @@ def right_side(near, part):
         return "C0's comments go from '//' to the end of the line: there is no '/* .. */'"
     if back[0] == '=' and here == '{':
         return "C0 has no lists of values: assign each element"
+    if 'new' in back[:1] and here == '(':
+        return "no parentheses stand behind 'new': write 'p = new struct s;', or 'p = new int;'"
+    if 'new' in back[:1] and is_name(here) and here not in RESERVED:
+        return "'%s' is no type: 'p = new struct %s;' takes an object of a struct" % (here, here)
     if here == '(' and is_name(back[0]) and back[0] not in RESERVED and len(part) > 1:
         return "a call stands only as the whole right side of an assignment: 'x = %s(..);' first, then use x" % back[0]
     if '=' in part and '(' in part and back[0] == ')' and here in ('+', '-', '*', '/', '%', '<', '>', '<=', '>=', '==', '!=', '&&', '||', '.', '->', '['):

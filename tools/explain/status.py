@@ -295,7 +295,7 @@ def no_memory(command):
 def bad_words(command, way):
     """Which word is bad, and the forms of the commands."""
     fault = words.fault(command) or 'the words are no command of this program'
-    return ['cvm: %s.' % fault, 'cvm: the commands are:'] + ['  %s %s' % (way.tool, ' '.join(form)) for form in pages.forms()]
+    return ['cvm: %s%s' % (fault, '' if fault.endswith('?') else '.'), 'cvm: the commands are:'] + ['  %s %s' % (way.tool, ' '.join(form)) for form in pages.forms()]
 
 
 def check_answer(rows, stack):

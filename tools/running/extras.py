@@ -62,6 +62,8 @@ class Extras:
         self.wanted = files.content(self.expect)
         if self.wanted is None:
             raise Bad("'%s' can't be read" % self.expect)
+        if len(self.wanted) > files.MOST:
+            raise Bad("'%s' has more than 67,108,864 bytes" % self.expect)
         fault = expected.fault(self.wanted)
         if fault:
             raise Bad("'%s' %s" % (self.expect, fault))

@@ -71,6 +71,8 @@ def options_of(words):
             options.looking.take(word, left)
         elif word == '--anew':
             raise Bad("'--anew' stands first: ./try --anew FOLDER..")
+        elif word in ('--version', '--help', '-h'):
+            raise Bad("'%s' stands alone: ./try %s" % (word, word))
         elif word == '--keep':
             raise Bad("'--keep' stands alone: ./try --keep builds the program and runs nothing. Each ./try FOLDER keeps its build by itself")
         elif word.startswith('--'):
@@ -104,7 +106,16 @@ def checked(options):
     for folder in found:
         if options.trace and not isinstance(folder, str) and options.trace > len(folder.users):
             raise Bad('--trace %d: %s has %d users' % (options.trace, folder.path, len(folder.users)))
+        lost = None if isinstance(folder, str) else source_put_over(folder, [name for name in (options.picture, options.page) if name is not None])
+        if lost is not None:
+            raise Bad("'%s' is a file of the system itself, which would be lost: give another name" % lost)
     return found
+
+
+def source_put_over(folder, names):
+    """The first of the names that is a file of the folder's system; None where none is."""
+    sources = [name for name in (folder.kernel, folder.params, folder.schedule, *folder.users) if os.path.exists(name)]
+    return next((name for name in names if os.path.exists(name) and any(os.path.samefile(name, source) for source in sources)), None)
 
 
 def picture_fault(options):

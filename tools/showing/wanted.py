@@ -1,4 +1,5 @@
 """The words of ./try that ask to look into a run."""
+import os
 import re
 
 from explain import words as command_words
@@ -43,6 +44,10 @@ class Wanted:
     def fault(self, options):
         """What does not go together, in a sentence; None where all does."""
         others = options.trace or options.picture is not None or options.extras.expect is not None or options.extras.clock or options.extras.only
+        if self.turns == 'last' and len(options.folders) > 1:
+            odd = next((name for name in options.folders if not os.path.isdir(name)), None)
+            if odd is not None:
+                return "'%s' is no folder, nor turns behind --show: those are A..B or one number" % odd
         if self.anything and (len(options.folders) > 1 or others):
             return '--show, --watch, --break and --listing are for one folder, without --trace, --picture, --expect, --clock and --only'
         if (self.user or self.kernel) and not self.turns:
@@ -68,6 +73,8 @@ def number(word, name, least, most):
 def turns_of(word):
     """The first and the last turn of A..B; of a number alone that turn."""
     first, dots, last = word.partition('..')
+    if dots and not (first and last):
+        raise Bad("the word behind --show, '%s', is to be A..B: a turn stands on either side" % word)
     found = number(first, '--show', 0, MOST), number(last if dots else first, '--show', 0, MOST)
     if found[0] > found[1]:
         raise Bad("the word behind --show, '%s', ends before it begins: A..B has the first turn first" % word)

@@ -18,6 +18,8 @@ SOURCES = [
     ('int x; int f() { x = 10@u; return 0; }', 12, 'no letters behind it'),
     ('int f() { @/* note */ return 0; }', 12, "there is no '/* .. */'"),
     ('@/* note */ int x;', 12, "there is no '/* .. */'"),
+    ('struct s { int a; }; struct s* p; int f() { p = new@(struct s); return 0; }', 12, "write 'p = new struct s;'"),
+    ('struct s { int a; }; struct s* p; int f() { p = new @s; return 0; }', 12, "'p = new struct s;' takes an object"),
     ('int f() { con_put@(3); return 0; }', 12, "a call needs its answer taken: 'ok = con_put(..);'"),
     ('int x; int f() { x = 1 + con_get@(); return 0; }', 12, 'whole right side'),
     ('int x; int f() { x = con_get() @+ 1; return 0; }', 12, 'whole right side'),
