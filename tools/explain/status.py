@@ -82,7 +82,7 @@ def source_place(key, fields, name, data, is_program=False):
         found = asm_habits.inside(data[start:end].decode('utf-8', errors='replace'), fields[2])
     else:
         found = c_habits.habit(key, data, start, end, is_program)
-    return said + (['cvm: ' + found + '.'] if found else [])
+    return said + ([sentence(found)] if found else [])
 
 
 def text_place(key, fields, name, data):
@@ -93,7 +93,7 @@ def text_place(key, fields, name, data):
         return [places.shown(name, data, fields[0], fields[0] + 1)]
     start, end = places.span_of_line(data, fields[0])
     found = asm_habits.habit(key, places.readable(data[start:end].rstrip(b'\r')))
-    return [places.shown_line(name, data, fields[0])] + (['cvm: ' + found + '.'] if found else [])
+    return [places.shown_line(name, data, fields[0])] + ([sentence(found)] if found else [])
 
 
 def row_habit(data, number, is_schedule):
@@ -196,7 +196,7 @@ def line_of(name, number, way, is_schedule=False):
     data, habit = row_place(name, number, is_schedule)
     if data == []:
         return []
-    return [places.shown_line(way.shown(name), data, number)] + (['cvm: %s.' % habit] if habit else [])
+    return [places.shown_line(way.shown(name), data, number)] + ([sentence(habit)] if habit else [])
 
 
 def pages_for(words):
@@ -292,10 +292,15 @@ def no_memory(command):
     return help_of.split(',')[0] if command[0] in ('sample', 'check') else help_of
 
 
+def sentence(said):
+    """What is said, with its end: a question has its own."""
+    return 'cvm: %s%s' % (said, '' if said.endswith('?') else '.')
+
+
 def bad_words(command, way):
     """Which word is bad, and the forms of the commands."""
     fault = words.fault(command) or 'the words are no command of this program'
-    return ['cvm: %s%s' % (fault, '' if fault.endswith('?') else '.'), 'cvm: the commands are:'] + ['  %s %s' % (way.tool, ' '.join(form)) for form in pages.forms()]
+    return [sentence(fault), 'cvm: the commands are:'] + ['  %s %s' % (way.tool, ' '.join(form)) for form in pages.forms()]
 
 
 def check_answer(rows, stack):
