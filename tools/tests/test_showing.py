@@ -95,7 +95,7 @@ class Rows(unittest.TestCase):
         for words, part in ((['--watch', 'tial'], "no global 'tial'"), (['--watch', 'queue[4]'], "no part '[4]'"), (['--watch', 'user2.r1'], 'there are 1 users'),
                             (['--watch', 'user1.r32'], 'r1 to r31'), (['--watch', 'user1.mem[2]'], 'multiple of 4'), (['--break', 'kernel.c0:2'], 'nearest that is run is 5'),
                             (['--break', 'user1.s:99'], 'nothing is run'), (['--break', 'k:1'], 'a line of kernel.c0'), (['--break', '12'], 'FILE:LINE'),
-                            (['--show', '5..2'], 'ends before it begins'), (['--show', '..2'], "behind --show, ''"), (['--user', '2', '--show'], 'there are 1 users')):
+                            (['--show', '5..2'], 'ends before it begins'), (['--show', '..2'], 'a turn stands on either side'), (['--user', '2', '--show'], 'there are 1 users')):
             with self.assertRaises(Bad) as caught:
                 shown(given, *words)
             self.assertIn(part, str(caught.exception))
