@@ -1,8 +1,7 @@
 -- What a call leaves in its sink and its disk.
 use Rattle.std.specs.Prelude.{◌≡◌, ℕ, ◌≤◌, true, Option, List, Result, Err, is_err, IfOk}
 use Rattle.cvm_outside.specs.Causes.{Counts}
-use Rattle.cvm_outside.specs.Numbering.{Tally, tally}
-use Rattle.sector_disk.specs.Ports.{called}
+use Rattle.cvm_outside.specs.Numbering.{Tally, tally, called}
 use Rattle.mips_machine.specs.Machine.{Held}
 use Rattle.layer_map.specs.Map.{Map}
 use Rattle.page_model.specs.Paging.{Paged}

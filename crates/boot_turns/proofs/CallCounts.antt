@@ -1,9 +1,9 @@
 -- The calls of a disk along a run: what keeps up with two runs, one after the other, keeps up with both, where the first met no fault.
 use Rattle.std.proofs.Common.{◌≡◌, ℕ, ◌+◌, Option, Some, Result, Err, sym, ap, ◌∙◌, subst, refl, arith}
 use Rattle.cvm_outside.specs.Causes.{Rose}
-use Rattle.cvm_outside.specs.Numbering.{Tally}
+use Rattle.cvm_outside.specs.Numbering.{Tally, called}
 use Rattle.mips_machine.specs.Machine.{Held}
-use Rattle.sector_disk.specs.Ports.{Ports, called, CallsKeepUp, CallsWith}
+use Rattle.sector_disk.specs.Ports.{Ports, CallsKeepUp, CallsWith}
 use Rattle.boot_report.specs.Blames.{Blames}
 use Rattle.boot_report.proofs.Leaves.{called_behind}
 use Rattle.boot_turns.specs.declared.answers.RunFault.{RunFault}

@@ -8,8 +8,7 @@ use Rattle.layer_map.specs.Map.{Map}
 use Rattle.boot_report.specs.Texts.{SameButViewed}
 use Rattle.boot_report.specs.Told.{WherePaged}
 use Rattle.boot_report.specs.Resident.{is_resident, word_reads}
-use Rattle.sector_disk.specs.Ports.{called}
-use Rattle.cvm_outside.specs.Numbering.{Tally}
+use Rattle.cvm_outside.specs.Numbering.{Tally, called}
 use Rattle.boot_report.specs.Leaves.{AsksFor}
 use Rattle.boot_report.proofs.Leaves.{called_behind}
 use Rattle.boot_turns.specs.declared.tracer.Tracer.{Tracer}

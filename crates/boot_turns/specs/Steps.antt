@@ -1,9 +1,9 @@
 -- What every call says that steps a machine, beside what the step or the turn comes to.
 use Rattle.std.specs.Prelude.{◌≡◌, ◌≢◌, ℕ, ◌+◌, ◌*◌, ◌<◌, ◌≤◌, ◌^◌, Bool, true, false, Option, None, List, IfSome, Result, Err, length}
 use Rattle.std.specs.Option.{option_map}
-use Rattle.cvm_outside.specs.Numbering.{Tally, tally}
+use Rattle.cvm_outside.specs.Numbering.{Tally, tally, called}
 use Rattle.mips_table.specs.Fits.{NamesSector}
-use Rattle.sector_disk.specs.Ports.{CallsWith, called}
+use Rattle.sector_disk.specs.Ports.{CallsWith}
 use Rattle.layer_map.specs.Map.{Map}
 use Rattle.mips_machine.specs.Machine.{Held}
 use Rattle.boot_report.specs.Blames.{Blames}

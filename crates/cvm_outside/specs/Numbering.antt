@@ -31,6 +31,11 @@ pub record Tally : Type 0 where
 abbrev pub tally : {D : Type 0} → (faults calls : D → ℕ) → D → Tally
 tally faults calls disk = record { faults = faults disk; calls = calls disk }
 
+-- a disk's count of calls after so many more, of which at most the last failed: one that had failed before counts none
+abbrev pub called : ℕ → Tally → ℕ
+called zero before = before.calls
+called (suc n) before = until_fault before.faults (called n before)
+
 -- the next call is one of those that fail
 abbrev pub is_listed : Numbering → Bool
 is_listed calls = list_any (λ n. n == calls.next) calls.failing

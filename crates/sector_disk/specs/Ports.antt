@@ -2,7 +2,7 @@
 use Rattle.std.specs.Prelude.{◌≡◌, ◌+◌, ℕ, zero, suc, List, length, Option, IfSome, Result, OnOk, OnErr}
 use Rattle.std.specs.Option.{option_map}
 use Rattle.cvm_outside.specs.Causes.{Counts}
-use Rattle.cvm_outside.specs.Numbering.{until_fault, Tally}
+use Rattle.cvm_outside.specs.Numbering.{Tally, called}
 use Rattle.cvm_outside.specs.Told.{with_sector}
 use Rattle.mips_table.specs.Device.{Device, Pending, Idle, Reading, Writing, counted}
 use Rattle.mips_table.specs.Fits.{NamesSector}
@@ -46,11 +46,6 @@ TransferFails (Writing (suc left) sector) buffer after told retold = ⊥
 abbrev pub unfinished : Pending → ℕ
 unfinished Idle = 0
 unfinished other = 1
-
--- a disk's count of calls after so many more, of which at most the last failed: one that had failed before counts none
-abbrev pub called : ℕ → Tally → ℕ
-called zero before = before.calls
-called (suc n) before = until_fault before.faults (called n before)
 
 -- THE DISK IS CALLED ONCE FOR EACH COMMAND, when it is done: from these ports to those it was called as often as commands were done, of which at most the
 -- last failed. A command that was begun before and isn't under way any more is one of them, and one that is under way at the end is none.

@@ -1,10 +1,9 @@
 use Rattle.std.proofs.Common.{◌≡◌, ℕ, ◌+◌, ◌/◌, List, [], Some}
 use Rattle.std.specs.Io.KnownBytes.{append_known}
-use Rattle.cvm_outside.specs.Numbering.{tally}
+use Rattle.cvm_outside.specs.Numbering.{tally, called}
 use Rattle.mips_machine.specs.Machine.{state_of}
 use Rattle.cvm_model.specs.Paged.{paged_of}
 use Rattle.boot_report.specs.Texts.{EntriesFit}
-use Rattle.sector_disk.specs.Ports.{called}
 use Rattle.boot_report.specs.Leaves.{OnlyViews}
 use Rattle.boot_turns.specs.Copies.{copy_rows, copied_kept, steps_left}
 use Rattle.boot_turns.specs.Returns.{words_read}

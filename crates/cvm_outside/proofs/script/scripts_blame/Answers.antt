@@ -1,0 +1,5 @@
+use Rattle.cvm_outside.proofs.Blame.{blame_one}
+use Rattle.cvm_outside.proofs.script.scripts_blame.Goals as goal
+
+pub returns : goal.returns
+returns c = blame_one

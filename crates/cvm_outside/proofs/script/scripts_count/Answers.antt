@@ -1,0 +1,5 @@
+use Rattle.cvm_outside.proofs.Tell.{count}
+use Rattle.cvm_outside.proofs.script.scripts_count.Goals as goal
+
+pub returns : goal.returns
+returns c = count

@@ -1,0 +1,5 @@
+use Rattle.cvm_outside.proofs.Tell.{tell}
+use Rattle.cvm_outside.proofs.script.scripts_tell.Goals as goal
+
+pub returns : goal.returns
+returns c = tell

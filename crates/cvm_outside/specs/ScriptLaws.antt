@@ -1,0 +1,67 @@
+-- The laws of scripts.
+use Rattle.std.specs.Prelude.{◌≡◌, ℕ, ◌≤◌, List, ◌∷◌, ◌++◌, Option, Some, None, IfSome}
+use Rattle.std.specs.Option.{option_map}
+use Rattle.std.specs.Io.KnownBytes.{append_known}
+use Rattle.cvm_outside.specs.Told.{AppendsPart}
+use Rattle.cvm_outside.specs.Numbering.{called}
+use Rattle.cvm_outside.specs.Outside.{Outside, counts}
+use Rattle.cvm_outside.specs.Script.{Call, Who, TheDisk, who, Fails, Performs, Rises, spoken, asks, stored, faults_of}
+
+-- two scripts one after another; and one that breaks off before another
+abbrev pub Follow : Type 0
+Follow = (a b : List Call) (old mid new : Outside) (blamed : Option Who) → Performs a old mid None → Performs b mid new blamed → Performs (a ++ b) old new blamed
+
+abbrev pub BreakOff : Type 0
+BreakOff = (a b : List Call) (old new : Outside) (whom : Who) → Performs a old new (Some whom) → Performs (a ++ b) old new (Some whom)
+
+pub record ScriptsFollow : Type 0 where
+  pub both : Follow
+  pub first : BreakOff
+
+-- what is printed of a text: all of it, or a part where somebody is blamed
+abbrev pub PrintedBy : Option Who → (old new : Option (List ℕ)) → (text : List ℕ) → Type 0
+PrintedBy None old new text = new ≡ append_known old text
+PrintedBy (Some whom) old new text = AppendsPart old new text
+
+abbrev pub ScriptsTell : Type 0
+ScriptsTell = (a : List Call) (old new : Outside) (blamed : Option Who) → Performs a old new blamed → IfSome (spoken a) (PrintedBy blamed old.sink.text new.sink.text)
+
+-- so many calls of the disk were made: those of the script, or some of them where somebody is blamed, and at least one where the disk is
+abbrev pub MadeBy : Option Who → (made all : ℕ) → Type 0
+MadeBy None made all = made ≡ all
+MadeBy (Some whom) made all = made ≤ all
+
+pub record Counted (a : List Call) (old new : Outside) (blamed : Option Who) : Type 0 where
+  pub made : ℕ
+  pub calls : new.disk.calls ≡ called made (counts old.disk)
+  pub which : MadeBy blamed made (asks a)
+  pub some : blamed ≡ Some TheDisk → 1 ≤ made
+
+abbrev pub ScriptsCount : Type 0
+ScriptsCount = (a : List Call) (old new : Outside) (blamed : Option Who) → Performs a old new blamed → Counted a old new blamed
+
+-- the sectors that a script leaves where nobody is blamed
+abbrev pub ScriptsStore : Type 0
+ScriptsStore = (a : List Call) (old new : Outside) → Performs a old new None → new.disk.sectors ≡ option_map (stored a) old.disk.sectors
+
+-- the count of faults of whom an answer blames rose, and that of each other object is as before
+pub record Blamed (old new : Outside) (blamed : Option Who) (whom : Who) : Type 0 where
+  pub rose : blamed ≡ Some whom → Rises (faults_of whom old) (faults_of whom new)
+  pub same : (blamed ≡ Some whom → ⊥) → faults_of whom new ≡ faults_of whom old
+
+abbrev pub ScriptsBlame : Type 0
+ScriptsBlame = (a : List Call) (old new : Outside) (blamed : Option Who) → Performs a old new blamed → (whom : Who) → Blamed old new blamed whom
+
+-- where somebody is blamed the calls before one were done, and that one failed
+pub record BreaksAt (a : List Call) (old new : Outside) (whom : Who) : Type 0 where
+  pub made : List Call
+  pub call : Call
+  pub rest : List Call
+  pub all : made ++ call ∷ rest ≡ a
+  pub is : who call ≡ whom
+  pub mid : Outside
+  pub before : Performs made old mid None
+  pub fails : Fails call mid new
+
+abbrev pub ScriptsBreak : Type 0
+ScriptsBreak = (a : List Call) (old new : Outside) (whom : Who) → Performs a old new (Some whom) → BreaksAt a old new whom

@@ -1,0 +1,35 @@
+// Scripts of calls: the calls of the outside that a piece of work makes, in order, where it does what it is asked; and what is left where one failed.
+//
+// Each law is the contract of a function that does nothing.
+ghost use Rattle.cvm_outside.specs.ScriptLaws.{ScriptsFollow, ScriptsTell, ScriptsCount, ScriptsBlame, ScriptsStore, ScriptsBreak};
+
+/// A law: two pieces of work one after another perform one script after the other, and where the first breaks off no more is done.
+pub fn scripts_follow()
+    ensures { ScriptsFollow }
+{}
+
+/// A law: a script that is performed prints its texts, and one that breaks off a part of them.
+pub fn scripts_tell()
+    ensures { ScriptsTell }
+{}
+
+/// A law: a script that is performed calls the disk as often as it says, and one that breaks off at most so often, and at least once where the disk is
+/// blamed.
+pub fn scripts_count()
+    ensures { ScriptsCount }
+{}
+
+/// A law: the count of faults of the object that is blamed rose, and no other's.
+pub fn scripts_blame()
+    ensures { ScriptsBlame }
+{}
+
+/// A law: where nobody is blamed the sectors are as before but for those that the script writes.
+pub fn scripts_store()
+    ensures { ScriptsStore }
+{}
+
+/// A law: where somebody is blamed, the calls before one were done, and that one failed.
+pub fn scripts_break()
+    ensures { ScriptsBreak }
+{}
