@@ -1,10 +1,11 @@
 -- What a step of a machine does over a disk, by the one definition of a step.
-use Rattle.std.specs.Prelude.{◌≡◌, ℕ, List, length, Option, Some, None, IfSome}
+use Rattle.std.specs.Prelude.{◌≡◌, ℕ, List, [], length, Option, Some, None, IfSome}
 use Rattle.std.specs.Option.{option_map}
+use Rattle.cvm_outside.specs.Script.{Call}
 use Rattle.mips_table.specs.Device.{Device, Outside}
 use Rattle.mips_table.specs.Machine.{State, coming, come_to, latched, step}
 use Rattle.schedule_file.specs.Rows.{Rows, lines_at, last_step, busy_of}
-use Rattle.sector_disk.specs.Ports.{TransferFails}
+use Rattle.sector_disk.specs.Ports.{TransferFails, transfer_script}
 use Rattle.mips_machine.specs.declared.event.Event.{Event}
 use Rattle.mips_machine.specs.declared.event.Event.TheVariants.{Off}
 use Rattle.mips_machine.specs.Hardware.{told_as}
@@ -26,6 +27,15 @@ event_of x s = event_if x s s.off
 -- the device before it counts at the end of the step of a machine that is on
 unfoldable pub before_count : Outside → State → Device
 before_count x s = (come_to (coming x (latched x s))).device
+
+-- the calls of a step, by the power word that the machine had before it: the transfer that is due at the step's end; a machine that is off makes none
+abbrev pub due_if : Outside → State → Option ℕ → List Call
+due_if x s (Some word) = []
+due_if x s None = transfer_script (before_count x s).pending (before_count x s).buffer
+
+-- THE SCRIPT OF A STEP of a state
+unfoldable pub due : Outside → State → List Call
+due x s = due_if x s s.off
 
 -- the state after the step of a machine with these sectors
 abbrev pub after_step : ℕ → Held → List (List ℕ) → State

@@ -6,7 +6,7 @@ use Rattle.cvm_outside.specs.Told.{Tells, sector_of, with_sector}
 use Rattle.mips_table.specs.Device.{Pending, Idle, Reading, Writing, is_busy, counted}
 use Rattle.mips_table.specs.Fits.{NamesSector}
 use Rattle.cvm_outside.specs.Numbering.{until_fault, Tally}
-use Rattle.sector_disk.specs.Ports.{Ports, device_of, EndsStep, CallsKeepUp, unfinished}
+use Rattle.sector_disk.specs.Ports.{Ports, device_of, EndsStep, CallsKeepUp, transfer_script, unfinished}
 
 -- where no sector moves, any sectors will do
 pub nothing_moves : (size : ℕ) (old new : Ports) (buffer after : List ℕ) (told retold : Option (List (List ℕ))) → IfSome told (λ ss. length ss ≡ size) → ((sectors : List (List ℕ)) → counted (device_of old buffer sectors) ≡ device_of new after sectors) → retold ≡ told → EndsStep size old new buffer after told retold
@@ -85,3 +85,12 @@ writing_now (Ok done) size old new left sector buffer told retold sized due e f 
     let P : Ports → Type 0 = λ p. EndsStep size p new buffer buffer told retold in
     let Q : Ports → Type 0 = λ p. EndsStep size (record { sector = old.sector; pending = Writing 0 sector; commands = old.commands }) p buffer buffer told retold in
     subst P (sym (before old (Writing 0 sector) (e ∙ ap (λ (n : ℕ). Writing n sector) due))) (subst Q (sym f) a)
+
+-- a transfer that isn't due calls nothing
+pub no_read : (left sector : ℕ) (buffer : List ℕ) → 0 < left → transfer_script (Reading left sector) buffer ≡ []
+no_read zero sector buffer some = absurd (omega (arith, some))
+no_read (suc left) sector buffer some = refl
+
+pub no_write : (left sector : ℕ) (buffer : List ℕ) → 0 < left → transfer_script (Writing left sector) buffer ≡ []
+no_write zero sector buffer some = absurd (omega (arith, some))
+no_write (suc left) sector buffer some = refl

@@ -1,11 +1,12 @@
 -- The disk behind its ports, the device that it is with a buffer and sectors, and what the end of a step leaves.
-use Rattle.std.specs.Prelude.{◌≡◌, ◌+◌, ℕ, zero, suc, List, length, Option, IfSome, Result, OnOk, OnErr}
+use Rattle.std.specs.Prelude.{◌≡◌, ◌+◌, ℕ, zero, suc, List, [], ◌∷◌, length, Option, IfSome, Result, OnOk, OnErr}
 use Rattle.std.specs.Option.{option_map}
 use Rattle.cvm_outside.specs.Causes.{Counts}
 use Rattle.cvm_outside.specs.Numbering.{Tally, called}
 use Rattle.cvm_outside.specs.Told.{with_sector}
 use Rattle.mips_table.specs.Device.{Device, Pending, Idle, Reading, Writing, counted}
 use Rattle.mips_table.specs.Fits.{NamesSector}
+use Rattle.cvm_outside.specs.Script.{Call, Read, Wrote}
 
 -- the sector register, the command under way, and the number of the next command
 pub record Ports : Type 0 where
@@ -41,6 +42,12 @@ TransferFails (Reading zero sector) buffer after told retold = retold ≡ told
 TransferFails (Reading (suc left) sector) buffer after told retold = ⊥
 TransferFails (Writing zero sector) buffer after told retold = (after ≡ buffer) × ((words : List ℕ) × (retold ≡ with_sector told sector words))
 TransferFails (Writing (suc left) sector) buffer after told retold = ⊥
+
+-- the script of the end of a step: the transfer that is due, if one is
+abbrev pub transfer_script : Pending → (buffer : List ℕ) → List Call
+transfer_script (Reading zero sector) buffer = Read sector ∷ []
+transfer_script (Writing zero sector) buffer = Wrote sector buffer ∷ []
+transfer_script other buffer = []
 
 -- a command that is under way is one that is unfinished
 abbrev pub unfinished : Pending → ℕ

@@ -1,5 +1,6 @@
 // The command under way, and its transfer.
-ghost use Rattle.std.specs.Prelude.{◌≡◌, ◌+◌, ◌*◌, ◌<◌, ◌≤◌, length, slice_set, ℕ, List, OnOk, OnErr};
+ghost use Rattle.std.specs.Prelude.{◌≡◌, ◌+◌, ◌*◌, ◌<◌, ◌≤◌, length, slice_set, ◌∷◌, [], ℕ, List, OnOk, OnErr};
+ghost use Rattle.cvm_outside.specs.Script.{Read, Wrote, Asks};
 ghost use Rattle.cvm_outside.specs.Causes.{Counts};
 ghost use Rattle.cvm_outside.specs.Numbering.{until_fault};
 ghost use Rattle.cvm_outside.specs.Told.{Tells, sector_of, with_sector};
@@ -46,6 +47,7 @@ pub(crate) fn read_sector<D: Sectors>(
     ensures words { OnOk result (Tells (sector_of (D.sectors disk.old) sector) (frame_of frames.new buffer)) }
     ensures count { Counts (D.faults disk.old) (D.faults disk.new) result }
     ensures called { D.calls disk.new ≡ until_fault (D.faults disk.old) (D.calls disk.old) }
+    ensures script { Asks D.Sectors disk.old disk.new (Read sector ∷ []) result }
 {
     a_frame_is_its_part();
     disk.read(sector, frames.lend_mut(buffer))
@@ -65,6 +67,7 @@ pub(crate) fn write_sector<D: Sectors>(
     ensures torn { OnErr result ((words : List ℕ) × (D.sectors disk.new ≡ with_sector (D.sectors disk.old) sector words)) }
     ensures count { Counts (D.faults disk.old) (D.faults disk.new) result }
     ensures called { D.calls disk.new ≡ until_fault (D.faults disk.old) (D.calls disk.old) }
+    ensures script { Asks D.Sectors disk.old disk.new (Wrote sector (frame_of frames.now buffer) ∷ []) result }
 {
     disk.write(sector, frames.lend(buffer))
 }

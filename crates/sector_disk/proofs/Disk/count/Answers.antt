@@ -3,9 +3,11 @@ use Rattle.std.proofs.Common.{◌-◌, rules, refl, sym, ap, ◌∙◌, arith}
 use Rattle.mips_table.specs.Device.{Pending}
 use Rattle.mips_table.specs.Device as device
 use Rattle.sector_disk.specs.Ports.{Ports, unfinished}
+use Rattle.frame_store.specs.Words.{frame_of}
+use Rattle.cvm_outside.specs.Script.{done}
 use Rattle.sector_disk.specs.Transfers.{pending_of}
 use Rattle.sector_disk.specs.declared.transfer.Transfer.{Transfer}
-use Rattle.sector_disk.proofs.Ends.{none_is_done, one_is_done, idle_stays, reading_later, writing_later, reading_now, writing_now}
+use Rattle.sector_disk.proofs.Ends.{none_is_done, one_is_done, idle_stays, no_read, no_write, reading_later, writing_later, reading_now, writing_now}
 use Rattle.sector_disk.proofs.Disk.count.Goals as goal
 
 pub returns-in-Idle-clause-end : goal.returns-in-Idle-clause-end
@@ -62,3 +64,25 @@ returns-in-Writing-clause-end g c = record {
   count = search rules;
   calls = none_is_done _ _ _ (sym (ap (λ (p : Ports). unfinished p.pending) (sym c.self.view_is) ∙ ap (λ (t : Transfer). unfinished (pending_of t)) c.in-Writing.is)) (ap (λ (p : Ports). p.commands) c.self.view_is);
 }
+
+pub returns-in-Idle-clause-script : goal.returns-in-Idle-clause-script
+returns-in-Idle-clause-script g c shelf sink =
+    let e = ap (λ (p : Ports). p.pending) (sym c.self.view_is) ∙ ap pending_of c.in-Idle.is in rw e (done _)
+
+pub returns-in-Reading-clause-script : goal.returns-in-Reading-clause-script
+returns-in-Reading-clause-script g c shelf sink =
+    let e = ap (λ (p : Ports). p.pending) (sym c.self.view_is) ∙ ap pending_of c.in-Reading.is in
+    let some = rw c.in-Reading.is at c.in-Reading.left-test.1 in
+    rw (e, no_read c.in-Reading.left c.in-Reading.sector (frame_of c.args.frames.now c.args.buffer) (omega arith)) (done _)
+
+pub returns-in-Writing-clause-script : goal.returns-in-Writing-clause-script
+returns-in-Writing-clause-script g c shelf sink =
+    let e = ap (λ (p : Ports). p.pending) (sym c.self.view_is) ∙ ap pending_of c.in-Writing.is in
+    let some = rw c.in-Writing.is at c.in-Writing.left-test.1 in
+    rw (e, no_write c.in-Writing.left c.in-Writing.sector (frame_of c.args.frames.now c.args.buffer) (omega arith)) (done _)
+
+pub returns-in-Writing-eq0-default-clause-script : goal.returns-in-Writing-eq0-default-clause-script
+returns-in-Writing-eq0-default-clause-script g c shelf sink =
+    let e = ap (λ (p : Ports). p.pending) (sym c.self.view_is) ∙ ap pending_of c.in-Writing-eq0-default.is in
+    let none = sym c.in-Writing-eq0-default.left-is ∙ c.in-Writing-eq0-default.left-test in
+    rw (e, none) (c.write_sector.ensures.script shelf sink)

@@ -1,6 +1,7 @@
 -- No command is under way.
 use Rattle.std.proofs.Common.{rules, refl, sym, ap, ◌∙◌}
 use Rattle.mips_table.specs.Device.{is_busy}
+use Rattle.cvm_outside.specs.Script.{done}
 use Rattle.sector_disk.specs.Ports.{Ports}
 use Rattle.sector_disk.proofs.Ends.{none_is_done, idle_stays, not_busy}
 use Rattle.sector_disk.proofs.Disk.end_step.Goals as goal
@@ -15,3 +16,7 @@ returns-then-not-is_busy-clause-end g c = record {
   count = search rules;
   calls = none_is_done _ _ _ refl refl;
 }
+
+pub returns-then-not-is_busy-clause-script : goal.returns-then-not-is_busy-clause-script
+returns-then-not-is_busy-clause-script g c shelf sink =
+    let e = not_busy _ (ap (λ (p : Ports). is_busy p.pending) (sym c.self.view_is) ∙ sym c.is_busy.ensures ∙ c.if-not-is_busy.true) in rw e (done _)
