@@ -1,40 +1,42 @@
--- The rows of the globals by their numbers.
-use Rattle.std.proofs.Common.{◌≡◌, ℕ, suc, ◌+◌, ◌<◌, List, [], ◌∷◌, ◌++◌, length, Option, refl, sym, ap, ap₂, ◌∙◌, subst, arith}
-use Rattle.std.specs.Prelude.{slice_index, slice_index_or}
-use Rattle.std.specs.Io.KnownBytes.{append_known}
-use Rattle.cvm_outside.specs.Told.{AppendsPart}
-use Rattle.cvm_outside.proofs.Parts.{append_known-nil}
+-- The rows of the globals, one after another.
+use Rattle.std.proofs.Common.{◌≡◌, ℕ, zero, suc, ◌+◌, ◌<◌, List, [], ◌∷◌, ◌++◌, length, get_or, take, Option, Some, None, refl, sym, ap, subst₂, ◌∙◌, arith, append_assoc, append-nil}
+use Rattle.std.specs.Prelude.{slice_index}
 use Rattle.c0_tree.specs.declared.tree.Decl.{Decl}
-use Rattle.boot_report.specs.Texts.{texts}
+use Rattle.cvm_outside.specs.Outside.{Output}
+use Rattle.cvm_outside.specs.Script.{Puts, Who}
+use Rattle.cvm_outside.proofs.Putting.{puts_both, puts_first, puts_same}
 use Rattle.boot_report.specs.Globals.{global_word_row, globals_rows}
-use Rattle.boot_report.proofs.Texts.{texts-none, texts-suc, texts-add, texts-same}
 
-module _ (d : Decl) (memory : List ℕ) (first : ℕ) where
-  -- the row of a number
-  abbrev pub row : List Decl → List ℕ → ℕ → List ℕ
-  row decls offsets i = global_word_row (slice_index_or decls i d) (slice_index memory (first + slice_index offsets i))
+module _ (memory : List ℕ) (first : ℕ) (d : Decl) where
+  -- one more
+  pub globals_next : (decls : List Decl) (offsets : List ℕ) (i : ℕ) → length offsets ≡ length decls → i < length decls →
+      globals_rows (take (suc i) decls) memory first offsets ≡ globals_rows (take i decls) memory first offsets ++ global_word_row (get_or decls i d) (slice_index memory (first + slice_index offsets i))
+  globals_next [] offsets i e lt = absurd (omega arith)
+  globals_next (c ∷ decls) [] i e lt = absurd (omega (arith, e))
+  globals_next (c ∷ decls) (n ∷ offsets) zero e lt = append-nil (global_word_row c (slice_index memory (first + n)))
+  globals_next (c ∷ decls) (n ∷ offsets) (suc i) e lt =
+      ap (λ l. global_word_row c (slice_index memory (first + n)) ++ l) (globals_next decls offsets i (omega (arith, e)) (omega arith))
+      ∙ sym (append_assoc (global_word_row c (slice_index memory (first + n))) (globals_rows (take i decls) memory first offsets) (global_word_row (get_or decls i d) (slice_index memory (first + slice_index offsets i))))
 
-  pub by_numbers : (decls : List Decl) (offsets : List ℕ) → length offsets ≡ length decls → texts (row decls offsets) (length decls) ≡ globals_rows decls memory first offsets
-  by_numbers [] [] e = texts-none (row [] [])
-  by_numbers [] (n ∷ offsets) e = texts-none (row [] (n ∷ offsets))
-  by_numbers (c ∷ decls) [] e = absurd (omega (arith, e))
-  by_numbers (c ∷ decls) (n ∷ offsets) e =
-      let one : texts (row (c ∷ decls) (n ∷ offsets)) 1 ≡ global_word_row c (slice_index memory (first + n)) =
-      texts-suc (row (c ∷ decls) (n ∷ offsets)) 0 ∙ ap (λ l. l ++ row (c ∷ decls) (n ∷ offsets) 0) (texts-none (row (c ∷ decls) (n ∷ offsets))) in
-      let moved : texts (λ i. row (c ∷ decls) (n ∷ offsets) (1 + i)) (length decls) ≡ texts (row decls offsets) (length decls) =
-      texts-same _ _ (length decls) (λ i l. let k : 1 + i ≡ suc i = omega arith in ap (row (c ∷ decls) (n ∷ offsets)) k) in
-      let all : suc (length decls) ≡ 1 + length decls = omega arith in
-      ap (texts (row (c ∷ decls) (n ∷ offsets))) all ∙ texts-add (row (c ∷ decls) (n ∷ offsets)) 1 (length decls)
-      ∙ ap₂ (λ a b. a ++ b) one (moved ∙ by_numbers decls offsets (omega (arith, e)))
+-- and the rest
+pub globals_rest : (memory : List ℕ) (first : ℕ) (decls : List Decl) (offsets : List ℕ) (i : ℕ) → (rest : List ℕ) × (globals_rows decls memory first offsets ≡ globals_rows (take i decls) memory first offsets ++ rest)
+globals_rest memory first [] offsets zero = ([], refl)
+globals_rest memory first [] offsets (suc i) = ([], refl)
+globals_rest memory first (c ∷ decls) [] zero = ([], refl)
+globals_rest memory first (c ∷ decls) [] (suc i) = ([], refl)
+globals_rest memory first (c ∷ decls) (n ∷ offsets) zero = (globals_rows (c ∷ decls) memory first (n ∷ offsets), refl)
+globals_rest memory first (c ∷ decls) (n ∷ offsets) (suc i) =
+    let h = globals_rest memory first decls offsets i in
+    (h.0, ap (λ l. global_word_row c (slice_index memory (first + n)) ++ l) h.1 ∙ sym (append_assoc (global_word_row c (slice_index memory (first + n))) (globals_rows (take i decls) memory first offsets) h.0))
 
--- all globals' rows are put: where there is one it serves as the default
-pub all_put : (decls : List Decl) (memory : List ℕ) (first : ℕ) (offsets : List ℕ) (old new : Option (List ℕ)) → length offsets ≡ length decls →
-    ((d : Decl) → new ≡ append_known old (texts (row d memory first decls offsets) (length decls))) → (length decls ≡ 0 → new ≡ old) → new ≡ append_known old (globals_rows decls memory first offsets)
-all_put [] memory first offsets old new e h none = none refl ∙ sym (append_known-nil old)
-all_put (d ∷ decls) memory first offsets old new e h none = h d ∙ ap (append_known old) (by_numbers d memory first (d ∷ decls) offsets e)
+-- the row of one more is put, or breaks off
+module _ (memory : List ℕ) (first : ℕ) (decls : List Decl) (offsets : List ℕ) (i : ℕ) (e : Decl) (word : ℕ) (many : length offsets ≡ length decls) (lt : i < length decls) (here : e ≡ get_or decls i e)
+    (is : word ≡ slice_index memory (first + slice_index offsets i)) (old mid new : Output) (before : Puts (globals_rows (take i decls) memory first offsets) old mid None) where
+  pub one_more : (j : ℕ) (blamed : Option Who) → j ≡ i + 1 → Puts (global_word_row e word) mid new blamed → Puts (globals_rows (take j decls) memory first offsets) old new blamed
+  one_more j blamed next p =
+      let d : suc i ≡ j = omega (arith, next) in
+      puts_same _ _ old new blamed (sym (globals_next memory first e decls offsets i many lt) ∙ ap (λ n. globals_rows (take n decls) memory first offsets) d)
+      (puts_both _ _ old mid new blamed before (subst₂ (λ (x : Decl) w. Puts (global_word_row x w) mid new blamed) here is p))
 
--- or a part of them
-pub part_put : (decls : List Decl) (memory : List ℕ) (first : ℕ) (offsets : List ℕ) (old new : Option (List ℕ)) → length offsets ≡ length decls → 0 < length decls →
-    ((d : Decl) → AppendsPart old new (texts (row d memory first decls offsets) (length decls))) → AppendsPart old new (globals_rows decls memory first offsets)
-part_put [] memory first offsets old new e some h = absurd (omega (arith, some))
-part_put (d ∷ decls) memory first offsets old new e some h = subst (AppendsPart old new) (by_numbers d memory first (d ∷ decls) offsets e) (h d)
+  pub one_stops : (whom : Who) → Puts (global_word_row e word) mid new (Some whom) → Puts (globals_rows decls memory first offsets) old new (Some whom)
+  one_stops whom p = let h = globals_rest memory first decls offsets (i + 1) in puts_same _ _ old new (Some whom) (sym h.1) (puts_first _ h.0 old new whom (one_more (i + 1) (Some whom) refl p))

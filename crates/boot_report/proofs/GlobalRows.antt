@@ -1,9 +1,6 @@
 -- The row of a global, in three parts.
-use Rattle.std.proofs.Common.{◌≡◌, ◌≢◌, ℕ, List, [], ◌∷◌, ◌++◌, Option, Bool, true, false, length, codes, ne_eqb, append_assoc, refl, sym, ap, ◌∙◌, subst}
+use Rattle.std.proofs.Common.{◌≡◌, ◌≢◌, ℕ, List, [], ◌∷◌, ◌++◌, Bool, true, false, length, codes, ne_eqb, append_assoc, refl, sym, ap, ◌∙◌}
 use Rattle.std.specs.Prelude.{◌==◌}
-use Rattle.std.specs.Io.KnownBytes.{append_known}
-use Rattle.cvm_outside.specs.Told.{AppendsPart}
-use Rattle.cvm_outside.proofs.Parts.{puts-both, part-front, part-back}
 use Rattle.std.specs.Prelude.{if◌then◌else◌}
 use Rattle.std.specs.Int.{w32}
 use Rattle.std.specs.Fmt.{signed_decimal}
@@ -15,19 +12,6 @@ use Rattle.boot_report.specs.Globals.{named_row, GlobalsTell}
 pub row_is : (name end : List ℕ) → end ≢ [] → codes "global " ++ name ++ end ≡ named_row name end
 row_is name [] ne = absurd (ne refl)
 row_is name (b ∷ end) ne = refl
-
-module _ (name end : List ℕ) (ne : end ≢ []) (old one two new : Option (List ℕ)) where
-  pub three : one ≡ append_known old (codes "global ") → two ≡ append_known one name → new ≡ append_known two end → new ≡ append_known old (named_row name end)
-  three h i j = puts-both old two new (codes "global " ++ name) end (puts-both old one two (codes "global ") name h i) j ∙ ap (append_known old) (row_is name end ne)
-
-  pub head_part : AppendsPart old new (codes "global ") → AppendsPart old new (named_row name end)
-  head_part p = subst (AppendsPart old new) (row_is name end ne) (part-front old new (codes "global " ++ name) end (part-front old new (codes "global ") name p))
-
-  pub name_part : one ≡ append_known old (codes "global ") → AppendsPart one new name → AppendsPart old new (named_row name end)
-  name_part h p = subst (AppendsPart old new) (row_is name end ne) (part-front old new (codes "global " ++ name) end (part-back old one new (codes "global ") name h p))
-
-  pub end_part : one ≡ append_known old (codes "global ") → two ≡ append_known one name → AppendsPart two new end → AppendsPart old new (named_row name end)
-  end_part h i p = subst (AppendsPart old new) (row_is name end ne) (part-back old two new (codes "global " ++ name) end (puts-both old one two (codes "global ") name h i) p)
 
 -- a list with an element is not empty
 pub not_empty : (xs : List ℕ) (b : Bool) → b ≡ (length xs == 0) → b ≡ false → xs ≢ []

@@ -9,8 +9,15 @@ use Rattle.mips_machine.specs.Machine.{Held}
 use Rattle.boot_report.specs.declared.fault.ReportFault.{ReportFault}
 use Rattle.boot_report.specs.declared.fault.ReportFault.TheVariants.{Disk, Sink}
 use Rattle.boot_report.specs.Leaves.{Asks, AsksFor, OnlyViews, PrintsAll, Puts}
-use Rattle.boot_report.proofs.Texts.{on_ok, on_err}
-use Rattle.boot_report.proofs.MemoryLemmas.{same_twice}
+use Rattle.boot_report.specs.Texts.{SameButViewed}
+
+on_ok : {T E P Q : Type 0} (r : Result T E) → (P → Q) → OnOk r P → OnOk r Q
+on_ok (Ok v) f h = f h
+on_ok (Err e) f h = tt
+
+on_err : {T E P Q : Type 0} (r : Result T E) → (P → Q) → OnErr r P → OnErr r Q
+on_err (Ok v) f h = tt
+on_err (Err e) f h = f h
 
 module _ {T E O : Type 0} (text : O → Option (List ℕ)) (broke : O → ℕ) (out mid reout : O) (rows : List ℕ) where
   -- rows are put
@@ -47,6 +54,9 @@ module _ {T E : Type 0} (old new : Option (List ℕ)) (rows : List ℕ) where
   broken r e is part =
       let left : PrintsAll {T = T} {E = E} old new rows (Err e) = record { ok = tt; err = part } in
       subst (λ (r : Result T E). PrintsAll old new rows r) (sym is) left
+
+same_twice : (a b c : Held) → SameButViewed a b → SameButViewed b c → SameButViewed a c
+same_twice a b c h k = subst (λ (m : Held). c ≡ record m { hardware = record m.hardware { viewed = c.hardware.viewed } }) h k
 
 pub views_twice : {D : Type 0} (told : D → Option (List (List ℕ))) (large : D → ℕ) (a b c : Held) (one two three : D) → OnlyViews a b told large one two → OnlyViews b c told large two three → OnlyViews a c told large one three
 views_twice told large a b c one two three v w = record { same = same_twice a b c v.same w.same; sectors = w.sectors ∙ v.sectors; size = w.size ∙ v.size }

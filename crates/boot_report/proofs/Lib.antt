@@ -1,10 +1,11 @@
 pub mod Texts
 pub mod MemoryLemmas
 pub mod UserLemmas
+pub mod Spoken
+pub mod Leaves
+pub mod Performed
 pub mod Telling
 pub mod GlobalRows
 pub mod GlobalNumbers
 pub mod GlobalsGiven
-pub mod Leaves
 pub mod SetRow
-pub mod Residents

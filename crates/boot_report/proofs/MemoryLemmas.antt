@@ -1,40 +1,43 @@
--- One page of a user's memory, put after the pages before it, and line by line.
-use Rattle.std.proofs.Common.{◌≡◌, ℕ, ◌+◌, ◌*◌, ◌<◌, Bool, List, Option, take, drop, sym, ap, ap₂, ◌∙◌, subst, arith}
-use Rattle.std.specs.Prelude.{slice_index}
+-- A page line by line, and the script of a page.
+use Rattle.std.proofs.Common.{◌≡◌, ℕ, ◌+◌, ◌*◌, ◌<◌, List, take, drop, Bool, true, false, Option, Some, None, ap, ap₂, ◌∙◌, arith}
+use Rattle.std.specs.Prelude.{slice_index, IfSome, if◌then◌else◌, [], ◌∷◌}
+use Rattle.std.specs.Option.{option_map}
 use Rattle.std.proofs.lemmas.List.{get_or-take, get_or-drop}
+use Rattle.mips_table.specs.Machine.{State}
 use Rattle.mips_machine.specs.Machine.{Held, state_of}
 use Rattle.layer_map.specs.Map.{Map}
-use Rattle.page_model.specs.Paging.{shown_word}
-use Rattle.cvm_model.specs.Paged.{paged_of}
-use Rattle.boot_report.specs.Texts.{texts, memory_row, page_word, page_rows, cpu_of, pages_in, user_rows, EntriesFit, SameButViewed}
+use Rattle.cvm_outside.specs.Outside.{Files, Output, Drive}
+use Rattle.cvm_outside.specs.Script.{Read, Who, Puts, Performs, IsQuiet}
+use Rattle.cvm_outside.proofs.Follow.{both}
+use Rattle.cvm_outside.proofs.Putting.{performed}
+use Rattle.boot_report.specs.Texts.{texts, memory_row, page_text, page_word}
+use Rattle.boot_report.specs.Resident.{is_resident, shown, page_reads}
+use Rattle.boot_report.specs.Scripts.{page_script}
 use Rattle.boot_report.proofs.Texts.{texts-same}
 
--- what is viewed is no part of the state
-pub same_state : (old new : Held) (ss : List (List ℕ)) → SameButViewed old new → state_of new ss ≡ state_of old ss
-same_state old new ss e = ap (λ h. state_of h ss) e
-
-pub same_twice : (a b c : Held) → SameButViewed a b → SameButViewed b c → SameButViewed a c
-same_twice a b c h k = subst (λ (m : Held). c ≡ record m { hardware = record m.hardware { viewed = c.hardware.viewed } }) h k
-
--- the page is that of the state
-pub page_is : (m : Map) (first now : Held) (ss : List (List ℕ)) (o : Option ℕ) (q p : ℕ) (before : Held) → SameButViewed first before →
-    ((i : ℕ) → i < 1024 → page_word now o i ≡ shown_word (paged_of m (state_of before ss)) q i) → texts (λ i. memory_row (1024 * p + i) (page_word now o i)) 1024 ≡ page_rows (paged_of m (state_of first ss)) q p
-page_is m first now ss o q p before same h =
-    texts-same _ _ 1024 (λ i l. ap (memory_row (1024 * p + i)) (h i l ∙ ap (λ s. shown_word (paged_of m s) q i) (same_state first before ss same)))
-
-pub fits_before : (m : Map) (first before : Held) (ss : List (List ℕ)) → SameButViewed first before → EntriesFit m (state_of first ss) → EntriesFit m (state_of before ss)
-fits_before m first before ss same h = subst (EntriesFit m) (sym (same_state first before ss same)) h
-
--- a user's rows are the same whatever was viewed
-pub same_user : (m : Map) (first before : Held) (ss : List (List ℕ)) (u : ℕ) (b : Bool) → SameButViewed first before →
-    user_rows m (paged_of m (state_of before ss)) u (pages_in m before.hardware.memory u) (cpu_of before b u) ≡ user_rows m (paged_of m (state_of first ss)) u (pages_in m first.hardware.memory u) (cpu_of first b u)
-same_user m first before ss u b same = ap (λ (h : Held). user_rows m (paged_of m (state_of h ss)) u (pages_in m h.hardware.memory u) (cpu_of h b u)) same
-
 -- a line of 64 words of a page has the rows of their numbers
-pub line_is : (held : Held) (o : Option ℕ) (page i n : ℕ) (words : List ℕ) → n ≡ 64 → i < 16 → ((k : ℕ) → k < 1024 → slice_index words k ≡ page_word held o k) →
-    texts (λ j. memory_row (1024 * page + 64 * i + j) (slice_index (take n (drop (64 * i) words)) j)) 64 ≡ texts (λ j. memory_row (1024 * page + (64 * i + j)) (page_word held o (64 * i + j))) 64
-line_is held o page i n words e lt h = texts-same _ _ 64 (λ j l.
+pub line_is : (page i n : ℕ) (words : List ℕ) → n ≡ 64 →
+    texts (λ j. memory_row (1024 * page + 64 * i + j) (slice_index (take n (drop (64 * i) words)) j)) 64 ≡ texts (λ j. memory_row (1024 * page + (64 * i + j)) (slice_index words (64 * i + j))) 64
+line_is page i n words e = texts-same _ _ 64 (λ j l.
     let place : 1024 * page + 64 * i + j ≡ 1024 * page + (64 * i + j) = omega arith in
     let inside : j < n = omega (arith, e, l) in
-    let below : 64 * i + j < 1024 = omega (arith, lt, l) in
-    ap₂ memory_row place (get_or-take n (drop (64 * i) words) j 0 inside ∙ get_or-drop (64 * i) words j 0 ∙ h (64 * i + j) below))
+    ap₂ memory_row place (get_or-take n (drop (64 * i) words) j 0 inside ∙ get_or-drop (64 * i) words j 0))
+
+-- reading a page writes no sector
+pub reads_quiet : (m : Map) (s : State) (q : ℕ) → IsQuiet (page_reads m s q)
+reads_quiet m s q = by (is_resident m s q)
+  where
+    by : (b : Bool) → IsQuiet (if b then [] else Read q ∷ [])
+    by true = tt
+    by false = tt
+
+-- a page is read, and its rows are put
+pub page_performs : (m : Map) (held : Held) (told : Option (List (List ℕ))) (q p : ℕ) (read words : List ℕ) (o : Option ℕ) (shelf : Files) (sink resink : Output) (disk redisk : Drive) (blamed : Option Who) →
+    Performs (page_reads m (state_of held []) q) (record { shelf = shelf; sink = sink; disk = disk }) (record { shelf = shelf; sink = sink; disk = redisk }) None → IfSome (shown m (state_of held []) told q) (λ word. (i : ℕ) → page_word held read o i ≡ word i) →
+    ((i : ℕ) → i < 1024 → slice_index words i ≡ page_word held read o i) → Puts (page_text p (slice_index words)) sink resink blamed →
+    Performs (page_script m (state_of held []) told q p) (record { shelf = shelf; sink = sink; disk = disk }) (record { shelf = shelf; sink = resink; disk = redisk }) blamed
+page_performs m held told q p read words o shelf sink resink disk redisk blamed asks is inside puts = both _ _ _ _ _ blamed asks (performed _ _ shelf redisk sink resink blamed (rows (shown m (state_of held []) told q) is) puts)
+  where
+    rows : (word : Option (ℕ → ℕ)) → IfSome word (λ w. (i : ℕ) → page_word held read o i ≡ w i) → IfSome (option_map (page_text p) word) (λ text. page_text p (slice_index words) ≡ text)
+    rows None h = tt
+    rows (Some w) h = texts-same _ _ 1024 (λ i l. ap (memory_row (1024 * p + i)) (inside i l ∙ h i))

@@ -1,5 +1,5 @@
 -- The rows of the users, and of the log, are those of the abstract machine.
-use Rattle.std.proofs.Common.{◌≡◌, ◌≢◌, ℕ, zero, suc, ◌+◌, ◌-◌, ◌*◌, ◌/◌, ◌%◌, ◌<◌, ◌≤◌, Bool, true, false, ◌&&◌, List, [], ◌∷◌, ◌++◌, length, get_or, drop, codes, refl, sym, ap, ap₂, ◌∙◌, subst, ⊎_elim, arith, get_or-drop, length-drop, ne_eqb, eq-eqb, lt-ltb}
+use Rattle.std.proofs.Common.{◌≡◌, ◌≢◌, ℕ, zero, suc, ◌+◌, ◌-◌, ◌*◌, ◌/◌, ◌%◌, ◌<◌, ◌≤◌, Bool, true, false, ◌&&◌, List, [], ◌∷◌, ◌++◌, length, get_or, drop, Some, codes, refl, sym, ap, ap₂, ◌∙◌, subst, ⊎_elim, arith, get_or-drop, length-drop, ne_eqb, eq-eqb, lt-ltb}
 use Rattle.std.specs.Prelude.{◌==◌, nat_lt, slice_index}
 use Rattle.std.proofs.lemmas.Bool.{cases_eq, cases_Bool}
 use Rattle.std.proofs.Math.Nat.{mul-le-mul_right, mul-add-mod_self_right, mod-eq_of_lt}
@@ -18,8 +18,11 @@ use Rattle.cvm_model.specs.Cvm.{Status}
 use Rattle.cvm_model.specs.Paged.{paged_of, pages_by}
 use Rattle.cvm_model.specs.Stands.{Site, Stands, UserFits, runs_user}
 use Rattle.cvm_model.specs.Text.{hex_row, nonzero_row, regs_text, memory_text, user_text, users_text, log_text}
-use Rattle.boot_report.specs.Texts.{texts, register_row, memory_row, pages_rows, register_rows, user_head, user_rows, rows_of_user, users_rows, log_rows, cpu_of, pages_in, EntriesFit}
+use Rattle.boot_report.specs.Texts.{texts, register_row, memory_row, register_rows, processor_rows, pages_rows, rows_of_one, rows_of_user, users_rows, user_head, log_rows, cpu_of, pages_in, EntriesFit}
+use Rattle.boot_report.proofs.Spoken.{shown_is, user_spoken, users_spoken}
+use Rattle.boot_report.specs.Resident.{page_of_word}
 use Rattle.boot_report.specs.Told.{IsRunning, RowsTell, UserRowsTell, WordsAreTold, WordsTell}
+use Rattle.boot_report.specs.Speaks.{UsersSpeak, UserSpeaks, WordsShow}
 use Rattle.boot_report.proofs.Texts.{texts-none, texts-suc, texts-add, texts-same}
 
 -- a text that goes down a list from the front
@@ -126,10 +129,10 @@ module _ (x : Outside) (y : Site) (held : Held) (ss : List (List ℕ)) (status :
         ap (λ n. pages_rows (paged_of y.map (state_of held ss)) (n * y.map.params.pages) (pages_of (get_or c.users i no_flat))) e
         ∙ memory_told (get_or c.users i no_flat).words (paged_of y.map (state_of held ss)) (i * y.map.params.pages) (pages_of (get_or c.users i no_flat)) fits.whole page_told
 
-    user_told : user_rows y.map (paged_of y.map (state_of held ss)) (i + 1) (pages_in y.map held.hardware.memory (i + 1)) (cpu_of held (i + 1 == running) (i + 1)) ≡ user_text (1 + i) (get_or c.users i no_flat)
+    user_told : rows_of_one y.map held (paged_of y.map (state_of held ss)) (i + 1 == running) (i + 1) ≡ user_text (1 + i) (get_or c.users i no_flat)
     user_told =
         let e : i + 1 ≡ 1 + i = omega arith in
-        ap₂ (λ n cpu. user_rows y.map (paged_of y.map (state_of held ss)) (i + 1) n cpu) pages_told cpu_told
+        ap₂ (λ n cpu. processor_rows (i + 1) n cpu ++ pages_rows (paged_of y.map (state_of held ss)) ((i + 1 - 1) * y.map.params.pages) n) pages_told cpu_told
         ∙ ap₂ (λ r m. user_head (i + 1) (pages_of (get_or c.users i no_flat)) (get_or c.users i no_flat).cpu.pc ++ r ++ nonzero_row (codes "hi") (get_or c.users i no_flat).cpu.hi ++ nonzero_row (codes "lo") (get_or c.users i no_flat).cpu.lo ++ m)
         (registers_told (get_or c.users i no_flat).cpu.regs (get_or c.users i no_flat).cpu refl fits.cpu.regs.size) pages_are_told
         ∙ ap (λ n. user_text n (get_or c.users i no_flat)) e
@@ -168,6 +171,18 @@ user_rows_tell x y held ss status c running u range st run is =
           ∙ ap (λ n. user_text n (user_of c.users u)) before;
     }
 
+-- so do the scripts that print them
+pub users_speak : UsersSpeak
+users_speak x y held ss status c running range st run =
+    users_spoken y.map held ss (entries_told x y held ss status c running range st run) running ∙ ap (λ l. Some l) (users_told x y held ss status c running range st run)
+
+pub user_speaks : UserSpeaks
+user_speaks x y held ss status c running u range st run is =
+    let told = user_rows_tell x y held ss status c running u range st run is in
+    let high : u ≤ length c.users = is.1 in
+    let count : length c.users ≡ y.map.users = st.whole.users in
+    user_spoken y.map held ss told.entries (u == running) u is.0 (omega (arith, high, count)) ∙ ap (λ l. Some l) told.rows
+
 -- some user runs, or none
 runs_some : (held : Held) (ss : List (List ℕ)) (c : Core) → (running : ℕ) × IsRunning held ss c running
 runs_some held ss c = by (runs_user (state_of held ss)) refl
@@ -193,3 +208,16 @@ words_tell x y held ss status c u range st is = by (runs_some held ss c)
           word = λ k l. page_told x y held ss status c r.0 range st r.1 (u - 1) lt (k / 1024) (k % 1024) (omega (arith, whole, l)) (omega arith)
               ∙ (let e : 1024 * (k / 1024) + k % 1024 ≡ k = omega arith in ap (λ n. get_or (user_of c.users u).words n 0) e);
         }
+
+pub words_show : WordsShow
+words_show x y held ss status c u range st is =
+    let told = words_tell x y held ss status c u range st is in
+    let room = told.room in
+    let low : 1 ≤ u = is.0 in
+    let high : u ≤ length c.users = is.1 in
+    let count : length c.users ≡ y.map.users = st.whole.users in
+    let rows = mul-le-mul_right {m = suc (u - 1)} {n = y.map.users} y.map.params.pages (omega (arith, low, high, count)) in
+    record {
+      room = room;
+      word = λ k l. shown_is y.map held ss told.entries (λ word. word (k % 1024)) (page_of_word y.map u k) (omega (arith, rows, room, l)) ∙ ap (λ n. Some n) (told.word k l);
+    }

@@ -1,8 +1,8 @@
 -- Texts that are put one after another.
-use Rattle.std.proofs.Common.{◌≡◌, ℕ, zero, suc, ◌+◌, ◌-◌, ◌*◌, ◌<◌, ◌≤◌, List, [], ◌∷◌, ◌++◌, length, get_or, Option, Result, Ok, Err, OnOk, OnErr, take, refl, sym, ap, ap₂, ◌∙◌, subst, arith, append-nil, append_assoc}
-use Rattle.std.specs.Io.KnownBytes.{append_known}
-use Rattle.cvm_outside.specs.Told.{AppendsPart}
-use Rattle.cvm_outside.proofs.Parts.{append_known-nil, puts-both, part-front, part-back}
+use Rattle.std.proofs.Common.{◌≡◌, ℕ, zero, suc, ◌+◌, ◌-◌, ◌*◌, ◌<◌, List, [], ◌∷◌, ◌++◌, length, get_or, Option, Some, None, refl, sym, ap, ap₂, ◌∙◌, arith, append-nil, append_assoc}
+use Rattle.cvm_outside.specs.Outside.{Output}
+use Rattle.cvm_outside.specs.Script.{Puts, Who}
+use Rattle.cvm_outside.proofs.Putting.{puts_none, puts_both, puts_first, puts_same}
 use Rattle.boot_report.specs.Texts.{texts}
 
 -- the texts of no number, and of one more
@@ -30,7 +30,7 @@ texts-lines f (suc n) =
     texts-suc (λ l. texts (λ i. f (64 * l + i)) 64) n ∙ ap (λ t. t ++ texts (λ i. f (64 * n + i)) 64) (texts-lines f n) ∙ sym (texts-add f (64 * n) 64) ∙ ap (texts f) e
 
 -- texts that are empty
-texts-empty : (f : ℕ → List ℕ) (n : ℕ) → ((i : ℕ) → i < n → f i ≡ []) → texts f n ≡ []
+pub texts-empty : (f : ℕ → List ℕ) (n : ℕ) → ((i : ℕ) → i < n → f i ≡ []) → texts f n ≡ []
 texts-empty f zero h = texts-none f
 texts-empty f (suc n) h = texts-suc f n ∙ ap₂ (λ a b. a ++ b) (texts-empty f n (λ i l. h i (omega arith))) (h n (omega arith))
 
@@ -39,42 +39,20 @@ pub texts-same : (f g : ℕ → List ℕ) (n : ℕ) → ((i : ℕ) → i < n →
 texts-same f g zero h = texts-none f ∙ sym (texts-none g)
 texts-same f g (suc n) h = texts-suc f n ∙ ap (λ l. l ++ f n) (texts-same f g n (λ i l. h i (omega arith))) ∙ ap (λ l. texts g n ++ l) (h n (omega arith)) ∙ sym (texts-suc g n)
 
--- one more is put
-pub put_more : (f : ℕ → List ℕ) (i j : ℕ) (old mid new : Option (List ℕ)) → j ≡ i + 1 → mid ≡ append_known old (texts f i) → new ≡ append_known mid (f i) → new ≡ append_known old (texts f j)
-put_more f i j old mid new e h k = let d : suc i ≡ j = omega (arith, e) in puts-both old mid new (texts f i) (f i) h k ∙ ap (append_known old) (sym (texts-suc f i)) ∙ ap (λ n. append_known old (texts f n)) d
+-- a loop that puts them: none is put, one more is, and the one of a number breaks off
+pub rows_none : (f : ℕ → List ℕ) (at : Output) → Puts (texts f 0) at at None
+rows_none f at = puts_same [] (texts f 0) at at None (sym (texts-none f)) (puts_none at)
 
--- the put of one failed
-pub put_part : (f : ℕ → List ℕ) (i n : ℕ) (old mid new : Option (List ℕ)) → i < n → mid ≡ append_known old (texts f i) → AppendsPart mid new (f i) → AppendsPart old new (texts f n)
-put_part f i n old mid new lt h p =
-    let d : suc i + (n - suc i) ≡ n = omega (arith, lt) in
-    subst (AppendsPart old new) (sym (texts-add f (suc i) (n - suc i)) ∙ ap (texts f) d) (part-front old new (texts f (suc i)) (texts (λ k. f (suc i + k)) (n - suc i)) (subst (AppendsPart old new) (sym (texts-suc f i)) (part-back old mid new (texts f i) (f i) h p)))
+pub rows_more : (f : ℕ → List ℕ) (i j : ℕ) (old mid new : Output) (blamed : Option Who) → j ≡ i + 1 → Puts (texts f i) old mid None → Puts (f i) mid new blamed → Puts (texts f j) old new blamed
+rows_more f i j old mid new blamed e p q =
+    let d : suc i ≡ j = omega (arith, e) in
+    puts_same (texts f i ++ f i) (texts f j) old new blamed (sym (texts-suc f i) ∙ ap (texts f) d) (puts_both (texts f i) (f i) old mid new blamed p q)
 
-pub on_ok : {T E P Q : Type 0} (r : Result T E) → (P → Q) → OnOk r P → OnOk r Q
-on_ok (Ok v) f h = f h
-on_ok (Err e) f h = tt
-
-pub on_err : {T E P Q : Type 0} (r : Result T E) → (P → Q) → OnErr r P → OnErr r Q
-on_err (Ok v) f h = tt
-on_err (Err e) f h = f h
-
--- nothing is put at first
-pub put_none : (f : ℕ → List ℕ) (old : Option (List ℕ)) → old ≡ append_known old (texts f 0)
-put_none f old = sym (append_known-nil old) ∙ ap (append_known old) (sym (texts-none f))
-
--- nor where each text is empty
-pub put_empty : (f : ℕ → List ℕ) (n : ℕ) (old : Option (List ℕ)) → ((i : ℕ) → i < n → f i ≡ []) → old ≡ append_known old (texts f n)
-put_empty f n old h = sym (append_known-nil old) ∙ ap (append_known old) (sym (texts-empty f n h))
-
-take_whole : (xs : List ℕ) → take (length xs) xs ≡ xs
-take_whole [] = refl
-take_whole (x ∷ xs) = ap (λ l. x ∷ l) (take_whole xs)
-
--- nothing more is put after the first i
-pub stop_part : (f : ℕ → List ℕ) (i n : ℕ) (old mid : Option (List ℕ)) → i ≤ n → mid ≡ append_known old (texts f i) → AppendsPart old mid (texts f n)
-stop_part f i n old mid le h =
-    let d : i + (n - i) ≡ n = omega (arith, le) in
-    subst (AppendsPart old mid) (sym (texts-add f i (n - i)) ∙ ap (texts f) d)
-    (part-front old mid (texts f i) (texts (λ k. f (i + k)) (n - i)) (length (texts f i), h ∙ ap (append_known old) (sym (take_whole (texts f i)))))
+pub rows_stop : (f : ℕ → List ℕ) (i n : ℕ) (old mid new : Output) (whom : Who) → i < n → Puts (texts f i) old mid None → Puts (f i) mid new (Some whom) → Puts (texts f n) old new (Some whom)
+rows_stop f i n old mid new whom lt p q =
+    let d : i + 1 + (n - (i + 1)) ≡ n = omega (arith, lt) in
+    puts_same (texts f (i + 1) ++ texts (λ k. f (i + 1 + k)) (n - (i + 1))) (texts f n) old new (Some whom) (sym (texts-add f (i + 1) (n - (i + 1))) ∙ ap (texts f) d)
+    (puts_first (texts f (i + 1)) (texts (λ k. f (i + 1 + k)) (n - (i + 1))) old new whom (rows_more f i (i + 1) old mid new (Some whom) refl p q))
 
 -- an element of a list doesn't hang on the default
 pub same_default : {A : Type 0} (xs : List A) (i : ℕ) (a b : A) → i < length xs → get_or xs i a ≡ get_or xs i b

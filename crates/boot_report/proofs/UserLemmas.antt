@@ -1,12 +1,19 @@
--- Registers in a control block, and four texts in a row.
-use Rattle.std.proofs.Common.{◌≡◌, ℕ, zero, suc, ◌+◌, ◌-◌, ◌*◌, ◌<◌, ◌≤◌, Bool, subst, List, ◌∷◌, ◌++◌, take, drop, get_or, Option, sym, ap, ◌∙◌, arith, get_or-drop, get_or-take}
-use Rattle.std.specs.Io.KnownBytes.{append_known}
+-- Registers in a control block, and the script of a user.
+use Rattle.std.proofs.Common.{◌≡◌, ℕ, zero, suc, ◌+◌, ◌-◌, ◌*◌, ◌≤◌, ◌<◌, List, [], ◌∷◌, Bool, Option, Some, None, take, drop, get_or, refl, sym, ap, ◌∙◌, arith, get_or-drop, get_or-take}
+use Rattle.std.specs.Prelude.{◌≢◌}
+use Rattle.mips_table.specs.Machine.{State}
+use Rattle.mips_machine.specs.Machine.{Held, state_of}
 use Rattle.layer_map.specs.Map.{Map}
-use Rattle.mips_machine.specs.Machine.{Held}
-use Rattle.page_model.specs.Paging.{Paged}
-use Rattle.boot_report.specs.Texts.{cpu_of, pages_in, processor_rows, pages_rows, user_rows}
-use Rattle.cvm_outside.specs.Told.{AppendsPart}
-use Rattle.cvm_outside.proofs.Parts.{puts-both, part-front, part-back}
+use Rattle.cvm_outside.specs.Outside.{Outside, Files, Output, Drive}
+use Rattle.cvm_outside.specs.Script.{Printed, Who, Puts, Performs, IsQuiet}
+use Rattle.cvm_outside.proofs.Follow.{both, first}
+use Rattle.cvm_outside.proofs.Putting.{performed, same_script, quiet_both, quiet_scripts}
+use Rattle.boot_report.specs.Texts.{cpu_of, pages_in, processor_rows}
+use Rattle.boot_report.specs.Resident.{page_reads}
+use Rattle.boot_report.specs.declared.fault.ReportFault.{ReportFault}
+use Rattle.boot_report.specs.declared.fault.ReportFault.TheVariants.{Disk, Sink}
+use Rattle.boot_report.specs.Scripts.{of_report, page_script, pages_script, user_script}
+use Rattle.boot_report.proofs.MemoryLemmas.{reads_quiet}
 
 pub register_in_block : (memory : List ℕ) (b r : ℕ) → 1 ≤ r → r ≤ 31 → get_or memory (b + r) 0 ≡ get_or (0 ∷ take 31 (drop (b + 1) memory)) r 0
 register_in_block memory b zero some few = absurd (omega arith)
@@ -15,36 +22,36 @@ register_in_block memory b (suc k) some few =
     let e : b + suc k ≡ b + 1 + k = omega arith in
     ap (λ i. get_or memory i 0) e ∙ sym (get_or-drop (b + 1) memory k 0) ∙ sym (get_or-take 31 (drop (b + 1) memory) k 0 lt)
 
-module _ (old one two three new : Option (List ℕ)) (a b c d : List ℕ) where
-  pub four : one ≡ append_known old a → two ≡ append_known one b → three ≡ append_known two c → new ≡ append_known three d → new ≡ append_known old (a ++ b ++ c ++ d)
-  four h i j k = puts-both old three new (a ++ b ++ c) d (puts-both old two three (a ++ b) c (puts-both old one two a b h i) j) k
+-- the rows of a user's processor are put, and its pages are performed
+module _ (m : Map) (held : Held) (told : Option (List (List ℕ))) (runs : Bool) (u pages most : ℕ) (pages_are : pages ≡ pages_in m held.hardware.memory u) (most_is : most ≡ m.params.pages)
+    (shelf : Files) (sink mid resink : Output) (disk redisk : Drive) where
+  user_is : Printed (Some (processor_rows u pages (cpu_of held runs u))) ∷ pages_script m (state_of held []) told ((u - 1) * most) pages ≡ user_script m held told runs u
+  user_is = ap (λ n. Printed (Some (processor_rows u pages (cpu_of held runs u))) ∷ pages_script m (state_of held []) told ((u - 1) * n) pages) most_is
+      ∙ ap (λ n. Printed (Some (processor_rows u n (cpu_of held runs u))) ∷ pages_script m (state_of held []) told ((u - 1) * m.params.pages) n) pages_are
 
-  pub first_part : AppendsPart old new a → AppendsPart old new (a ++ b ++ c ++ d)
-  first_part p = part-front old new (a ++ b ++ c) d (part-front old new (a ++ b) c (part-front old new a b p))
+  pub user_performs : (blamed : Option Who) → Puts (processor_rows u pages (cpu_of held runs u)) sink mid None →
+      Performs (pages_script m (state_of held []) told ((u - 1) * most) pages) (record { shelf = shelf; sink = mid; disk = disk }) (record { shelf = shelf; sink = resink; disk = redisk }) blamed →
+      Performs (user_script m held told runs u) (record { shelf = shelf; sink = sink; disk = disk }) (record { shelf = shelf; sink = resink; disk = redisk }) blamed
+  user_performs blamed puts then = same_script _ _ _ _ blamed user_is
+      (both (Printed (Some (processor_rows u pages (cpu_of held runs u))) ∷ []) _ _ _ _ blamed (performed (Some (processor_rows u pages (cpu_of held runs u))) _ shelf disk sink mid None refl puts) then)
 
-  pub second_part : one ≡ append_known old a → AppendsPart one new b → AppendsPart old new (a ++ b ++ c ++ d)
-  second_part h p = part-front old new (a ++ b ++ c) d (part-front old new (a ++ b) c (part-back old one new a b h p))
+  pub user_breaks : (whom : Who) → Puts (processor_rows u pages (cpu_of held runs u)) sink mid (Some whom) →
+      Performs (user_script m held told runs u) (record { shelf = shelf; sink = sink; disk = disk }) (record { shelf = shelf; sink = mid; disk = disk }) (Some whom)
+  user_breaks whom puts = same_script _ _ _ _ (Some whom) user_is
+      (first (Printed (Some (processor_rows u pages (cpu_of held runs u))) ∷ []) _ _ _ whom (performed (Some (processor_rows u pages (cpu_of held runs u))) _ shelf disk sink mid (Some whom) refl puts))
 
-  pub third_part : one ≡ append_known old a → two ≡ append_known one b → AppendsPart two new c → AppendsPart old new (a ++ b ++ c ++ d)
-  third_part h i p = part-front old new (a ++ b ++ c) d (part-back old two new (a ++ b) c (puts-both old one two a b h i) p)
+-- reports write no sector
+pub page_quiet : (m : Map) (s : State) (told : Option (List (List ℕ))) (q p : ℕ) → IsQuiet (page_script m s told q p)
+page_quiet m s told q p = quiet_both (page_reads m s q) _ (reads_quiet m s q) tt
 
-  pub fourth_part : one ≡ append_known old a → two ≡ append_known one b → three ≡ append_known two c → AppendsPart three new d → AppendsPart old new (a ++ b ++ c ++ d)
-  fourth_part h i j p = part-back old three new (a ++ b ++ c) d (puts-both old two three (a ++ b) c (puts-both old one two a b h i) j) p
+pub user_quiet : (m : Map) (held : Held) (told : Option (List (List ℕ))) (runs : Bool) (u : ℕ) → IsQuiet (user_script m held told runs u)
+user_quiet m held told runs u = quiet_scripts (λ p. page_script m (state_of held []) told ((u - 1) * m.params.pages + p) p) (λ p. page_quiet m (state_of held []) told ((u - 1) * m.params.pages + p) p) (pages_in m held.hardware.memory u)
 
-module _ (m : Map) (held : Held) (a : Paged) (u pages most : ℕ) (runs : Bool) (old mid new : Option (List ℕ)) (pages_are : pages ≡ pages_in m held.hardware.memory u) (most_is : most ≡ m.params.pages) where
-  abbrev rows : List ℕ
-  rows = user_rows m a u (pages_in m held.hardware.memory u) (cpu_of held runs u)
+-- the same sectors are told
+pub told_here : (m : Map) (held : Held) (told retold : Option (List (List ℕ))) (runs : Bool) (u : ℕ) (old new : Outside) (blamed : Option Who) → told ≡ retold → Performs (user_script m held told runs u) old new blamed → Performs (user_script m held retold runs u) old new blamed
+told_here m held told retold runs u old new blamed e p = same_script _ _ old new blamed (ap (λ t. user_script m held t runs u) e) p
 
-  its_rows : processor_rows u pages (cpu_of held runs u) ++ pages_rows a ((u - 1) * most) pages ≡ rows
-  its_rows = ap (λ n. processor_rows u pages (cpu_of held runs u) ++ pages_rows a ((u - 1) * n) pages) most_is
-      ∙ ap (λ n. processor_rows u n (cpu_of held runs u) ++ pages_rows a ((u - 1) * m.params.pages) n) pages_are
-
-  -- a user's processor and memory
-  pub one_user : mid ≡ append_known old (processor_rows u pages (cpu_of held runs u)) → new ≡ append_known mid (pages_rows a ((u - 1) * most) pages) → new ≡ append_known old rows
-  one_user h k = puts-both old mid new _ _ h k ∙ ap (append_known old) its_rows
-
-  pub head_part : AppendsPart old new (processor_rows u pages (cpu_of held runs u)) → AppendsPart old new rows
-  head_part p = subst (AppendsPart old new) its_rows (part-front old new _ (pages_rows a ((u - 1) * most) pages) p)
-
-  pub memory_part : mid ≡ append_known old (processor_rows u pages (cpu_of held runs u)) → AppendsPart mid new (pages_rows a ((u - 1) * most) pages) → AppendsPart old new rows
-  memory_part h p = subst (AppendsPart old new) its_rows (part-back old mid new _ _ h p)
+-- each fault of a report is somebody's
+pub somebody : (e : ReportFault) → of_report e ≢ None
+somebody Disk e = absurd (cc)
+somebody Sink e = absurd (cc)

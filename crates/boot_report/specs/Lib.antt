@@ -1,9 +1,11 @@
 pub mod Prints
 pub mod Texts
+pub mod Resident
+pub mod Scripts
 pub mod Told
+pub mod Speaks
 pub mod Globals
 pub mod Given
 pub mod Blames
 pub mod Leaves
 pub mod Stand
-pub mod Resident

@@ -1,5 +1,5 @@
 -- The parts of a report, as they are printed one after another.
-use Rattle.std.specs.Prelude.{◌≡◌, ℕ, zero, suc, ◌+◌, ◌-◌, ◌*◌, ◌/◌, ◌%◌, ◌<◌, ◌==◌, min, Bool, if◌then◌else◌, Option, Some, None}
+use Rattle.std.specs.Prelude.{◌≡◌, ℕ, zero, suc, ◌+◌, ◌-◌, ◌*◌, ◌/◌, ◌%◌, ◌<◌, ◌==◌, min, Bool, if◌then◌else◌, Option, Some, None, IfSome}
 use Rattle.std.specs.Prelude.{List, [], ◌∷◌, ◌++◌, codes, decimal, slice_index, length}
 use Rattle.cvm_text.specs.Hex.{hex8}
 use Rattle.mips_table.specs.Processor.{Cpu}
@@ -32,34 +32,22 @@ register_row r word = nonzero_row (codes "reg " ++ decimal r) word
 abbrev pub memory_row : ℕ → ℕ → List ℕ
 memory_row k word = nonzero_row (codes "mem " ++ hex8 (4 * k)) word
 
--- the rows of page p of a user, which has number q of all pages
-abbrev pub page_rows : Paged → ℕ → ℕ → List ℕ
-page_rows a q p = texts (λ i. memory_row (1024 * p + i) (shown_word a q i)) 1024
-
--- the rows of so many pages of a user, the first of which has number q of all pages
-abbrev pub pages_rows : Paged → ℕ → ℕ → List ℕ
-pages_rows a q pages = texts (λ p. page_rows a (q + p) p) pages
+-- the rows of page p of a user, by its words
+abbrev pub page_text : ℕ → (ℕ → ℕ) → List ℕ
+page_text p word = texts (λ i. memory_row (1024 * p + i) (word i)) 1024
 
 -- the rows of registers 1 to n
 abbrev pub register_rows : Cpu → ℕ → List ℕ
 register_rows cpu n = texts (λ i. register_row (i + 1) (slice_index cpu.regs (i + 1))) n
 
--- a machine that is the same but for the words of the sector that was viewed
-abbrev pub SameButViewed : Held → Held → Type 0
-SameButViewed old new = new ≡ record old { hardware = record old.hardware { viewed = new.hardware.viewed } }
+-- a word of a page in a frame, or of those that were read
+abbrev pub page_word : Held → List ℕ → Option ℕ → ℕ → ℕ
+page_word held read None i = slice_index read i
+page_word held read (Some f) i = slice_index held.hardware.memory (1024 * f + i)
 
--- a word of a page in a frame, or in the sector that was viewed
-abbrev pub page_word : Held → Option ℕ → ℕ → ℕ
-page_word held None i = slice_index held.hardware.viewed i
-page_word held (Some f) i = slice_index held.hardware.memory (1024 * f + i)
-
--- the words of a page there are those that page q of all shows
-abbrev pub ShowsPage : Held → Option ℕ → Paged → (q : ℕ) → Type 0
-ShowsPage held o a q = (i : ℕ) → i < 1024 → page_word held o i ≡ shown_word a q i
-
--- entries of page tables that are valid name frames of the memory
-abbrev pub EntriesFit : Map → State → Type 0
-EntriesFit m s = (q : ℕ) → q < m.users * m.params.pages → (paged_of m s).entry q / 2048 % 2 ≡ 1 → (paged_of m s).entry q / 4096 < memory_frames m
+-- they are those that a page shows, if it is told which
+abbrev pub PageShows : Held → (read : List ℕ) → (shown : Option (ℕ → ℕ)) → Option ℕ → Type 0
+PageShows held read shown o = IfSome shown (λ word. (i : ℕ) → page_word held read o i ≡ word i)
 
 -- a user's processor: that of the machine, if it runs the user, and else the control block's
 abbrev pub cpu_of : Held → Bool → ℕ → Cpu
@@ -73,17 +61,35 @@ pages_in m memory u = min (slice_index memory (block_at u + 32)) m.params.pages
 abbrev pub user_head : ℕ → ℕ → ℕ → List ℕ
 user_head u pages pc = hex_row (codes "user " ++ decimal u ++ codes " pages " ++ decimal pages ++ codes " pc") pc
 
--- the rows of a user's processor and of its memory
+-- the rows of a user's processor
 abbrev pub processor_rows : ℕ → ℕ → Cpu → List ℕ
 processor_rows u pages cpu =
     user_head u pages cpu.pc ++ register_rows cpu 31 ++ nonzero_row (codes "hi") cpu.hi ++ nonzero_row (codes "lo") cpu.lo
 
-abbrev pub user_rows : Map → Paged → ℕ → ℕ → Cpu → List ℕ
-user_rows m a u pages cpu = processor_rows u pages cpu ++ pages_rows a ((u - 1) * m.params.pages) pages
+-- the rows of the words of the console's log
+abbrev pub log_rows : List ℕ → List ℕ
+log_rows log = texts (λ i. hex_row (codes "con") (slice_index log i)) (length log)
+
+-- a machine that is the same but for the words of the sector that was viewed
+abbrev pub SameButViewed : Held → Held → Type 0
+SameButViewed old new = new ≡ record old { hardware = record old.hardware { viewed = new.hardware.viewed } }
+
+-- entries of page tables that are valid name frames of the memory
+abbrev pub EntriesFit : Map → State → Type 0
+EntriesFit m s = (q : ℕ) → q < m.users * m.params.pages → (paged_of m s).entry q / 2048 % 2 ≡ 1 → (paged_of m s).entry q / 4096 < memory_frames m
+
+-- the rows of page p of a user, which has number q of all pages, as the machine shows it
+abbrev pub page_rows : Paged → ℕ → ℕ → List ℕ
+page_rows a q p = page_text p (shown_word a q)
+
+-- the rows of so many pages of a user, the first of which has number q of all pages
+abbrev pub pages_rows : Paged → ℕ → ℕ → List ℕ
+pages_rows a q pages = texts (λ p. page_rows a (q + p) p) pages
 
 -- the rows of user u as a machine has it, where it runs or not
 abbrev pub rows_of_one : Map → Held → Paged → (runs : Bool) → (u : ℕ) → List ℕ
-rows_of_one m held a runs u = user_rows m a u (pages_in m held.hardware.memory u) (cpu_of held runs u)
+rows_of_one m held a runs u =
+    processor_rows u (pages_in m held.hardware.memory u) (cpu_of held runs u) ++ pages_rows a ((u - 1) * m.params.pages) (pages_in m held.hardware.memory u)
 
 -- and where one of all users may run
 abbrev pub rows_of_user : Map → Held → Paged → (running u : ℕ) → List ℕ
@@ -92,7 +98,3 @@ rows_of_user m held a running u = rows_of_one m held a (u == running) u
 -- and those of users 1 to n
 abbrev pub users_rows : Map → Held → Paged → (running : ℕ) → ℕ → List ℕ
 users_rows m held a running n = texts (λ i. rows_of_user m held a running (i + 1)) n
-
--- the rows of the words of the console's log
-abbrev pub log_rows : List ℕ → List ℕ
-log_rows log = texts (λ i. hex_row (codes "con") (slice_index log i)) (length log)

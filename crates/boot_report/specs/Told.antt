@@ -11,7 +11,7 @@ use Rattle.cvm_model.specs.Cvm.{Status}
 use Rattle.cvm_model.specs.Paged.{paged_of}
 use Rattle.cvm_model.specs.Stands.{Site, Stands, IsUser, runs_user}
 use Rattle.cvm_model.specs.Text.{user_text, users_text, log_text}
-use Rattle.boot_report.specs.Texts.{pages_rows, rows_of_one, rows_of_user, users_rows, log_rows, EntriesFit}
+use Rattle.boot_report.specs.Texts.{rows_of_one, rows_of_user, users_rows, log_rows, EntriesFit}
 
 -- P of the sectors, where they are told and valid entries of page tables name frames of the memory
 abbrev pub WhereSectors : (told : Option (List (List ℕ))) → Held → Map → (List (List ℕ) → Type 0) → Type 0
@@ -20,10 +20,6 @@ WhereSectors told held m P = (ss : List (List ℕ)) → told ≡ Some ss → Ent
 -- P of the pages, where the sectors are told so
 abbrev pub WherePaged : (told : Option (List (List ℕ))) → Held → Map → (Paged → Type 0) → Type 0
 WherePaged told held m P = WhereSectors told held m (λ ss. P (paged_of m (state_of held ss)))
-
--- P of the rows of so many pages from this one on, and a result
-abbrev pub ForPages : {R : Type 0} → (told : Option (List (List ℕ))) → Held → Map → (first pages : ℕ) → (List ℕ → R → Type 0) → R → Type 0
-ForPages told held m first pages P result = WherePaged told held m (λ a. P (pages_rows a first pages) result)
 
 -- P of the rows of user u, who runs or not, and a result
 abbrev pub ForUser : {R : Type 0} → (told : Option (List (List ℕ))) → Held → Map → (runs : Bool) → (u : ℕ) → (List ℕ → R → Type 0) → R → Type 0

@@ -3,11 +3,12 @@ ghost use Rattle.std.specs.Prelude.{◌≡◌, length};
 ghost use Rattle.c0_meaning.specs.Form.{form_view};
 ghost use Rattle.layer_map.specs.Map.{globals_at};
 ghost use Rattle.boot_report.specs.Globals.{value_end as end_of_value, named_row, global_word_row, globals_rows, GlobalsStand};
-ghost use Rattle.boot_report.specs.Leaves.{Puts};
+ghost use Rattle.cvm_outside.specs.Script.{Prints};
 
 use arrayvec::ArrayString;
 use c0_meaning::form::{Form, form_of};
 use c0_tree::Decl;
+use cvm_outside::single_calls::put;
 use cvm_outside::{Sink, SinkFault};
 use cvm_text::decimal;
 use layer_map::Map;
@@ -39,14 +40,14 @@ fn value_end(form: Form<'_>, word: u32) -> ArrayString<24>
 
 // Prints the row of a global with this name, if it has an end.
 fn put_named<O: Sink>(name: &[u8], end: &[u8], out: &mut O) -> Result<(), SinkFault>
-    ensures { Puts O.text O.faults out.old out.new (named_row name.now end.now) result }
+    ensures { Prints O.Sink out.old out.new (named_row name.now end.now) result }
 {
     if end.is_empty() {
         return Ok(());
     }
-    out.put(b"global ")?;
-    out.put(name)?;
-    out.put(end)?;
+    put(b"global ", out)?;
+    put(name, out)?;
+    put(end, out)?;
     Ok(())
 }
 
@@ -56,7 +57,7 @@ fn put_named<O: Sink>(name: &[u8], end: &[u8], out: &mut O) -> Result<(), SinkFa
 ///
 /// A fault of the sink.
 pub fn put_global<O: Sink>(decl: &Decl, word: u32, out: &mut O) -> Result<(), SinkFault>
-    ensures { Puts O.text O.faults out.old out.new (global_word_row decl.now word) result }
+    ensures { Prints O.Sink out.old out.new (global_word_row decl.now word) result }
 {
     let end = value_end(form_of(&decl.ty), word);
     put_named(decl.name.bytes.as_slice(), end.as_str().as_bytes(), out)
@@ -75,7 +76,7 @@ pub fn put_globals<O: Sink>(
     out: &mut O,
 ) -> Result<(), SinkFault>
     requires { GlobalsStand map.now (length machine.now.hardware.memory) offsets.now (length decls.now) }
-    ensures { Puts O.text O.faults out.old out.new (globals_rows decls.now machine.now.hardware.memory (globals_at map.now) offsets.now) result }
+    ensures { Prints O.Sink out.old out.new (globals_rows decls.now machine.now.hardware.memory (globals_at map.now) offsets.now) result }
 {
     let first = map.globals() / 4;
     for i in 0..decls.len() {

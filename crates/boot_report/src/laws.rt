@@ -2,6 +2,7 @@
 ghost use Rattle.boot_report.specs.Globals.{GlobalsTell};
 ghost use Rattle.boot_report.specs.Given.{GlobalRowsTell};
 ghost use Rattle.boot_report.specs.Told.{RowsTell, UserRowsTell, WordsTell};
+ghost use Rattle.boot_report.specs.Speaks.{UsersSpeak, UserSpeaks, WordsShow};
 
 use c0_meaning::laws::words_are_those_of_the_parts;
 
@@ -19,6 +20,22 @@ pub fn the_user_rows_tell()
 /// A law: where the machine stands for a state of the abstract machine, the words of each user are those that its pages show.
 pub fn the_words_tell()
     ensures { WordsTell }
+{}
+
+/// A law: where the machine stands for a state of the abstract machine and the sectors are told, the script of all users prints their text.
+pub fn the_users_speak()
+    ensures { UsersSpeak }
+{}
+
+/// A law: where the machine stands for a state of the abstract machine and the sectors are told, the script of each user prints its text.
+pub fn a_user_speaks()
+    ensures { UserSpeaks }
+{}
+
+/// A law: where the machine stands for a state of the abstract machine and the sectors are told, the words of each user are those that its
+/// pages show.
+pub fn the_words_show()
+    ensures { WordsShow }
 {}
 
 /// A law: the row of a global by its first word is that of its value, where the value has the shape of its type.

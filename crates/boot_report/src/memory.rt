@@ -1,29 +1,34 @@
 // The rows of a user's memory.
-ghost use Rattle.std.specs.Prelude.{◌≡◌, ◌↔◌, ◌+◌, ◌*◌, ◌/◌, ◌%◌, ◌<◌, ◌≤◌, ◌^◌};
-ghost use Rattle.std.specs.Prelude.{ℕ, [], length, slice_index, true, if◌then◌else◌, IfSome, IfOk};
-ghost use Rattle.layer_map.specs.Map.{memory_frames};
+ghost use Rattle.std.specs.Prelude.{◌≡◌, ◌↔◌, ◌+◌, ◌*◌, ◌/◌, ◌<◌, ◌≤◌, ◌^◌};
+ghost use Rattle.std.specs.Prelude.{ℕ, [], ◌∷◌, length, slice_index, true, if◌then◌else◌, IfSome, IfOk};
 ghost use Rattle.mips_machine.specs.Machine.{state_of};
-ghost use Rattle.boot_report.specs.Told.{user_word, ForPages};
-ghost use Rattle.boot_report.specs.Texts.{texts, memory_row, page_word, ShowsPage};
-ghost use Rattle.boot_report.specs.Leaves.{Puts, ReadsFor, Reports};
-ghost use Rattle.boot_report.specs.Resident.{is_resident, page_reads, word_reads};
+ghost use Rattle.layer_map.specs.Map.{memory_frames};
+ghost use Rattle.boot_report.specs.Texts.{texts, memory_row, page_text, page_word, PageShows};
+ghost use Rattle.boot_report.specs.Resident.{is_resident, shown, page_reads, page_of_word, word_reads, word_told};
+ghost use Rattle.boot_report.specs.Scripts.{of_report, pages_script};
 ghost use Rattle.boot_report.specs.Stand.{CanReadPage, CanReadPages, CanReadWord};
+ghost use Rattle.cvm_outside.specs.Script.{Read, Prints, Asks, Makes};
 
 use crate::fault::ReportFault;
 use crate::rows::put_word;
+use cvm_outside::single_calls::read;
 use cvm_outside::{DiskFault, Sectors, Sink, SinkFault};
 use layer_map::Map;
 use mips_machine::Machine;
 
-// The words of a page that is in this frame, or in the sector that was viewed, to be read in place.
-fn words_of_page(machine: &Machine, frame: Option<u32>) -> &[u32; 1024]
+// The words of a page that is in this frame, or was read.
+fn words_of_page<'a>(
+    machine: &'a Machine,
+    frame: Option<u32>,
+    read: &'a [u32; 1024],
+) -> &'a [u32; 1024]
     requires inside { IfSome frame (λ f. 1024 * f + 1024 ≤ length machine.now.hardware.memory) }
     ensures whole { length result.now ≡ 1024 }
-    ensures words { (i : ℕ) → i < 1024 → slice_index result.now i ≡ page_word machine.now frame i }
+    ensures words { (i : ℕ) → i < 1024 → slice_index result.now i ≡ page_word machine.now read.now frame i }
 {
     match frame {
         Some(frame) => machine.frame(frame),
-        None => machine.viewed_page(),
+        None => read,
     }
 }
 
@@ -42,7 +47,7 @@ fn are_zero(words: &[u32]) -> bool
 fn put_line<O: Sink>(words: &[u32], first: u32, out: &mut O) -> Result<(), SinkFault>
     requires whole { length words.now ≡ 64 }
     requires numbers { first + 64 ≤ 2 ^ 30 }
-    ensures { Puts O.text O.faults out.old out.new (texts (λ i. memory_row (first + i) (slice_index words.now i)) 64) result }
+    ensures { Prints O.Sink out.old out.new (texts (λ i. memory_row (first + i) (slice_index words.now i)) 64) result }
 {
     if are_zero(words) {
         return Ok(());
@@ -53,18 +58,11 @@ fn put_line<O: Sink>(words: &[u32], first: u32, out: &mut O) -> Result<(), SinkF
     Ok(())
 }
 
-// Prints the rows of a page that is in this frame, or in the sector that was viewed.
-fn put_page<O: Sink>(
-    machine: &Machine,
-    frame: Option<u32>,
-    page: u32,
-    out: &mut O,
-) -> Result<(), SinkFault>
-    requires page { page < 1024 }
-    requires inside { IfSome frame (λ f. 1024 * f + 1024 ≤ length machine.now.hardware.memory) }
-    ensures { Puts O.text O.faults out.old out.new (texts (λ i. memory_row (1024 * page + i) (page_word machine.now frame i)) 1024) result }
+// Prints the rows of a page, by its words.
+fn put_page<O: Sink>(words: &[u32; 1024], page: u32, out: &mut O) -> Result<(), SinkFault>
+    requires { page < 1024 }
+    ensures { Prints O.Sink out.old out.new (page_text page (slice_index words.now)) result }
 {
-    let words = words_of_page(machine, frame);
     for i in 0..16u32 {
         let at = 64 * i as usize;
         put_line(&words[at..at + 64], 1024 * page + 64 * i, out)?;
@@ -81,33 +79,34 @@ fn is_resident(machine: &Machine, map: &Map, q: u32) -> bool
     entry / 2048 % 2 == 1 && entry / 4096 < map.memory_frames()
 }
 
-// Brings a page, by its number of all pages, where it can be read: gives its frame, or else has viewed its sector.
+// Brings a page, by its number of all pages, where it can be read: gives its frame, or else has read its sector.
 //
 // # Errors
 //
 // A fault of the disk.
 fn find_page<D: Sectors>(
-    machine: &mut Machine,
+    machine: &Machine,
     map: &Map,
     q: u32,
+    into: &mut [u32; 1024],
     disk: &mut D,
 ) -> Result<Option<u32>, DiskFault>
-    requires { CanReadPage map.now q (length machine.old.hardware.memory) (D.size disk.old) }
+    requires { CanReadPage map.now q (length machine.now.hardware.memory) (D.size disk.old) }
     ensures frame { IfOk result (λ o. IfSome o (λ f. f < memory_frames map.now)) }
-    ensures read { ReadsFor (λ a o. ShowsPage machine.new o a q) (page_reads map.now (state_of machine.old []) q)
-        map.now machine.old machine.new D.sectors D.size D.faults D.calls disk.old disk.new result }
+    ensures shown { IfOk result (PageShows machine.now into.new (shown map.now (state_of machine.now []) (D.sectors disk.old) q)) }
+    ensures asks { Asks D.Sectors disk.old disk.new (page_reads map.now (state_of machine.now []) q) result }
 {
     if is_resident(machine, map, q) {
         return Ok(Some(machine.word(map.page_tables() + 4 * q) / 4096));
     }
-    machine.view_sector(disk, q)?;
+    read(q, into, disk)?;
     Ok(None)
 }
 
 /// Whether the page of a user's word with this number, from 0, is in a frame: where it isn't, its sector is read for it.
 pub fn is_word_resident(machine: &Machine, map: &Map, user: u32, k: u32) -> bool
     requires { CanReadWord map.now user k (length machine.now.hardware.memory) (map.now.users * map.now.params.pages) }
-    ensures { word_reads map.now (state_of machine.now []) user k ≡ (if result then 0 else 1) }
+    ensures { word_reads map.now (state_of machine.now []) user k ≡ (if result then [] else Read (page_of_word map.now user k) ∷ []) }
 {
     is_resident(machine, map, (user - 1) * map.params().pages + k / 1024)
 }
@@ -118,19 +117,24 @@ pub fn is_word_resident(machine: &Machine, map: &Map, user: u32, k: u32) -> bool
 ///
 /// A fault of the disk.
 pub fn read_user_word<D: Sectors>(
-    machine: &mut Machine,
+    machine: &Machine,
     map: &Map,
     user: u32,
     k: u32,
     disk: &mut D,
 ) -> Result<u32, DiskFault>
-    requires { CanReadWord map.now user k (length machine.old.hardware.memory) (D.size disk.old) }
-    ensures { ReadsFor (λ a w. w ≡ user_word map.now a user k) (word_reads map.now (state_of machine.old []) user k)
-        map.now machine.old machine.new D.sectors D.size D.faults D.calls disk.old disk.new result }
+    requires { CanReadWord map.now user k (length machine.now.hardware.memory) (D.size disk.old) }
+    ensures word { IfOk result (λ w. IfSome (word_told map.now (state_of machine.now []) (D.sectors disk.old) user k) (λ told. w ≡ told)) }
+    ensures asks { Asks D.Sectors disk.old disk.new (word_reads map.now (state_of machine.now []) user k) result }
 {
     let page = (user - 1) * map.params().pages + k / 1024;
-    let frame = find_page(machine, map, page, disk)?;
-    Ok(words_of_page(machine, frame)[(k % 1024) as usize])
+    let word = (k % 1024) as usize;
+    if is_resident(machine, map, page) {
+        return Ok(machine.frame(machine.word(map.page_tables() + 4 * page) / 4096)[word]);
+    }
+    let mut words = [0; 1024];
+    read(page, &mut words, disk)?;
+    Ok(words[word])
 }
 
 // Prints the rows of so many pages of a user, the first of which has this number of all pages.
@@ -139,20 +143,21 @@ pub fn read_user_word<D: Sectors>(
 //
 // A fault of the disk or of the sink.
 pub(crate) fn put_memory<D: Sectors, O: Sink>(
-    machine: &mut Machine,
+    machine: &Machine,
     map: &Map,
     first: u32,
     pages: u32,
     disk: &mut D,
     out: &mut O,
 ) -> Result<(), ReportFault>
-    requires { CanReadPages map.now first pages (length machine.old.hardware.memory) (D.size disk.old) }
-    ensures { Reports (ForPages (D.sectors disk.old) machine.old map.now first pages)
-        machine.old machine.new D.sectors D.size D.faults D.calls disk.old disk.new O.text O.faults out.old out.new result }
+    requires { CanReadPages map.now first pages (length machine.now.hardware.memory) (D.size disk.old) }
+    ensures { Makes O.Sink D.Sectors (out.old, disk.old) (out.new, disk.new)
+        (pages_script map.now (state_of machine.now []) (D.sectors disk.old) first pages) of_report result }
 {
+    let mut words = [0; 1024];
     for p in 0..pages {
-        let frame = find_page(machine, map, first + p, disk)?;
-        put_page(machine, frame, p, out)?;
+        let frame = find_page(machine, map, first + p, &mut words, disk)?;
+        put_page(words_of_page(machine, frame, &words), p, out)?;
     }
     Ok(())
 }

@@ -3,9 +3,10 @@ ghost use Rattle.std.specs.Prelude.{◌≡◌, ◌++◌, ◌*◌, ◌<◌, ◌^�
 ghost use Rattle.cvm_text.specs.Hex.{hex8 as hex8_of};
 ghost use Rattle.cvm_model.specs.Text.{hex_row, nonzero_row};
 ghost use Rattle.boot_report.specs.Texts.{end_row, register_row, memory_row, user_head};
-ghost use Rattle.boot_report.specs.Leaves.{Puts};
+ghost use Rattle.cvm_outside.specs.Script.{Prints};
 
 use arrayvec::ArrayString;
+use cvm_outside::single_calls::put;
 use cvm_outside::{Sink, SinkFault};
 use cvm_text::{decimal_u64, hex8};
 
@@ -86,38 +87,38 @@ fn user_row(user: u32, pages: u32, pc: u32) -> ArrayString<80>
 
 // Prints the row of a word of the console's log.
 pub(crate) fn put_log_word<O: Sink>(word: u32, out: &mut O) -> Result<(), SinkFault>
-    ensures { Puts O.text O.faults out.old out.new (hex_row (codes "con") word) result }
+    ensures { Prints O.Sink out.old out.new (hex_row (codes "con") word) result }
 {
-    out.put(log_row(word).as_str().as_bytes())
+    put(log_row(word).as_str().as_bytes(), out)
 }
 
 // Prints the row of a word that isn't 0.
 fn put_nonzero<O: Sink>(word: u32, row: &[u8], out: &mut O) -> Result<(), SinkFault>
-    ensures { Puts O.text O.faults out.old out.new (if word == 0 then [] else row.now) result }
+    ensures { Prints O.Sink out.old out.new (if word == 0 then [] else row.now) result }
 {
     if word == 0 {
         return Ok(());
     }
-    out.put(row)
+    put(row, out)
 }
 
 // Prints the row of a register that isn't 0.
 pub(crate) fn put_register<O: Sink>(register: u32, word: u32, out: &mut O) -> Result<(), SinkFault>
-    ensures { Puts O.text O.faults out.old out.new (register_row register word) result }
+    ensures { Prints O.Sink out.old out.new (register_row register word) result }
 {
     put_nonzero(word, reg_row(register, word).as_str().as_bytes(), out)
 }
 
 // Prints the row of hi, if it isn't 0.
 pub(crate) fn put_hi<O: Sink>(word: u32, out: &mut O) -> Result<(), SinkFault>
-    ensures { Puts O.text O.faults out.old out.new (nonzero_row (codes "hi") word) result }
+    ensures { Prints O.Sink out.old out.new (nonzero_row (codes "hi") word) result }
 {
     put_nonzero(word, hi_row(word).as_str().as_bytes(), out)
 }
 
 // Prints the row of lo, if it isn't 0.
 pub(crate) fn put_lo<O: Sink>(word: u32, out: &mut O) -> Result<(), SinkFault>
-    ensures { Puts O.text O.faults out.old out.new (nonzero_row (codes "lo") word) result }
+    ensures { Prints O.Sink out.old out.new (nonzero_row (codes "lo") word) result }
 {
     put_nonzero(word, lo_row(word).as_str().as_bytes(), out)
 }
@@ -125,12 +126,12 @@ pub(crate) fn put_lo<O: Sink>(word: u32, out: &mut O) -> Result<(), SinkFault>
 // Prints the row of a word of memory that isn't 0, by its number.
 pub(crate) fn put_word<O: Sink>(number: u32, word: u32, out: &mut O) -> Result<(), SinkFault>
     requires { number < 2 ^ 30 }
-    ensures { Puts O.text O.faults out.old out.new (memory_row number word) result }
+    ensures { Prints O.Sink out.old out.new (memory_row number word) result }
 {
     if word == 0 {
         return Ok(());
     }
-    out.put(mem_row(number, word).as_str().as_bytes())
+    put(mem_row(number, word).as_str().as_bytes(), out)
 }
 
 // Prints the first row of a user.
@@ -140,9 +141,9 @@ pub(crate) fn put_user<O: Sink>(
     pc: u32,
     out: &mut O,
 ) -> Result<(), SinkFault>
-    ensures { Puts O.text O.faults out.old out.new (user_head user pages pc) result }
+    ensures { Prints O.Sink out.old out.new (user_head user pages pc) result }
 {
-    out.put(user_row(user, pages, pc).as_str().as_bytes())
+    put(user_row(user, pages, pc).as_str().as_bytes(), out)
 }
 
 /// Prints whether a run halted or goes on.
@@ -151,10 +152,10 @@ pub(crate) fn put_user<O: Sink>(
 ///
 /// A fault of the sink.
 pub fn put_end<O: Sink>(halted: bool, out: &mut O) -> Result<(), SinkFault>
-    ensures { Puts O.text O.faults out.old out.new (end_row halted) result }
+    ensures { Prints O.Sink out.old out.new (end_row halted) result }
 {
     if halted {
-        return out.put(b"halted\n");
+        return put(b"halted\n", out);
     }
-    out.put(b"stopped\n")
+    put(b"stopped\n", out)
 }

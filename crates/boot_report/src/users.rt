@@ -3,8 +3,8 @@ ghost use Rattle.std.specs.Prelude.{◌≡◌, ◌+◌, ◌-◌, ◌*◌, ◌<�
 ghost use Rattle.std.specs.Prelude.{length, min, slice_index};
 ghost use Rattle.layer_map.specs.Map.{block_at};
 ghost use Rattle.boot_report.specs.Texts.{cpu_of, register_rows, processor_rows, log_rows};
-ghost use Rattle.boot_report.specs.Told.{ForUser, ForUsers};
-ghost use Rattle.boot_report.specs.Leaves.{Puts, Reports};
+ghost use Rattle.boot_report.specs.Scripts.{of_report, user_script, users_script};
+ghost use Rattle.cvm_outside.specs.Script.{Prints, Makes};
 ghost use Rattle.boot_report.specs.Stand.{BlockStands, CanReadUser, CanReadUsers};
 
 use crate::fault::ReportFault;
@@ -77,7 +77,7 @@ fn put_registers<O: Sink>(
     out: &mut O,
 ) -> Result<(), SinkFault>
     requires user { BlockStands user (length machine.now.hardware.memory) }
-    ensures { Puts O.text O.faults out.old out.new (register_rows (cpu_of machine.now runs user) 31) result }
+    ensures { Prints O.Sink out.old out.new (register_rows (cpu_of machine.now runs user) 31) result }
 {
     for i in 0..31u32 {
         put_register(i + 1, register_of(machine, runs, user, i + 1), out)?;
@@ -94,7 +94,7 @@ fn put_processor<O: Sink>(
     out: &mut O,
 ) -> Result<(), SinkFault>
     requires user { BlockStands user (length machine.now.hardware.memory) }
-    ensures { Puts O.text O.faults out.old out.new (processor_rows user pages (cpu_of machine.now runs user)) result }
+    ensures { Prints O.Sink out.old out.new (processor_rows user pages (cpu_of machine.now runs user)) result }
 {
     put_user(user, pages, pc_of(machine, runs, user), out)?;
     put_registers(machine, runs, user, out)?;
@@ -109,16 +109,15 @@ fn put_processor<O: Sink>(
 //
 // A fault of the disk or of the sink.
 fn put_one<D: Sectors, O: Sink>(
-    machine: &mut Machine,
+    machine: &Machine,
     map: &Map,
     runs: bool,
     user: u32,
     disk: &mut D,
     out: &mut O,
 ) -> Result<(), ReportFault>
-    requires { CanReadUser map.now user (length machine.old.hardware.memory) (D.size disk.old) }
-    ensures { Reports (ForUser (D.sectors disk.old) machine.old map.now runs user)
-        machine.old machine.new D.sectors D.size D.faults D.calls disk.old disk.new O.text O.faults out.old out.new result }
+    requires { CanReadUser map.now user (length machine.now.hardware.memory) (D.size disk.old) }
+    ensures { Makes O.Sink D.Sectors (out.old, disk.old) (out.new, disk.new) (user_script map.now machine.now (D.sectors disk.old) runs user) of_report result }
 {
     let most = map.params().pages;
     let pages = block_word(machine, user, BLOCK_SIZE).min(most);
@@ -132,16 +131,16 @@ fn put_one<D: Sectors, O: Sink>(
 ///
 /// A fault of the disk or of the sink.
 pub fn put_user_rows<D: Sectors, O: Sink>(
-    machine: &mut Machine,
+    machine: &Machine,
     map: &Map,
     running: u32,
     user: u32,
     disk: &mut D,
     out: &mut O,
 ) -> Result<(), ReportFault>
-    requires { CanReadUser map.now user (length machine.old.hardware.memory) (D.size disk.old) }
-    ensures { Reports (ForUser (D.sectors disk.old) machine.old map.now (user == running) user)
-        machine.old machine.new D.sectors D.size D.faults D.calls disk.old disk.new O.text O.faults out.old out.new result }
+    requires { CanReadUser map.now user (length machine.now.hardware.memory) (D.size disk.old) }
+    ensures { Makes O.Sink D.Sectors (out.old, disk.old) (out.new, disk.new)
+        (user_script map.now machine.now (D.sectors disk.old) (user == running) user) of_report result }
 {
     put_one(machine, map, user == running, user, disk, out)
 }
@@ -152,15 +151,15 @@ pub fn put_user_rows<D: Sectors, O: Sink>(
 ///
 /// A fault of the disk or of the sink.
 pub fn put_users<D: Sectors, O: Sink>(
-    machine: &mut Machine,
+    machine: &Machine,
     map: &Map,
     running: u32,
     disk: &mut D,
     out: &mut O,
 ) -> Result<(), ReportFault>
-    requires { CanReadUsers map.now (length machine.old.hardware.memory) (D.size disk.old) }
-    ensures { Reports (ForUsers (D.sectors disk.old) machine.old map.now running)
-        machine.old machine.new D.sectors D.size D.faults D.calls disk.old disk.new O.text O.faults out.old out.new result }
+    requires { CanReadUsers map.now (length machine.now.hardware.memory) (D.size disk.old) }
+    ensures { Makes O.Sink D.Sectors (out.old, disk.old) (out.new, disk.new)
+        (users_script map.now machine.now (D.sectors disk.old) running map.now.users) of_report result }
 {
     for i in 0..map.users() {
         put_user_rows(machine, map, running, i + 1, disk, out)?;
@@ -174,7 +173,7 @@ pub fn put_users<D: Sectors, O: Sink>(
 ///
 /// A fault of the sink.
 pub fn put_log<O: Sink>(log: &[u32], out: &mut O) -> Result<(), SinkFault>
-    ensures { Puts O.text O.faults out.old out.new (log_rows log.now) result }
+    ensures { Prints O.Sink out.old out.new (log_rows log.now) result }
 {
     for i in 0..log.len() {
         put_log_word(log[i], out)?;

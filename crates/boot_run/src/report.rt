@@ -4,7 +4,8 @@ ghost use Rattle.cvm_model.specs.Text.{steps_row as steps_text};
 ghost use Rattle.boot_report.specs.Globals.{AreInside, GlobalsStand};
 ghost use Rattle.boot_report.specs.Texts.{end_row};
 ghost use Rattle.boot_run.specs.Report.{kernel_rows, runs_now, ForClosing, ForTraceClosing, StepsStand};
-ghost use Rattle.boot_report.specs.Leaves.{Puts, Reports};
+ghost use Rattle.boot_report.specs.Leaves.{Reports};
+ghost use Rattle.cvm_outside.specs.Script.{Prints};
 ghost use Rattle.boot_report.specs.Stand.{CanReadUser, CanReadUsers};
 
 use crate::places::Places;
@@ -12,6 +13,7 @@ use boot_report::journal_text::steps_row;
 use boot_report::{ReportFault, put_end, put_globals, put_log, put_user_rows, put_users};
 use boot_turns::tracer::Tracer;
 use c0_tree::Decl;
+use cvm_outside::single_calls::put;
 use cvm_outside::{Sectors, Sink, SinkFault};
 use layer_map::Map;
 use mips_machine::Machine;
@@ -25,7 +27,7 @@ fn put_kernel<O: Sink>(
     out: &mut O,
 ) -> Result<(), SinkFault>
     requires { GlobalsStand places.now.map (length machine.now.hardware.memory) places.now.offsets.items (length decls.now) }
-    ensures { Puts O.text O.faults out.old out.new (kernel_rows halted machine.now places.now.map places.now.offsets.items decls.now) result }
+    ensures { Prints O.Sink out.old out.new (kernel_rows halted machine.now places.now.map places.now.offsets.items decls.now) result }
 {
     put_end(halted, out)?;
     put_globals(machine, &places.map, &places.offsets, decls, out)?;
@@ -67,9 +69,9 @@ pub(crate) fn put_closing<D: Sectors, O: Sink>(
 
 // Prints the row of a trace's last steps, where there are any, and the end.
 fn put_last<O: Sink>(steps: u64, halted: bool, out: &mut O) -> Result<(), SinkFault>
-    ensures { Puts O.text O.faults out.old out.new (steps_text steps ++ end_row halted) result }
+    ensures { Prints O.Sink out.old out.new (steps_text steps ++ end_row halted) result }
 {
-    out.put(steps_row(steps).as_str().as_bytes())?;
+    put(steps_row(steps).as_str().as_bytes(), out)?;
     put_end(halted, out)
 }
 

@@ -16,7 +16,7 @@ use Rattle.mips_machine.specs.Machine.{Held, state_of}
 use Rattle.cvm_model.specs.Paged.{paged_of}
 use Rattle.boot_report.specs.Texts.{EntriesFit, SameButViewed}
 use Rattle.boot_report.specs.Told.{user_word, WordsAreTold}
-use Rattle.boot_report.specs.Resident.{word_reads}
+use Rattle.boot_report.specs.Resident.{word_calls}
 use Rattle.boot_turns.specs.declared.tracer.Tracer.{Tracer}
 use Rattle.boot_turns.specs.JournalText.{steps_after}
 use Rattle.boot_turns.specs.Copies.{user_words, copy_rows, copied_kept, steps_left}
@@ -141,13 +141,13 @@ pub left_none : (steps i : ℕ) → steps_left steps (i + 1) ≡ 0
 left_none steps i = cond-false (i + 1 == 0) steps 0 (ne_eqb (i + 1) 0 (λ e. absurd (omega (arith, e))))
 
 -- the tracer after one put more, for which the word was read
-pub put_tracer : (m : Map) (s : State) (address : ℕ) (old now mid new : Tracer) (i : ℕ) → now ≡ copied_kept m s old address i → mid ≡ record now { reads = now.reads + word_reads m s old.user (address / 4 + i) } → new ≡ record mid { steps = 0 } →
+pub put_tracer : (m : Map) (s : State) (address : ℕ) (old now mid new : Tracer) (i : ℕ) → now ≡ copied_kept m s old address i → mid ≡ record now { reads = now.reads + word_calls m s old.user (address / 4 + i) } → new ≡ record mid { steps = 0 } →
     new ≡ copied_kept m s old address (i + 1)
 put_tracer m s address old now mid new i before counts is =
-    is ∙ ap (λ (t : Tracer). record t { steps = 0 }) counts ∙ ap (λ (t : Tracer). record t { steps = 0; reads = t.reads + word_reads m s old.user (address / 4 + i) }) before
+    is ∙ ap (λ (t : Tracer). record t { steps = 0 }) counts ∙ ap (λ (t : Tracer). record t { steps = 0; reads = t.reads + word_calls m s old.user (address / 4 + i) }) before
     ∙ ap₂ (λ (n r : ℕ). record old { steps = n; reads = r }) (sym (left_none old.steps i)) (sum ∙ ap (λ r. old.reads + r) (sym (next_read m s old.user (address / 4) i)))
   where
-    sum : old.reads + words_read m s old.user (address / 4) i + word_reads m s old.user (address / 4 + i) ≡ old.reads + (words_read m s old.user (address / 4) i + word_reads m s old.user (address / 4 + i))
+    sum : old.reads + words_read m s old.user (address / 4) i + word_calls m s old.user (address / 4 + i) ≡ old.reads + (words_read m s old.user (address / 4) i + word_calls m s old.user (address / 4 + i))
     sum = omega arith
 
 -- what is viewed is not part of the state

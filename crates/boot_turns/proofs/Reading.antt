@@ -7,7 +7,7 @@ use Rattle.mips_machine.specs.Machine.{Held, state_of}
 use Rattle.layer_map.specs.Map.{Map}
 use Rattle.boot_report.specs.Texts.{SameButViewed}
 use Rattle.boot_report.specs.Told.{WherePaged}
-use Rattle.boot_report.specs.Resident.{is_resident, word_reads}
+use Rattle.boot_report.specs.Resident.{is_resident, word_calls}
 use Rattle.cvm_outside.specs.Numbering.{Tally, called}
 use Rattle.boot_report.specs.Leaves.{AsksFor}
 use Rattle.boot_report.proofs.Leaves.{called_behind}
@@ -17,7 +17,7 @@ use Rattle.boot_turns.specs.Returns.{words_read}
 use Rattle.boot_turns.specs.Steps.{KeepsTracer, RowsAsk}
 
 -- a word is read by one call at most
-one_read : (m : Map) (s : State) (u k : ℕ) → word_reads m s u k ≤ 1
+one_read : (m : Map) (s : State) (u k : ℕ) → word_calls m s u k ≤ 1
 one_read m s u k = by (is_resident m s ((u - 1) * m.params.pages + k / 1024))
   where
     by : (b : Bool) → (if b then 0 else 1) ≤ 1
@@ -30,7 +30,7 @@ few_read m s u k zero = omega arith
 few_read m s u k (suc n) = let a = few_read m s u k n in let b = one_read m s u (k + n) in omega (arith, a, b)
 
 -- of one word more
-pub next_read : (m : Map) (s : State) (u k n : ℕ) → words_read m s u k (n + 1) ≡ words_read m s u k n + word_reads m s u (k + n)
+pub next_read : (m : Map) (s : State) (u k n : ℕ) → words_read m s u k (n + 1) ≡ words_read m s u k n + word_calls m s u (k + n)
 next_read m s u k n = let e : n + 1 ≡ suc n = omega arith in ap (words_read m s u k) e
 
 -- and those of some words are no more than those of more
@@ -39,17 +39,17 @@ reads_grow m s u k i zero = let e : i ≡ i + 0 = omega arith in let f = ap (wor
 reads_grow m s u k i (suc d) =
     let a = reads_grow m s u k i d in
     let e : i + suc d ≡ suc (i + d) = omega arith in
-    let f : words_read m s u k (i + suc d) ≡ words_read m s u k (i + d) + word_reads m s u (k + (i + d)) = ap (words_read m s u k) e in
+    let f : words_read m s u k (i + suc d) ≡ words_read m s u k (i + d) + word_calls m s u (k + (i + d)) = ap (words_read m s u k) e in
     omega (arith, a, f)
 
 -- which are read is told by the memory alone, whatever the sectors hold
 pub reads_seen : (m : Map) (held : Held) (ss : List (List ℕ)) (u k n : ℕ) → words_read m (state_of held ss) u k n ≡ words_read m (state_of held []) u k n
 reads_seen m held ss u k zero = refl
-reads_seen m held ss u k (suc n) = ap (λ j. j + word_reads m (state_of held []) u (k + n)) (reads_seen m held ss u k n)
+reads_seen m held ss u k (suc n) = ap (λ j. j + word_calls m (state_of held []) u (k + n)) (reads_seen m held ss u k n)
 
 -- and whatever was viewed
-pub word_viewed : (m : Map) (old now : Held) (u k : ℕ) → SameButViewed old now → word_reads m (state_of now []) u k ≡ word_reads m (state_of old []) u k
-word_viewed m old now u k same = ap (λ (h : Held). word_reads m (state_of h []) u k) same
+pub word_viewed : (m : Map) (old now : Held) (u k : ℕ) → SameButViewed old now → word_calls m (state_of now []) u k ≡ word_calls m (state_of old []) u k
+word_viewed m old now u k same = ap (λ (h : Held). word_calls m (state_of h []) u k) same
 
 -- the steps with no row don't get more by puts
 few_left : (steps n : ℕ) → steps_left steps n ≤ steps
@@ -61,26 +61,26 @@ few_left steps n = by (n == 0)
 
 -- A WORD of those that a tracer puts: it is counted where it is read from the disk
 module _ (m : Map) (old now : Held) (address : ℕ) (kept cur mid : Tracer) (i : ℕ) (same : SameButViewed old now) (so_far : cur ≡ copied_kept m (state_of old []) kept address i)
-    (counts : mid ≡ record cur { reads = cur.reads + word_reads m (state_of now []) cur.user (address / 4 + i) }) where
+    (counts : mid ≡ record cur { reads = cur.reads + word_calls m (state_of now []) cur.user (address / 4 + i) }) where
   -- the word is one of the memory as it was, of the user that is traced
-  word_then : word_reads m (state_of now []) cur.user (address / 4 + i) ≡ word_reads m (state_of old []) kept.user (address / 4 + i)
-  word_then = ap (λ (t : Tracer). word_reads m (state_of now []) t.user (address / 4 + i)) so_far ∙ word_viewed m old now kept.user (address / 4 + i) same
+  word_then : word_calls m (state_of now []) cur.user (address / 4 + i) ≡ word_calls m (state_of old []) kept.user (address / 4 + i)
+  word_then = ap (λ (t : Tracer). word_calls m (state_of now []) t.user (address / 4 + i)) so_far ∙ word_viewed m old now kept.user (address / 4 + i) same
 
-  mid_then : word_reads m (state_of now []) mid.user (address / 4 + i) ≡ word_reads m (state_of old []) kept.user (address / 4 + i)
-  mid_then = ap (λ (t : Tracer). word_reads m (state_of now []) t.user (address / 4 + i)) counts ∙ word_then
+  mid_then : word_calls m (state_of now []) mid.user (address / 4 + i) ≡ word_calls m (state_of old []) kept.user (address / 4 + i)
+  mid_then = ap (λ (t : Tracer). word_calls m (state_of now []) t.user (address / 4 + i)) counts ∙ word_then
 
-  pub read_then : mid ≡ record cur { reads = cur.reads + word_reads m (state_of old []) kept.user (address / 4 + i) }
+  pub read_then : mid ≡ record cur { reads = cur.reads + word_calls m (state_of old []) kept.user (address / 4 + i) }
   read_then = counts ∙ ap (λ n. record cur { reads = cur.reads + n }) word_then
 
   all_read : mid.reads ≡ kept.reads + words_read m (state_of old []) kept.user (address / 4) (i + 1)
   all_read =
-      let a : mid.reads ≡ cur.reads + word_reads m (state_of old []) kept.user (address / 4 + i) = ap (λ (t : Tracer). t.reads) read_then in
+      let a : mid.reads ≡ cur.reads + word_calls m (state_of old []) kept.user (address / 4 + i) = ap (λ (t : Tracer). t.reads) read_then in
       let b : cur.reads ≡ kept.reads + words_read m (state_of old []) kept.user (address / 4) i = ap (λ (t : Tracer). t.reads) so_far in
       let c = next_read m (state_of old []) kept.user (address / 4) i in
       omega (arith, a, b, c)
 
   -- the disk failed where the word was read
-  pub fails_there : (told : Option (List (List ℕ))) (n : ℕ) (text retext : Option (List ℕ)) → i < n → word_reads m (state_of now []) mid.user (address / 4 + i) ≡ 1 →
+  pub fails_there : (told : Option (List (List ℕ))) (n : ℕ) (text retext : Option (List ℕ)) → i < n → word_calls m (state_of now []) mid.user (address / 4 + i) ≡ 1 →
       WherePaged told old m (λ a. retext ≡ append_known text (copy_rows m a kept.user kept.steps address i)) → CopyFails told old m kept mid address n text retext
   fails_there told n text retext lt one printed =
       let a = mid_then in
@@ -108,12 +108,12 @@ module _ (m : Map) (old now : Held) (address : ℕ) (kept cur mid : Tracer) (i :
 
   -- the disk's calls with its read
   module _ (P : Type 0) (x y z : Tally) (sound : y.faults ≡ x.faults) (called_so_far : y.calls ≡ called (words_read m (state_of old []) kept.user (address / 4) i) x)
-      (asks : AsksFor (word_reads m (state_of now []) mid.user (address / 4 + i)) P y z) where
+      (asks : AsksFor (word_calls m (state_of now []) mid.user (address / 4 + i)) P y z) where
     pub calls_word : z.calls ≡ called (words_read m (state_of old []) kept.user (address / 4) (i + 1)) x
     calls_word =
         let w = mid_then in
         let e = next_read m (state_of old []) kept.user (address / 4) i in
-        asks.calls ∙ called_behind (word_reads m (state_of now []) mid.user (address / 4 + i)) (words_read m (state_of old []) kept.user (address / 4) i) x y sound called_so_far
+        asks.calls ∙ called_behind (word_calls m (state_of now []) mid.user (address / 4 + i)) (words_read m (state_of old []) kept.user (address / 4) i) x y sound called_so_far
         ∙ ap (λ k. called k x) (omega (arith, w, e))
 
     pub asks_word : (new : Tracer) → new.reads ≡ mid.reads → RowsAsk kept new x z

@@ -7,7 +7,7 @@ use Rattle.layer_map.specs.Map.{Map}
 use Rattle.layer_contract.specs.declared.entry.Entry.TheVariants.{Primitive}
 use Rattle.layer_contract.specs.declared.registers.TheConstants.{ARGUMENT, ANSWER, RETURN}
 use Rattle.layer_contract.specs.Layer.{entry_address}
-use Rattle.boot_report.specs.Resident.{word_reads}
+use Rattle.boot_report.specs.Resident.{word_calls}
 use Rattle.boot_turns.specs.declared.primitives.TheConstants.{VM_COPY}
 use Rattle.boot_turns.specs.declared.tracer.Entered.{Entered}
 
@@ -63,7 +63,7 @@ pub record CopyReturns (x : Outside) (s : State) (u t : ℕ) : Type 0 where
 -- how many of n words of user u, from word k on, are read from the disk
 abbrev pub words_read : Map → State → (u k n : ℕ) → ℕ
 words_read m s u k zero = 0
-words_read m s u k (suc n) = words_read m s u k n + word_reads m s u (k + n)
+words_read m s u k (suc n) = words_read m s u k n + word_calls m s u (k + n)
 
 -- of the first n words that a primitive copied to user u
 abbrev pub copy_reads : Map → State → (u : ℕ) → Entered → (n : ℕ) → ℕ

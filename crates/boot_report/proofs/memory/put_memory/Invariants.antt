@@ -1,18 +1,15 @@
-use Rattle.std.proofs.Common.{◌≡◌, ℕ, List, Some}
-use Rattle.std.specs.Io.KnownBytes.{append_known}
-use Rattle.cvm_outside.specs.Numbering.{tally}
+use Rattle.std.proofs.Common.{◌≡◌, [], None, length}
 use Rattle.mips_machine.specs.Machine.{state_of}
-use Rattle.cvm_model.specs.Paged.{paged_of}
-use Rattle.boot_report.specs.Texts.{pages_rows, EntriesFit}
-use Rattle.boot_report.specs.Leaves.{Asks, OnlyViews}
+use Rattle.cvm_outside.specs.Outside.{Files, output, drive}
+use Rattle.cvm_outside.specs.Script.{Performs}
+use Rattle.boot_report.specs.Scripts.{pages_script}
 use Rattle.boot_report.proofs.memory.put_memory.Given as goal
 
 abbrev pub invariant-loop-p : goal.invariant-loop-p
 invariant-loop-p g l = record {
-  view : OnlyViews l.fn.machine l.machine g.D.Sectors.sectors g.D.Sectors.size l.fn.disk l.disk;
-  disk_faults : g.D.Sectors.faults l.disk ≡ g.D.Sectors.faults l.fn.disk;
-  asks : Asks ⊥ (tally g.D.Sectors.faults g.D.Sectors.calls l.fn.disk) (tally g.D.Sectors.faults g.D.Sectors.calls l.disk);
-  faults : g.O.Sink.faults l.out ≡ g.O.Sink.faults l.fn.out;
-  text : (ss : List (List ℕ)) → g.D.Sectors.sectors l.fn.disk ≡ Some ss → EntriesFit l.map (state_of l.fn.machine ss) →
-      g.O.Sink.text l.out ≡ append_known (g.O.Sink.text l.fn.out) (pages_rows (paged_of l.map (state_of l.fn.machine ss)) l.first l.p);
+  script : (shelf : Files) → Performs (pages_script l.map (state_of l.machine []) (g.D.Sectors.sectors l.fn.disk) l.first l.p)
+      (record { shelf = shelf; sink = output g.O.Sink l.fn.out; disk = drive g.D.Sectors l.fn.disk }) (record { shelf = shelf; sink = output g.O.Sink l.out; disk = drive g.D.Sectors l.disk }) None;
+  sectors : g.D.Sectors.sectors l.disk ≡ g.D.Sectors.sectors l.fn.disk;
+  size : g.D.Sectors.size l.disk ≡ g.D.Sectors.size l.fn.disk;
+  whole : length l.words ≡ 1024;
 }

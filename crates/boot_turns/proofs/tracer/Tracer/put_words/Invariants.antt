@@ -15,8 +15,7 @@ invariant-loop-i g l = record {
   steps : l.self.steps ≡ steps_left l.fn.self.steps l.i;
   reads : l.self.reads ≡ l.fn.self.reads + words_read l.map (state_of l.fn.machine []) l.fn.self.user (l.address / 4) l.i;
   self : l.self ≡ copied_kept l.map (state_of l.fn.machine []) l.fn.self l.address l.i;
-  view : OnlyViews l.fn.machine l.machine g.D.Sectors.sectors g.D.Sectors.size l.fn.disk l.disk;
-  memory : l.machine.hardware.memory ≡ l.fn.machine.hardware.memory;
+  view : OnlyViews l.fn.machine l.fn.machine g.D.Sectors.sectors g.D.Sectors.size l.fn.disk l.disk;
   disk_faults : g.D.Sectors.faults l.disk ≡ g.D.Sectors.faults l.fn.disk;
   calls : g.D.Sectors.calls l.disk ≡ called (words_read l.map (state_of l.fn.machine []) l.fn.self.user (l.address / 4) l.i) (tally g.D.Sectors.faults g.D.Sectors.calls l.fn.disk);
   faults : g.O.Sink.faults l.out ≡ g.O.Sink.faults l.fn.out;

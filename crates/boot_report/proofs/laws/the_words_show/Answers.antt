@@ -1,0 +1,5 @@
+use Rattle.boot_report.proofs.Telling.{words_show}
+use Rattle.boot_report.proofs.laws.the_words_show.Goals as goal
+
+pub returns : goal.returns
+returns c = words_show
