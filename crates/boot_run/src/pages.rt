@@ -1,6 +1,8 @@
 // The users' pages, written to their sectors, and the linked words, written into memory.
 ghost use Rattle.std.specs.Prelude.{◌≡◌, ℕ, ◌+◌, ◌<◌, ◌≤◌, ◌^◌, length, slice_index};
 ghost use Rattle.boot_run.specs.Loading.{pages_of_users, with_words};
+ghost use Rattle.cvm_outside.specs.Script.{Asks};
+ghost use Rattle.boot_run.specs.LoadScript.{page_script, load_script};
 ghost use Rattle.boot_run.specs.Writes.{HavePages, IsSource, WritesPage, WritesPages};
 
 use cvm_outside::{DiskFault, Sectors};
@@ -56,7 +58,8 @@ fn write_page<D: Sectors>(
 ) -> Result<(), DiskFault>
     requires pages { HavePages per (length users.now) }
     requires inside { q < D.size disk.old }
-    ensures { WritesPage D.size D.sectors D.faults D.calls (pages_of_users per users.now behind.now) q disk.old disk.new result }
+    ensures writes { WritesPage D.size D.sectors D.faults D.calls (pages_of_users per users.now behind.now) q disk.old disk.new result }
+    ensures script { Asks D.Sectors disk.old disk.new (page_script (pages_of_users per users.now behind.now) q) result }
 {
     let (words, first) = page_source(users, per, behind, q);
     if first < words.len() {
@@ -80,7 +83,8 @@ pub(crate) fn write_pages<D: Sectors>(
 ) -> Result<(), DiskFault>
     requires pages { HavePages per (length users.now) }
     requires room { most ≤ D.size disk.old }
-    ensures { WritesPages D.size D.sectors D.faults D.calls (pages_of_users per users.now behind.now) most disk.old disk.new result }
+    ensures writes { WritesPages D.size D.sectors D.faults D.calls (pages_of_users per users.now behind.now) most disk.old disk.new result }
+    ensures script { Asks D.Sectors disk.old disk.new (load_script (pages_of_users per users.now behind.now) most) result }
 {
     for q in 0..most {
         write_page(users, per, behind, q, disk)?;

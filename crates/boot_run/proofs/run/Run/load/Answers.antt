@@ -20,7 +20,7 @@ returns-in-Ok-clause-loaded g c =
     subst (λ n. n * c.args.boot.params.pages ≤ g.D.Sectors.size c.args.disk.now) users (subst (λ n. c.len-users.result * c.args.boot.params.pages ≤ n) c.count-have.ensures c.if-have-need.false) in
     let sectors = subst (λ (us : List (Vec ℕ Global)). g.D.Sectors.sectors c.write_pages.new.disk ≡ option_map (written (pages_of_users c.args.boot.params.pages us []) (length c.args.boot.users.items * c.args.boot.params.pages)) (g.D.Sectors.sectors c.args.disk.now))
     c.as_slice.ensures.value
-    (subst (λ n. g.D.Sectors.sectors c.write_pages.new.disk ≡ option_map (written (pages_of_users c.args.boot.params.pages c.as_slice.result.now []) (n * c.args.boot.params.pages)) (g.D.Sectors.sectors c.args.disk.now)) users c.in-Ok.ensures.ok) in
+    (subst (λ n. g.D.Sectors.sectors c.write_pages.new.disk ≡ option_map (written (pages_of_users c.args.boot.params.pages c.as_slice.result.now []) (n * c.args.boot.params.pages)) (g.D.Sectors.sectors c.args.disk.now)) users c.in-Ok.ensures.writes.ok) in
     let stands = stands_loaded c.args.boot c.args.schedule c.in_ok-machine.machine (g.D.Sectors.sectors c.args.disk.now) (g.D.Sectors.sectors c.write_pages.new.disk) (g.D.Sectors.size c.args.disk.now) some
     c.in_ok-machine.ensures sectors (g.met.D.Sectors.sized c.args.disk.now) few in record {
       fresh = fresh_run c.args.layer c.args.boot c.args.view c.args.schedule c.count-have.result (pages_needed c.args.boot) (g.D.Sectors.size c.args.disk.now) c.len-users.result c.in_ok-machine.machine c.first_tracer.result
@@ -30,9 +30,9 @@ returns-in-Ok-clause-loaded g c =
       ready = λ x old budget text e.
           loaded_ready x (system_of c.args.boot c.args.schedule) (loaded (system_of c.args.boot c.args.schedule) old) c.args.view c.first_tracer.result c.first_tracer.ensures budget text c.in_ok-machine.machine (g.D.Sectors.sectors c.write_pages.new.disk)
           (stands ∙ ap (option_map (loaded (system_of c.args.boot c.args.schedule))) e) (ap (λ (m : Held). m.time) c.in_ok-machine.ensures);
-      unfailed = c.in-Ok.ensures.count.same;
+      unfailed = c.in-Ok.ensures.writes.count.same;
       calls = user_calls c.args.boot c.args.schedule c.as_slice.result.now c.len-users.result (g.D.Sectors.sectors c.args.disk.now) (g.D.Sectors.sectors c.write_pages.new.disk) (tally g.D.Sectors.faults g.D.Sectors.calls c.args.disk.now) (tally g.D.Sectors.faults g.D.Sectors.calls c.write_pages.new.disk)
-          c.as_slice.ensures.value users c.in-Ok.ensures.calls;
+          c.as_slice.ensures.value users c.in-Ok.ensures.writes.calls;
     }
 
 pub returns-in-Err-clause-leaves : goal.returns-in-Err-clause-leaves
@@ -41,13 +41,13 @@ returns-in-Err-clause-leaves g c =
     let users : c.len-users.result ≡ length c.args.boot.users.items = c.len-users.ensures ∙ sym c.as_slice.ensures.len ∙ ap (λ (us : List (Vec ℕ Global)). length us) c.as_slice.ensures.value in
     let few : length c.args.boot.users.items * c.args.boot.params.pages ≤ g.D.Sectors.size c.args.disk.now =
     subst (λ n. n * c.args.boot.params.pages ≤ g.D.Sectors.size c.args.disk.now) users (subst (λ n. c.len-users.result * c.args.boot.params.pages ≤ n) c.count-have.ensures c.if-have-need.false) in record {
-      refused = (record { user = subst (λ n. SeesUser c.args.view n) users c.in_ok-check_view.ensures.ok; room = few }, c.in-Err.ensures.count.rose);
+      refused = (record { user = subst (λ n. SeesUser c.args.view n) users c.in_ok-check_view.ensures.ok; room = few }, c.in-Err.ensures.writes.count.rose);
       stopped = λ h. torn_loaded c.args.boot c.args.schedule (g.D.Sectors.sectors c.args.disk.now) (g.D.Sectors.sectors c.write_pages.new.disk) (tally g.D.Sectors.faults g.D.Sectors.calls c.args.disk.now) (tally g.D.Sectors.faults g.D.Sectors.calls c.write_pages.new.disk) (g.D.Sectors.size c.args.disk.now) some
           (user_torn c.args.boot c.args.schedule c.as_slice.result.now c.len-users.result (g.D.Sectors.sectors c.args.disk.now) (g.D.Sectors.sectors c.write_pages.new.disk) (tally g.D.Sectors.faults g.D.Sectors.calls c.args.disk.now) (tally g.D.Sectors.faults g.D.Sectors.calls c.write_pages.new.disk)
-          c.as_slice.ensures.value users c.in-Err.ensures.torn)
+          c.as_slice.ensures.value users c.in-Err.ensures.writes.torn)
           (g.met.D.Sectors.sized c.args.disk.now) few;
       still = λ ne. absurd (ne refl);
-      same_size = c.write_pages.ensures.same_size;
+      same_size = c.write_pages.ensures.writes.same_size;
     }
 
 pub invariant_of-result : goal.invariant_of-result

@@ -24,7 +24,7 @@ returns-in-Ok-clause-loaded g c =
     subst (λ n. n ≤ g.D.Sectors.size c.args.disk.now) need (subst (λ n. c.len-users.result * c.args.boot.params.pages + c.sectors_of-behind.result ≤ n) c.count-have.ensures c.if-have-need.false) in
     let made = made_so c.args.boot c.args.schedule c.in_ok-places.places.map c.args.rom.now.items c.as_slice-rom.result.now c.in_ok-machine.machine c.in_ok-places.ensures.map c.as_slice-rom.ensures.value c.in_ok-machine.ensures in
     let stands = stands_from_rom c.args.boot c.args.schedule c.args.rom.now.items c.requires.few (omega arith) c.in_ok-machine.machine (g.D.Sectors.sectors c.args.disk.now) (g.D.Sectors.sectors c.write_pages.new.disk) (g.D.Sectors.size c.args.disk.now) some made
-    (written_so c.args.boot c.args.schedule c.as_slice.result.now c.as_slice-words.result.now _ (g.D.Sectors.sectors c.args.disk.now) (g.D.Sectors.sectors c.write_pages.new.disk) (tally g.D.Sectors.faults g.D.Sectors.calls c.args.disk.now) (tally g.D.Sectors.faults g.D.Sectors.calls c.write_pages.new.disk) c.as_slice.ensures.value c.as_slice-words.ensures.value need c.in-Ok.ensures.ok)
+    (written_so c.args.boot c.args.schedule c.as_slice.result.now c.as_slice-words.result.now _ (g.D.Sectors.sectors c.args.disk.now) (g.D.Sectors.sectors c.write_pages.new.disk) (tally g.D.Sectors.faults g.D.Sectors.calls c.args.disk.now) (tally g.D.Sectors.faults g.D.Sectors.calls c.write_pages.new.disk) c.as_slice.ensures.value c.as_slice-words.ensures.value need c.in-Ok.ensures.writes.ok)
     (g.met.D.Sectors.sized c.args.disk.now) few in record {
       fresh = fresh_run c.args.layer c.args.boot c.args.view c.args.schedule c.count-have.result (rom_needed c.args.boot) (g.D.Sectors.size c.args.disk.now) c.len-users.result c.in_ok-machine.machine c.first_tracer.result
           c.count-have.ensures (ap (λ (m : Held). m.rows) c.in_ok-machine.ensures) (ap (λ (m : Held). m.time) c.in_ok-machine.ensures) c.first_tracer.ensures c.in_ok-check_view.ensures.ok users few;
@@ -33,9 +33,9 @@ returns-in-Ok-clause-loaded g c =
       ready = λ x old budget text e.
           loaded_ready x (system_of c.args.boot c.args.schedule) (rom_loaded (system_of c.args.boot c.args.schedule) c.args.rom.now.items old) c.args.view c.first_tracer.result c.first_tracer.ensures budget text c.in_ok-machine.machine (g.D.Sectors.sectors c.write_pages.new.disk)
           (stands ∙ ap (option_map (rom_loaded (system_of c.args.boot c.args.schedule) c.args.rom.now.items)) e) (ap (λ (m : Held). m.time) c.in_ok-machine.ensures);
-      unfailed = c.in-Ok.ensures.count.same;
+      unfailed = c.in-Ok.ensures.writes.count.same;
       calls = calls_so c.args.boot c.args.schedule c.as_slice.result.now c.as_slice-words.result.now _ (g.D.Sectors.sectors c.args.disk.now) (g.D.Sectors.sectors c.write_pages.new.disk) (tally g.D.Sectors.faults g.D.Sectors.calls c.args.disk.now) (tally g.D.Sectors.faults g.D.Sectors.calls c.write_pages.new.disk)
-          c.as_slice.ensures.value c.as_slice-words.ensures.value need c.in-Ok.ensures.calls;
+          c.as_slice.ensures.value c.as_slice-words.ensures.value need c.in-Ok.ensures.writes.calls;
     }
 
 pub returns-in-Err-clause-leaves : goal.returns-in-Err-clause-leaves
@@ -46,12 +46,12 @@ returns-in-Err-clause-leaves g c =
     let need = need_is c.args.boot c.len-users.result c.sectors_of-behind.result users behind in
     let few : rom_needed c.args.boot ≤ g.D.Sectors.size c.args.disk.now =
     subst (λ n. n ≤ g.D.Sectors.size c.args.disk.now) need (subst (λ n. c.len-users.result * c.args.boot.params.pages + c.sectors_of-behind.result ≤ n) c.count-have.ensures c.if-have-need.false) in record {
-      refused = (record { user = subst (λ n. SeesUser c.args.view n) users c.in_ok-check_view.ensures.ok; room = few }, c.in-Err.ensures.count.rose);
+      refused = (record { user = subst (λ n. SeesUser c.args.view n) users c.in_ok-check_view.ensures.ok; room = few }, c.in-Err.ensures.writes.count.rose);
       stopped = λ h. rom_torn c.args.boot c.args.schedule c.args.rom.now.items (g.D.Sectors.sectors c.args.disk.now) (g.D.Sectors.sectors c.write_pages.new.disk) (tally g.D.Sectors.faults g.D.Sectors.calls c.args.disk.now) (tally g.D.Sectors.faults g.D.Sectors.calls c.write_pages.new.disk) (g.D.Sectors.size c.args.disk.now) some
-          (torn_so c.args.boot c.args.schedule c.as_slice.result.now c.as_slice-words.result.now _ (g.D.Sectors.sectors c.args.disk.now) (g.D.Sectors.sectors c.write_pages.new.disk) (tally g.D.Sectors.faults g.D.Sectors.calls c.args.disk.now) (tally g.D.Sectors.faults g.D.Sectors.calls c.write_pages.new.disk) c.as_slice.ensures.value c.as_slice-words.ensures.value need c.in-Err.ensures.torn)
+          (torn_so c.args.boot c.args.schedule c.as_slice.result.now c.as_slice-words.result.now _ (g.D.Sectors.sectors c.args.disk.now) (g.D.Sectors.sectors c.write_pages.new.disk) (tally g.D.Sectors.faults g.D.Sectors.calls c.args.disk.now) (tally g.D.Sectors.faults g.D.Sectors.calls c.write_pages.new.disk) c.as_slice.ensures.value c.as_slice-words.ensures.value need c.in-Err.ensures.writes.torn)
           (g.met.D.Sectors.sized c.args.disk.now) few;
       still = λ ne. absurd (ne refl);
-      same_size = c.write_pages.ensures.same_size;
+      same_size = c.write_pages.ensures.writes.same_size;
     }
 
 pub invariant_of-result : goal.invariant_of-result
