@@ -22,3 +22,5 @@ pub mod GoesOn
 pub mod RomStarts
 pub mod Ahead
 pub mod StepRows
+pub mod Runs
+pub mod StepScript
