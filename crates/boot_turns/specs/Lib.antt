@@ -24,3 +24,4 @@ pub mod Ahead
 pub mod StepRows
 pub mod Runs
 pub mod StepScript
+pub mod RowScripts

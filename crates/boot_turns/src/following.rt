@@ -3,6 +3,7 @@ ghost use Rattle.std.specs.Prelude.{◌≡◌, ◌<◌, ◌-◌, ◌^◌, [], le
 ghost use Rattle.mips_machine.specs.Machine.{state_of};
 ghost use Rattle.boot_turns.specs.Completes.{shown};
 ghost use Rattle.boot_turns.specs.Returns.{notes_on, returned};
+ghost use Rattle.boot_turns.specs.RowScripts.{MakesRows, ended_script, followed_script};
 ghost use Rattle.boot_turns.specs.StepRows.{EndPrints, FollowPrints};
 ghost use Rattle.boot_turns.specs.Steps.{CanFollow, CountsStep, EndLeaves, FollowLeaves};
 ghost use Rattle.boot_turns.specs.Tracing.{CanTrace};
@@ -72,6 +73,8 @@ impl Tracer {
         ensures prints { EndPrints (D.sectors disk.old) machine.old map.now self.old self.new call.now answer (O.text out.old) (O.text out.new) result }
         ensures leaves { EndLeaves machine.old machine.new self.old self.new D.sectors D.size D.faults D.calls disk.old disk.new
             O.faults out.old out.new result }
+        ensures script { MakesRows O.Sink D.Sectors machine.old map.now (out.old, disk.old) (out.new, disk.new)
+            (λ pages. ended_script map.now (state_of machine.old []) pages self.old.user self.old.steps call.now answer) result }
     {
         let [_, _, user, address, count] = call.arguments;
         let most = 1024 * map.params().pages;
@@ -100,6 +103,8 @@ impl Tracer {
         ensures prints { EndPrints (D.sectors disk.old) machine.old map.now self.old self.new call.now answer (O.text out.old) (O.text out.new) result }
         ensures leaves { EndLeaves machine.old machine.new self.old self.new D.sectors D.size D.faults D.calls disk.old disk.new
             O.faults out.old out.new result }
+        ensures script { MakesRows O.Sink D.Sectors machine.old map.now (out.old, disk.old) (out.new, disk.new)
+            (λ pages. ended_script map.now (state_of machine.old []) pages self.old.user self.old.steps call.now answer) result }
     {
         if call.primitive == VM_COPY {
             return self.end_copy(machine, map, call, answer, disk, out);
@@ -141,6 +146,8 @@ impl Tracer {
         ensures prints { FollowPrints (D.sectors disk.old) machine.old map.now self.old self.new current began (O.text out.old) (O.text out.new) result }
         ensures leaves { FollowLeaves map.now machine.old machine.new self.old self.new D.sectors D.size D.faults D.calls disk.old disk.new
             O.faults out.old out.new result }
+        ensures script { MakesRows O.Sink D.Sectors machine.old map.now (out.old, disk.old) (out.new, disk.new)
+            (λ pages. followed_script map.now (state_of machine.old []) pages self.old current began) result }
     {
         if began {
             if current == self.user {

@@ -4,6 +4,7 @@ ghost use Rattle.mips_machine.specs.Machine.{state_of};
 ghost use Rattle.cvm_model.specs.Text.{steps_row as steps_text};
 ghost use Rattle.boot_turns.specs.Entries.{turn_begins, call_ends, IsNoCopy};
 ghost use Rattle.boot_turns.specs.Returns.{noted_at};
+ghost use Rattle.boot_turns.specs.RowScripts.{MakesRows, copy_script};
 ghost use Rattle.boot_turns.specs.StepRows.{CopyPrints, PutsEntries};
 ghost use Rattle.boot_turns.specs.Steps.{EndLeaves, KeepsReads};
 ghost use Rattle.boot_turns.specs.Tracing.{CanTrace};
@@ -174,6 +175,8 @@ impl Tracer {
         ensures prints { CopyPrints (D.sectors disk.old) machine.old map.now self.old self.new address count (O.text out.old) (O.text out.new) result }
         ensures leaves { EndLeaves machine.old machine.new self.old self.new D.sectors D.size D.faults D.calls disk.old disk.new
             O.faults out.old out.new result }
+        ensures script { MakesRows O.Sink D.Sectors machine.old map.now (out.old, disk.old) (out.new, disk.new)
+            (λ pages. copy_script map.now (state_of machine.old []) pages self.old.user self.old.steps address count) result }
     {
         // so the words that are read can be counted in as many bits
         prove!(self.reads <= 4294967296 * u128::from(machine.steps()));

@@ -1,8 +1,13 @@
 -- What a step adds is what its branch prints: a turn of the user, a turn of another, a primitive that returned, or nothing.
-use Rattle.std.proofs.Common.{◌≡◌, ◌≢◌, ℕ, List, [], Bool, true, false, Option, Some, Err, slice_index, refl, sym, ap, ap₂, ◌∙◌, subst, arith, rules}
+use Rattle.std.proofs.Common.{◌≡◌, ◌≢◌, ℕ, List, [], Bool, true, false, Option, Some, None, Err, slice_index, refl, sym, ap, ap₂, ◌∙◌, subst, arith, rules}
 use Rattle.std.specs.Prelude.{IsSome}
 use Rattle.std.specs.Io.KnownBytes.{append_known}
 use Rattle.cvm_outside.proofs.Parts.{append_known-nil}
+use Rattle.cvm_outside.proofs.Putting.{same_script}
+use Rattle.cvm_outside.specs.Outside.{output, drive}
+use Rattle.cvm_outside.specs.Script.{done}
+use Rattle.cvm_model.specs.Text.{journal_rows_after}
+use Rattle.boot_turns.proofs.RowMakes.{puts_of, prints_made, followed_turn, followed_foreign, followed_none, followed_return}
 use Rattle.cvm_outside.specs.Numbering.{tally}
 use Rattle.mips_table.specs.Machine.{State}
 use Rattle.mips_machine.specs.Machine.{Held, state_of}
@@ -188,3 +193,35 @@ returns-clause-leaves g c =
         ];
       };
     }
+
+-- THE SCRIPT of what follows
+pub returns-in_err-begin-clause-script : goal.returns-in_err-begin-clause-script
+returns-in_err-begin-clause-script g c pages are shelf =
+    let h = err_from_is_err_and c.from_residual.result c.from_residual.ensures.1 in
+    rw (h.1, h.2) (same_script _ _ _ _ _ (followed_turn c.args.map.now (state_of c.args.machine.now []) pages c.args.self.now c.args.current c.args.began c.begun_now.result c.if-began.true c.begun_now.ensures)
+    (prints_made (journal_rows_after false c.args.self.now.steps (turn_begins c.args.self.now.user c.args.current c.begun_now.result)) shelf (drive g.D.Sectors c.args.disk.now) (output g.O.Sink c.args.out.now) (output g.O.Sink c.begin.new.out) _
+    (puts_of g.O.Sink c.args.out.now c.begin.new.out _ _ c.in_err-begin.ensures.prints.put) (λ whom e. c.in_err-begin.ensures.prints.some)))
+
+pub returns-in_err-end-clause-script : goal.returns-in_err-end-clause-script
+returns-in_err-end-clause-script g c pages are shelf =
+    let w = err_from_is_err_and c.from_residual-in_err-end.result c.from_residual-in_err-end.ensures.1 in
+    rw (w.1, w.2) (same_script _ _ _ _ _
+    (followed_return c.args.map.now (state_of c.args.machine.now []) pages c.args.self.now c.args.current c.args.began c.returned_call.result c.in-Some.call c.reg.result c.if-began.false c.returned_call.ensures c.in-Some.is c.reg.ensures)
+    (c.in_err-end.ensures.script pages are shelf))
+
+pub returns-clause-script : goal.returns-clause-script
+returns-clause-script g c pages are shelf =
+    elim c.if-began.branch [
+      | then-began+then-current-self+else-prove+in_ok-begin w ↦
+          rw (w.out-is, w.disk-is) (same_script _ _ _ _ _ (followed_turn c.args.map.now (state_of c.args.machine.now []) pages c.args.self.now c.args.current c.args.began w.begun_now.result w.if-began.true w.begun_now.ensures)
+          (prints_made (journal_rows_after false c.args.self.now.steps (turn_begins c.args.self.now.user c.args.current w.begun_now.result)) shelf (drive g.D.Sectors c.args.disk.now) (output g.O.Sink c.args.out.now) (output g.O.Sink w.begin.new.out) None
+          (puts_of g.O.Sink c.args.out.now w.begin.new.out _ _ w.in_ok-begin.ensures.prints.put) (λ whom e. absurd (cc))))
+      | then-began+else-current-self w ↦
+          rw (w.out-is, w.disk-is) (same_script [] _ _ _ _ (followed_foreign c.args.map.now (state_of c.args.machine.now []) pages c.args.self.now c.args.current c.args.began w.if-began.true w.if-current-self.false) (done _))
+      | else-began+in-Some+in_ok-end w ↦
+          rw (w.out-is, w.disk-is) (same_script _ _ _ _ _
+          (followed_return c.args.map.now (state_of c.args.machine.now []) pages c.args.self.now c.args.current c.args.began w.returned_call.result w.in-Some.call w.reg.result w.if-began.false w.returned_call.ensures w.in-Some.is w.reg.ensures)
+          (w.in_ok-end.ensures.script pages are shelf))
+      | else-began+in_default w ↦
+          rw (w.out-is, w.disk-is) (same_script [] _ _ _ _ (followed_none c.args.map.now (state_of c.args.machine.now []) pages c.args.self.now c.args.current c.args.began w.returned_call.result w.if-began.false w.returned_call.ensures w.in_default.is) (done _))
+    ]

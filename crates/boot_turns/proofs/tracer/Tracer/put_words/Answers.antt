@@ -1,16 +1,20 @@
-use Rattle.std.proofs.Common.{◌≡◌, ℕ, ◌+◌, ◌*◌, ◌/◌, ◌<◌, ◌≤◌, true, false, [], Ok, Err, refl, sym, ap, ◌∙◌, arith, rules}
+use Rattle.std.proofs.Common.{◌≡◌, ℕ, ◌+◌, ◌*◌, ◌/◌, ◌<◌, ◌≤◌, true, false, [], None, Ok, Err, refl, sym, ap, ◌∙◌, arith, rules}
 use Rattle.std.specs.Io.KnownBytes.{append_known}
 use Rattle.std.proofs.lemmas.Result.{err_from_is_err_and}
 use Rattle.cvm_outside.specs.Numbering.{tally}
+use Rattle.cvm_outside.specs.Outside.{output, drive}
+use Rattle.cvm_outside.proofs.Follow.{first}
+use Rattle.cvm_outside.proofs.Putting.{loop_none, loop_more, loop_stop, same_script}
 use Rattle.cvm_outside.specs.declared.sectors.DiskFault.TheVariants.{Failed}
 use Rattle.mips_machine.specs.Machine.{state_of}
 use Rattle.cvm_model.specs.Paged.{paged_of}
-use Rattle.boot_report.specs.Resident.{word_calls}
+use Rattle.boot_report.specs.Resident.{word_calls, word_reads}
 use Rattle.boot_report.specs.Stand.{WordStands}
 use Rattle.boot_report.proofs.Leaves.{broken, printed, views_twice}
 use Rattle.boot_report.proofs.Performed.{word_read, calls_by_test}
 use Rattle.boot_turns.specs.declared.tracer.Tracer.{Tracer}
 use Rattle.boot_turns.specs.Copies.{copy_rows, copied_kept, steps_left}
+use Rattle.boot_turns.proofs.RowMakes.{puts_of, word_made}
 use Rattle.boot_turns.proofs.CallCounts.{sink_alone, disk_alone, disk_blamed, sink_blamed}
 use Rattle.boot_turns.proofs.Reading.{few_read, none_read, read_then, fails_there, cut_there, keeps_word, keeps_all, calls_word, asks_word}
 use Rattle.boot_turns.proofs.Copying.{one_put, part_put, stop_put, none_put, put_tracer, fits_then, row_read}
@@ -58,6 +62,7 @@ loop-i-init g c = record {
   disk_faults = refl;
   calls = refl;
   faults = refl;
+  script = λ pages are shelf. loop_none _ _;
   text = λ ss e f. none_put c.args.map.now (paged_of c.args.map.now (state_of c.args.machine.now ss)) c.args.self.now.user c.args.self.now.steps c.args.address (g.O.Sink.text c.args.out.now);
 }
 
@@ -78,6 +83,11 @@ loop-i-preserved g c =
       disk_faults = word.count.same ∙ c.loop-i.invariant.disk_faults;
       calls = calls_word c.args.map.now c.args.machine.now c.args.machine.now c.args.address c.args.self.now c.loop-i.self c.if-not-is_word_resident.self c.loop-i.i refl c.loop-i.invariant.self counts _ (tally g.D.Sectors.faults g.D.Sectors.calls c.args.disk.now) (tally g.D.Sectors.faults g.D.Sectors.calls c.loop-i.disk) (tally g.D.Sectors.faults g.D.Sectors.calls c.read_user_word.new.disk) c.loop-i.invariant.disk_faults c.loop-i.invariant.calls word.asks;
       faults = c.in_ok-put.ensures.put.count.same ∙ c.loop-i.invariant.faults;
+      script = λ pages are shelf. loop_more _ _ _ _ _ _ _ refl (c.loop-i.invariant.script pages are shelf)
+          (word_made c.args.map.now c.args.machine.now (g.D.Sectors.sectors c.args.disk.now) (g.D.Sectors.sectors c.loop-i.disk) pages c.args.self.now c.if-not-is_word_resident.self c.args.address c.loop-i.i c.in_ok-word.word c.as_bytes.result.now
+          shelf (output g.O.Sink c.loop-i.out) (output g.O.Sink c.put.new.out) (drive g.D.Sectors c.loop-i.disk) (drive g.D.Sectors c.read_user_word.new.disk) None are c.loop-i.invariant.view.sectors user steps
+          (c.in_ok-word.ensures.asks shelf (output g.O.Sink c.loop-i.out)) word.shown (c.as_bytes.ensures.value ∙ c.as_str.ensures.value ∙ c.put_row.ensures)
+          (puts_of g.O.Sink c.loop-i.out c.put.new.out _ _ c.in_ok-put.ensures.put));
       text = λ ss e f.
           let told = word.shown ss (c.loop-i.invariant.view.sectors ∙ e) (fits_then c.args.map.now c.args.machine.now c.args.machine.now ss refl f) in
           one_put c.args.map.now (paged_of c.args.map.now (state_of c.args.machine.now ss)) c.args.self.now.user c.args.self.now.steps c.args.address (g.O.Sink.text c.args.out.now) (g.O.Sink.text c.loop-i.out) (g.O.Sink.text c.put.new.out)
@@ -182,3 +192,29 @@ returns-in_err-put-clause-prints g c =
       cut = λ e.
           cut_there c.args.map.now c.args.machine.now c.args.machine.now c.args.address c.args.self.now c.loop-i.self c.if-not-is_word_resident.self c.loop-i.i refl c.loop-i.invariant.self (word_counted g (goal.at.returns-in_err-put-clause-prints g c).After-read_user_word) c.put.new.self c.args.count c.loop-i-test.true c.in_err-put.ensures.keeps.reads;
     }
+
+pub returns-in_err-word-clause-script : goal.returns-in_err-word-clause-script
+returns-in_err-word-clause-script g c pages are shelf =
+    let counts = word_counted g (goal.at.returns-in_err-word-clause-script g c).After-read_user_word in
+    let user : c.if-not-is_word_resident.self.user ≡ c.args.self.now.user = ap (λ (t : Tracer). t.user) counts ∙ c.loop-i.invariant.user in
+    let h = err_from_is_err_and c.from_residual.result c.from_residual.ensures.1 in
+    rw (h.1, h.2) (loop_stop _ _ _ _ _ _ _ c.loop-i-test.true (c.loop-i.invariant.script pages are shelf)
+    (first (word_reads c.args.map.now (state_of c.args.machine.now []) c.args.self.now.user (c.args.address / 4 + c.loop-i.i)) _ _ _ _
+    (same_script _ _ _ _ _ (ap (λ u. word_reads c.args.map.now (state_of c.args.machine.now []) u (c.args.address / 4 + c.loop-i.i)) user) (c.in_err-word.ensures.asks shelf (output g.O.Sink c.loop-i.out)))))
+
+pub returns-in_err-put-clause-script : goal.returns-in_err-put-clause-script
+returns-in_err-put-clause-script g c pages are shelf =
+    let word = word_read g.D.Sectors c.loop-i.disk c.read_user_word.new.disk (Ok c.in_ok-word.word) c.args.map.now c.args.machine.now c.if-not-is_word_resident.self.user (c.args.address / 4 + c.loop-i.i)
+    (stands g (goal.at.returns-in_err-put-clause-script g c).After-read_user_word) c.in_ok-word.ensures.word c.in_ok-word.ensures.asks in
+    let counts = word_counted g (goal.at.returns-in_err-put-clause-script g c).After-read_user_word in
+    let user : c.if-not-is_word_resident.self.user ≡ c.args.self.now.user = ap (λ (t : Tracer). t.user) counts ∙ c.loop-i.invariant.user in
+    let steps : c.if-not-is_word_resident.self.steps ≡ steps_left c.args.self.now.steps c.loop-i.i = ap (λ (t : Tracer). t.steps) counts ∙ c.loop-i.invariant.steps in
+    let h = err_from_is_err_and c.from_residual-in_err-put.result c.from_residual-in_err-put.ensures.1 in
+    rw (h.1, h.2) (loop_stop _ _ _ _ _ _ _ c.loop-i-test.true (c.loop-i.invariant.script pages are shelf)
+    (word_made c.args.map.now c.args.machine.now (g.D.Sectors.sectors c.args.disk.now) (g.D.Sectors.sectors c.loop-i.disk) pages c.args.self.now c.if-not-is_word_resident.self c.args.address c.loop-i.i c.in_ok-word.word c.as_bytes.result.now
+    shelf (output g.O.Sink c.loop-i.out) (output g.O.Sink c.put.new.out) (drive g.D.Sectors c.loop-i.disk) (drive g.D.Sectors c.read_user_word.new.disk) _ are c.loop-i.invariant.view.sectors user steps
+    (c.in_ok-word.ensures.asks shelf (output g.O.Sink c.loop-i.out)) word.shown (c.as_bytes.ensures.value ∙ c.as_str.ensures.value ∙ c.put_row.ensures)
+    (puts_of g.O.Sink c.loop-i.out c.put.new.out _ _ c.in_err-put.ensures.put)))
+
+pub returns-clause-script : goal.returns-clause-script
+returns-clause-script g c pages are shelf = let all : c.loop-i.i ≡ c.args.count = omega arith in rw all at (c.loop-i.invariant.script pages are shelf)
