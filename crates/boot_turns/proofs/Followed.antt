@@ -26,7 +26,7 @@ use Rattle.boot_turns.proofs.Copying.{puts_first, puts_length, copies_tell, copi
 use Rattle.boot_turns.proofs.Reading.{reads_seen}
 
 -- the entries of a primitive that has copied words to the user
-copy_is : (u : ℕ) (e : Entered) (answer : ℕ) (words : List ℕ) → answer ≡ 1 → slice_index e.arguments 2 ≡ u → e.primitive ≡ 6 →
+pub copy_is : (u : ℕ) (e : Entered) (answer : ℕ) (words : List ℕ) → answer ≡ 1 → slice_index e.arguments 2 ≡ u → e.primitive ≡ 6 →
     call_ends u e answer words ≡ puts (slice_index e.arguments 3) (take (slice_index e.arguments 4) (drop (slice_index e.arguments 3 / 4) words))
 copy_is u e answer words one user sixth =
     cond-true (answer == 1) _ [] (eq-eqb _ _ one)

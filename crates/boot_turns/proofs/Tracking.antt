@@ -10,7 +10,7 @@ use Rattle.mips_table.specs.Device.{Outside}
 use Rattle.mips_table.specs.Machine.{State, run, step}
 use Rattle.mips_table.specs.Turns.{begins, rests}
 use Rattle.mips_machine.specs.Machine.{Held, state_of}
-use Rattle.mips_machine.specs.Steps.{outside_of}
+use Rattle.mips_machine.specs.Steps.{outside_of, due}
 use Rattle.layer_map.specs.Map.{Map, MapInRange, current_at}
 use Rattle.c0_tree.specs.Tree.{CUnit}
 use Rattle.c0_meaning.specs.TypedState.{IsTypedState}
@@ -34,12 +34,20 @@ use Rattle.boot_turns.specs.Returns.{noted_call, notes_on, returned, copy_reads,
 use Rattle.boot_turns.specs.Copies.{FollowFails}
 use Rattle.boot_turns.specs.JournalText.{steps_after, pending_steps, RowsFollow}
 use Rattle.boot_turns.specs.Tracing.{followed, followed_reads, kept_after, reads_of, ReturnTold, tracer_at, FollowCut, Traced, RowsTorn, RowsCut, TracedOn, TraceStops, Tracing, TraceRuns}
+use Rattle.boot_turns.specs.Trace.{Shown}
 use Rattle.boot_turns.specs.TraceSteps.{StepStops, StepTraces}
+use Rattle.boot_turns.specs.Runs.{Run, Past}
+use Rattle.boot_turns.specs.StepScript.{step_script, steps_script}
+use Rattle.boot_turns.specs.RowScripts.{ArePages, followed_script}
+use Rattle.boot_turns.specs.LoopScripts.{traced_run}
+use Rattle.cvm_outside.specs.Script.{Call}
+use Rattle.page_model.specs.Paging.{Paged}
 use Rattle.boot_turns.proofs.Events.{told_as_some, step_torn}
 use Rattle.boot_turns.proofs.Opening.{seen_more}
 use Rattle.boot_turns.proofs.Reading.{reads_seen}
 use Rattle.boot_turns.proofs.Followed.{call_returned, call_seen, copied_length, first_rows}
 use Rattle.boot_turns.proofs.JournalRows.{nil_behind}
+use Rattle.boot_turns.proofs.ShownRows.{scripts-one, rows_followed, followed_here, pages_for}
 
 -- THE ROWS: those of the entries d follow those of j
 module _ (f : RowsFollow) (base text : Option (List ℕ)) (j d : List JournalEntry) (is : text ≡ append_known base (open_journal_rows j)) where
@@ -208,6 +216,10 @@ rows_seen held ss (Some e) false h = h
 same_some : {A : Type 0} (a b : A) → Some a ≡ Some b → a ≡ b
 same_some a b h = cc
 
+-- the script of one step
+pub steps_one : (r : Run) (p : Past) (t : ℕ) → steps_script r p t 1 ≡ step_script r p t
+steps_one r p t = scripts-one (λ i. step_script r p (t + i)) ∙ (let e : t + 0 ≡ t = omega arith in ap (step_script r p) e)
+
 -- THE STEP of the loop, on a machine that is on and of which a trace is printed
 module _ (grow : (c : CUnit) → TracesGrow (IsTypedState c)) (f : RowsFollow) (tell : WordsTell) (x : Outside) (m : Map) (held : Held) (told : Option (List (List ℕ))) (k : Tracer) (text : Option (List ℕ)) (on : held.hardware.off ≡ None) where
   abbrev Here : Type 0
@@ -287,6 +299,32 @@ module _ (grow : (c : CUnit) → TracesGrow (IsTypedState c)) (f : RowsFollow) (
         ∙ ap (λ (k : Tracer). tracer_of k.user (steps_after k.steps entries) (notes_on s k.call) read) (keeps_at b)
         ∙ ap (λ (d : List JournalEntry). tracer_of kt.user (steps_after kt.steps d) (notes_on s kt.call) read) (entries_at b)
         ∙ ap (λ (s : State). tracer_of kt.user (steps_after kt.steps (step_entries x b.s b.u b.t (more_at b).words)) (notes_on s kt.call) read) (told_at b).2
+
+    -- THE CALLS OF THE STEP: what the code makes of it is the script of the run's step
+    returns_run : (b : Here) → ReturnTold (map_of b.y.boot) (run x b.s (suc b.t)) b.u (more_at b).words (returned (run x b.s (suc b.t)) (noted_call x b.s b.t))
+    returns_run b =
+        let ss : List (List ℕ) = (told_at b).0 in
+        let words : List ℕ = (more_at b).words in
+        let there : WordsAt x b.y b.u (state_of mid ss) words (returned (state_of mid ss) (noted_call x b.s b.t)) =
+        subst (λ (s : State). WordsAt x b.y b.u s words (returned s (noted_call x b.s b.t))) (sym (told_at b).2) (more_at b).there in
+        subst (λ (s : State). ReturnTold (map_of b.y.boot) s b.u words (returned s (noted_call x b.s b.t))) (told_at b).2
+        (words_told x b.y tell b.from.boots.fits.range b.u b.low b.high mid ss words (returned (state_of mid ss) (noted_call x b.s b.t)) there)
+
+    pub step_made : (b : Here) (p : Past) (turns steps : ℕ) → ((j : ℕ) → b.t ≤ j → j ≤ b.t + 1 → Shown x b.s b.y b.u j (p.shown j)) → (P : List Call → Type 0) →
+        ((ss : List (List ℕ)) (pages : Option Paged) → ArePages midtold mid m pages → P (due x (state_of held ss) ++ followed_script m (state_of mid []) pages k current began)) →
+        P (steps_script (traced_run x b.y b.s b.u turns steps) p b.t 1)
+    step_made b p turns steps shown P h =
+        let w = told_as_some told held (run x b.s b.t) b.at in
+        let ss : List (List ℕ) = (told_at b).0 in
+        let here : current ≡ slice_index (run x b.s b.t).memory current_at = current_is ∙ ap (λ (s : State). slice_index s.memory current_at) w.2 in
+        let grows = grow b.unit x b.y b.s b.late b.held b.u b.from b.low b.high in
+        let before : p.shown b.t ≡ b.traced.journal = grows.one b.t (p.shown b.t) b.traced.journal (shown b.t (omega arith) (omega arith)) b.traced.shown in
+        let after : p.shown (suc b.t) ≡ b.traced.journal ++ step_entries x b.s b.u b.t (more_at b).words = grows.one (suc b.t) (p.shown (suc b.t)) _ (shown (suc b.t) (omega arith) (omega arith)) (more_at b).shown in
+        let pages = pages_for m mid midtold ss k current began (more_at b).words (returned (state_of mid ss) k.call) (told_at b).1 refl (returns_at b) in
+        let rows = rows_followed f x b.y b.s b.u b.t b.traced.journal (more_at b).words b.low b.high m (state_of mid ss) k current began b.map_is (told_at b).2 (keeps_at b) here (begun_at b) p turns steps before after (returns_run b) in
+        subst P
+        (ap₂ (λ (a b : List Call). a ++ b) (ap (due x) w.2) (followed_here m mid ss pages.0 k current began ∙ pages.2 ∙ rows) ∙ sym (steps_one (traced_run x b.y b.s b.u turns steps) p b.t))
+        (h w.0 pages.0 pages.1)
 
     pub step_goes : (stepped : Stepped) (before : Option Tracer) (after : Tracer) (retext : Option (List ℕ)) → before ≡ Some k →
         ((ss : List (List ℕ)) (words : List ℕ) → midtold ≡ Some ss → ReturnTold m (state_of mid ss) k.user words (returned (state_of mid ss) k.call) →

@@ -25,3 +25,4 @@ pub mod StepRows
 pub mod Runs
 pub mod StepScript
 pub mod RowScripts
+pub mod LoopScripts

@@ -4,8 +4,9 @@ use Rattle.std.proofs.Common.{ℕ, ◌+◌, ◌-◌, ◌≤◌, Bool, true, fals
 use Rattle.std.specs.Option.{option_map}
 use Rattle.std.proofs.lemmas.Bool.{cases_lt}
 use Rattle.mips_table.specs.Device.{Outside}
-use Rattle.mips_table.specs.Machine.{State, run}
-use Rattle.mips_machine.specs.Machine.{Held}
+use Rattle.mips_table.specs.Machine.{State, run, step}
+use Rattle.mips_machine.specs.Machine.{Held, state_of}
+use Rattle.mips_machine.specs.Quiet.{Stretch}
 use Rattle.mips_machine.specs.Steps.{outside_of}
 use Rattle.boot_turns.specs.declared.completion.Stepped.{Stepped}
 use Rattle.boot_turns.specs.declared.completion.Stepped.TheVariants.{Kept}
@@ -16,7 +17,7 @@ use Rattle.boot_turns.proofs.Events.{told_as_some}
 use Rattle.boot_turns.proofs.Stepping.{off_rests}
 use Rattle.boot_turns.specs.declared.completion.Begun.{Begun}
 use Rattle.mips_table.specs.Turns.{rests}
-use Rattle.boot_turns.specs.Completes.{seen, Skips, StepFaults, Open, Progress, turn_began, KeptUser, StepBegan}
+use Rattle.boot_turns.specs.Completes.{seen, Passes, Skips, StepFaults, Open, Progress, turn_began, KeptUser, StepBegan}
 use Rattle.boot_turns.specs.Tracing.{Tracing, CanTrace, tracer_at, tracing}
 use Rattle.layer_map.specs.Map.{Map}
 use Rattle.cvm_outside.specs.Numbering.{tally}
@@ -24,7 +25,9 @@ use Rattle.boot_turns.specs.Steps.{StepCalls}
 use Rattle.mips_table.specs.Fits.{NamesSector}
 use Rattle.boot_turns.proofs.CallCounts.{steps_join, steps_ports, steps_stay}
 use Rattle.boot_turns.proofs.Quietly.{progress_passed}
-use Rattle.boot_turns.proofs.Opening.{one_step, step_stops, skips_more, skips_passed, Opened, seen_rests, seen_note}
+use Rattle.boot_turns.proofs.Opening.{seen_more, one_step, step_stops, skips_more, skips_passed, Opened, seen_rests, seen_note}
+use Rattle.boot_turns.proofs.StepMakes.{no_steps, as_made, stretch_then, at_made, one_more}
+use Rattle.boot_turns.specs.LoopScripts.{StepsCall}
 use Rattle.boot_turns.proofs.Tracking.{Tracks, tracks_none, tracks_limit, tracks_whole, tracks_more, tracks_stop}
 use Rattle.boot_turns.proofs.completion.complete.Given.{Over}
 use Rattle.boot_turns.proofs.completion.complete.Goals.{In_ok-stepped, After-note}
@@ -97,6 +100,49 @@ opened g c s t u le is so_far =
     (g.D.Sectors.sectors c.loop-begun.disk) (g.D.Sectors.sectors c.step_traced.new.disk) c.loop-begun.machine c.step_traced.new.machine c.loop-begun.begun c.note.new.begun c.began.result
     (ap₂ outside_of c.loop-begun.invariant.rows c.loop-begun.invariant.size) le is so_far c.in_ok-stepped.ensures.ends.ran began c.note.ensures
 
+-- THE CALLS of the steps so far and of one more, where it was done
+stepped_far : (g : Over) (c : In_ok-stepped g) (s : State) (t : ℕ) → seen (g.D.Sectors.sectors c.args.disk.now) c.args.machine.now ≡ Some (run (outside_of c.args.machine.now.rows (g.D.Sectors.size c.args.disk.now)) s t) →
+    seen (g.D.Sectors.sectors c.step_traced.new.disk) c.step_traced.new.machine ≡ Some (run (outside_of c.args.machine.now.rows (g.D.Sectors.size c.args.disk.now)) s (t + (c.args.budget.now - (c.loop-begun.budget - 1))))
+stepped_far g c =
+    let x = outside_of c.args.machine.now.rows (g.D.Sectors.size c.args.disk.now) in
+    let same : outside_of c.loop-begun.machine.rows (g.D.Sectors.size c.loop-begun.disk) ≡ x = ap₂ outside_of c.loop-begun.invariant.rows c.loop-begun.invariant.size in
+    let ran = subst (λ z. seen (g.D.Sectors.sectors c.step_traced.new.disk) c.step_traced.new.machine ≡ option_map (step z) (seen (g.D.Sectors.sectors c.loop-begun.disk) c.loop-begun.machine)) same c.in_ok-stepped.ensures.ends.ran in
+    let less = c.loop-begun.invariant.less in
+    let p = c.if-budget-eq0.false in
+    at_made x (seen (g.D.Sectors.sectors c.args.disk.now) c.args.machine.now) (seen (g.D.Sectors.sectors c.step_traced.new.disk) c.step_traced.new.machine) c.args.budget.now (c.loop-begun.budget - 1) (omega (arith, less))
+    (λ s t h.
+    let i = c.loop-begun.invariant.ran s t h in
+    let b = i.2 in
+    (suc i.0, omega (arith, b, p), seen_more x (seen (g.D.Sectors.sectors c.loop-begun.disk) c.loop-begun.machine) (seen (g.D.Sectors.sectors c.step_traced.new.disk) c.step_traced.new.machine) (run x s i.0) ran i.3))
+
+stepped_calls : (g : Over) (c : In_ok-stepped g) →
+    StepsCall {T = Unit {0}} g.O.Sink g.D.Sectors c.args.map.now c.args.machine.now c.args.tracer.now (c.args.out.now, c.args.disk.now) (c.step_traced.new.out, c.step_traced.new.disk) (c.args.budget.now - (c.loop-begun.budget - 1)) (Ok tt)
+stepped_calls g c =
+    let p = c.if-budget-eq0.false in
+    as_made (outside_of c.args.machine.now.rows (g.D.Sectors.size c.args.disk.now)) g.O.Sink g.D.Sectors c.args.map.now c.args.machine.now c.args.tracer.now c.args.out.now c.args.disk.now {R = Stepped} {T = Unit {0}} (Ok c.in_ok-stepped.stepped) (Ok tt) c.step_traced.new.out c.step_traced.new.disk
+    (c.args.budget.now - (c.loop-begun.budget - 1)) (c.args.budget.now - (c.loop-begun.budget - 1)) refl refl
+    (one_more g.O.Sink g.D.Sectors c.args.map.now c.args.machine.now c.loop-begun.machine c.args.tracer.now c.loop-begun.tracer c.args.out.now c.loop-begun.out c.step_traced.new.out c.args.disk.now c.loop-begun.disk c.step_traced.new.disk c.args.budget.now c.loop-begun.budget
+    (Ok c.in_ok-stepped.stepped) c.loop-begun.invariant.less (omega (arith, p)) c.loop-begun.invariant.rows c.loop-begun.invariant.size c.loop-begun.invariant.script (λ s t h. let i = c.loop-begun.invariant.ran s t h in (i.0, i.2, i.3))
+    (λ e. (c.loop-begun.invariant.untraced e).0) c.loop-begun.invariant.tracks c.in_ok-stepped.ensures.script)
+
+some_too : (a b : Option Tracer) → option_map (λ (k : Tracer). k.user) a ≡ option_map (λ (k : Tracer). k.user) b → IsSome b → IsSome a
+some_too None None e h = h
+some_too None (Some k) e h = absurd (cc)
+some_too (Some k) b e h = refl
+
+passed_calls : (g : Over) (c : In_ok-stepped g) (new : Held) (left n : ℕ) → Passes c.step_traced.new.machine new n → left + n ≡ c.loop-begun.budget - 1 → (IsSome c.step_traced.new.tracer → n ≡ 0) →
+    StepsCall {T = Unit {0}} g.O.Sink g.D.Sectors c.args.map.now c.args.machine.now c.args.tracer.now (c.args.out.now, c.args.disk.now) (c.step_traced.new.out, c.step_traced.new.disk) (c.args.budget.now - left) (Ok tt)
+passed_calls g c new left n passes spent none =
+    let x = outside_of c.args.machine.now.rows (g.D.Sectors.size c.args.disk.now) in
+    let made : ℕ = c.args.budget.now - (c.loop-begun.budget - 1) in
+    let less = c.loop-begun.invariant.less in
+    let p = c.if-budget-eq0.false in
+    let mid : outside_of c.step_traced.new.machine.rows (g.D.Sectors.size c.args.disk.now) ≡ x = ap (λ rows. outside_of rows (g.D.Sectors.size c.args.disk.now)) (c.in_ok-stepped.ensures.leaves.stays.rows ∙ c.loop-begun.invariant.rows) in
+    stretch_then x g.O.Sink g.D.Sectors c.args.map.now c.args.machine.now c.args.tracer.now c.args.out.now c.args.disk.now c.step_traced.new.out c.step_traced.new.disk made (stepped_calls g c)
+    c.step_traced.new.machine (stepped_far g c) new n (c.args.budget.now - left) (omega (arith, spent, less, p))
+    (λ ss. subst (λ z. Stretch z (state_of c.step_traced.new.machine ss) n (state_of new ss)) mid (passes.stretch (g.D.Sectors.size c.args.disk.now) ss))
+    (λ traced. none (some_too c.step_traced.new.tracer c.args.tracer.now (c.in_ok-stepped.ensures.leaves.trace.user ∙ c.loop-begun.invariant.user) traced))
+
 pub loop-begun-init : goal.loop-begun-init
 loop-begun-init g c = record {
   rows = refl;
@@ -114,6 +160,9 @@ loop-begun-init g c = record {
   untraced = λ e. (e, refl);
   calls = steps_stay c.args.machine.now c.args.tracer.now (tally g.D.Sectors.faults g.D.Sectors.calls c.args.disk.now);
   sink_faults = refl;
+  less = omega arith;
+  script = as_made (outside_of c.args.machine.now.rows (g.D.Sectors.size c.args.disk.now)) g.O.Sink g.D.Sectors c.args.map.now c.args.machine.now c.args.tracer.now c.args.out.now c.args.disk.now {R = Unit {0}} {T = Unit {0}} (Ok tt) (Ok tt) c.args.out.now c.args.disk.now
+      0 (c.args.budget.now - c.args.budget.now) (omega arith) refl (no_steps (outside_of c.args.machine.now.rows (g.D.Sectors.size c.args.disk.now)) g.O.Sink g.D.Sectors c.args.map.now c.args.machine.now c.args.tracer.now c.args.out.now c.args.disk.now);
   tracks = tracks_none (outside_of c.args.machine.now.rows (g.D.Sectors.size c.args.disk.now)) c.args.map.now (seen (g.D.Sectors.sectors c.args.disk.now) c.args.machine.now)
       (tracing c.args.tracer.now (g.O.Sink.text c.args.out.now) c.args.budget.now);
 }
@@ -257,6 +306,8 @@ returns-in_err-stepped-clause-leaves g c = record {
 
 pub loop-begun-preserved : goal.loop-begun-preserved
 loop-begun-preserved g c = record {
+  less = let e = c.loop-begun.invariant.less in omega (arith, e);
+  script = stepped_calls g (goal.at.loop-begun-preserved g c).In_ok-stepped;
   rows = c.in_ok-stepped.ensures.leaves.stays.rows ∙ c.loop-begun.invariant.rows;
   memory = c.in_ok-stepped.ensures.leaves.stays.memory ∙ c.loop-begun.invariant.memory;
   sector = c.in_ok-stepped.ensures.leaves.stays.sector;
@@ -329,6 +380,8 @@ loop-begun-preserved-then-skipped-limit g c =
     let less = c.if-skipped-limit.true in
     let p = c.if-budget-eq0.false in
     let rest = c.pass-skipped.ensures.passes.rest in record {
+      less = let e = c.loop-begun.invariant.less in omega (arith, e, p, spent);
+      script = passed_calls g (goal.at.loop-begun-preserved-then-skipped-limit g c).In_ok-stepped c.pass-skipped.new.machine c.pass-skipped.new.budget c.pass-skipped.result c.pass-skipped.ensures.passes spent (λ s. (c.pass-skipped.ensures.traced s).0);
       rows = ap (λ (h : Held). h.rows) rest ∙ c.in_ok-stepped.ensures.leaves.stays.rows ∙ c.loop-begun.invariant.rows;
       memory = c.pass-skipped.ensures.memory ∙ c.in_ok-stepped.ensures.leaves.stays.memory ∙ c.loop-begun.invariant.memory;
       sector = subst (λ (h : Held). NamesSector (g.D.Sectors.size c.step_traced.new.disk) h.hardware.ports.pending) (sym rest) c.in_ok-stepped.ensures.leaves.stays.sector;
@@ -384,6 +437,8 @@ loop-begun-preserved-then-not-at_rest g c =
     let p = c.if-budget-eq0.false in
     let m : ℕ = c.pass.result in
     let rest = c.pass.ensures.passes.rest in record {
+      less = let e = c.loop-begun.invariant.less in omega (arith, e, p, less);
+      script = passed_calls g (goal.at.loop-begun-preserved-then-not-at_rest g c).In_ok-stepped c.pass.new.machine c.pass.new.budget m c.pass.ensures.passes less (λ s. (c.pass.ensures.traced s).0);
       rows = ap (λ (h : Held). h.rows) rest ∙ c.in_ok-stepped.ensures.leaves.stays.rows ∙ c.loop-begun.invariant.rows;
       memory = c.pass.ensures.memory ∙ c.in_ok-stepped.ensures.leaves.stays.memory ∙ c.loop-begun.invariant.memory;
       sector = subst (λ (h : Held). NamesSector (g.D.Sectors.size c.step_traced.new.disk) h.hardware.ports.pending) (sym rest) c.in_ok-stepped.ensures.leaves.stays.sector;
@@ -420,3 +475,29 @@ loop-begun-preserved-then-not-at_rest g c =
           c.pass.ensures.traced less
           (tracked g (goal.at.loop-begun-preserved-then-not-at_rest g c).In_ok-stepped);
     }
+
+-- the calls of all of them
+pub returns-then-budget-eq0-clause-script : goal.returns-then-budget-eq0-clause-script
+returns-then-budget-eq0-clause-script g c =
+    as_made (outside_of c.args.machine.now.rows (g.D.Sectors.size c.args.disk.now)) g.O.Sink g.D.Sectors c.args.map.now c.args.machine.now c.args.tracer.now c.args.out.now c.args.disk.now {R = Unit {0}} (Ok tt) _ c.loop-begun.out c.loop-begun.disk
+    (c.args.budget.now - c.loop-begun.budget) (c.args.budget.now - c.loop-begun.budget) refl refl c.loop-begun.invariant.script
+
+pub returns-clause-script : goal.returns-clause-script
+returns-clause-script g c =
+    as_made (outside_of c.args.machine.now.rows (g.D.Sectors.size c.args.disk.now)) g.O.Sink g.D.Sectors c.args.map.now c.args.machine.now c.args.tracer.now c.args.out.now c.args.disk.now {R = Unit {0}} (Ok tt) _ c.loop-begun.out c.loop-begun.disk
+    (c.args.budget.now - c.loop-begun.budget) (c.args.budget.now - c.loop-begun.budget) refl refl c.loop-begun.invariant.script
+
+pub returns-in-Some-clause-script : goal.returns-in-Some-clause-script
+returns-in-Some-clause-script g c =
+    as_made (outside_of c.args.machine.now.rows (g.D.Sectors.size c.args.disk.now)) g.O.Sink g.D.Sectors c.args.map.now c.args.machine.now c.args.tracer.now c.args.out.now c.args.disk.now {R = Unit {0}} (Ok tt) _ c.step_traced.new.out c.step_traced.new.disk
+    (c.args.budget.now - (c.loop-begun.budget - 1)) (c.args.budget.now - (c.loop-begun.budget - 1)) refl refl (stepped_calls g (goal.at.returns-in-Some-clause-script g c).In_ok-stepped)
+
+pub returns-in_err-stepped-clause-script : goal.returns-in_err-stepped-clause-script
+returns-in_err-stepped-clause-script g c =
+    let w = err_from_is_err_and c.from_residual.result c.from_residual.ensures.1 in
+    let p = c.if-budget-eq0.false in
+    rw (w.1, w.2) (as_made (outside_of c.args.machine.now.rows (g.D.Sectors.size c.args.disk.now)) g.O.Sink g.D.Sectors c.args.map.now c.args.machine.now c.args.tracer.now c.args.out.now c.args.disk.now {R = Stepped} {T = ℕ × Begun} (Err c.in_err-stepped.field-0.0) (Err c.in_err-stepped.field-0.0)
+    c.step_traced.new.out c.step_traced.new.disk (c.args.budget.now - (c.loop-begun.budget - 1)) (c.args.budget.now - (c.loop-begun.budget - 1)) refl refl
+    (one_more g.O.Sink g.D.Sectors c.args.map.now c.args.machine.now c.loop-begun.machine c.args.tracer.now c.loop-begun.tracer c.args.out.now c.loop-begun.out c.step_traced.new.out c.args.disk.now c.loop-begun.disk c.step_traced.new.disk c.args.budget.now c.loop-begun.budget
+    (Err c.in_err-stepped.field-0.0) c.loop-begun.invariant.less (omega (arith, p)) c.loop-begun.invariant.rows c.loop-begun.invariant.size c.loop-begun.invariant.script (λ s t h. let i = c.loop-begun.invariant.ran s t h in (i.0, i.2, i.3))
+    (λ e. (c.loop-begun.invariant.untraced e).0) c.loop-begun.invariant.tracks c.in_err-stepped.ensures.script))

@@ -1,4 +1,4 @@
-use Rattle.std.proofs.Common.{◌≡◌, ℕ, ◌+◌, ◌<◌, ◌≤◌, Some, None}
+use Rattle.std.proofs.Common.{◌≡◌, ℕ, ◌+◌, ◌-◌, ◌<◌, ◌≤◌, Some, None, Ok}
 use Rattle.std.specs.Prelude.{length, IfSome}
 use Rattle.std.specs.Option.{option_map}
 use Rattle.cvm_outside.specs.Numbering.{tally}
@@ -8,6 +8,7 @@ use Rattle.mips_machine.specs.Steps.{outside_of}
 use Rattle.boot_turns.specs.Completes.{seen, Progress, Skips}
 use Rattle.boot_turns.specs.Steps.{StepCalls}
 use Rattle.boot_turns.specs.Tracing.{CanTrace}
+use Rattle.boot_turns.specs.LoopScripts.{StepsCall}
 use Rattle.boot_turns.proofs.Tracking.{Tracks}
 use Rattle.boot_turns.proofs.completion.complete.Given as goal
 
@@ -34,6 +35,8 @@ invariant-loop-begun g l = record {
   sink_faults : g.O.Sink.faults l.out ≡ g.O.Sink.faults l.fn.out;
   tracks : Tracks (outside_of l.fn.machine.rows (g.D.Sectors.size l.fn.disk)) l.map (seen (g.D.Sectors.sectors l.fn.disk) l.fn.machine) (seen (g.D.Sectors.sectors l.disk) l.machine)
       (record { tracer = l.fn.tracer; text = g.O.Sink.text l.fn.out; budget = l.fn.budget }) (record { tracer = l.tracer; text = g.O.Sink.text l.out; budget = l.budget });
+  less : l.budget ≤ l.fn.budget;
+  script : StepsCall {T = Unit {0}} g.O.Sink g.D.Sectors l.map l.fn.machine l.fn.tracer (l.fn.out, l.fn.disk) (l.out, l.disk) (l.fn.budget - l.budget) (Ok tt);
 }
 
 abbrev pub decreases-loop-begun : goal.decreases-loop-begun

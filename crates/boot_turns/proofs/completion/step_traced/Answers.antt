@@ -1,4 +1,4 @@
-use Rattle.std.proofs.Common.{◌≡◌, ℕ, inl, inr, rules, List, Option, Some, None, refl, ap, ap₂, sym, ◌∙◌, subst, Bool, true, false, Err}
+use Rattle.std.proofs.Common.{◌≡◌, ℕ, inl, inr, rules, List, Option, Some, None, refl, ap, ap₂, sym, ◌∙◌, subst, Bool, true, false, Ok, Err}
 use Rattle.std.specs.Prelude.{IfSome, is_some}
 use Rattle.cvm_outside.specs.Numbering.{tally}
 use Rattle.mips_machine.specs.Machine.{Held}
@@ -12,6 +12,8 @@ use Rattle.boot_turns.specs.Tracing.{reads_of}
 use Rattle.boot_turns.proofs.CallCounts.{step_alone, step_rows}
 use Rattle.boot_turns.proofs.Counted.{step_counted, counted_reads}
 use Rattle.boot_turns.proofs.Reading.{asks_more}
+use Rattle.boot_turns.proofs.StepMakes.{step_broken, step_plain, step_follows, step_counts}
+use Rattle.cvm_outside.specs.Outside.{output}
 use Rattle.std.proofs.lemmas.Result.{err_from_is_err_and}
 use Rattle.mips_machine.specs.Steps.{outside_of}
 use Rattle.boot_turns.specs.declared.tracer.Tracer.{Tracer}
@@ -152,3 +154,43 @@ returns-in-Some-clause-leaves g c = record {
       (here g (goal.at.returns-in-Some-clause-leaves g c).In-Some) (ap (λ (h : Held). h.hardware.ports) c.in_ok-follow.ensures.leaves.rows.view.same)
       c.in_ok-stepped.ensures.count.same c.in_ok-stepped.ensures.calls c.in_ok-follow.ensures.leaves.rows.asks;
 }
+
+-- THE CALLS of the step
+pub returns-in_err-stepped-clause-script : goal.returns-in_err-stepped-clause-script
+returns-in_err-stepped-clause-script g c =
+    let w = err_from_is_err_and c.from_residual.result c.from_residual.ensures.1 in
+    rw (w.1, w.2) (step_broken (outside_of c.args.machine.now.rows (g.D.Sectors.size c.args.disk.now)) g.O.Sink g.D.Sectors c.args.map.now c.args.machine.now c.args.tracer.now c.args.out.now c.args.disk.now c.step_once.new.disk
+    (λ ss shelf. c.in_err-stepped.ensures.script ss shelf (output g.O.Sink c.args.out.now)))
+
+pub returns-in_err-follow-clause-script : goal.returns-in_err-follow-clause-script
+returns-in_err-follow-clause-script g c =
+    let w = err_from_is_err_and c.from_residual-in_err-follow.result c.from_residual-in_err-follow.ensures.1 in
+    rw (w.1, w.2) (step_follows (outside_of c.args.machine.now.rows (g.D.Sectors.size c.args.disk.now)) g.O.Sink g.D.Sectors c.args.map.now c.args.machine.now c.args.tracer.now c.args.out.now c.args.disk.now
+    c.traces_grow.ensures c.journal_rows_follow.ensures c.the_words_tell.ensures c.requires.on c.in-Some.kept (here g (goal.at.returns-in_err-follow-clause-script g c).In-Some) c.step_once.new.machine c.follow.new.out c.step_once.new.disk c.follow.new.disk
+    c.current_user-current.result c.began-began.result (Err c.in_err-follow.field-0.0) c.in_ok-stepped.ensures.ends.ran c.current_user-current.ensures (began g (goal.at.returns-in_err-follow-clause-script g c).In-Some)
+    (λ ss shelf. c.in_ok-stepped.ensures.script ss shelf (output g.O.Sink c.args.out.now)) c.in_err-follow.ensures.script)
+
+pub returns-in-Some-clause-script : goal.returns-in-Some-clause-script
+returns-in-Some-clause-script g c =
+    step_follows (outside_of c.args.machine.now.rows (g.D.Sectors.size c.args.disk.now)) g.O.Sink g.D.Sectors c.args.map.now c.args.machine.now c.args.tracer.now c.args.out.now c.args.disk.now
+    c.traces_grow.ensures c.journal_rows_follow.ensures c.the_words_tell.ensures c.requires.on c.in-Some.kept (here g (goal.at.returns-in-Some-clause-script g c).In-Some) c.step_once.new.machine c.follow.new.out c.step_once.new.disk c.follow.new.disk
+    c.current_user-current.result c.began-began.result (Ok c.stepped_as.result) c.in_ok-stepped.ensures.ends.ran c.current_user-current.ensures (began g (goal.at.returns-in-Some-clause-script g c).In-Some)
+    (λ ss shelf. c.in_ok-stepped.ensures.script ss shelf (output g.O.Sink c.args.out.now)) c.in_ok-follow.ensures.script
+
+pub returns-then-counts-clause-script : goal.returns-then-counts-clause-script
+returns-then-counts-clause-script g c =
+    let kept : KeptUser c.step_once.new.machine Kept = subst (KeptUser c.step_once.new.machine) c.in-Kept.is c.in_ok-stepped.ensures.ends.kept in
+    let began : StepBegan (g.D.Sectors.size c.args.disk.now) c.args.machine.now (g.D.Sectors.sectors c.args.disk.now) true =
+    subst (λ (s : Stepped). StepBegan (g.D.Sectors.size c.args.disk.now) c.args.machine.now (g.D.Sectors.sectors c.args.disk.now) (turn_began s)) c.in-Kept.is c.in_ok-stepped.ensures.ends.began in
+    step_counts (outside_of c.args.machine.now.rows (g.D.Sectors.size c.args.disk.now)) g.O.Sink g.D.Sectors c.args.map.now c.args.machine.now c.args.tracer.now c.args.out.now c.args.disk.now
+    c.traces_grow.ensures c.journal_rows_follow.ensures c.the_words_tell.ensures c.requires.on c.step_once.new.machine c.step_once.new.disk c.current_user-current.result Kept c.in_ok-stepped.ensures.ends.ran c.current_user-current.ensures began kept.0
+    (λ ss shelf. c.in_ok-stepped.ensures.script ss shelf (output g.O.Sink c.args.out.now))
+
+pub returns-clause-script : goal.returns-clause-script
+returns-clause-script g c =
+    let same : c.match-stepped.tracer ≡ c.args.tracer.now = elim c.match-stepped.branch [
+      | in-Kept+else-counts w ↦ w.tracer-is ∙ w.counts.ensures.same w.if-counts.false
+      | in_default w ↦ w.tracer-is
+    ] in
+    step_plain (outside_of c.args.machine.now.rows (g.D.Sectors.size c.args.disk.now)) g.O.Sink g.D.Sectors c.args.map.now c.args.machine.now c.args.tracer.now c.args.out.now c.args.disk.now c.stepped_as-2.result c.step_once.new.disk
+    (sym same ∙ c.in_default-tracer.is) (λ ss shelf. c.in_ok-stepped.ensures.script ss shelf (output g.O.Sink c.args.out.now))
