@@ -4,6 +4,10 @@ use Rattle.std.specs.List.{range_with_len}
 use Rattle.mips_table.specs.Device.{HasEightLines, LinesEnd}
 use Rattle.mips_table.specs.Machine.{State, start, run}
 use Rattle.mips_table.specs.Turns.{turn_of, complete, lines_of, end_within}
+use Rattle.mips_table.specs.Samples.{reading, sampled, sectors as eight_sectors}
+use Rattle.cvm_outside.specs.Script.{Read}
+use Rattle.mips_machine.specs.Steps.{due}
+use Rattle.boot_turns.specs.StepScript.{transfers}
 use Rattle.boot_turns.specs.Samples.{two_frames, few_words, raising, conversing, fetching}
 
 -- the machine of 21 words at its start
@@ -72,6 +76,12 @@ pub record IsInputTaken : Type 0 where
   pub logged : (run (raising 12) conversing 7).log ≡ 7 ∷ []
   pub ran : slice_index (run (raising 12) fetching 1).cpu.regs 1 ≡ 5
   pub taken : (run (raising 12) fetching 1).input ≡ 8 ∷ []
+
+-- of a machine that begins to read sector 7 in step 5, by a command that is busy for 3 steps: the transfer is due in step 8 alone
+pub record IsTransferDue : Type 0 where
+  pub by_step : map (λ t. due sampled (run sampled (start reading eight_sectors []) t)) (range_with_len 0 11) ≡ replicate 8 [] ++ (Read 7 ∷ []) ∷ [] ∷ [] ∷ []
+  pub all : transfers sampled (start reading eight_sectors []) 0 11 ≡ Read 7 ∷ []
+  pub later : transfers sampled (start reading eight_sectors []) 9 2 ≡ []
 
 -- the outside of these rows is one that a schedule may give
 pub record AreLinesOfASchedule : Type 0 where

@@ -1,6 +1,8 @@
 -- Each row is computed.
 use Rattle.std.proofs.Common.{refl}
+use Rattle.cvm_outside.specs.Script.{scripts}
 use Rattle.mips_table.specs.Machine.{step}
+use Rattle.mips_machine.specs.Steps.{before_count, due}
 use Rattle.mips_table.specs.Turns.{begins, handled, rests}
 use Rattle.boot_turns.proofs.rows.machine_rows.Goals as goal
 
@@ -11,3 +13,7 @@ returns-clause-turns c = record { begun = refl; complete = refl; lines = refl; e
 pub returns-clause-input : goal.returns-clause-input
 unfolding step
 returns-clause-input c = record { loaded = refl; left = refl; logged = refl; ran = refl; taken = refl }
+
+pub returns-clause-transfer : goal.returns-clause-transfer
+unfolding step due before_count scripts
+returns-clause-transfer c = record { by_step = refl; all = refl; later = refl }
