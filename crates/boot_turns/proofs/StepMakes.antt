@@ -33,6 +33,7 @@ use Rattle.boot_turns.specs.RowScripts.{of_run, ArePages, followed_script}
 use Rattle.boot_turns.specs.LoopScripts.{traced_run, CallsOf, StepsCall}
 use Rattle.boot_turns.proofs.Events.{told_as_some}
 use Rattle.boot_turns.proofs.ShownRows.{scripts-same, scripts-one, counted_none}
+use Rattle.boot_turns.proofs.SomeCalls.{untold, made_untold, of_both, untold_both, of_due, of_followed}
 use Rattle.boot_turns.proofs.Stretches.{later}
 use Rattle.boot_turns.proofs.Tracking.{Booted, Tracks, steps_one, step_made}
 
@@ -72,6 +73,7 @@ module _ {O D : Type 0} (x : device.Outside) (text : sink_of.Ghosts O) (told : s
     untraced = λ none s t at shelf. same_script [] (transfers x s t 0) (over text told shelf o d) (over text told shelf o d) None (sym (scripts-none (λ i. due x (run x s (t + i))))) (done _);
     traced = λ c y s late limit u t base from map_is low high at traced p turns steps shown shelf.
         same_script [] (steps_script (traced_run x y s u turns steps) p t 0) (over text told shelf o d) (over text told shelf o d) None (sym (scripts-none (λ i. step_script (traced_run x y s u turns steps) p (t + i)))) (done _);
+    some = ([], tt, λ shelf. done _);
   }
 
   -- the same, by another answer that blames the same
@@ -82,6 +84,7 @@ module _ {O D : Type 0} (x : device.Outside) (text : sink_of.Ghosts O) (told : s
     traced = λ c y s late limit u t base from map_is low high at traced p turns steps shown shelf.
         subst (Performs (steps_script (traced_run x y s u turns steps) p t n) (over text told shelf o d) (over text told shelf o1 d1)) same
         (made.traced c y s late limit u t base from map_is low high at traced p turns steps shown shelf);
+    some = (made.some.0, made.some.1, λ shelf. subst (Performs made.some.0 (over text told shelf o d) (over text told shelf o1 d1)) same (made.some.2 shelf));
   })
 
   -- ONE STEP, whose transfer failed
@@ -95,6 +98,7 @@ module _ {O D : Type 0} (x : device.Outside) (text : sink_of.Ghosts O) (told : s
         same_script (due x (state_of held w.0) ++ rows_script (Trace u) r p t) (steps_script r p t 1) (over text told shelf o d) (over text told shelf o d1) (Some TheDisk)
         (ap (λ (v : State). due x v ++ rows_script (Trace u) r p t) w.2 ∙ sym (steps_one r p t))
         (first (due x (state_of held w.0)) (rows_script (Trace u) r p t) (over text told shelf o d) (over text told shelf o d1) TheDisk (h w.0 shelf));
+    some = (untold (due x (state_of held [])), of_due x (state_of held []), λ shelf. made_untold (due x (state_of held [])) (over text told shelf o d) (over text told shelf o d1) (Some TheDisk) (h [] shelf));
   }
 
   -- or which was done where no user is traced
@@ -104,6 +108,7 @@ module _ {O D : Type 0} (x : device.Outside) (text : sink_of.Ghosts O) (told : s
     untraced = λ none s t at shelf. one_transfer x held (told.sectors d) (λ (l : List Call). Performs l (over text told shelf o d) (over text told shelf o d1) None) (λ ss. h ss shelf) s t at;
     traced = λ c y s late limit u t base from map_is low high at traced p turns steps shown shelf.
         absurd (let e : ◌≡◌ {A = Option Tracer} None (Some (tracer_at x y s u t traced.journal)) = sym untraced ∙ traced.keeps in cc);
+    some = (untold (due x (state_of held [])), of_due x (state_of held []), λ shelf. made_untold (due x (state_of held [])) (over text told shelf o d) (over text told shelf o d1) None (h [] shelf));
   }
 
   -- or was done where one is, and then its rows are printed
@@ -119,6 +124,12 @@ module _ {O D : Type 0} (x : device.Outside) (text : sink_of.Ghosts O) (told : s
         (record { unit = c; y = y; s = s; late = late; held = limit; u = u; t = t; base = base; from = from; map_is = map_is; low = low; high = high; at = at; traced = traced }) p turns steps shown
         (λ (l : List Call). Performs l (over text told shelf o d) (over text told shelf o2 d2) (blame of_run result))
         (λ ss pages are. both (due x (state_of held ss)) (followed_script m (state_of mid []) pages k current began) (over text told shelf o d) (over text told shelf o d1) (over text told shelf o2 d2) (blame of_run result) (moved ss shelf) (rows pages are shelf));
+    some = (
+      untold (due x (state_of held []) ++ followed_script m (state_of mid []) None k current began),
+      untold_both (due x (state_of held [])) (followed_script m (state_of mid []) None k current began) (of_due x (state_of held [])) (of_followed m (state_of mid []) None k current began),
+      λ shelf. made_untold (due x (state_of held []) ++ followed_script m (state_of mid []) None k current began) (over text told shelf o d) (over text told shelf o2 d2) (blame of_run result)
+          (both (due x (state_of held [])) (followed_script m (state_of mid []) None k current began) (over text told shelf o d) (over text told shelf o d1) (over text told shelf o2 d2) (blame of_run result) (moved [] shelf) (rows None tt shelf)),
+    );
   })
 
   -- or is an untrapped one of a user, which has no rows
@@ -152,6 +163,11 @@ module _ {O D : Type 0} (x : device.Outside) (text : sink_of.Ghosts O) (told : s
             (both (steps_script r p t n) (steps_script r p (t + n) k) (over text told shelf o d) (over text told shelf o1 d1) (over text told shelf o2 d2) (blame of_run result)
             (first_steps.traced c y s late limit u t base from map_is low high at traced p turns steps (λ j a b. shown j a (omega (arith, b))) shelf)
             (then.traced c y s late limit u (t + n) base from map_is low high (at_mid s t at) there p turns steps (λ j a b. shown j (omega (arith, a)) (omega (arith, b))) shelf));
+        some = (
+          first_steps.some.0 ++ then.some.0,
+          of_both first_steps.some.0 then.some.0 first_steps.some.1 then.some.1,
+          λ shelf. both first_steps.some.0 then.some.0 (over text told shelf o d) (over text told shelf o1 d1) (over text told shelf o2 d2) (blame of_run result) (first_steps.some.2 shelf) (then.some.2 shelf),
+        );
       })
 
       -- a stretch behind them, in which no transfer is due; there is none where a user is traced
@@ -171,6 +187,7 @@ module _ {O D : Type 0} (x : device.Outside) (text : sink_of.Ghosts O) (told : s
             let same : n ≡ n + k = omega (arith, none) in
             same_script (steps_script r p t n) (steps_script r p t (n + k)) (over text told shelf o d) (over text told shelf o1 d1) None (ap (steps_script r p t) same)
             (first_steps.traced c y s late limit u t base from map_is low high at traced p turns steps (λ j a b. shown j a (omega (arith, b))) shelf);
+        some = first_steps.some;
       })
 
 -- THE LOOP: where a machine stood at a step it stands now so many steps on as were taken from the budget, with what is kept of its trace then

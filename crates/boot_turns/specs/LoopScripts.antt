@@ -1,5 +1,5 @@
--- THE SCRIPT OF STEPS of a machine whose disk tells its sectors.
-use Rattle.std.specs.Prelude.{◌≡◌, ℕ, ◌+◌, ◌≤◌, List, length, Option, Some, None, Result}
+-- THE SCRIPT OF STEPS of a machine: where its disk tells its sectors, exactly; and what it may be where the disk tells none.
+use Rattle.std.specs.Prelude.{◌≡◌, ℕ, ◌+◌, ◌≤◌, ⊤, List, [], ◌∷◌, length, Option, Some, None, Result}
 use Rattle.mips_table.specs.Device.{Outside}
 use Rattle.mips_table.specs.Machine.{State, run}
 use Rattle.mips_machine.specs.Machine.{Held}
@@ -11,7 +11,7 @@ use Rattle.cvm_model.specs.Cvm.{System}
 use Rattle.layer_contract.specs.Follows.{site_of}
 use Rattle.cvm_outside.specs.declared.sink.Sink as sink_of
 use Rattle.cvm_outside.specs.declared.sectors.Sectors as sectors_of
-use Rattle.cvm_outside.specs.Script.{Makes}
+use Rattle.cvm_outside.specs.Script.{Call, Printed, Read, Wrote, Makes}
 use Rattle.boot_turns.specs.declared.answers.RunFault.{RunFault}
 use Rattle.boot_turns.specs.declared.answers.View.TheVariants.{Trace}
 use Rattle.boot_turns.specs.declared.tracer.Tracer.{Tracer}
@@ -41,11 +41,24 @@ StepsTrace x text told m held kept (out, disk) new n result =
     (p : Past) (turns steps : ℕ) → ((j : ℕ) → t ≤ j → j ≤ t + n → Shown x s y u j (p.shown j)) →
     Makes text told (out, disk) new (steps_script (traced_run x y s u turns steps) p t n) of_run result
 
--- THE CALLS OF n STEPS, with what was kept of a trace before them: where no user is traced, and where one is
+-- calls of a run whose disk tells no sectors: sectors are read and written, and texts printed that aren't told
+abbrev pub AreOfRun : List Call → Type 0
+AreOfRun [] = ⊤
+AreOfRun (Read sector ∷ rest) = AreOfRun rest
+AreOfRun (Wrote sector words ∷ rest) = AreOfRun rest
+AreOfRun (Printed None ∷ rest) = AreOfRun rest
+AreOfRun (other ∷ rest) = ⊥
+
+-- some such calls are made
+abbrev pub SomeMake : {O D T : Type 0} → sink_of.Ghosts O → sectors_of.Ghosts D → (old new : O × D) → Result T RunFault → Type 0
+SomeMake text told old new result = (script : List Call) × AreOfRun script × Makes text told old new script of_run result
+
+-- THE CALLS OF n STEPS, with what was kept of a trace before them: where no user is traced, where one is, and over any disk
 pub record CallsOf {O D T : Type 0} (x : Outside) (text : sink_of.Ghosts O) (told : sectors_of.Ghosts D) (m : Map) (held : Held) (kept : Option Tracer)
     (old new : O × D) (n : ℕ) (result : Result T RunFault) : Type 0 where
   pub untraced : kept ≡ None → StepsMake x text told held old new n result
   pub traced : StepsTrace x text told m held kept old new n result
+  pub some : SomeMake text told old new result
 
 -- over the disk as it was
 abbrev pub StepsCall : {O D T : Type 0} → sink_of.Ghosts O → sectors_of.Ghosts D → Map → Held → Option Tracer → (old new : O × D) → (n : ℕ) →
