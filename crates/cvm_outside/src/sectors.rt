@@ -4,10 +4,13 @@ ghost use Rattle.cvm_outside.specs.Causes.{Counts};
 ghost use Rattle.cvm_outside.specs.Numbering.{until_fault};
 ghost use Rattle.cvm_outside.specs.Told.{Tells, IsSector, sector_of, with_sector};
 
+use thiserror::Error;
+
 /// Why a call of a disk was not done.
-#[derive(Clone, Copy, Debug, PartialEq, Eq)]
+#[derive(Clone, Copy, Debug, PartialEq, Eq, Error)]
 pub enum DiskFault {
     /// The sector could not be read or written, and the disk counted a fault.
+    #[error("a sector could not be read or written")]
     Failed,
 }
 

@@ -5,18 +5,22 @@ ghost use Rattle.cvm_outside.specs.Told.{Tells, IsCutOff, retold, TOO_LONG};
 ghost use Rattle.cvm_outside.specs.declared.shelf.ShelfFault.TheVariants.{TooLong, Memory};
 
 use std::alloc::Global;
+use thiserror::Error;
 
 /// The most bytes that a file may have: 64 MiB.
 pub const LONGEST_FILE: usize = 67_108_864;
 
 /// Why a call of a shelf gave no answer.
-#[derive(Clone, Copy, Debug, PartialEq, Eq)]
+#[derive(Clone, Copy, Debug, PartialEq, Eq, Error)]
 pub enum ShelfFault {
     /// The file could not be read or written, and the shelf counted a fault.
+    #[error("the file could not be read or written")]
     Failed,
     /// The file has more than 67,108,864 bytes.
+    #[error("the file has more than 67,108,864 bytes")]
     TooLong,
     /// Want of memory.
+    #[error("out of memory")]
     Memory,
 }
 

@@ -4,10 +4,13 @@ ghost use Rattle.std.specs.Io.KnownBytes.{append_known};
 ghost use Rattle.cvm_outside.specs.Causes.{Counts};
 ghost use Rattle.cvm_outside.specs.Told.{AppendsPart};
 
+use thiserror::Error;
+
 /// Why a put of a sink was not done.
-#[derive(Clone, Copy, Debug, PartialEq, Eq)]
+#[derive(Clone, Copy, Debug, PartialEq, Eq, Error)]
 pub enum SinkFault {
     /// Not all bytes could be put, and the sink counted a fault.
+    #[error("not all bytes could be written")]
     Failed,
 }
 
