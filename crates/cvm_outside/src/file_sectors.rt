@@ -3,29 +3,32 @@ ghost use Rattle.std.specs.Prelude.{◌≡◌, ◌<◌, ◌≤◌, length, None}
 ghost use Rattle.cvm_outside.specs.Causes.{Rose};
 ghost use Rattle.cvm_outside.specs.Numbering.{until_fault};
 
+use crate::file_shelf::longest_file;
 use crate::{DiskFault, Sectors};
 use byteorder::{ByteOrder, LittleEndian};
 use std::fs::{File, OpenOptions, TryLockError};
-use std::io;
 use std::io::{Read, Seek, SeekFrom, Write};
+use std::{fs, io};
 
 /// How many sectors the file has.
 pub const SECTORS: u32 = 65_536;
 
 /// The name of the file, in the current folder.
-const NAME: &str = "cvm.disk";
+pub(crate) const DISK: &str = "cvm.disk";
 
 /// How many bytes a sector has in the file: 1,024 words of four bytes, the least byte first.
 const SECTOR_BYTES: usize = 4096;
 
 /// A disk of 65,536 sectors in the file `cvm.disk` in the current folder. A sector past the end of
 /// the file reads as zeros. The first `read` or `write` opens the file, makes it where there is
-/// none, and locks it against other disks until this one is dropped; if the file can't be opened or
-/// another disk holds it, it is that call's fault, and the next call tries again.
+/// none, and locks it against other disks until this one is dropped; if the file can't be opened, is
+/// no regular one, or another disk holds it, it is that call's fault, and the next call tries again.
+/// A sector that ends past what the process may write to a file (`ulimit -f`) can't be written.
 #[derive(Drop)]
 pub struct FileSectors {
     rt: HostRuntime,
     file: Option<File>,
+    longest: u64,
     faults: u64,
     calls: u64,
 }
@@ -38,6 +41,7 @@ impl FileSectors {
         FileSectors {
             rt,
             file: None,
+            longest: longest_file(),
             faults: 0,
             calls: 0,
         }
@@ -70,6 +74,9 @@ impl FileSectors {
         ensures faults { self.new.faults ≡ self.old.faults }
         ensures calls { self.new.calls ≡ self.old.calls }
     {
+        if (u64::from(i) + 1) * SECTOR_BYTES as u64 > self.longest {
+            return Err(io::Error::from(io::ErrorKind::FileTooLarge));
+        }
         let mut file = self.take_file()?;
         let result = write_sector(&mut file, i, from);
         self.file = Some(file);
@@ -131,13 +138,19 @@ impl Sectors for FileSectors {
     fn are_sectors(&self) {}
 }
 
-// Opens the file of the disk, made if there is none, and locks it. Where the file's system has no locks, it is taken without one.
+// Opens the file of the disk, made if there is none, and locks it. Where the file's system has no locks, it is taken without one. What is no regular
+// file isn't opened: a device would answer with other bytes than were written.
 fn open_disk(rt: HostRuntime) -> io::Result<File> {
+    if let Ok(about) = fs::metadata(&rt, DISK)
+        && !about.is_file()
+    {
+        return Err(io::Error::from(io::ErrorKind::Unsupported));
+    }
     let file = OpenOptions::new()
         .read(true)
         .write(true)
         .create(true)
-        .open(&rt, NAME)?;
+        .open(&rt, DISK)?;
     match file.try_lock() {
         Err(TryLockError::WouldBlock) => Err(io::Error::from(io::ErrorKind::ResourceBusy)),
         Ok(()) | Err(TryLockError::Error(_)) => Ok(file),
@@ -180,18 +193,17 @@ fn write_sector<F: Write + Seek>(file: &mut F, i: u32, from: &[u32; 1024]) -> io
 #[cfg(test)]
 mod tests {
     use super::*;
-    use std::fs;
     use std::process::Abort;
     use std::test::Fail;
 
     // Whether `at` and what follows it in the file are these bytes.
     fn file_has(rt: HostRuntime, at: usize, bytes: &[u8]) -> io::Result<bool> {
-        let file = fs::read(&rt, NAME)?;
+        let file = fs::read(&rt, DISK)?;
         Ok(file.get(at..at.saturating_add(bytes.len())) == Some(bytes))
     }
 
     fn file_len(rt: HostRuntime) -> io::Result<u64> {
-        Ok(fs::metadata(&rt, NAME)?.len())
+        Ok(fs::metadata(&rt, DISK)?.len())
     }
 
     // The first and the last word of a sector, and whether the others are zeros.
@@ -207,10 +219,10 @@ mod tests {
     // A folder of that name can't be opened, and the next call tries again.
     fn opens_at_a_call(rt: HostRuntime, test: &impl Abort) -> Result<(), Fail> {
         let mut disk = FileSectors::new(rt);
-        fs::create_dir(&rt, NAME)?;
+        fs::create_dir(&rt, DISK)?;
         assert!(test; ends(&mut disk, 0).is_err());
         assert_eq!(test; disk.faults, 1);
-        fs::remove_dir(&rt, NAME)?;
+        fs::remove_dir(&rt, DISK)?;
         assert_eq!(test; ends(&mut disk, 65_535), Ok((0, 0, true)));
         assert_eq!(test; file_len(rt)?, 0);
         Ok(())
@@ -259,7 +271,7 @@ mod tests {
         writes_words(rt, &rt)?;
         reads_zeros_past_the_end(rt, &rt)?;
         is_held_alone(rt, &rt)?;
-        fs::remove_file(&rt, NAME)?;
+        fs::remove_file(&rt, DISK)?;
         Ok(())
     }
 }

@@ -3,35 +3,111 @@ ghost use Rattle.std.specs.Prelude.{◌≡◌, ◌<◌, ◌≤◌, ◌-◌, [], 
 ghost use Rattle.cvm_outside.specs.Causes.{Rose};
 ghost use Rattle.cvm_outside.specs.Told.{TOO_LONG};
 
+use crate::file_sectors::DISK;
 use crate::shelf::LONGEST_FILE;
 use crate::{Shelf, ShelfFault};
+use libc::types::rlimit;
 use std::alloc::Global;
-use std::io::{Read, Write};
+use std::fs::{Metadata, OpenFile};
+use std::io::{ErrorKind, Read, Write};
+use std::os::unix::fs::{FileTypeExt, MetadataExt};
 use std::rt::Files;
 use std::{fs, io};
 
 /// How many bytes a file is read at once.
 const BLOCK: usize = 4096;
 
-/// A shelf over the system's files. A name is a path.
+/// The name under which the system has a process's standard output.
+const OUTPUT: &str = "/dev/stdout";
+
+/// The number of the limit that `ulimit -f` sets, for getrlimit.
+const FILE_SIZE: i32 = 1;
+
+/// A shelf over the system's files. A name is a path. No file has two roles in one run, whatever
+/// names lead to it: that of the disk and standard output are neither got nor put, and one that was
+/// got isn't put. Such a call fails and changes nothing; so does a put of more bytes than the process
+/// may write to a file (`ulimit -f`).
 #[derive(Drop)]
 pub struct FileShelf<R: Files> {
     rt: R,
+    got: Vec<Identity>,
+    longest: u64,
     taken: u64,
     faults: u64,
 }
 
-impl<R: Files + Drop> FileShelf<R> {
+impl<R: Files + AllocGlobal + Drop> FileShelf<R> {
     /// The shelf, with nothing taken and no fault.
     pub fn new(rt: R) -> Self
         ensures taken { ⟦<FileShelf<R> as Shelf>⟧.taken result ≡ 0 }
         ensures faults { ⟦<FileShelf<R> as Shelf>⟧.faults result ≡ 0 }
     {
+        let got = Vec::new(rt.alloc());
         FileShelf {
             rt,
+            got,
+            longest: longest_file(),
             taken: 0,
             faults: 0,
         }
+    }
+}
+
+impl<R: Files + Drop> FileShelf<R> {
+    /// How many bytes standard output takes before the process has written as much to that file as it
+    /// may (`ulimit -f`): 2^64 - 1 where it is no regular file, or nothing is limited.
+    pub fn room_of_output(&self) -> u64 {
+        match fs::metadata(&self.rt, OUTPUT) {
+            Ok(about) if about.is_file() && self.longest < u64::MAX => {
+                let place = libc::lseek(1, 0, libc::SEEK_CUR);
+                self.longest
+                    .saturating_sub(about.len().max(u64::try_from(place).unwrap_or(0)))
+            }
+            _ => u64::MAX,
+        }
+    }
+
+    /// Whether standard output is the file of the disk.
+    pub fn is_output_the_disk(&self) -> bool {
+        let output = identity_of(&self.rt, OUTPUT);
+        output.is_some() && output == identity_of(&self.rt, DISK)
+    }
+
+    // Opens a file that is to be got. Fails where it is the disk's or standard output; else it isn't put from then on.
+    fn open_input(&self, name: &str) -> io::Result<(R::File, Option<Identity>)> {
+        let file = fs::open(&self.rt, name)?;
+        let which = which_file(&file.metadata()?);
+        if self.is_elsewhere(which) {
+            return Err(io::Error::from(ErrorKind::ResourceBusy));
+        }
+        Ok((file, which))
+    }
+
+    // Whether it is the disk's file or standard output.
+    fn is_elsewhere(&self, file: Option<Identity>) -> bool {
+        file.is_some()
+            && (file == identity_of(&self.rt, DISK) || file == identity_of(&self.rt, OUTPUT))
+    }
+
+    // Whether a file of that name has another role in this run.
+    fn is_in_use(&self, name: &str) -> bool {
+        match identity_of(&self.rt, name) {
+            Some(file) => self.is_elsewhere(Some(file))
+                || self.got.iter().any(|other| *other == file),
+            None => name == DISK,
+        }
+    }
+
+    // Makes the file of that name hold these bytes.
+    fn write_file(&self, name: &str, bytes: &[u8]) -> io::Result<()> {
+        if self.is_in_use(name) {
+            return Err(io::Error::from(ErrorKind::ResourceBusy));
+        }
+        if bytes.len() as u64 > self.longest && is_limited(&self.rt, name) {
+            return Err(io::Error::from(ErrorKind::FileTooLarge));
+        }
+        let mut file = fs::create(&self.rt, name)?;
+        file.write_all(bytes)
     }
 
     // Counts a fault.
@@ -55,9 +131,14 @@ impl<R: Files + Drop> Shelf for FileShelf<R> {
 
     fn get(&mut self, alloc: Global, name: &str) -> Result<Vec<u8>, ShelfFault> {
         self.taken = 0;
-        let Ok(mut file) = fs::open(&self.rt, name) else {
+        let Ok((mut file, which)) = self.open_input(name) else {
             return Err(self.fault());
         };
+        if let Some(which) = which
+            && self.got.push(which).is_err()
+        {
+            return Err(ShelfFault::Memory);
+        }
         let mut bytes = Vec::new(alloc);
         let end = take_all(&mut file, &mut bytes);
         self.taken = bytes.len() as u64;
@@ -70,7 +151,7 @@ impl<R: Files + Drop> Shelf for FileShelf<R> {
     }
 
     fn put(&mut self, name: &str, bytes: &[u8]) -> Result<(), ShelfFault> {
-        match write_file(&self.rt, name, bytes) {
+        match self.write_file(name, bytes) {
             Ok(()) => Ok(()),
             Err(_) => Err(self.fault()),
         }
@@ -110,10 +191,49 @@ fn take_all<F: Read>(file: &mut F, bytes: &mut Vec<u8>) -> End
     End::Failed
 }
 
-// Makes the file of that name hold these bytes.
-fn write_file<R: Files>(rt: &R, name: &str, bytes: &[u8]) -> io::Result<()> {
-    let mut file = fs::create(rt, name)?;
-    file.write_all(bytes)
+/// Which file it is, whatever names lead to it.
+#[derive(Clone, Copy, PartialEq, Eq)]
+pub(crate) struct Identity {
+    device: u64,
+    number: u64,
+}
+
+// Which file it is; none for a device of characters, as /dev/null and a terminal, which keeps nothing of what is written.
+fn which_file(about: &Metadata) -> Option<Identity> {
+    (!about.file_type().is_char_device()).then_some(Identity {
+        device: about.dev(),
+        number: about.ino(),
+    })
+}
+
+// Which file a name leads to, if it leads to one that keeps what is written.
+fn identity_of<R: Files>(rt: &R, name: &str) -> Option<Identity> {
+    match fs::metadata(rt, name) {
+        Ok(about) => which_file(&about),
+        Err(_) => None,
+    }
+}
+
+// Whether the process may write to that file only so many bytes: to a regular one, and one that isn't there will be one.
+fn is_limited<R: Files>(rt: &R, name: &str) -> bool {
+    match fs::metadata(rt, name) {
+        Ok(about) => about.is_file(),
+        Err(_) => true,
+    }
+}
+
+/// How many bytes of a file the process may write, 2^64 - 1 where nothing is limited (`ulimit -f`).
+/// A write past them would end the process by a signal.
+pub(crate) fn longest_file() -> u64 {
+    let mut limit = rlimit {
+        rlim_cur: u64::MAX,
+        rlim_max: u64::MAX,
+    };
+    if libc::getrlimit(FILE_SIZE, &mut limit) == 0 {
+        limit.rlim_cur
+    } else {
+        u64::MAX
+    }
 }
 
 #[cfg(test)]
@@ -123,6 +243,8 @@ mod tests {
     use std::test::Fail;
 
     const NAME: &str = "file_shelf.test";
+
+    const LINK: &str = "file_shelf.link";
 
     // Makes the file have `len` bytes of zeros.
     fn make(rt: HostRuntime, len: u64) -> io::Result<()> {
@@ -163,9 +285,24 @@ mod tests {
         Ok(())
     }
 
+    // What was got isn't put, by a link neither, and the disk's file isn't put.
+    fn keeps_roles_apart(rt: HostRuntime, test: &impl Abort) -> Result<(), Fail> {
+        let mut shelf = FileShelf::new(rt);
+        fs::hard_link(&rt, NAME, LINK)?;
+        shelf.put(LINK, b"before")?;
+        assert!(test; shelf.get(rt.alloc(), NAME).is_ok());
+        assert!(test; shelf.put(LINK, b"after").is_err());
+        assert!(test; shelf.put(DISK, b"after").is_err());
+        assert!(test; file_is(rt, b"before")?);
+        assert_eq!(test; (shelf.taken, shelf.faults), (6, 2));
+        fs::remove_file(&rt, LINK)?;
+        Ok(())
+    }
+
     #[test]
     fn keeps_bytes_in_files(rt: HostRuntime) -> Result<(), Fail> {
         replaces_the_bytes(rt, &rt)?;
+        keeps_roles_apart(rt, &rt)?;
         refuses_a_long_file(rt, &rt)?;
         counts_faults(rt, &rt)?;
         fs::remove_file(&rt, NAME)?;
