@@ -38,7 +38,10 @@ fn main(rt: HostRuntime) -> ExitCode {
         return ExitCode::from(ExitStatus::Memory.code());
     };
     let mut shelf = FileShelf::new(rt);
-    let mut out = OutSink::new(rt);
+    if shelf.is_output_the_disk() {
+        return ExitCode::from(ExitStatus::Sink.code());
+    }
+    let mut out = OutSink::with_room(rt, shelf.room_of_output());
     let mut disk = FileSectors::new(rt);
     let status = run(alloc, &words, &mut shelf, &mut out, &mut disk);
     ExitCode::from(status.code())
