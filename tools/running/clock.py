@@ -3,7 +3,6 @@
 `tools/clock/program.rattle` boots an image by the functions by which `cvm boot` does, and prints behind each turn that called the kernel how many steps were
 done. It is built with no proof in a repository of its own, from copies of the crates, and kept until a source changes.
 """
-import json
 import os
 import re
 import shutil
@@ -62,36 +61,19 @@ def build_into(rt, folder):
             kept.stop(tool)
 
 
-def build(rt, name, say):
-    """Builds the program, unless another call has done so, and keeps it under a name in place of all earlier ones."""
-    os.makedirs(KEPT, exist_ok=True)
-    with open(os.path.join(KEPT, 'lock'), 'w', encoding='utf-8') as lock:
-        kept.take(lock, say)
-        made = os.path.join(KEPT, name)
-        if os.path.isdir(made):
-            return
-        say("try: builds the clock's program over the same sources, with no proof: about a minute of a processor. It is kept until a source changes.")
-        with kept.made_room('new-', KEPT) as new:
-            build_into(rt, new)
-            for old in os.listdir(KEPT):
-                path = os.path.join(KEPT, old)
-                if os.path.isdir(path) and path != new:
-                    shutil.rmtree(path, ignore_errors=True)
-            os.rename(new, made)
-
-
 def start(say):
     """The words that start the clock's program, which is built where it is not kept."""
+    what = "the clock's program over the same sources, with no proof: about a minute of a processor. It is kept until a source changes."
     try:
         rt, about = kept.toolchain()
         name = fingerprint(about)
-        if not os.path.isdir(os.path.join(KEPT, name)):
-            build(rt, name, say)
+        made = os.path.join(KEPT, name)
+        if not kept.is_whole(made):
+            kept.keep(KEPT, name, what, lambda new: build_into(rt, new), say)
             sharing.open_to_readers(KEPT)
     except kept.NoBuild as why:
         raise Bad(str(why), 70) from None
-    with open(os.path.join(KEPT, name, 'start'), encoding='utf-8') as file:
-        return [*json.load(file), os.path.join(KEPT, name, 'program')]
+    return kept.start_of(made)
 
 
 def steps_of(text):

@@ -1,7 +1,8 @@
 """The program as `rt try` builds it from the sources as they are, with no proof, kept until a source changes.
 
 `rt try` builds a program and runs it once. It is given a command that waits for a pipe; while it waits, the program that was built is copied, with the
-way in which it was started. Each further command runs that copy, so a change of the sources costs one build and every other command none.
+way in which it was started. Each further command runs that copy, so a change of the sources costs one build and every other command none. What is kept
+has the sums of its files beside it, which are taken anew by each call: what is damaged is never run, and built anew.
 """
 import contextlib
 import fcntl
@@ -18,6 +19,9 @@ from explain import pages
 
 TOP = pages.TOP
 KEPT = os.path.join(TOP, 'out', 'tried')
+# The files of what is kept, and the one with their sums.
+PARTS = ('program', 'start')
+SUMS = 'sums'
 # How many seconds the program may take from where the pipe can be written to until it is seen to have it open.
 WAIT = 120
 
@@ -26,14 +30,23 @@ class NoBuild(Exception):
     """Why there is no program to run, in a sentence."""
 
 
+def rows_of_crates():
+    """The lines of crates.txt."""
+    name = os.path.join(TOP, 'crates.txt')
+    try:
+        with open(name, encoding='utf-8') as file:
+            return file.readlines()
+    except UnicodeDecodeError:
+        raise NoBuild("'%s' is not UTF-8, and has to be: git -C '%s' checkout crates.txt brings it back" % (name, TOP)) from None
+
+
 def crates_below(name):
     """A crate and those that it stands on, by crates.txt."""
     below = {}
-    with open(os.path.join(TOP, 'crates.txt'), encoding='utf-8') as file:
-        for line in file:
-            head, colon, rest = line.partition('#')[0].partition(':')
-            if colon:
-                below[head.split()[0]] = rest.split()
+    for line in rows_of_crates():
+        head, colon, rest = line.partition('#')[0].partition(':')
+        if colon:
+            below[head.split()[0]] = rest.split()
     found, left = [], [name]
     while left:
         crate = left.pop()
@@ -71,6 +84,46 @@ def fingerprint(about):
         total.update(('%s %d\n' % (os.path.relpath(path, TOP), len(data))).encode())
         total.update(data)
     return total.hexdigest()[:24]
+
+
+def sums_of(folder):
+    """The sum of each file of what is kept, of a folder that has these and the file of sums and nothing else; None of any other."""
+    names = sorted(name for name in os.listdir(folder) if name != SUMS)
+    paths = [os.path.join(folder, name) for name in names]
+    if names != sorted(PARTS) or not all(map(os.path.isfile, paths)):
+        return None
+    found = {}
+    for name, path in zip(names, paths):
+        with open(path, 'rb') as file:
+            found[name] = hashlib.sha256(file.read()).hexdigest()
+    return found
+
+
+def put_sums(folder):
+    """Writes down the sums of what was built."""
+    with open(os.path.join(folder, SUMS), 'w', encoding='utf-8') as file:
+        json.dump(sums_of(folder), file)
+
+
+def is_whole(folder):
+    """Whether what is kept is what was built, and can be run."""
+    sums, program = os.path.join(folder, SUMS), os.path.join(folder, 'program')
+    try:
+        if not os.path.isfile(sums) or not os.access(program, os.X_OK):
+            return False
+        with open(sums, encoding='utf-8') as file:
+            found = json.load(file)
+        return found is not None and found == sums_of(folder)
+    except (OSError, ValueError):
+        return False
+
+
+def remove(path):
+    """Removes a folder, or a file in its place."""
+    if os.path.isdir(path) and not os.path.islink(path):
+        shutil.rmtree(path, ignore_errors=True)
+    elif os.path.lexists(path):
+        os.remove(path)
 
 
 def readers(path):
@@ -180,33 +233,49 @@ def take(lock, say):
         fcntl.flock(lock, fcntl.LOCK_EX)
 
 
-def build(rt, name, say):
-    """Builds the program, unless another call is at it or has done so, and keeps it under a name in place of all earlier ones."""
-    os.makedirs(KEPT, exist_ok=True)
-    with open(os.path.join(KEPT, 'lock'), 'w', encoding='utf-8') as lock:
+def keep(within, name, what, make, say):
+    """Makes what is to be kept under a name in a folder, in place of all earlier ones, unless another call is at it or has done so."""
+    if not os.path.isdir(within):
+        remove(within)
+    os.makedirs(within, exist_ok=True)
+    with open(os.path.join(within, 'lock'), 'w', encoding='utf-8') as lock:
         take(lock, say)
-        kept = os.path.join(KEPT, name)
-        if os.path.isdir(kept):
+        kept = os.path.join(within, name)
+        if is_whole(kept):
             return
-        say('try: builds the sources as they are, with no proof: about a minute of a processor. The build is kept until a source changes.')
-        with made_room('new-', KEPT) as new:
-            build_into(rt, new)
-            for old in os.listdir(KEPT):
-                path = os.path.join(KEPT, old)
-                if os.path.isdir(path) and path != new:
-                    shutil.rmtree(path, ignore_errors=True)
+        damaged = "what was kept in '%s' is damaged: " % kept if os.path.lexists(kept) else ''
+        say('try: %sbuilds %s' % (damaged, what))
+        with made_room('new-', within) as new:
+            make(new)
+            put_sums(new)
+            for old in os.listdir(within):
+                path = os.path.join(within, old)
+                if path == kept or os.path.isdir(path) and path != new:
+                    remove(path)
             os.rename(new, kept)
+
+
+def build(rt, name, say):
+    """Builds the program, unless another call is at it or has done so, and keeps it under a name."""
+    what = 'the sources as they are, with no proof: about a minute of a processor. The build is kept until a source changes.'
+    keep(KEPT, name, what, lambda new: build_into(rt, new), say)
+
+
+def start_of(folder):
+    """The words that start what is kept."""
+    with open(os.path.join(folder, 'start'), encoding='utf-8') as file:
+        return [*json.load(file), os.path.join(folder, 'program')]
 
 
 def forget():
     """Removes what is kept, so that the next call builds."""
-    shutil.rmtree(KEPT, ignore_errors=True)
+    remove(KEPT)
 
 
 def is_kept():
     """Whether the program of these sources is there."""
     try:
-        return os.path.isdir(os.path.join(KEPT, fingerprint(toolchain()[1])))
+        return is_whole(os.path.join(KEPT, fingerprint(toolchain()[1])))
     except NoBuild:
         return False
 
@@ -216,8 +285,6 @@ def program(say):
     rt, about = toolchain()
     name = fingerprint(about)
     kept = os.path.join(KEPT, name)
-    if not os.path.isdir(kept):
+    if not is_whole(kept):
         build(rt, name, say)
-    with open(os.path.join(kept, 'start'), encoding='utf-8') as file:
-        start = json.load(file)
-    return [*start, os.path.join(kept, 'program')]
+    return start_of(kept)

@@ -192,8 +192,6 @@ def start_of(options):
         return kept.program(say)
     except kept.NoBuild as why:
         raise Bad(str(why), 70) from None
-    except UnicodeDecodeError:
-        raise Bad("'%s' is not UTF-8, and has to be: git -C '%s' checkout crates.txt brings it back" % (os.path.join(pages.TOP, 'crates.txt'), pages.TOP), 70) from None
     finally:
         sharing.open_to_readers(kept.KEPT)
 

@@ -7,6 +7,7 @@ import sys
 import tempfile
 import time
 import unittest
+import unittest.mock
 
 from running import kept
 
@@ -19,7 +20,7 @@ sleep 0.2
 '''
 PROGRAM = '''#!/bin/sh
 %s
-cat "$3" >"$4"
+cat <&3 >"$4"
 '''
 
 
@@ -64,6 +65,47 @@ class Kept(unittest.TestCase):
         build.send_signal(signal.SIGTERM)
         self.assertEqual(build.wait(60), 143)
         self.assertEqual((os.listdir(self.to), os.listdir(within)), ([], ['lock']))
+
+    def test_what_is_damaged_is_built_anew(self):
+        put(os.path.join(self.room, 'program'), PROGRAM % 'exec 3<"$3"')
+        tried, said = os.path.join(self.room, 'tried'), []
+        made = os.path.join(tried, 'name')
+        damages = {
+            'the program is cut': lambda: os.truncate(os.path.join(made, 'program'), 9),
+            'the program is another': lambda: put(os.path.join(made, 'program'), PROGRAM % 'exec 4<"$3"'),
+            'the program can\'t be run': lambda: os.chmod(os.path.join(made, 'program'), stat.S_IRUSR),
+            'its start is broken': lambda: put(os.path.join(made, 'start'), '{'),
+            'its start is another': lambda: put(os.path.join(made, 'start'), '["sh"]'),
+            'the sums are broken': lambda: put(os.path.join(made, 'sums'), '{'),
+            'the sums are missing': lambda: os.remove(os.path.join(made, 'sums')),
+            'a file is one too many': lambda: put(os.path.join(made, 'more'), ''),
+            'a file stands in place of it': lambda: (kept.remove(made), put(made, 'a file')),
+            'a file stands in place of all': lambda: (kept.remove(tried), put(tried, 'a file')),
+        }
+        with unittest.mock.patch.object(kept, 'KEPT', tried):
+            build = lambda: kept.build(os.path.join(self.room, 'rt'), 'name', said.append)
+            build()
+            start = kept.start_of(made)
+            for case, damage in damages.items():
+                with self.subTest(case):
+                    self.assertTrue(kept.is_whole(made))
+                    build()
+                    del said[:]
+                    damage()
+                    self.assertFalse(kept.is_whole(made))
+                    build()
+                    self.assertEqual(len(said), 1)
+                    self.assertEqual('is damaged' in said[0], case != 'a file stands in place of all')
+                    self.assertEqual((kept.is_whole(made), kept.start_of(made)), (True, start))
+
+    def test_crates_that_are_no_text_are_named(self):
+        with open(os.path.join(self.room, 'crates.txt'), 'wb') as file:
+            file.write(b'cvm: \xff\n')
+        with unittest.mock.patch.object(kept, 'TOP', self.room), self.assertRaises(kept.NoBuild) as caught:
+            kept.fingerprint('')
+        self.assertIn("crates.txt' is not UTF-8", str(caught.exception))
+        with unittest.mock.patch.object(kept, 'TOP', self.room):
+            self.assertFalse(kept.is_kept())
 
     def test_the_fingerprint_is_of_the_sources(self):
         files = kept.sources()
