@@ -1,10 +1,9 @@
 """tools/picture: draws stored output, `tools/picture BOOT.txt [TRACE..] [--turns N] [--from A] [--to B] > run.svg`."""
 import os
-import select
 
 from explain import files, words as command_words
 from drawing import draw, rows
-from running import program
+from running import pipes, program
 from running.guard import Bad
 
 USAGE = 'tools/picture BOOT.txt [TRACE..] [--turns N] [--from A] [--to B] [--title TEXT]: draws what a boot printed, with what traces printed, as an SVG on standard output'
@@ -30,30 +29,11 @@ def options_of(words):
     return names, given
 
 
-def content(name):
-    """The bytes of a file or a pipe, of which there are no more than a text may have; a pipe that nobody writes to has none."""
-    number, parts, length = os.open(name, os.O_RDONLY | os.O_NONBLOCK), [], 0
-    try:
-        while length <= files.MOST:
-            select.select([number], [], [], 1)
-            try:
-                part = os.read(number, 1 << 20)
-            except BlockingIOError:
-                continue  # somebody writes to the pipe, and has not done so yet
-            if not part:
-                return b''.join(parts)
-            parts.append(part)
-            length += len(part)
-    finally:
-        os.close(number)
-    raise Bad("'%s' has more than 67,108,864 bytes, and no such text is drawn" % name)
-
-
 def read(name):
     fault = files.get_fault(name)
     if fault:
         raise Bad(fault)
-    return content(name).decode('utf-8', errors='replace')
+    return pipes.content(name).decode('utf-8', errors='replace')
 
 
 def main(words):

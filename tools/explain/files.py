@@ -34,9 +34,10 @@ def get_fault(name):
 
 def put_fault(name):
     """Why the file of a name can't be put; None where that can't be told without a try."""
-    folder = os.path.dirname(name) or '.'
     if not name:
         return 'no file has the empty name'
+    real = os.path.realpath(name) if os.path.islink(name) and not os.path.exists(name) else name
+    folder = os.path.dirname(real) or '.'
     if os.path.isdir(name):
         return "'%s' is a folder, and no file can be put there" % name
     if not os.path.isdir(folder):
@@ -55,3 +56,8 @@ def content(name):
             return file.read(MOST + 1)
     except (OSError, ValueError):
         return None
+
+
+def stored(name):
+    """The bytes of a file that can be read again; None of a pipe or a device, whose bytes would be gone, and where there is none."""
+    return content(name) if os.path.isfile(name) else None

@@ -15,7 +15,7 @@ def said(words, tool):
     for place, name in enumerate(words):
         if place < 4:
             continue
-        data = files.content(name)
+        data = files.stored(name)
         if data and is_text(data[:65536]):
             kind = 'program' if name.endswith('.c0') else 'user'
             made = name.rpartition('.')[0] or name

@@ -128,7 +128,7 @@ def row_habit(data, number, is_schedule):
 
 def row_place(name, number, is_schedule):
     """The place of a line of parameters or of a schedule, and what is odd in it."""
-    data = files.content(name)
+    data = files.stored(name)
     if data is None:
         return [], None
     return data, row_habit(data, number, is_schedule)
@@ -136,7 +136,7 @@ def row_place(name, number, is_schedule):
 
 def object_source(name):
     """The source in an object or an image; None where there is none to be read."""
-    data = files.content(name) or b''
+    data = files.stored(name) or b''
     word = lambda at: int.from_bytes(data[at:at + 4], 'little')
     if data[:4] == b'CVMO':
         return data[16:16 + word(8)]
@@ -154,9 +154,9 @@ def located(key, fields, command, way):
     head = ' '.join(words.literal(form)) if form else ''
     gets, _ = words.files(command)
     if key <= 7 and head == 'compile user' and gets:
-        return text_place(key, fields, way.shown(gets[0]), files.content(gets[0]))
+        return text_place(key, fields, way.shown(gets[0]), files.stored(gets[0]))
     if key < 40 and head.startswith('compile') and gets:
-        return source_place(key, fields, way.shown(gets[0]), files.content(gets[0]), head == 'compile program')
+        return source_place(key, fields, way.shown(gets[0]), files.stored(gets[0]), head == 'compile program')
     if key in (54, 55, 68, 69) and gets and fields:
         inner = 'the source in ' + way.shown(gets[0])
         return ["cvm: the source's own fault is %d: %s" % (fields[0], row_of(str(fields[0])))] \
@@ -209,7 +209,7 @@ def pages_for(words):
 
 def given_text(name, key):
     """That a text was given in place of an image of a user."""
-    data = files.content(name) or b''
+    data = files.stored(name) or b''
     if key == 65 and data and all(byte < 127 for byte in data):
         return ["cvm: it is a text: './cvm compile user' makes an image of it."]
     return []
@@ -217,7 +217,7 @@ def given_text(name, key):
 
 def what_it_is(name, way):
     """What a file looks like that has not the mark which is asked for."""
-    data = (files.content(name) or b'')[:4]
+    data = (files.stored(name) or b'')[:4]
     kinds = {b'CVMO': "an object, which 'link' takes", b'CVMI': "an image, which 'boot' takes", b'CVMS': "a saved machine, which 'resume' takes"}
     if data in kinds:
         return ['cvm: %s is %s.' % (way.shown(name), kinds[data])]

@@ -9,7 +9,7 @@ MANY = 1000000000
 
 def first_words(name, count):
     """The first words of a file, little-endian; fewer where it is shorter."""
-    data = (files.content(name) or b'')[:4 * count]
+    data = (files.stored(name) or b'')[:4 * count]
     return [int.from_bytes(data[at:at + 4], 'little') for at in range(0, len(data) - 3, 4)]
 
 
@@ -23,7 +23,7 @@ def image_numbers(name):
 
 def longest_busy(name):
     """The longest time that a schedule keeps the disk busy."""
-    rows = re.findall(rb'^busy \d+ (\d+)$', files.content(name) or b'', re.MULTILINE)
+    rows = re.findall(rb'^busy \d+ (\d+)$', files.stored(name) or b'', re.MULTILINE)
     return max([int(row) for row in rows], default=0)
 
 

@@ -1,6 +1,6 @@
 """./cvm: runs the proved program with the words given, in the current folder, and explains on standard error any status but 0, and the answer of a check."""
 from explain import given_texts, pages, status as explaining, words as command_words
-from running import program, proved, released
+from running import foreseen, program, proved, released
 from running.guard import Bad, say
 
 
@@ -25,7 +25,11 @@ def main(words):
         return 0
     if command_words.fault(words) and not proved.is_there():
         return bad_words(explaining.explain(1, words, ['bad words']))
+    found = foreseen.fault(words)
+    if found:
+        say('cvm: ' + found[1])
+        return found[0]
     say(given_texts.said(words, './cvm'))
-    status, rows = program.run_here([*proved.program(), *words])
+    status, rows = program.run_here([*proved.program(), *words], *command_words.files(words))
     say(explaining.explain(status, words, rows))
     return status if status >= 0 else 128 - status

@@ -2,7 +2,7 @@
 import os
 
 from explain import files
-from running import clock, clock_saves, expected, mixed, only, timer
+from running import clock, clock_saves, expected, mixed, only, pipes, timer
 from running.folder import BadFolder, Folder, user_names
 from running.guard import Bad, say
 
@@ -59,11 +59,7 @@ class Extras:
         fault = files.get_fault(self.expect)
         if fault:
             raise Bad(fault)
-        self.wanted = files.content(self.expect)
-        if self.wanted is None:
-            raise Bad("'%s' can't be read" % self.expect)
-        if len(self.wanted) > files.MOST:
-            raise Bad("'%s' has more than 67,108,864 bytes" % self.expect)
+        self.wanted = pipes.content(self.expect)
         fault = expected.fault(self.wanted)
         if fault:
             raise Bad("'%s' %s" % (self.expect, fault))

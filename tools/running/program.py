@@ -2,7 +2,7 @@
 import os
 import subprocess
 
-from running import parting
+from running import parting, pipes
 from running.guard import Bad
 
 MOST_OF_A_ROW = 65536
@@ -58,13 +58,14 @@ def told_status(status):
     return 128 - status if status < 0 else status
 
 
-def run_here(command):
+def run_here(command, gets=(), puts=()):
     """Runs a command and copies its standard output to this process's. Gives its status and the last rows. It ends with this process.
 
-    Where the copy can't be written, the status is 7, as the program's own is then.
+    Where the copy can't be written, the status is 7, as the program's own is then. A pipe among the files that it gets or puts is not waited for.
     """
     program = subprocess.Popen(command, stdin=subprocess.DEVNULL, stdout=subprocess.PIPE, preexec_fn=parting.with_caller())
     try:
+        pipes.wait_for_output(program, gets, puts)
         kept, failed = copied(program.stdout)
         program.stdout.close()
         status = program.wait()

@@ -2,7 +2,7 @@
 import os
 
 from explain import files, given_texts, pages, status as explaining, words as command_words
-from running import expected, extras, kept, program, proved, released, rooms, sharing, system
+from running import expected, extras, foreseen, kept, program, proved, released, rooms, sharing, system
 from running.folder import BadFolder, Folder
 from running.guard import Bad, say
 from showing import listing, looking, unasked, wanted
@@ -251,12 +251,13 @@ def run_command(words, options, before):
     if not fault and (options.checked or not released.is_to_be_run()) and not kept.is_kept():
         # a build would be spent on a command whose file can't be put
         fault = next(filter(None, map(files.put_fault, puts)), None)
-    if fault:
-        say('try: a file could not be had: %s.' % fault)
-        return 6
+    found = (6, 'a file could not be had: %s.' % fault) if fault else foreseen.fault(words)
+    if found:
+        say('try: ' + found[1])
+        return found[0]
     before()
     say(given_texts.said(words, './try'))
-    status, rows = program.run_here([*start_of(options), *words])
+    status, rows = program.run_here([*start_of(options), *words], *command_words.files(words))
     say(explaining.explain(status, words, rows, explaining.Way(words, './try')))
     return status if status >= 0 else 128 - status
 

@@ -1,0 +1,99 @@
+"""Files in two roles, and pipes whose other end nobody has: sentences before a run, and none where each file has one role."""
+import os
+import subprocess
+import sys
+import tempfile
+import time
+import unittest
+from unittest import mock
+
+from running import foreseen, guard, pipes, program
+
+OPENS = 'import sys; open(sys.argv[1], sys.argv[2]).close(); print("opened")'
+
+
+class Room(unittest.TestCase):
+    def setUp(self):
+        room = tempfile.TemporaryDirectory()
+        self.addCleanup(room.cleanup)
+        self.addCleanup(os.chdir, os.getcwd())
+        os.chdir(room.name)
+        for name in ('image', 'schedule'):
+            with open(name, 'w', encoding='utf-8') as file:
+                file.write(name)
+
+
+class Roles(Room):
+    def save(self, name):
+        return foreseen.fault(['save', 'image', 'schedule', '1', '1', name])
+
+    def test_one_role_each(self):
+        for name in ('saved', '/dev/null'):
+            self.assertIsNone(self.save(name))
+        self.assertIsNone(foreseen.fault(['boot', 'image', 'image', '1', '1']))
+        self.assertIsNone(foreseen.fault(['boot', 'missing', 'schedule', '1', '1']))
+
+    def test_a_file_that_is_got_is_not_put(self):
+        os.link('image', 'hard')
+        os.symlink('schedule', 'soft')
+        for name in ('image', './image', 'hard', 'schedule', 'soft'):
+            with self.subTest(name):
+                status, said = self.save(name)
+                self.assertEqual((status, 'the command gets' in said), (6, True))
+        for words in (['compile', 'kernel', 'image', 'hard'], ['link', 'image', 'schedule', 'image'], ['link', 'image', 'schedule', 'hard', 'image'], ['migrate', 'image', 'image']):
+            with self.subTest(words):
+                self.assertEqual(foreseen.fault(words)[0], 6)
+
+    def test_the_disk_is_no_other_file(self):
+        self.assertEqual(self.save('cvm.disk')[0], 6)
+        os.link('image', 'cvm.disk')
+        for words in (['boot', 'image', 'schedule', '1', '1'], ['compile', 'user', 'schedule', './cvm.disk']):
+            with self.subTest(words):
+                status, said = foreseen.fault(words)
+                self.assertEqual((status, "the disk's file" in said), (6, True))
+
+    def test_standard_output_is_no_other_file(self):
+        with open('out', 'w', encoding='utf-8') as out, mock.patch.object(foreseen, 'output', lambda: foreseen.identity(os.fstat(out.fileno()))):
+            self.assertEqual(self.save('out')[0], 6)
+            self.assertIsNone(self.save('other'))
+            os.rename('out', 'cvm.disk')
+            self.assertEqual(foreseen.fault(['sample', '1'])[0], 7)
+
+    def test_a_file_of_save_that_cannot_be_put(self):
+        os.symlink('missing/file', 'dangling')
+        for name in ('.', 'missing/file', 'dangling', ''):
+            with self.subTest(name):
+                self.assertEqual(self.save(name)[0], 6)
+
+
+class Pipes(Room):
+    def run_with(self, way, gets, puts):
+        began = time.monotonic()
+        with self.assertRaises(guard.Bad) as caught:
+            program.run_here([sys.executable, '-c', OPENS, 'pipe', way], gets, puts)
+        self.assertLess(time.monotonic() - began, 60)
+        return caught.exception.status, str(caught.exception)
+
+    @unittest.skipUnless(os.access('/proc/self/syscall', os.R_OK) and os.uname().machine == 'x86_64', 'the host does not tell')
+    def test_nobody_has_the_other_end(self):
+        os.mkfifo('pipe')
+        self.assertEqual(self.run_with('r', ['image', 'pipe'], []), (6, "a file could not be had: nobody writes to the pipe 'pipe'"))
+        self.assertEqual(self.run_with('w', ['image'], ['pipe']), (6, "a file could not be had: nobody reads from the pipe 'pipe'"))
+
+    def test_somebody_has_it(self):
+        os.mkfifo('pipe')
+        writer = subprocess.Popen([sys.executable, '-c', 'import time; time.sleep(0.5); open("pipe", "w").close()'])
+        with mock.patch.object(program, 'write', lambda part: None):
+            self.assertEqual(program.run_here([sys.executable, '-c', OPENS, 'pipe', 'r'], ['pipe'], []), (0, ['opened']))
+        writer.wait()
+
+    def test_what_is_read_has_an_end(self):
+        os.mkfifo('pipe')
+        self.assertEqual(pipes.content('pipe'), b'')
+        self.assertEqual(pipes.content('image'), b'image')
+        with self.assertRaises(guard.Bad):
+            pipes.content('/dev/zero')
+
+
+if __name__ == '__main__':
+    unittest.main()
