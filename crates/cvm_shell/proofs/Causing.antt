@@ -8,7 +8,7 @@ use Rattle.real_layer.specs.Image.{layer_image}
 use Rattle.layer_map.specs.declared.params.Params.{Params}
 use Rattle.saved_file.specs.Answer.{answer as machine_of}
 use Rattle.saved_file.specs.declared.fault.SaveFault.{SaveFault}
-use Rattle.saved_file.specs.declared.fault.SaveFault.TheVariants.{TooLarge}
+use Rattle.saved_file.specs.declared.fault.SaveFault.TheVariants.{SaveTooLarge}
 use Rattle.schedule_file.specs.Rows.{Rows}
 use Rattle.schedule_file.specs.Schedule.{schedule_of}
 use Rattle.schedule_file.specs.declared.fault.ScheduleFault.{ScheduleFault}
@@ -90,7 +90,7 @@ module _ (layer : Map → List ℕ → List ℕ) where
   saved name (refuses r) h = h
   saved name (puts file bytes) h = tt
   saved name (boots session s rows) h =
-      cond_both (nat_lt FILE_ROOM (most_bytes s)) (refuses (bad_save (TooLarge (most_bytes s)))) (saves session s rows name) NoDisk (λ _. tt) (λ _. tt)
+      cond_both (nat_lt FILE_ROOM (most_bytes s)) (refuses (bad_save (SaveTooLarge (most_bytes s)))) (saves session s rows name) NoDisk (λ _. tt) (λ _. tt)
   saved name (saves session s rows file) h = tt
   saved name (resumes session s rows words) h = tt
   saved name (prints text) h = tt

@@ -55,7 +55,7 @@ chosen_first false p q e = absurd cc
 
 pub short_plan : (session : Session) (s : ImageSystem) (rows : Rows) (name : List ℕ) → most_bytes s ≤ FILE_ROOM → saved_plan name (boots session s rows) ≡ saves session s rows name
 short_plan session s rows name few =
-    chosen (nat_lt FILE_ROOM (most_bytes s)) (refuses (bad_save (saving.TooLarge (most_bytes s)))) (saves session s rows name) (not_below FILE_ROOM (most_bytes s) few)
+    chosen (nat_lt FILE_ROOM (most_bytes s)) (refuses (bad_save (saving.SaveTooLarge (most_bytes s)))) (saves session s rows name) (not_below FILE_ROOM (most_bytes s) few)
 
 pub save_short : (layer : Layers) (file : Told) (c : Save) (s : ImageSystem) (rows : Rows) → IsBootPlan layer file c.boot (save_session c) (boots (save_session c) s rows) → most_bytes s ≤ FILE_ROOM
     → IsSavePlan layer file c (saves (save_session c) s rows c.file)
@@ -68,7 +68,7 @@ pub save_no_room : (layer : Layers) (file : Told) (c : Save) (s : ImageSystem) (
     → IfRefused (IsSavePlan layer file c) t
 save_no_room layer file c s rows (Refused r) is (e, many) =
     subst (λ (x : ByCode). IsSavePlan layer file c (refuses (refusal_view x))) (sym e)
-    (subst (IsSavePlan layer file c) (chosen_first (nat_lt FILE_ROOM (most_bytes s)) (refuses (bad_save (saving.TooLarge (most_bytes s)))) (saves (save_session c) s rows c.file) (below FILE_ROOM (most_bytes s) many))
+    (subst (IsSavePlan layer file c) (chosen_first (nat_lt FILE_ROOM (most_bytes s)) (refuses (bad_save (saving.SaveTooLarge (most_bytes s)))) (saves (save_session c) s rows c.file) (below FILE_ROOM (most_bytes s) many))
     (saved_comes layer file c (boots (save_session c) s rows) is))
 save_no_room layer file c s rows Shelf is h = absurd h
 save_no_room layer file c s rows Memory is h = tt
@@ -134,15 +134,15 @@ module _ (layer : Layers) (file : Told) (c : Save) where
 
 -- no room for a machine of so many frames
 pub room_fault : (frames : ℕ) (s : ImageSystem) (f : SaveFault) → frames ≡ frames_of s → IsRoom frames (Err f) → HasNoRoom s (save_stop f)
-room_fault frames s (saving.TooLarge bytes) e (is, many) =
+room_fault frames s (saving.SaveTooLarge bytes) e (is, many) =
     let same : bytes ≡ most_bytes s = is ∙ ap (λ (n : ℕ). 4 * most_words n) e in
-    (ap (λ (n : ℕ). by.BadSave (saving.TooLarge n)) same, subst (λ (n : ℕ). FILE_ROOM < n) same many)
+    (ap (λ (n : ℕ). by.BadSave (saving.SaveTooLarge n)) same, subst (λ (n : ℕ). FILE_ROOM < n) same many)
 room_fault frames s saving.Memory e h = tt
 room_fault frames s saving.Magic e h = absurd h
 room_fault frames s (saving.Truncated at) e h = absurd h
 room_fault frames s (saving.Trailing at) e h = absurd h
 room_fault frames s (saving.Field place value) e h = absurd h
-room_fault frames s (saving.Forged place stored made) e h = absurd h
+room_fault frames s (saving.ForgedWord place stored made) e h = absurd h
 room_fault frames s (saving.SizeTooLarge user pages) e h = absurd h
 room_fault frames s (saving.TurnsDone done wanted) e h = absurd h
 

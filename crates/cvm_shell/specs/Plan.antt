@@ -27,7 +27,7 @@ use Rattle.cvm_model.specs.KernelMeaning.{kernel_meaning}
 use Rattle.saved_file.specs.Resumable.{Wanted}
 use Rattle.saved_file.specs.Answer.{answer as machine_of}
 use Rattle.saved_file.specs.declared.fault.SaveFault.{SaveFault}
-use Rattle.saved_file.specs.declared.fault.SaveFault.TheVariants.{TooLarge as FileTooLarge}
+use Rattle.saved_file.specs.declared.fault.SaveFault.TheVariants.{SaveTooLarge as FileTooLarge}
 use Rattle.machine_save.specs.Room.{most_words, FILE_ROOM}
 use Rattle.boot_image.specs.Format.{spelling as image_bytes}
 use Rattle.boot_image.specs.Parts.{Parts as Image}

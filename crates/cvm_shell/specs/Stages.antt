@@ -214,7 +214,7 @@ resumable_for c r =
 
 -- why there is no room for a saved machine of a system: its file may be too long, or there was no memory
 abbrev pub HasNoRoom : ImageSystem → Stop → Type 0
-HasNoRoom s (stop.Refused r) = (r ≡ refusal.BadSave (saving.TooLarge (most_bytes s))) × (FILE_ROOM < most_bytes s)
+HasNoRoom s (stop.Refused r) = (r ≡ refusal.BadSave (saving.SaveTooLarge (most_bytes s))) × (FILE_ROOM < most_bytes s)
 HasNoRoom s stop.Shelf = ⊥
 HasNoRoom s stop.Memory = ⊤
 

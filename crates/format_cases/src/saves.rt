@@ -13,14 +13,14 @@ fn put_fault(out: &mut String, fault: SaveFault) -> Result<(), AllocError> {
         SaveFault::Magic | SaveFault::Memory => {}
         SaveFault::Truncated { at } | SaveFault::Trailing { at } => write!(out, " {at}")?,
         SaveFault::Field { place, value } => write!(out, " {place} {value}")?,
-        SaveFault::Forged {
+        SaveFault::ForgedWord {
             place,
             stored,
             made,
         } => write!(out, " {place} {stored} {made}")?,
         SaveFault::SizeTooLarge { user, pages } => write!(out, " {user} {pages}")?,
         SaveFault::TurnsDone { saved, wanted } => write!(out, " {saved} {wanted}")?,
-        SaveFault::TooLarge { bytes } => write!(out, " {bytes}")?,
+        SaveFault::SaveTooLarge { bytes } => write!(out, " {bytes}")?,
     }
     out.push('\n')
 }

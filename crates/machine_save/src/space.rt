@@ -43,7 +43,7 @@ impl Room {
     {
         let count = 5176 + 1024 * u64::from(frames);
         if 67_108_864 < 4 * count {
-            return Err(SaveFault::TooLarge { bytes: 4 * count });
+            return Err(SaveFault::SaveTooLarge { bytes: 4 * count });
         }
         Ok(Room {
             words: vec![in alloc; 0; count as usize]?,

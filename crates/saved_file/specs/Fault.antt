@@ -1,7 +1,7 @@
 -- The number that is printed of a fault, and the numbers behind it.
 use Rattle.std.specs.Prelude.{ℕ, List, [], ◌∷◌}
 use Rattle.saved_file.specs.declared.fault.SaveFault.{SaveFault}
-use Rattle.saved_file.specs.declared.fault.SaveFault.TheVariants.{Magic, Truncated, Trailing, Field, Forged, SizeTooLarge, TurnsDone, TooLarge, Memory}
+use Rattle.saved_file.specs.declared.fault.SaveFault.TheVariants.{Magic, Truncated, Trailing, Field, ForgedWord, SizeTooLarge, TurnsDone, SaveTooLarge, Memory}
 
 -- the number that is printed for a fault
 abbrev pub save_fault_number : SaveFault → ℕ
@@ -9,10 +9,10 @@ save_fault_number Magic = 100
 save_fault_number (Truncated at) = 101
 save_fault_number (Trailing at) = 102
 save_fault_number (Field place value) = 103
-save_fault_number (Forged place stored made) = 104
+save_fault_number (ForgedWord place stored made) = 104
 save_fault_number (SizeTooLarge user pages) = 105
 save_fault_number (TurnsDone saved wanted) = 106
-save_fault_number (TooLarge bytes) = 107
+save_fault_number (SaveTooLarge bytes) = 107
 save_fault_number Memory = 108
 
 -- and the numbers that are printed behind it
@@ -21,8 +21,8 @@ save_fault_fields Magic = []
 save_fault_fields (Truncated at) = at ∷ []
 save_fault_fields (Trailing at) = at ∷ []
 save_fault_fields (Field place value) = place ∷ value ∷ []
-save_fault_fields (Forged place stored made) = place ∷ stored ∷ made ∷ []
+save_fault_fields (ForgedWord place stored made) = place ∷ stored ∷ made ∷ []
 save_fault_fields (SizeTooLarge user pages) = user ∷ pages ∷ []
 save_fault_fields (TurnsDone saved wanted) = saved ∷ wanted ∷ []
-save_fault_fields (TooLarge bytes) = bytes ∷ []
+save_fault_fields (SaveTooLarge bytes) = bytes ∷ []
 save_fault_fields Memory = []

@@ -4,7 +4,7 @@ use Rattle.mips_table.specs.Machine.{LOG_ROOM}
 use Rattle.mips_machine.specs.Saved.{MARK, joined}
 use Rattle.saved_file.specs.Resumable.{Wanted, memory_place, memory_word, is_left_out, size_at}
 use Rattle.saved_file.specs.declared.fault.SaveFault.{SaveFault}
-use Rattle.saved_file.specs.declared.fault.SaveFault.TheVariants.{Magic, Truncated, Trailing, Field, Forged, SizeTooLarge, TurnsDone}
+use Rattle.saved_file.specs.declared.fault.SaveFault.TheVariants.{Magic, Truncated, Trailing, Field, ForgedWord, SizeTooLarge, TurnsDone}
 
 -- a thing that is looked at: how many words of the file have to be there for it, whether it is not as it has to be, and what is answered then
 pub record Test : Type 0 where
@@ -59,7 +59,7 @@ abbrev pub linked_test : (frames : ℕ) → (linked words : List ℕ) → (place
 linked_test frames linked words place = record {
   takes = whole frames words;
   wrong = if is_left_out place then false else if nat_eq (memory_word words place) (slice_index linked place) then false else true;
-  fault = Forged place (memory_word words place) (slice_index linked place);
+  fault = ForgedWord place (memory_word words place) (slice_index linked place);
 }
 
 -- a user's control block tells no more pages than a user may have

@@ -25,7 +25,7 @@ pub enum SaveFault {
     Field { place: u64, value: u64 },
     /// The word number `place` of the saved memory is `stored`, where the image has `made`, and it is not one that a run may change.
     #[error("word {place} of the saved memory is {stored}, and the image has {made}")]
-    Forged { place: u64, stored: u32, made: u32 },
+    ForgedWord { place: u64, stored: u32, made: u32 },
     /// The control block of `user` tells more pages than a user may have.
     #[error("user {user} has {pages} pages, which is too many")]
     SizeTooLarge { user: u32, pages: u32 },
@@ -34,7 +34,7 @@ pub enum SaveFault {
     TurnsDone { saved: u32, wanted: u32 },
     /// A saved machine with a full log has so many bytes, which is more than a file may have.
     #[error("a saved machine would have {bytes} bytes, which is too many")]
-    TooLarge { bytes: u64 },
+    SaveTooLarge { bytes: u64 },
     /// Want of memory.
     #[error("out of memory")]
     Memory,
@@ -50,10 +50,10 @@ impl SaveFault {
             SaveFault::Truncated { .. } => 101,
             SaveFault::Trailing { .. } => 102,
             SaveFault::Field { .. } => 103,
-            SaveFault::Forged { .. } => 104,
+            SaveFault::ForgedWord { .. } => 104,
             SaveFault::SizeTooLarge { .. } => 105,
             SaveFault::TurnsDone { .. } => 106,
-            SaveFault::TooLarge { .. } => 107,
+            SaveFault::SaveTooLarge { .. } => 107,
             SaveFault::Memory => 108,
         }
     }
@@ -70,7 +70,7 @@ impl SaveFault {
                 fields.push(*place);
                 fields.push(*value);
             }
-            SaveFault::Forged {
+            SaveFault::ForgedWord {
                 place,
                 stored,
                 made,
@@ -87,7 +87,7 @@ impl SaveFault {
                 fields.push(u64::from(*saved));
                 fields.push(u64::from(*wanted));
             }
-            SaveFault::TooLarge { bytes } => fields.push(*bytes),
+            SaveFault::SaveTooLarge { bytes } => fields.push(*bytes),
         }
         fields
     }

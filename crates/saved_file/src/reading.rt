@@ -262,7 +262,7 @@ fn link(words: &[u32], frames: u32, linked: &[u32], place: usize) -> Result<(), 
     let stored = words[1080 + words[55] as usize + place];
     let made = linked[place];
     if stored != made {
-        return Err(SaveFault::Forged {
+        return Err(SaveFault::ForgedWord {
             place: place as u64,
             stored,
             made,
