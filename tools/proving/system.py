@@ -217,8 +217,8 @@ use Rattle.cvm_model.specs.Cvm.{{System}}
 use Rattle.cvm_model.specs.Invariant.{{{fit}}}
 use Rattle.run_bounds.specs.Steps.{{steps_for}}
 use Rattle.kernel_linker.specs.Accept.{{ImageSystem}}
-use Rattle.cvm_shell.specs.declared.exit_status.ExitStatus.{{ExitStatus}}
-use Rattle.cvm_shell.specs.declared.exit_status.ExitStatus.TheVariants.{{KernelFault, Memory}}
+use Rattle.cvm_shell.specs.declared.exit_status.Status.{{Status}}
+use Rattle.cvm_shell.specs.declared.exit_status.Status.TheVariants.{{KernelFault, Memory}}
 use Rattle.cvm_shell.specs.declared.boot.Session.{{Session}}
 use Rattle.cvm_shell.specs.Host.{{Host}}
 use Rattle.cvm_shell.specs.Boot.{{booted, around, first_state, steps_before, IsHonest}}
@@ -237,14 +237,14 @@ most_dispatches lines = 1 + lines
 
 -- WHAT A RUN SHOWS: the state where it stands is such; its status is no kernel's fault; and with turns and steps enough it halted, and printed the report of
 -- its last state
-pub record Shown (x : Outside) (y : System) (s : State) (late raised turns steps : ℕ) (status : ExitStatus) (text : List ℕ) : Type 0 where
+pub record Shown (x : Outside) (y : System) (s : State) (late raised turns steps : ℕ) (status : Status) (text : List ℕ) : Type 0 where
   pub shown : SystemShown x y s late raised turns steps {units} ({fit} y) (Always y) status text
   pub no_fault : status ≢ KernelFault
   pub halts : most_turns raised ≤ turns → steps_for y (most_turns raised) (most_dispatches raised) {units} {pages} + late ≤ steps → HasHalted x y s turns steps status text shown.stands
 
 -- EACH BOOT of an image with the kernel's text and these users shows this, under every schedule
 abbrev pub SystemBoots : Type 0
-SystemBoots = {params_of}{premises}(words : List (List ℕ)) (status : ExitStatus) (old new : Host) → Headlines (λ (o : Host). o) words status old new
+SystemBoots = {params_of}{premises}(words : List (List ℕ)) (status : Status) (old new : Host) → Headlines (λ (o : Host). o) words status old new
     → (session : Session) (s : ImageSystem) (rows : Rows) (before : List (List ℕ)) → (h : IsHonest words session s rows before old new)
     → status ≢ Memory → session.view ≡ Boot → AsksSystem kernel_text ({users}) h.asked
     → (text : List ℕ) × (new.sink.text ≡ append_known old.sink.text text)

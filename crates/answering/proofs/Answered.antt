@@ -14,8 +14,8 @@ use Rattle.cvm_model.specs.Systems.{status_after, SystemHolds}
 use Rattle.run_bounds.specs.Lines.{LinesTakenAreFew, RaisedLinesAreFew}
 use Rattle.run_bounds.specs.Steps.{BoundsAreSmall}
 use Rattle.kernel_linker.specs.Sources.{AcceptedAreOfImages}
-use Rattle.cvm_shell.specs.declared.exit_status.ExitStatus.{ExitStatus}
-use Rattle.cvm_shell.specs.declared.exit_status.ExitStatus.TheVariants.{Done}
+use Rattle.cvm_shell.specs.declared.exit_status.Status.{Status}
+use Rattle.cvm_shell.specs.declared.exit_status.Status.TheVariants.{Done}
 use Rattle.cvm_shell.specs.Boot.{booted, around, first_state, steps_before}
 use Rattle.kernel_theorems.specs.Text.{Means}
 use Rattle.kernel_boots.specs.Boots.{turns_made}
@@ -101,7 +101,7 @@ module _ (y : System) (a b c d v w : ℕ) (r : Runs y a b c d v w) (f g : Flat) 
   report : codes "halted\n" ++ report_text y.boot.meaning.names at ≡ report_of (v + w) (ended a b v f ∷ ended c d (v + w) g ∷ [])
   report = reported y.boot.meaning.names at (v + w) (ended a b v f ∷ ended c d (v + w) g ∷ []) names data_then log_then users_then
 
-module _ (x : Outside) (y : System) (a b c d v w : ℕ) (r : Runs y a b c d v w) (f g : Flat) (s : State) (late raised turns steps : ℕ) (status : ExitStatus) (text : List ℕ)
+module _ (x : Outside) (y : System) (a b c d v w : ℕ) (r : Runs y a b c d v w) (f g : Flat) (s : State) (late raised turns steps : ℕ) (status : Status) (text : List ℕ)
     (h : SystemShown x y s late raised turns steps 100 (HasUsers y) (Answering y a b c d v w f g) status text) where
   abbrev Halts : Type 0
   Halts = (status ≡ Done) × (h.stands.state.status ≡ Halted) × (length h.stands.state.rows ≤ 5 + raised)

@@ -12,8 +12,8 @@ use Rattle.c0_meaning.specs.Value.{int, empty, part}
 use Rattle.cvm_model.specs.Invariant.{HasUsers}
 use Rattle.run_bounds.specs.Steps.{steps_for}
 use Rattle.kernel_linker.specs.Accept.{ImageSystem}
-use Rattle.cvm_shell.specs.declared.exit_status.ExitStatus.{ExitStatus}
-use Rattle.cvm_shell.specs.declared.exit_status.ExitStatus.TheVariants.{Done, KernelFault, Memory}
+use Rattle.cvm_shell.specs.declared.exit_status.Status.{Status}
+use Rattle.cvm_shell.specs.declared.exit_status.Status.TheVariants.{Done, KernelFault, Memory}
 use Rattle.cvm_shell.specs.declared.boot.Session.{Session}
 use Rattle.cvm_shell.specs.Host.{Host}
 use Rattle.cvm_shell.specs.Boot.{booted, around, first_state, steps_before, IsHonest}
@@ -34,7 +34,7 @@ ended steps rest answer f = after (suc rest) (told (after (suc steps) f) answer)
 -- WHAT A RUN SHOWS of two users that ask with v and w, are answered by v and by the sum, and end: the state where it stands has the invariant; its status is no
 -- kernel's fault; and under a schedule of so many `line` rows, with as many turns more as the users' steps and five, and with the steps of the machine for
 -- them, it is done, has halted, and printed at most five rows more than there are `line` rows, and then the report, in which each user stands behind its end
-pub record AnswersShown (x : Outside) (y : System) (s : State) (late raised turns steps a b c d v w : ℕ) (f g : Flat) (status : ExitStatus) (text : List ℕ) : Type 0 where
+pub record AnswersShown (x : Outside) (y : System) (s : State) (late raised turns steps a b c d v w : ℕ) (f g : Flat) (status : Status) (text : List ℕ) : Type 0 where
   pub shown : SystemShown x y s late raised turns steps 100 (HasUsers y) (Answering y a b c d v w f g) status text
   pub no_fault : status ≢ KernelFault
   pub halted : 5 + a + b + c + d + raised ≤ turns → steps_for y (5 + a + b + c + d + raised) (5 + raised) 100 0 + late ≤ steps
@@ -44,7 +44,7 @@ pub record AnswersShown (x : Outside) (y : System) (s : State) (late raised turn
 -- EACH BOOT of an image with the kernel's text and two such users shows this, under every schedule
 abbrev pub AnyUsersAnswered : Type 0
 AnyUsersAnswered = (one two : List ℕ) (a b c d v w : ℕ) → AsksAndEnds (first_flat one) a b v v → AsksAndEnds (first_flat two) c d w (v + w) → v + w < 2 ^ 31
-    → (words : List (List ℕ)) (status : ExitStatus) (old new : Host) → Headlines (λ (o : Host). o) words status old new
+    → (words : List (List ℕ)) (status : Status) (old new : Host) → Headlines (λ (o : Host). o) words status old new
     → (session : Session) (s : ImageSystem) (rows : Rows) (before : List (List ℕ)) → (h : IsHonest words session s rows before old new)
     → status ≢ Memory → session.view ≡ Boot → AsksSystem kernel_text (one ∷ two ∷ []) h.asked
     → (text : List ℕ) × (new.sink.text ≡ append_known old.sink.text text)

@@ -2,7 +2,7 @@
 #![tactic(auto)]
 
 use cvm_outside::{FileSectors, FileShelf, OutSink};
-use cvm_shell::{ExitStatus, run};
+use cvm_shell::{Status, run};
 use std::alloc::{AllocError, Global};
 use std::env;
 use std::io::{ErrorKind, Write};
@@ -32,14 +32,14 @@ fn has_output(rt: HostRuntime) -> bool {
 fn main(rt: HostRuntime) -> ExitCode {
     let alloc: Global = rt.alloc();
     if !has_output(rt) {
-        return ExitCode::from(ExitStatus::Sink.code());
+        return ExitCode::from(Status::Sink.code());
     }
     let Ok(words) = words_of(rt) else {
-        return ExitCode::from(ExitStatus::Memory.code());
+        return ExitCode::from(Status::Memory.code());
     };
     let mut shelf = FileShelf::new(rt);
     if shelf.is_output_the_disk() {
-        return ExitCode::from(ExitStatus::Sink.code());
+        return ExitCode::from(Status::Sink.code());
     }
     let mut out = OutSink::with_room(rt, shelf.room_of_output());
     let mut disk = FileSectors::new(rt);

@@ -38,8 +38,8 @@ use Rattle.kernel_linker.specs.Open.{open_answer}
 use Rattle.machine_save.specs.Room.{FILE_ROOM}
 use Rattle.sample_maker.specs.Parts.{Parts as Sampled}
 use Rattle.sample_maker.specs.Sample.{sample_of}
-use Rattle.cvm_shell.specs.declared.exit_status.ExitStatus.{ExitStatus}
-use Rattle.cvm_shell.specs.declared.exit_status.ExitStatus.TheVariants.{Done, Words, Refused, Disk, Shelf, Sink, Memory}
+use Rattle.cvm_shell.specs.declared.exit_status.Status.{Status}
+use Rattle.cvm_shell.specs.declared.exit_status.Status.TheVariants.{Done, Words, Refused, Disk, Shelf, Sink, Memory}
 use Rattle.cvm_shell.specs.declared.boot.Session.{Session}
 use Rattle.cvm_shell.specs.Check.{Told, TellsObject, TellsOpened, no_object, has_object}
 use Rattle.cvm_shell.specs.Command.{Boot, Save, Link, boot_session, trace_session, save_session, sample_session}
@@ -210,7 +210,7 @@ comes_no_disk words file p (stages.check_plan c q is h) = got (file c.object) (A
 -- THE CAUSE, by how the plan ends.
 
 -- a row that is said beside another status is none beside this one
-other_row : (stated status : ExitStatus) (row : List ℕ) (old new : Host) → stated ≢ Disk → status ≡ Disk → Says stated row old new status → ⊥
+other_row : (stated status : Status) (row : List ℕ) (old new : Host) → stated ≢ Disk → status ≡ Disk → Says stated row old new status → ⊥
 other_row stated status row old new other is (said left) = other is
 other_row stated status row old new other is (broken n left) = absurd cc
 
@@ -248,14 +248,14 @@ disk_end ends.SinkFault h = absurd cc
 abbrev Either : (need : ℕ) → (old new : Host) → Type 0
 Either need old new = Rose old.disk.faults new.disk.faults ⊎ ((old.disk.size < need) × (new.disk.faults ≡ old.disk.faults))
 
-run_cause : (session : Session) (s : ImageSystem) (rows : Rows) (status : ExitStatus) (old new : Host) → status ≡ Disk → SessionEnds session s rows status old new → Either (sectors_needed session s rows) old new
+run_cause : (session : Session) (s : ImageSystem) (rows : Rows) (status : Status) (old new : Host) → status ≡ Disk → SessionEnds session s rows status old new → Either (sectors_needed session s rows) old new
 run_cause session s rows status old new is (no_user u traced none faults says) = absurd (other_row Refused status _ old new (λ e. cc) is says)
 run_cause session s rows status old new is (small user less faults says) = inr (less, faults)
 run_cause session s rows status old new is (no_memory stands place left) = absurd cc
 run_cause session s rows status old new is (unloaded stands h) = inl h.disk
 run_cause session s rows status old new is (run e stands h) = inl (h.disk (disk_ending e (sym stands ∙ is)))
 
-save_cause : (session : Session) (s : ImageSystem) (rows : Rows) (name : List ℕ) (status : ExitStatus) (old new : Host) → status ≡ Disk → SaveSessionEnds session s rows name status old new → Either (sectors_needed session s rows) old new
+save_cause : (session : Session) (s : ImageSystem) (rows : Rows) (name : List ℕ) (status : Status) (old new : Host) → status ≡ Disk → SaveSessionEnds session s rows name status old new → Either (sectors_needed session s rows) old new
 save_cause session s rows name status old new is (too_small less faults says) = inr (less, faults)
 save_cause session s rows name status old new is (out_of_memory stands place left) = absurd cc
 save_cause session s rows name status old new is (not_loaded stands h) = inl h.disk
@@ -264,22 +264,22 @@ save_cause session s rows name status old new is (was_saved stands left) = absur
 save_cause session s rows name status old new is (was_unput stands left) = absurd cc
 save_cause session s rows name status old new is (was_unsaid stands left) = absurd cc
 
-resume_cause : (session : Session) (s : ImageSystem) (rows : Rows) (words : List ℕ) (status : ExitStatus) (old new : Host) → status ≡ Disk → ResumeEnds session s rows words status old new → Either (sectors_needed session s rows) old new
+resume_cause : (session : Session) (s : ImageSystem) (rows : Rows) (words : List ℕ) (status : Status) (old new : Host) → status ≡ Disk → ResumeEnds session s rows words status old new → Either (sectors_needed session s rows) old new
 resume_cause session s rows words status old new is (small_for_it less faults says) = inr (less, faults)
 resume_cause session s rows words status old new is (no_room stands left) = absurd cc
 resume_cause session s rows words status old new is (went_on e stands h) = inl (h.disk (disk_end e (sym stands ∙ is)))
 
-plan_cause : (p : Plan) (status : ExitStatus) (old new : Host) → status ≡ Disk → NoDisk p → PlanEnds p status old new → Rose old.disk.faults new.disk.faults ⊎ (NeedsMore p old.disk.size × (new.disk.faults ≡ old.disk.faults))
+plan_cause : (p : Plan) (status : Status) (old new : Host) → status ≡ Disk → NoDisk p → PlanEnds p status old new → Rose old.disk.faults new.disk.faults ⊎ (NeedsMore p old.disk.size × (new.disk.faults ≡ old.disk.faults))
 plan_cause bad_words status old new is none says = absurd (other_row Words status _ old new (λ e. cc) is says)
 plan_cause (refuses r) status old new is none says = absurd (other_row (refusal_status r) status _ old new (no_status r none) is says)
-plan_cause (puts name bytes) status old new is none h = absurd (subst (λ (x : ExitStatus). PutEnds name bytes x old new) is h)
+plan_cause (puts name bytes) status old new is none h = absurd (subst (λ (x : Status). PutEnds name bytes x old new) is h)
 plan_cause (boots session s rows) status old new is none h = run_cause session s rows status old new is h
 plan_cause (saves session s rows name) status old new is none h = save_cause session s rows name status old new is h
 plan_cause (resumes session s rows words) status old new is none h = resume_cause session s rows words status old new is h
 plan_cause (prints text) status old new is none says = absurd (other_row Done status _ old new (λ e. cc) is says)
 
 -- AND OF A COMMAND
-pub disk_cause : (words : List (List ℕ)) (status : ExitStatus) (old new : Host) → CommandEnds words status old new → status ≡ Disk → DiskFails words old new
+pub disk_cause : (words : List (List ℕ)) (status : Status) (old new : Host) → CommandEnds words status old new → status ≡ Disk → DiskFails words old new
 disk_cause words status old new (done p comes took h) is = elim (plan_cause p status old new is (comes_no_disk words old.shelf.file p comes.comes) h) [
   | inl rose ↦ inl rose
   | inr more ↦ inr (record { plan = p; is_plan = comes; more = more.0 }, more.1)

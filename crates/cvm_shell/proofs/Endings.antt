@@ -8,8 +8,8 @@ use Rattle.cvm_outside.specs.Told.{AppendsPart, TOO_LONG, retold}
 use Rattle.schedule_file.specs.Rows.{Rows}
 use Rattle.real_layer.specs.Image.{layer_image}
 use Rattle.kernel_linker.specs.Accept.{ImageSystem}
-use Rattle.cvm_shell.specs.declared.exit_status.ExitStatus.{ExitStatus}
-use Rattle.cvm_shell.specs.declared.exit_status.ExitStatus.TheVariants.{Done, Words, Shelf, Sink, Memory}
+use Rattle.cvm_shell.specs.declared.exit_status.Status.{Status}
+use Rattle.cvm_shell.specs.declared.exit_status.Status.TheVariants.{Done, Words, Shelf, Sink, Memory}
 use Rattle.cvm_shell.specs.declared.boot.Stop.{Stop}
 use Rattle.cvm_shell.specs.declared.boot.Stop.TheVariants as Stops
 use Rattle.cvm_shell.specs.declared.refusal.Refusal.{Refusal as ByCode}
@@ -198,7 +198,7 @@ pub nothing : (old new : Host) → Unchanged old new → new.sink.text ≡ old.s
 nothing old new same e = leaves old new [] same (e ∙ sym (append_nothing old.sink.text))
 
 -- a row was said, as far as the sink took it
-pub row_said : (stated status : ExitStatus) (row : List ℕ) (old new : Host) → Unchanged old new → (status ≡ stated) ⊎ (status ≡ Sink) → (status ≡ stated → new.sink.text ≡ append_known old.sink.text row)
+pub row_said : (stated status : Status) (row : List ℕ) (old new : Host) → Unchanged old new → (status ≡ stated) ⊎ (status ≡ Sink) → (status ≡ stated → new.sink.text ≡ append_known old.sink.text row)
     → (status ≡ Sink → AppendsPart old.sink.text new.sink.text row) → Says stated row old new status
 row_said stated status row old new same (inl e) all part = subst (Says stated row old new) (sym e) (said (leaves old new row same (all e)))
 row_said stated status row old new same (inr e) all part =
@@ -206,13 +206,13 @@ row_said stated status row old new same (inr e) all part =
     subst (Says stated row old new) (sym e) (broken p.0 (leaves old new (take p.0 row) same p.1))
 
 -- the words are no command
-pub bad_words_end : (words : List (List ℕ)) (status : ExitStatus) (old new : Host) → IsNoCommand words → Unchanged old new → (status ≡ Words) ⊎ (status ≡ Sink)
+pub bad_words_end : (words : List (List ℕ)) (status : Status) (old new : Host) → IsNoCommand words → Unchanged old new → (status ≡ Words) ⊎ (status ≡ Sink)
     → (status ≡ Words → new.sink.text ≡ append_known old.sink.text (codes "bad words\n")) → (status ≡ Sink → AppendsPart old.sink.text new.sink.text (codes "bad words\n")) → CommandEnds words status old new
 bad_words_end words status old new none same cases all part =
     done bad_words (record { comes = no_command none; only = λ told q h. only_none words old.shelf.file none q h }) (λ c is gets. absurd (none c is)) (row_said Words status (codes "bad words\n") old new same cases all part)
 
 -- a file is refused
-pub refused_end : (words : List (List ℕ)) (c : Command) (r : ByCode) (status : ExitStatus) (old new : Host) → IsCommand words c → FilesPlan old.shelf.file c (refuses (refusal_view r))
+pub refused_end : (words : List (List ℕ)) (c : Command) (r : ByCode) (status : Status) (old new : Host) → IsCommand words c → FilesPlan old.shelf.file c (refuses (refusal_view r))
     → Long (Stops.Refused r) new.shelf.taken → Unchanged old new → (status ≡ refusal_status (refusal_view r)) ⊎ (status ≡ Sink)
     → (status ≡ refusal_status (refusal_view r) → new.sink.text ≡ append_known old.sink.text (refusal_text (refusal_view r)))
     → (status ≡ Sink → AppendsPart old.sink.text new.sink.text (refusal_text (refusal_view r))) → CommandEnds words status old new
@@ -221,13 +221,13 @@ refused_end words c r status old new is plan many same cases all part =
     (row_said (refusal_status (refusal_view r)) status (refusal_text (refusal_view r)) old new same cases all part)
 
 -- a text is printed
-pub told_end : (words : List (List ℕ)) (c : Command) (text : List ℕ) (status : ExitStatus) (old new : Host) → IsCommand words c → FilesPlan old.shelf.file c (prints text) → new.shelf.taken ≢ TOO_LONG
+pub told_end : (words : List (List ℕ)) (c : Command) (text : List ℕ) (status : Status) (old new : Host) → IsCommand words c → FilesPlan old.shelf.file c (prints text) → new.shelf.taken ≢ TOO_LONG
     → Unchanged old new → (status ≡ Done) ⊎ (status ≡ Sink) → (status ≡ Done → new.sink.text ≡ append_known old.sink.text text) → (status ≡ Sink → AppendsPart old.sink.text new.sink.text text) → CommandEnds words status old new
 told_end words c text status old new is plan few same cases all part =
     done (prints text) (plan_of words old.shelf.file c (prints text) is plan) (λ d other gets. took_prints text new.shelf.taken few) (row_said Done status text old new same cases all part)
 
 -- the shelf or memory failed before a plan was there
-pub undone_end : (words : List (List ℕ)) (c : Command) (status : ExitStatus) (old new : Host) → IsCommand words c → GetsFiles c → (status ≡ Memory) ⊎ (status ≡ Shelf) → new.shelf.taken ≢ TOO_LONG → Unchanged old new
+pub undone_end : (words : List (List ℕ)) (c : Command) (status : Status) (old new : Host) → IsCommand words c → GetsFiles c → (status ≡ Memory) ⊎ (status ≡ Shelf) → new.shelf.taken ≢ TOO_LONG → Unchanged old new
     → new.sink.text ≡ old.sink.text → CommandEnds words status old new
 undone_end words c status old new is gets (inl m) few same e = undone c is (inl m) (λ h. few) (nothing old new same e)
 undone_end words c status old new is gets (inr s) few same e = undone c is (inr (s, gets)) (λ h. few) (nothing old new same e)
@@ -246,7 +246,7 @@ viewed_gets b view.Boot = tt
 viewed_gets b (view.Trace u) = tt
 
 -- a system was run
-pub run_end : (words : List (List ℕ)) (c : Command) (session : Session) (s : ImageSystem) (rows : Rows) (status : ExitStatus) (old new : Host) → IsCommand words c
+pub run_end : (words : List (List ℕ)) (c : Command) (session : Session) (s : ImageSystem) (rows : Rows) (status : Status) (old new : Host) → IsCommand words c
     → FilesPlan old.shelf.file c (boots session s rows) → new.shelf.taken ≢ TOO_LONG → SessionEnds session s rows status old new → CommandEnds words status old new
 run_end words c session s rows status old new is plan few ends =
     done (boots session s rows) (plan_of words old.shelf.file c (boots session s rows) is plan) (λ d other gets. took_boots session s rows new.shelf.taken few) ends

@@ -11,7 +11,7 @@ use Rattle.mips_table.specs.Turns.{rests, in_user, is_on, turn_of, complete, lin
 use Rattle.schedule_file.specs.Rows.{Rows}
 use Rattle.cvm_model.specs.Kernel.{JournalEntry}
 use Rattle.cvm_model.specs.Primitives.{user_of}
-use Rattle.cvm_model.specs.Cvm.{System, Cvm, Status, UnitsDontMatter}
+use Rattle.cvm_model.specs.Cvm.{System, Cvm, Status as CvmStatus, UnitsDontMatter}
 use Rattle.cvm_model.specs.KernelMeaning.{UnitsAreKernels, UnitsReplay}
 use Rattle.cvm_model.specs.Journal.{journal, replay, Isolated as AreIsolated}
 use Rattle.cvm_model.specs.Text.{trace_text}
@@ -23,8 +23,8 @@ use Rattle.boot_turns.specs.declared.answers.View.{View}
 use Rattle.boot_turns.specs.declared.answers.View.TheVariants as view
 use Rattle.boot_run.specs.RunEnds.{SeesUser}
 use Rattle.kernel_linker.specs.Accept.{ImageSystem}
-use Rattle.cvm_shell.specs.declared.exit_status.ExitStatus.{ExitStatus}
-use Rattle.cvm_shell.specs.declared.exit_status.ExitStatus.TheVariants.{Done, KernelFault}
+use Rattle.cvm_shell.specs.declared.exit_status.Status.{Status}
+use Rattle.cvm_shell.specs.declared.exit_status.Status.TheVariants.{Done, KernelFault}
 use Rattle.cvm_shell.specs.declared.boot.Session.{Session}
 use Rattle.cvm_shell.specs.Host.{Host}
 use Rattle.cvm_shell.specs.Boot.{booted, around, first_state, ended_as, Headline}
@@ -102,7 +102,7 @@ shown_journal x s y u k t j h over =
 -- THE TEXT of a run that is over.
 
 -- it isn't out of steps
-not_late : (e : Ending) (over : Bool) (status : Status) → e ≡ (if over then ending_of status else headline.OutOfSteps) → (ended_as e ≡ Done) ⊎ (ended_as e ≡ KernelFault) → (over ≡ true) × (e ≡ ending_of status)
+not_late : (e : Ending) (over : Bool) (status : CvmStatus) → e ≡ (if over then ending_of status else headline.OutOfSteps) → (ended_as e ≡ Done) ⊎ (ended_as e ≡ KernelFault) → (over ≡ true) × (e ≡ ending_of status)
 not_late e true status is ends = (refl, is)
 not_late e false status is (inl finished) = let late = sym (ap ended_as is) ∙ finished in absurd cc
 not_late e false status is (inr fault) = let late = sym (ap ended_as is) ∙ fault in absurd cc
@@ -125,11 +125,11 @@ replayed u first all j a c text is same one e =
     ∙ ap (λ (t : List ℕ). Some t) (ap (λ (x : Cvm). trace_text u first all (user_of x.core.users u) x.status) one
     ∙ sym (e ∙ ap (λ (x : List JournalEntry). trace_text u first x (user_of c.core.users u) c.status) same))
 
-status_by : (status : ExitStatus) (e : Ending) → status ≡ ended_as e → (status ≡ Done) ⊎ (status ≡ KernelFault) → (ended_as e ≡ Done) ⊎ (ended_as e ≡ KernelFault)
+status_by : (status : Status) (e : Ending) → status ≡ ended_as e → (status ≡ Done) ⊎ (status ≡ KernelFault) → (ended_as e ≡ Done) ⊎ (ended_as e ≡ KernelFault)
 status_by status e is (inl finished) = inl (sym is ∙ finished)
 status_by status e is (inr fault) = inr (sym is ∙ fault)
 
-pub isolated : TurnLaws → JournalsReplay → (session : Session) (u : ℕ) (s : ImageSystem) (rows : Rows) (before : List (List ℕ)) (old new : Host) (status : ExitStatus) → Headline session s rows before old new status
+pub isolated : TurnLaws → JournalsReplay → (session : Session) (u : ℕ) (s : ImageSystem) (rows : Rows) (before : List (List ℕ)) (old new : Host) (status : Status) → Headline session s rows before old new status
     → SeesUser session.view (length s.users) → session.view ≡ view.Trace u → (status ≡ Done) ⊎ (status ≡ KernelFault) → IsolatedTrace session u s rows before old new status
 isolated laws law session u s rows before old new status h sees traced ends =
     let x = around rows old in
@@ -164,7 +164,7 @@ some_is : (a b : List ℕ) → Some a ≡ Some b → b ≡ a
 some_is a b e = cc
 
 -- by what the replay comes to
-told_by : (u : ℕ) (first : Flat) (j : List JournalEntry) (status ended : Status) (text other : List ℕ) (r : Option Flat) → replay first j ≡ r
+told_by : (u : ℕ) (first : Flat) (j : List JournalEntry) (status ended : CvmStatus) (text other : List ℕ) (r : Option Flat) → replay first j ≡ r
     → option_map (λ last. trace_text u first j last status) r ≡ Some text → option_map (λ last. trace_text u first j last ended) r ≡ Some other → TellTheSame u first j status text ended other
 told_by u first j status ended text other None e is so = absurd cc
 told_by u first j status ended text other (Some last) e is so =
@@ -179,7 +179,7 @@ told_by u first j status ended text other (Some last) e is so =
     }
 
 -- the second text, said of the first one's start and journal
-told_alike : (u : ℕ) (first start : Flat) (j k : List JournalEntry) (status ended : Status) (text other : List ℕ) → first ≡ start → j ≡ k
+told_alike : (u : ℕ) (first start : Flat) (j k : List JournalEntry) (status ended : CvmStatus) (text other : List ℕ) → first ≡ start → j ≡ k
     → replayed_text u first j status ≡ Some text → replayed_text u start k ended ≡ Some other → TellTheSame u first j status text ended other
 told_alike u first start j k status ended text other starts journals is so =
     let from_start = subst (λ (f : Flat). replayed_text u f k ended ≡ Some other) (sym starts) so in

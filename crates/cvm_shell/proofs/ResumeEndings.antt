@@ -33,8 +33,8 @@ use Rattle.machine_save.specs.SavedBoots.{BootsGoOn}
 use Rattle.machine_save.specs.declared.resuming.ResumeFault.{ResumeFault}
 use Rattle.machine_save.specs.declared.resuming.ResumeFault.TheVariants as fault
 use Rattle.kernel_linker.specs.Accept.{ImageSystem, system_of}
-use Rattle.cvm_shell.specs.declared.exit_status.ExitStatus.{ExitStatus}
-use Rattle.cvm_shell.specs.declared.exit_status.ExitStatus.TheVariants.{Done, Refused, KernelFault, Disk, Sink, Memory}
+use Rattle.cvm_shell.specs.declared.exit_status.Status.{Status}
+use Rattle.cvm_shell.specs.declared.exit_status.Status.TheVariants.{Done, Refused, KernelFault, Disk, Sink, Memory}
 use Rattle.cvm_shell.specs.declared.resuming.Resumable.{Resumable}
 use Rattle.cvm_shell.specs.declared.boot.Session.{Session}
 use Rattle.cvm_shell.specs.Command.{Save, resume, IsCommand, save_session}
@@ -55,7 +55,7 @@ took_taken session s rows (Ok words) taken few = took_resumes session s rows wor
 took_taken session s rows (Err f) taken few = (λ h. absurd (cc), λ h. absurd (few h))
 
 -- a run was gone on with, or its file was refused
-pub resume_end : (words : List (List ℕ)) (c : Save) (r : Resumable) (status : ExitStatus) (old new : Host) → IsCommand words (resume c) → FilesPlan old.shelf.file (resume c) (resumable_for c r)
+pub resume_end : (words : List (List ℕ)) (c : Save) (r : Resumable) (status : Status) (old new : Host) → IsCommand words (resume c) → FilesPlan old.shelf.file (resume c) (resumable_for c r)
     → new.shelf.taken ≢ TOO_LONG → ((status ≡ Memory) × LeavesHost old new []) ⊎ PlanEnds (resumable_for c r) status old new → CommandEnds words status old new
 resume_end words c r status old new is plan few (inl (m, leaves)) = undone (resume c) is (inl m) (λ h. few) leaves
 resume_end words c r status old new is plan few (inr ends) =
@@ -80,14 +80,14 @@ module _ (r : Resumable) (c : Save) (old new : Host) where
   under = r.ready.schedule
 
   -- what the bytes are answered by tells the plan
-  by_answer : (a : Result (List ℕ) SaveFault) (status : ExitStatus) → machine_of (wanted_of r.ready.boot under c.boot.turns) r.bytes.items ≡ a → PlanEnds (taken_plan (save_session c) ours under a) status old new
+  by_answer : (a : Result (List ℕ) SaveFault) (status : Status) → machine_of (wanted_of r.ready.boot under c.boot.turns) r.bytes.items ≡ a → PlanEnds (taken_plan (save_session c) ours under a) status old new
       → PlanEnds (resumable_for c r) status old new
   by_answer a status e h =
       let same : a ≡ machine_of (wanted_by ours under c.boot.turns) r.bytes.items = sym e ∙ ap (λ (w : Wanted). machine_of w r.bytes.items) (same_wanted r.ready.boot under c.boot.turns) in
       subst (λ (x : Result (List ℕ) SaveFault). PlanEnds (taken_plan (save_session c) ours under x) status old new) same h
 
   -- A FAULT of the file
-  pub file_refused : (f : SaveFault) (status : ExitStatus) → ResumeAnswers r.ready.boot under c.boot.turns old.disk.size r.bytes.items (Err (fault.Save f)) → ((n : List ℕ) → new.shelf.file n ≡ old.shelf.file n)
+  pub file_refused : (f : SaveFault) (status : Status) → ResumeAnswers r.ready.boot under c.boot.turns old.disk.size r.bytes.items (Err (fault.Save f)) → ((n : List ℕ) → new.shelf.file n ≡ old.shelf.file n)
       → SameSectors old.disk new.disk → ((status ≡ Memory) × (new.sink.text ≡ old.sink.text)) ⊎ ((f ≢ saving.Memory) × ((status ≡ Refused) ⊎ (status ≡ Sink)))
       → (status ≡ Refused → new.sink.text ≡ append_known old.sink.text (refusal_text (bad_save f)))
       → (status ≡ Sink → AppendsPart old.sink.text new.sink.text (refusal_text (bad_save f)))
@@ -98,7 +98,7 @@ module _ (r : Resumable) (c : Save) (old new : Host) where
       inr (by_answer (Err f) status a (row_said Refused status (refusal_text (bad_save f)) old new (record { files = files; disk = disk }) cases all part))
 
   -- A DISK that is too small
-  pub small_refused : (need have : ℕ) (status : ExitStatus) → ResumeAnswers r.ready.boot under c.boot.turns old.disk.size r.bytes.items (Err (fault.SmallDisk need have)) → ((n : List ℕ) → new.shelf.file n ≡ old.shelf.file n)
+  pub small_refused : (need have : ℕ) (status : Status) → ResumeAnswers r.ready.boot under c.boot.turns old.disk.size r.bytes.items (Err (fault.SmallDisk need have)) → ((n : List ℕ) → new.shelf.file n ≡ old.shelf.file n)
       → SameSectors old.disk new.disk → new.disk.faults ≡ old.disk.faults → (status ≡ Disk) ⊎ (status ≡ Sink)
       → (status ≡ Disk → new.sink.text ≡ append_known old.sink.text (refusal_text (small_disk need have)))
       → (status ≡ Sink → AppendsPart old.sink.text new.sink.text (refusal_text (small_disk need have))) → PlanEnds (resumable_for c r) status old new
@@ -129,7 +129,7 @@ module _ (r : Resumable) (c : Save) (old new : Host) where
       → SessionGoesOn (save_session c) old ours under before
   turns_end goes room before disk = λ k x is. let (t, end, within) = goes before disk room k x is in (t, end, omega (arith, within))
 
-  pub resumed_made : (e : RunEnd) (status : ExitStatus) → ResumeAnswers r.ready.boot under c.boot.turns old.disk.size r.bytes.items (Ok e)
+  pub resumed_made : (e : RunEnd) (status : Status) → ResumeAnswers r.ready.boot under c.boot.turns old.disk.size r.bytes.items (Ok e)
       → JoinsFile r.ready.boot under c.boot.turns c.boot.steps old.disk.size r.bytes.items old.disk.sectors new.disk.sectors (counts old.disk) (counts new.disk) old.sink.text new.sink.text (Ok e)
       → BootsGoOn r.ready.boot under old.disk.size
       → GoesOnFromFile r.ready.boot under c.boot.turns c.boot.steps old.disk.size r.bytes.items old.disk.sectors new.disk.sectors (Ok e)
@@ -165,7 +165,7 @@ asked_resume words c s rows machine left old new h =
       all_told words old.shelf.file (resume c) h.asked files,
     )
 
-resume_holds : (words : List (List ℕ)) (c : Save) (s : ImageSystem) (rows : Rows) (machine : List ℕ) (left : List (List ℕ)) (status : ExitStatus) (old new : Host) → IsHonestResume words c s rows machine left old new
+resume_holds : (words : List (List ℕ)) (c : Save) (s : ImageSystem) (rows : Rows) (machine : List ℕ) (left : List (List ℕ)) (status : Status) (old new : Host) → IsHonestResume words c s rows machine left old new
     → ResumeEnds (save_session c) s rows machine status old new → CausedBy status old new → status ≢ Memory → ResumeHolds c s rows machine left old new status
 resume_holds words c s rows machine left status old new h (small_for_it less faults says) why memory = absurd (no_room_for (sectors_needed (save_session c) s rows) old.disk.size less h.enough)
 resume_holds words c s rows machine left status old new h (no_room stands leaves) why memory = absurd (memory stands)
@@ -173,12 +173,12 @@ resume_holds words c s rows machine left status old new h (went_on e stands is) 
   end = e;
   status_is = stands;
   no_disk = λ d. h.disk_done (is.disk d);
-  no_sink = λ d. h.sink_done ((subst (λ (x : ExitStatus). CausedBy x old new) (stands ∙ ap (λ (x : RunEnd). ended_as (ending_of_end x)) d) why).0);
+  no_sink = λ d. h.sink_done ((subst (λ (x : Status). CausedBy x old new) (stands ∙ ap (λ (x : RunEnd). ended_as (ending_of_end x)) d) why).0);
   went = is.told left h.sectors;
   files_same = is.place.files;
 }
 
-pub resumes_hold : (words : List (List ℕ)) (c : Save) (s : ImageSystem) (rows : Rows) (machine : List ℕ) (left : List (List ℕ)) (status : ExitStatus) (old new : Host) → CommandEnds words status old new
+pub resumes_hold : (words : List (List ℕ)) (c : Save) (s : ImageSystem) (rows : Rows) (machine : List ℕ) (left : List (List ℕ)) (status : Status) (old new : Host) → CommandEnds words status old new
     → CausedBy status old new → IsHonestResume words c s rows machine left old new → status ≢ Memory → ResumeHolds c s rows machine left old new status
 resumes_hold words c s rows machine left status old new (done p plan took ends) why h memory =
     let asked = asked_resume words c s rows machine left old new h in
@@ -200,7 +200,7 @@ went_clean x y before now turns steps calls shown had has ends.DiskFault disk si
 went_clean x y before now turns steps calls shown had has ends.SinkFault disk sink h = absurd (sink refl)
 
 -- a resume that goes on with a saved run is the whole boot from there on
-behind : (c : Save) (s : ImageSystem) (rows : Rows) (machine : List ℕ) (left before : List (List ℕ)) (shown : List ℕ) (status : ExitStatus) (old new : Host)
+behind : (c : Save) (s : ImageSystem) (rows : Rows) (machine : List ℕ) (left before : List (List ℕ)) (shown : List ℕ) (status : Status) (old new : Host)
     → IsSavedRun c s rows machine left before shown old → ResumeHolds c s rows machine left old new status
     → IsBootBehind c s rows before shown old old new status
 behind c s rows machine left before shown status old new saved holds =
@@ -252,7 +252,7 @@ saved_and_resumed c d s rows before first mid old new words status a clause aske
 
 -- ENOUGH STEPS
 pub resumes_complete : TurnLaws → (words : List (List ℕ)) (c : Save) (s : ImageSystem) (rows : Rows) (machine : List ℕ) (left before : List (List ℕ)) (shown : List ℕ)
-    (status : ExitStatus) (old new : Host) → CommandEnds words status old new → CausedBy status old new
+    (status : Status) (old new : Host) → CommandEnds words status old new → CausedBy status old new
     → IsHonestResume words c s rows machine left old new → status ≢ Memory → IsSavedRun c s rows machine left before shown old
     → HasSteps (save_session c) s rows before old → ((status ≡ Done) ⊎ (status ≡ KernelFault)) × IsBootBehind c s rows before shown old old new status
 resumes_complete laws words c s rows machine left before shown status old new ends why h memory saved has =

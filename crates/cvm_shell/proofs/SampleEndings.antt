@@ -5,8 +5,8 @@ use Rattle.cvm_outside.specs.Told.{AppendsPart}
 use Rattle.schedule_file.specs.Rows.{Rows}
 use Rattle.real_layer.specs.Image.{layer_image}
 use Rattle.kernel_linker.specs.Accept.{ImageSystem}
-use Rattle.cvm_shell.specs.declared.exit_status.ExitStatus.{ExitStatus}
-use Rattle.cvm_shell.specs.declared.exit_status.ExitStatus.TheVariants.{Sink, Memory}
+use Rattle.cvm_shell.specs.declared.exit_status.Status.{Status}
+use Rattle.cvm_shell.specs.declared.exit_status.Status.TheVariants.{Sink, Memory}
 use Rattle.cvm_shell.specs.declared.refusal.Refusal.{Refusal as ByCode}
 use Rattle.cvm_shell.specs.Command.{Sample, sample, IsSample, GetsFiles, sample_session}
 use Rattle.cvm_shell.specs.Host.{Host}
@@ -24,7 +24,7 @@ none_taken : (words : List (List ℕ)) (x : Sample) (p : Plan) (taken : ℕ) →
 none_taken words x p taken is = λ c other gets. absurd (subst GetsFiles (one_command words c (sample x) other is) gets)
 
 -- a part is refused
-pub sample_refused : (words : List (List ℕ)) (x : Sample) (r : ByCode) (status : ExitStatus) (old new : Host) → IsSample words x → IsSamplePlan layer_image x.number (refuses (refusal_view r))
+pub sample_refused : (words : List (List ℕ)) (x : Sample) (r : ByCode) (status : Status) (old new : Host) → IsSample words x → IsSamplePlan layer_image x.number (refuses (refusal_view r))
     → Unchanged old new → (status ≡ refusal_status (refusal_view r)) ⊎ (status ≡ Sink)
     → (status ≡ refusal_status (refusal_view r) → new.sink.text ≡ append_known old.sink.text (refusal_text (refusal_view r)))
     → (status ≡ Sink → AppendsPart old.sink.text new.sink.text (refusal_text (refusal_view r))) → CommandEnds words status old new
@@ -33,7 +33,7 @@ sample_refused words x r status old new is plan same cases all part =
     (row_said (refusal_status (refusal_view r)) status (refusal_text (refusal_view r)) old new same cases all part)
 
 -- the system is run
-pub sample_run : (words : List (List ℕ)) (x : Sample) (s : ImageSystem) (rows : Rows) (status : ExitStatus) (old new : Host) → IsSample words x → IsSamplePlan layer_image x.number (boots sample_session s rows)
+pub sample_run : (words : List (List ℕ)) (x : Sample) (s : ImageSystem) (rows : Rows) (status : Status) (old new : Host) → IsSample words x → IsSamplePlan layer_image x.number (boots sample_session s rows)
     → SessionEnds sample_session s rows status old new → CommandEnds words status old new
 sample_run words x s rows status old new is plan ends =
     done (boots sample_session s rows) (plan_of words old.shelf.file (sample x) (boots sample_session s rows) is plan) (none_taken words x (boots sample_session s rows) new.shelf.taken is) ends

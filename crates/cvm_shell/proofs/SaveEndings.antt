@@ -32,8 +32,8 @@ use Rattle.machine_save.specs.SaveRun.{IsSaved as WasSaved, IfUnput, SaveRunEnds
 use Rattle.machine_save.specs.declared.saving.SavedEnd.{SavedEnd}
 use Rattle.machine_save.specs.declared.saving.SavedEnd.TheVariants as by
 use Rattle.kernel_linker.specs.Accept.{ImageSystem, system_of}
-use Rattle.cvm_shell.specs.declared.exit_status.ExitStatus.{ExitStatus}
-use Rattle.cvm_shell.specs.declared.exit_status.ExitStatus.TheVariants.{Done, Words, Refused, KernelFault, StepLimit, Disk, Shelf, Sink, Memory}
+use Rattle.cvm_shell.specs.declared.exit_status.Status.{Status}
+use Rattle.cvm_shell.specs.declared.exit_status.Status.TheVariants.{Done, Words, Refused, KernelFault, StepLimit, Disk, Shelf, Sink, Memory}
 use Rattle.cvm_shell.specs.declared.boot.Ready.{Ready}
 use Rattle.cvm_shell.specs.declared.boot.Session.{Session}
 use Rattle.cvm_shell.specs.Command.{Save, save, IsCommand, save_session}
@@ -105,7 +105,7 @@ moved_answers r c answer old new f same h = record {
 }
 
 -- a run was made that was to be saved
-pub save_end : (words : List (List ℕ)) (c : Save) (s : ImageSystem) (rows : Rows) (status : ExitStatus) (old : Host) (mid : Files) (new : Host) → IsCommand words (save c)
+pub save_end : (words : List (List ℕ)) (c : Save) (s : ImageSystem) (rows : Rows) (status : Status) (old : Host) (mid : Files) (new : Host) → IsCommand words (save c)
     → FilesPlan old.shelf.file (save c) (saves (save_session c) s rows c.file) → mid.taken ≢ TOO_LONG → new.shelf.taken ≡ mid.taken → ((n : List ℕ) → mid.file n ≡ old.shelf.file n)
     → ((before : Files) → ((n : List ℕ) → mid.file n ≡ before.file n) → SaveSessionEnds (save_session c) s rows c.file status (with_files before old) new) → CommandEnds words status old new
 save_end words c s rows status old mid new is plan few taken files ends =
@@ -173,7 +173,7 @@ ends_no_words (by.Ended ends.OutOfSteps) h = cc
 ends_no_words (by.Ended ends.DiskFault) h = cc
 ends_no_words (by.Ended ends.SinkFault) h = cc
 
-pub save_caused : (status : ExitStatus) (old new : Host) → (status ≢ Disk → new.disk.faults ≡ old.disk.faults) → (status ≡ Sink → Rose old.sink.faults new.sink.faults)
+pub save_caused : (status : Status) (old new : Host) → (status ≢ Disk → new.disk.faults ≡ old.disk.faults) → (status ≡ Sink → Rose old.sink.faults new.sink.faults)
     → (status ≢ Sink → new.sink.faults ≡ old.sink.faults) → (status ≡ Shelf → Rose old.shelf.faults new.shelf.faults) → (status ≢ Shelf → new.shelf.faults ≡ old.shelf.faults) → CausedBy status old new
 save_caused Done old new d r s t u = record { shelf = u (λ e. cc); sink = s (λ e. cc); disk = d (λ e. cc) }
 save_caused Words old new d r s t u = record { shelf = u (λ e. cc); sink = s (λ e. cc); disk = d (λ e. cc) }
@@ -305,7 +305,7 @@ module _ (r : Ready) (c : Save) (old new : Host) where
   }
 
   -- A RUN that was loaded
-  pub ok_saved : (end : SavedEnd) (status : ExitStatus) → SaveCallAnswers r c (Ok end) old new → status ≡ status_of_saved end → SaveSessionEnds (save_session c) (system_of r.boot) r.schedule c.file status old new
+  pub ok_saved : (end : SavedEnd) (status : Status) → SaveCallAnswers r c (Ok end) old new → status ≡ status_of_saved end → SaveSessionEnds (save_session c) (system_of r.boot) r.schedule c.file status old new
   ok_saved by.Saved status answers stands = was_saved stands (saved_made answers)
   ok_saved by.ShelfFault status answers stands = was_unput stands (unput_made answers)
   ok_saved by.RowFault status answers stands = was_unsaid stands (unsaid_made answers)
@@ -336,7 +336,7 @@ module _ (r : Ready) (c : Save) (old new : Host) where
       out_of_memory refl (place answers.refused answers.unput answers.size) (nothing old new (record { files = answers.unput; disk = disk }) text)
 
   -- a disk that is too small
-  pub small_saved : (need have : ℕ) (status : ExitStatus) → ((n : List ℕ) → new.shelf.file n ≡ old.shelf.file n)
+  pub small_saved : (need have : ℕ) (status : Status) → ((n : List ℕ) → new.shelf.file n ≡ old.shelf.file n)
       → LoadFails r.boot view.Boot (pages_needed r.boot) old.disk.size old.disk.faults new.disk.faults (load.SmallDisk need have) → SameSectors old.disk new.disk → new.disk.faults ≡ old.disk.faults
       → (status ≡ Disk) ⊎ (status ≡ Sink) → (status ≡ Disk → new.sink.text ≡ append_known old.sink.text (refusal_text (small_disk need have)))
       → (status ≡ Sink → AppendsPart old.sink.text new.sink.text (refusal_text (small_disk need have))) → SaveSessionEnds (save_session c) (system_of r.boot) r.schedule c.file status old new
@@ -361,7 +361,7 @@ asked_save words c s rows before old new h = (
 )
 
 -- an end with no failed call
-clean_end : (c : Save) (s : ImageSystem) (rows : Rows) (e : Ending) (before : List (List ℕ)) (status : ExitStatus) (old new : Host) → EndsAsBoot (save_session c) s rows e before old new → status ≡ ended_as e
+clean_end : (c : Save) (s : ImageSystem) (rows : Rows) (e : Ending) (before : List (List ℕ)) (status : Status) (old new : Host) → EndsAsBoot (save_session c) s rows e before old new → status ≡ ended_as e
     → CausedBy status old new → (e ≡ headline.DiskFault → Rose old.disk.faults new.disk.faults) → (Rose old.disk.faults new.disk.faults → ⊥) → (Rose old.sink.faults new.sink.faults → ⊥)
     → status ≢ Memory → ((n : List ℕ) → new.shelf.file n ≡ old.shelf.file n) → SaveHolds c s rows before old new status
 clean_end c s rows headline.Done before status old new r stands why rose disk sink memory files =
@@ -371,13 +371,13 @@ clean_end c s rows headline.KernelFaulted before status old new r stands why ros
 clean_end c s rows headline.OutOfSteps before status old new r stands why rose disk sink memory files =
     as_boot (record { after = r.after; text = r.text; ending = headline.OutOfSteps; sectors = r.sectors; printed = r.printed; status_is = stands; ran = r.ends; goes_on = r.goes_on }) (halts _ _ _ _ _ _ _ r) files
 clean_end c s rows headline.DiskFault before status old new r stands why rose disk sink memory files = absurd (disk (rose refl))
-clean_end c s rows headline.SinkFault before status old new r stands why rose disk sink memory files = absurd (sink ((subst (λ (x : ExitStatus). CausedBy x old new) stands why).0))
+clean_end c s rows headline.SinkFault before status old new r stands why rose disk sink memory files = absurd (sink ((subst (λ (x : Status). CausedBy x old new) stands why).0))
 clean_end c s rows headline.NoMemory before status old new r stands why rose disk sink memory files = absurd (memory stands)
 
 not_long : (session : Session) (s : ImageSystem) (rows : Rows) (name : List ℕ) → saves session s rows name ≢ refuses too_long
 not_long session s rows name e = cc
 
-ends_hold : (words : List (List ℕ)) (c : Save) (s : ImageSystem) (rows : Rows) (before : List (List ℕ)) (status : ExitStatus) (old new : Host) → IsHonestSave words c s rows before old new
+ends_hold : (words : List (List ℕ)) (c : Save) (s : ImageSystem) (rows : Rows) (before : List (List ℕ)) (status : Status) (old new : Host) → IsHonestSave words c s rows before old new
     → SaveSessionEnds (save_session c) s rows c.file status old new → CausedBy status old new → new.shelf.taken ≢ TOO_LONG → status ≢ Memory → SaveHolds c s rows before old new status
 ends_hold words c s rows before status old new h (too_small less faults says) why few memory = absurd (no_room_for (sectors_needed (save_session c) s rows) old.disk.size less h.enough)
 ends_hold words c s rows before status old new h (out_of_memory stands place left) why few memory = absurd (memory stands)
@@ -386,9 +386,9 @@ ends_hold words c s rows before status old new h (ended e stands is) why few mem
     clean_end c s rows e before status old new (is.told before h.sectors) stands why is.disk h.disk_done h.sink_done memory is.place.files
 ends_hold words c s rows before status old new h (was_saved stands left) why few memory = is_saved stands left.others (left.told before h.sectors)
 ends_hold words c s rows before status old new h (was_unput stands left) why few memory = absurd (h.shelf_done (shelf_rose status old new stands few why))
-ends_hold words c s rows before status old new h (was_unsaid stands left) why few memory = absurd (h.sink_done ((subst (λ (x : ExitStatus). CausedBy x old new) stands why).0))
+ends_hold words c s rows before status old new h (was_unsaid stands left) why few memory = absurd (h.sink_done ((subst (λ (x : Status). CausedBy x old new) stands why).0))
 
-pub saves_hold : (words : List (List ℕ)) (c : Save) (s : ImageSystem) (rows : Rows) (before : List (List ℕ)) (status : ExitStatus) (old new : Host) → CommandEnds words status old new → CausedBy status old new
+pub saves_hold : (words : List (List ℕ)) (c : Save) (s : ImageSystem) (rows : Rows) (before : List (List ℕ)) (status : Status) (old new : Host) → CommandEnds words status old new → CausedBy status old new
     → IsHonestSave words c s rows before old new → status ≢ Memory → SaveHolds c s rows before old new status
 saves_hold words c s rows before status old new (done p plan took ends) why h memory =
     let asked = asked_save words c s rows before old new h in
@@ -400,7 +400,7 @@ saves_hold words c s rows before status old new (undone d is (inl m) few same) w
 saves_hold words c s rows before status old new (undone d is (inr (e, gets)) few same) why h memory = absurd (h.shelf_done (shelf_rose status old new e (few gets) why))
 
 -- ENOUGH STEPS
-pub saves_complete : TurnLaws → (words : List (List ℕ)) (c : Save) (s : ImageSystem) (rows : Rows) (before : List (List ℕ)) (status : ExitStatus) (old new : Host) → CommandEnds words status old new → CausedBy status old new
+pub saves_complete : TurnLaws → (words : List (List ℕ)) (c : Save) (s : ImageSystem) (rows : Rows) (before : List (List ℕ)) (status : Status) (old new : Host) → CommandEnds words status old new → CausedBy status old new
     → IsHonestSave words c s rows before old new → status ≢ Memory → HasSteps (save_session c) s rows before old → (status ≡ Done) ⊎ (status ≡ KernelFault)
 saves_complete laws words c s rows before status old new ends why h memory has = by (saves_hold words c s rows before status old new ends why h memory)
   where

@@ -24,8 +24,8 @@ use Rattle.kernel_linker.specs.Open.{open_answer}
 use Rattle.kernel_linker.specs.Laws.{OpenedUnitsAreTheirSources}
 use Rattle.kernel_linker.specs.declared.fault.AcceptFault.{AcceptFault}
 use Rattle.kernel_linker.specs.declared.fault.LinkFault.{LinkFault}
-use Rattle.cvm_shell.specs.declared.exit_status.ExitStatus.{ExitStatus}
-use Rattle.cvm_shell.specs.declared.exit_status.ExitStatus.TheVariants.{Done}
+use Rattle.cvm_shell.specs.declared.exit_status.Status.{Status}
+use Rattle.cvm_shell.specs.declared.exit_status.Status.TheVariants.{Done}
 use Rattle.cvm_shell.specs.Check.{Told, TellsUnit, has_longest, has_loop, TellsOpened, TellsObject, no_object, has_object}
 use Rattle.cvm_shell.specs.Command.{check}
 use Rattle.cvm_shell.specs.Host.{Host, LeavesHost, Says, said, broken}
@@ -57,7 +57,7 @@ parts (suc n) [] = refl
 parts (suc n) (x ∷ text) = ap (λ (t : List ℕ). x ∷ t) (parts n text)
 
 -- if it begins with `yes`, so does the row that was to be printed
-said_yes : (stated status : ExitStatus) (row : List ℕ) (old new : Host) (before rest : List ℕ) → old.sink.text ≡ Some before → new.sink.text ≡ Some (before ++ (codes "yes " ++ rest))
+said_yes : (stated status : Status) (row : List ℕ) (old new : Host) (before rest : List ℕ) → old.sink.text ≡ Some before → new.sink.text ≡ Some (before ++ (codes "yes " ++ rest))
     → Says stated row old new status → (more : List ℕ) × (row ≡ codes "yes " ++ more)
 said_yes stated status row old new before rest told print (said leaves) = (rest, one_text old.sink.text before row (codes "yes " ++ rest) told (sym leaves.printed ∙ print))
 said_yes stated status row old new before rest told print (broken n leaves) =
@@ -82,7 +82,7 @@ record Begun (told : Told) : Type 0 where
   more : List ℕ
   begins : text ≡ codes "yes " ++ more
 
-begun : (told : Told) (status : ExitStatus) (old new : Host) (before rest : List ℕ) → old.sink.text ≡ Some before → new.sink.text ≡ Some (before ++ (codes "yes " ++ rest)) → PlanEnds (told_plan told) status old new → Begun told
+begun : (told : Told) (status : Status) (old new : Host) (before rest : List ℕ) → old.sink.text ≡ Some before → new.sink.text ≡ Some (before ++ (codes "yes " ++ rest)) → PlanEnds (told_plan told) status old new → Begun told
 begun (Ok text) status old new before rest stood print ends = let (more, e) = said_yes Done status text old new before rest stood print ends in record { text = text; is = refl; more = more; begins = e }
 begun (Err r) status old new before rest stood print ends = let (more, e) = said_yes (refusal_status r) status (refusal_text r) old new before rest stood print ends in absurd (not_refused r more e)
 
@@ -135,7 +135,7 @@ told_bytes : (file : Option (List ℕ)) (bytes other : List ℕ) → file ≡ So
 told_bytes file bytes other e h = let P : Option (List ℕ) → Type 0 = λ o. Tells o other in subst P e h
 
 -- the plan of a check
-room_of : OneObject → OpenedUnitsAreTheirSources → (words : List (List ℕ)) (source : List ℕ) (stack : ℕ) (status : ExitStatus) (old new : Host) (y : SaysYes words source stack old new) (p : Plan)
+room_of : OneObject → OpenedUnitsAreTheirSources → (words : List (List ℕ)) (source : List ℕ) (stack : ℕ) (status : Status) (old new : Host) (y : SaysYes words source stack old new) (p : Plan)
     → Got (old.shelf.file y.check.object) (AfterChecked y.check.stack) p → PlanEnds p status old new → (u : CUnit) × IsAnswer y.object.source (Ok u) × Roomy y.check.stack u
 room_of read law words source stack status old new y p (long bytes t many) ends =
     let (more, e) = said_yes (refusal_status refusal.too_long) status (refusal_text refusal.too_long) old new y.before y.rest y.before_told y.printed ends in absurd (not_refused refusal.too_long more e)
@@ -170,7 +170,7 @@ never_out law stack u s r same enough rows lines k c is =
     let room : r.words ≤ s.params.stack = let a = r.room in omega (arith, a, enough) in
     law u r.words r.functions (booted s rows) r.longest (ap (λ (x : CUnit). kernel_meaning x s.params) same) room lines k c is
 
-pub suffices : OneAnswer → OneObject → OpenedUnitsAreTheirSources → LongestIsKept → (words : List (List ℕ)) (source : List ℕ) (stack : ℕ) (s : ImageSystem) (status : ExitStatus) (old new : Host)
+pub suffices : OneAnswer → OneObject → OpenedUnitsAreTheirSources → LongestIsKept → (words : List (List ℕ)) (source : List ℕ) (stack : ℕ) (s : ImageSystem) (status : Status) (old new : Host)
     → CommandEnds words status old new → SaysYes words source stack old new → HasStack source stack s → NeverOut s
 suffices one read opened law words source stack s status old new (done p plan took ends) y has =
     let (u, is, room) = room_of read opened words source stack status old new y p (its_plan words old.shelf.file (check y.check) y.asked p plan.comes) ends in

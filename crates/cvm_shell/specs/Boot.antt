@@ -23,8 +23,8 @@ use Rattle.boot_turns.specs.Rom.{own_rom, rom_loaded, rom_sectors, rom_steps}
 use Rattle.boot_run.specs.RunEnds.{SeesUser, CallsFrom}
 use Rattle.boot_run.specs.LoadedPages.{user_pages, rom_pages, tally_made}
 use Rattle.kernel_linker.specs.Accept.{ImageSystem}
-use Rattle.cvm_shell.specs.declared.exit_status.ExitStatus.{ExitStatus}
-use Rattle.cvm_shell.specs.declared.exit_status.ExitStatus.TheVariants.{Done, Refused, KernelFault, StepLimit, Disk, Sink, Memory}
+use Rattle.cvm_shell.specs.declared.exit_status.Status.{Status}
+use Rattle.cvm_shell.specs.declared.exit_status.Status.TheVariants.{Done, Refused, KernelFault, StepLimit, Disk, Sink, Memory}
 use Rattle.cvm_shell.specs.declared.boot.Session.{Session}
 use Rattle.cvm_shell.specs.declared.boot.StartPoint.{StartPoint}
 use Rattle.cvm_shell.specs.declared.boot.StartPoint.TheVariants.{Loaded, Rom}
@@ -107,7 +107,7 @@ EndsLoaded session s rows old new before after text e =
     session.view session.turns session.steps (CallsOf session s rows before old new) text e
 
 -- an ending as a status
-abbrev pub ended_as : Ending → ExitStatus
+abbrev pub ended_as : Ending → Status
 ended_as IsDone = Done
 ended_as KernelFaulted = KernelFault
 ended_as OutOfSteps = StepLimit
@@ -162,7 +162,7 @@ pub record IsUnloaded (session : Session) (s : ImageSystem) (rows : Rows) (old n
 
 -- HOW A BOOT OR A TRACE ENDS: the user of a trace that is none is refused; then a disk that is too small, with no fault of the disk; else there may be
 -- no memory, and nothing is printed and no sector changes; then the system is loaded, in which the disk may fail; and what was loaded is run
-pub data SessionEnds (session : Session) (s : ImageSystem) (rows : Rows) (status : ExitStatus) (old new : Host) : Type 0 where
+pub data SessionEnds (session : Session) (s : ImageSystem) (rows : Rows) (status : Status) (old new : Host) : Type 0 where
   no_user : (u : ℕ) → session.view ≡ view.Trace u → (SeesUser session.view (length s.users) → ⊥) → new.disk.faults ≡ old.disk.faults
       → Says Refused (refusal_text (no_such_user u (length s.users))) old new status → SessionEnds session s rows status old new
   small : SeesUser session.view (length s.users) → old.disk.size < sectors_needed session s rows → new.disk.faults ≡ old.disk.faults
@@ -173,7 +173,7 @@ pub data SessionEnds (session : Session) (s : ImageSystem) (rows : Rows) (status
 
 -- THE HEADLINE, of a run with no failed call: the sectors are those of the machine that runs the image's words, and status and text are those of
 -- the abstract run of the image's own kernel, with each line at the turn where the machine met it
-pub record Headline (session : Session) (s : ImageSystem) (rows : Rows) (before : List (List ℕ)) (old new : Host) (status : ExitStatus) : Type 0 where
+pub record Headline (session : Session) (s : ImageSystem) (rows : Rows) (before : List (List ℕ)) (old new : Host) (status : Status) : Type 0 where
   pub after : List (List ℕ)
   pub text : List ℕ
   pub ending : Ending

@@ -6,8 +6,8 @@ use Rattle.schedule_file.specs.Rows.{Rows}
 use Rattle.boot_turns.specs.declared.answers.View.TheVariants as view
 use Rattle.cvm_model.specs.Cvm.{Cvm}
 use Rattle.kernel_linker.specs.Accept.{ImageSystem}
-use Rattle.cvm_shell.specs.declared.exit_status.ExitStatus.{ExitStatus}
-use Rattle.cvm_shell.specs.declared.exit_status.ExitStatus.TheVariants.{Done, Words, KernelFault, Disk, Shelf, Sink, Memory}
+use Rattle.cvm_shell.specs.declared.exit_status.Status.{Status}
+use Rattle.cvm_shell.specs.declared.exit_status.Status.TheVariants.{Done, Words, KernelFault, Disk, Shelf, Sink, Memory}
 use Rattle.cvm_shell.specs.Host.{Host, SameSectors, LeavesHost, Says}
 use Rattle.cvm_shell.specs.declared.boot.Session.{Session}
 use Rattle.cvm_shell.specs.Command.{Command, Save, IsCommand, GetsFiles, save_session}
@@ -26,13 +26,13 @@ pub record HasPut (name bytes : List ℕ) (old new : Host) : Type 0 where
   pub disk : SameSectors old.disk new.disk
 
 -- a file is put; a failing shelf left it or took the first of the bytes
-abbrev pub PutEnds : (name bytes : List ℕ) → ExitStatus → (old new : Host) → Type 0
+abbrev pub PutEnds : (name bytes : List ℕ) → Status → (old new : Host) → Type 0
 PutEnds name bytes Done old new = HasPut name bytes old new
 PutEnds name bytes Shelf old new = LeavesHost old new [] ⊎ ((n : ℕ) × HasPut name (take n bytes) old new)
 PutEnds name bytes other old new = ⊥
 
 -- HOW A PLAN ENDS
-abbrev pub PlanEnds : Plan → ExitStatus → (old new : Host) → Type 0
+abbrev pub PlanEnds : Plan → Status → (old new : Host) → Type 0
 PlanEnds bad_words status old new = Says Words (codes "bad words\n") old new status
 PlanEnds (refuses r) status old new = Says (refusal_status r) (refusal_text r) old new status
 PlanEnds (puts name bytes) status old new = PutEnds name bytes status old new
@@ -46,7 +46,7 @@ abbrev pub Took : List (List ℕ) → Plan → ℕ → Type 0
 Took words p taken = (c : Command) → IsCommand words c → GetsFiles c → (p ≡ refuses too_long) ↔ (taken ≡ TOO_LONG)
 
 -- HOW A COMMAND ENDS: what it comes to is done; or there was no memory or no file to know what that is, and nothing is done
-pub data CommandEnds (words : List (List ℕ)) (status : ExitStatus) (old new : Host) : Type 0 where
+pub data CommandEnds (words : List (List ℕ)) (status : Status) (old new : Host) : Type 0 where
   done : (p : Plan) → IsPlan (AllTold words old.shelf.file) (PlanComesTo words old.shelf.file) p
       → Took words p new.shelf.taken → PlanEnds p status old new → CommandEnds words status old new
   undone : (c : Command) → IsCommand words c → (status ≡ Memory) ⊎ ((status ≡ Shelf) × GetsFiles c)
@@ -64,17 +64,17 @@ ShelfFails old new = Rose old.shelf.faults new.shelf.faults ⊎ ((new.shelf.take
 
 -- WHY, by the status and the counts of faults alone: an object whose call failed counted it, and the counts of the others are as before; where the disk
 -- is the cause it may be too small, which it doesn't count
-abbrev pub CausedBy : ExitStatus → (old new : Host) → Type 0
+abbrev pub CausedBy : Status → (old new : Host) → Type 0
 CausedBy Disk old new = (new.shelf.faults ≡ old.shelf.faults) × (new.sink.faults ≡ old.sink.faults)
 CausedBy Shelf old new = ShelfFails old new × (new.sink.faults ≡ old.sink.faults) × (new.disk.faults ≡ old.disk.faults)
 CausedBy Sink old new = Rose old.sink.faults new.sink.faults × (new.shelf.faults ≡ old.shelf.faults) × (new.disk.faults ≡ old.disk.faults)
 CausedBy other old new = NoFault old new
 
 -- both, of objects that are seen as an outside
-abbrev pub RunOutcome : {A : Type 0} → (A → Host) → List (List ℕ) → ExitStatus → (old new : A) → Type 0
+abbrev pub RunOutcome : {A : Type 0} → (A → Host) → List (List ℕ) → Status → (old new : A) → Type 0
 RunOutcome see words status old new = CommandEnds words status (see old) (see new)
 
-abbrev pub Causes : {A : Type 0} → (A → Host) → ExitStatus → (old new : A) → Type 0
+abbrev pub Causes : {A : Type 0} → (A → Host) → Status → (old new : A) → Type 0
 Causes see status old new = CausedBy status (see old) (see new)
 
 -- the run that a plan is needs more sectors
@@ -95,15 +95,15 @@ abbrev pub DiskFails : List (List ℕ) → (old new : Host) → Type 0
 DiskFails words old new = Rose old.disk.faults new.disk.faults ⊎ (IsTooSmall words old × (new.disk.faults ≡ old.disk.faults))
 
 -- THE CAUSE of the status of a command with these words: what the counts of faults say of it, and why it is that of the disk
-pub record HasCause (words : List (List ℕ)) (status : ExitStatus) (old new : Host) : Type 0 where
+pub record HasCause (words : List (List ℕ)) (status : Status) (old new : Host) : Type 0 where
   pub counts : CausedBy status old new
   pub disk : status ≡ Disk → DiskFails words old new
 
-abbrev pub Caused : {A : Type 0} → (A → Host) → List (List ℕ) → ExitStatus → (old new : A) → Type 0
+abbrev pub Caused : {A : Type 0} → (A → Host) → List (List ℕ) → Status → (old new : A) → Type 0
 Caused see words status old new = HasCause words status (see old) (see new)
 
 -- THE HEADLINE of each boot and each trace with these words
-abbrev pub Headlines : {A : Type 0} → (A → Host) → List (List ℕ) → ExitStatus → (old new : A) → Type 0
+abbrev pub Headlines : {A : Type 0} → (A → Host) → List (List ℕ) → Status → (old new : A) → Type 0
 Headlines see words status old new = (session : Session) (s : ImageSystem) (rows : Rows) (sectors : List (List ℕ)) →
     IsHonest words session s rows sectors (see old) (see new) → status ≢ Memory → Headline session s rows sectors (see old) (see new) status
 
@@ -114,27 +114,27 @@ pub record HasSteps (session : Session) (s : ImageSystem) (rows : Rows) (sectors
   pub defined : IsBooted session old s rows sectors session.turns last
   pub enough : last.bound + steps_before session.start (booted s rows) ≤ session.steps
 
-abbrev pub RunCompletes : {A : Type 0} → (A → Host) → List (List ℕ) → ExitStatus → (old new : A) → Type 0
+abbrev pub RunCompletes : {A : Type 0} → (A → Host) → List (List ℕ) → Status → (old new : A) → Type 0
 RunCompletes see words status old new = (session : Session) (s : ImageSystem) (rows : Rows) (sectors : List (List ℕ)) →
     IsHonest words session s rows sectors (see old) (see new)
     → status ≢ Memory → HasSteps session s rows sectors (see old) → (status ≡ Done) ⊎ (status ≡ KernelFault)
 
 -- so it is of a save
-abbrev pub SavesComplete : {A : Type 0} → (A → Host) → List (List ℕ) → ExitStatus → (old new : A) → Type 0
+abbrev pub SavesComplete : {A : Type 0} → (A → Host) → List (List ℕ) → Status → (old new : A) → Type 0
 SavesComplete see words status old new = (c : Save) (s : ImageSystem) (rows : Rows) (before : List (List ℕ)) →
     IsHonestSave words c s rows before (see old) (see new)
     → status ≢ Memory → HasSteps (save_session c) s rows before (see old) → (status ≡ Done) ⊎ (status ≡ KernelFault)
 
 -- and of a resume that goes on with a saved run, where the steps are enough for the whole run, from its start; and it is that run, as a boot, from there on:
 -- what it prints is that boot's text behind the text of the saved run
-abbrev pub ResumesComplete : {A : Type 0} → (A → Host) → List (List ℕ) → ExitStatus → (old new : A) → Type 0
+abbrev pub ResumesComplete : {A : Type 0} → (A → Host) → List (List ℕ) → Status → (old new : A) → Type 0
 ResumesComplete see words status old new = (c : Save) (s : ImageSystem) (rows : Rows) (machine : List ℕ) (left before : List (List ℕ)) (shown : List ℕ) →
     IsHonestResume words c s rows machine left (see old) (see new) → status ≢ Memory → IsSavedRun c s rows machine left before shown (see old)
     → HasSteps (save_session c) s rows before (see old)
     → ((status ≡ Done) ⊎ (status ≡ KernelFault)) × IsBootBehind c s rows before shown (see old) (see old) (see new) status
 
 -- ISOLATION of the user of each trace that is done, or whose kernel faulted
-abbrev pub Isolates : {A : Type 0} → (A → Host) → List (List ℕ) → ExitStatus → (old new : A) → Type 0
+abbrev pub Isolates : {A : Type 0} → (A → Host) → List (List ℕ) → Status → (old new : A) → Type 0
 Isolates see words status old new = (session : Session) (u : ℕ) (s : ImageSystem) (rows : Rows) (sectors : List (List ℕ)) →
     IsHonest words session s rows sectors (see old) (see new)
     → session.view ≡ view.Trace u → (status ≡ Done) ⊎ (status ≡ KernelFault) → IsolatedTrace session u s rows sectors (see old) (see new) status

@@ -1,10 +1,10 @@
 -- The exit codes of a command.
 use Rattle.std.specs.Prelude.{ℕ}
-use Rattle.cvm_shell.specs.declared.exit_status.ExitStatus.{ExitStatus}
-use Rattle.cvm_shell.specs.declared.exit_status.ExitStatus.TheVariants.{Done, Words, Refused, KernelFault, StepLimit, Disk, Shelf, Sink, Memory}
+use Rattle.cvm_shell.specs.declared.exit_status.Status.{Status}
+use Rattle.cvm_shell.specs.declared.exit_status.Status.TheVariants.{Done, Words, Refused, KernelFault, StepLimit, Disk, Shelf, Sink, Memory}
 
 -- the exit code
-abbrev pub code_of : ExitStatus → ℕ
+abbrev pub code_of : Status → ℕ
 code_of Done = 0
 code_of Words = 1
 code_of Refused = 2

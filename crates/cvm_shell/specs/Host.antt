@@ -5,8 +5,8 @@ use Rattle.cvm_outside.specs.Numbering.{Tally}
 use Rattle.cvm_outside.specs.declared.shelf.Shelf as shelf_of
 use Rattle.cvm_outside.specs.declared.sink.Sink as sink_of
 use Rattle.cvm_outside.specs.declared.sectors.Sectors as sectors_of
-use Rattle.cvm_shell.specs.declared.exit_status.ExitStatus.{ExitStatus}
-use Rattle.cvm_shell.specs.declared.exit_status.ExitStatus.TheVariants.{Sink}
+use Rattle.cvm_shell.specs.declared.exit_status.Status.{Status}
+use Rattle.cvm_shell.specs.declared.exit_status.Status.TheVariants.{Sink}
 
 -- files: the bytes of each where they are told, how many bytes the last `get` took, and the count of faults
 pub record Files : Type 0 where
@@ -70,6 +70,6 @@ pub record LeavesHost (old new : Host) (text : List ℕ) : Type 0 where
   pub disk : SameSectors old.disk new.disk
 
 -- a row is printed beside a status, or a failing sink took a part of it; nothing else changes
-pub data Says (stated : ExitStatus) (row : List ℕ) (old new : Host) : ExitStatus → Type 0 where
+pub data Says (stated : Status) (row : List ℕ) (old new : Host) : Status → Type 0 where
   said : LeavesHost old new row → Says stated row old new stated
   broken : (n : ℕ) → LeavesHost old new (take n row) → Says stated row old new Sink

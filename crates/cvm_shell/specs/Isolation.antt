@@ -7,20 +7,20 @@ use Rattle.mips_table.specs.Flat.{Flat}
 use Rattle.mips_table.specs.Turns.{complete, lines_of, end_within}
 use Rattle.schedule_file.specs.Rows.{Rows}
 use Rattle.cvm_model.specs.Kernel.{JournalEntry}
-use Rattle.cvm_model.specs.Cvm.{Cvm, Status, cvm}
+use Rattle.cvm_model.specs.Cvm.{Cvm, Status as CvmStatus, cvm}
 use Rattle.cvm_model.specs.Journal.{journal, replay}
 use Rattle.cvm_model.specs.Text.{trace_text}
 use Rattle.boot_turns.specs.TurnEnds.{first_of}
 use Rattle.boot_turns.specs.Headline.{ending_of}
 use Rattle.kernel_linker.specs.Accept.{ImageSystem}
-use Rattle.cvm_shell.specs.declared.exit_status.ExitStatus.{ExitStatus}
+use Rattle.cvm_shell.specs.declared.exit_status.Status.{Status}
 use Rattle.cvm_shell.specs.declared.boot.Session.{Session}
 use Rattle.cvm_shell.specs.Host.{Host}
 use Rattle.cvm_shell.specs.Boot.{booted, around, first_state, ended_as}
 
 -- THE TEXT of a user's journal over its start machine: the start row, the journal's rows, and `halted` or `stopped` with the rows of the machine that the
 -- replay of the journal over the start machine gives; or the kernel's fault. It is there where the journal can be replayed
-abbrev pub replayed_text : (u : ℕ) → (first : Flat) → List JournalEntry → Status → Option (List ℕ)
+abbrev pub replayed_text : (u : ℕ) → (first : Flat) → List JournalEntry → CvmStatus → Option (List ℕ)
 replayed_text u first j status = option_map (λ last. trace_text u first j last status) (replay first j)
 
 -- how many turns are complete where the run of a session ends
@@ -33,7 +33,7 @@ abbrev pub lines_met : Session → ImageSystem → Rows → Host → (before : L
 lines_met session s rows old before = lines_of (around rows old) (first_state session s rows before)
 
 -- WHAT IS PRINTED of user u is that text, of its journal over the complete turns
-pub record IsolatedTrace (session : Session) (u : ℕ) (s : ImageSystem) (rows : Rows) (before : List (List ℕ)) (old new : Host) (status : ExitStatus) : Type 0 where
+pub record IsolatedTrace (session : Session) (u : ℕ) (s : ImageSystem) (rows : Rows) (before : List (List ℕ)) (old new : Host) (status : Status) : Type 0 where
   pub units : ℕ
   pub turns : ℕ
   pub last : Cvm
@@ -48,7 +48,7 @@ pub record IsolatedTrace (session : Session) (u : ℕ) (s : ImageSystem) (rows :
 
 -- TWO TEXTS TELL THE SAME of user u: the start row and the rows of one journal, and the rows of one machine behind `halted` or `stopped`. Only which of
 -- these words, or which `fault NAME` in place of word and machine, may differ, as the runs ended; where they ended alike, the texts are the same
-pub record TellTheSame (u : ℕ) (first : Flat) (entries : List JournalEntry) (status : Status) (text : List ℕ) (ended : Status) (other : List ℕ) : Type 0 where
+pub record TellTheSame (u : ℕ) (first : Flat) (entries : List JournalEntry) (status : CvmStatus) (text : List ℕ) (ended : CvmStatus) (other : List ℕ) : Type 0 where
   pub last : Flat
   pub replayed : replay first entries ≡ Some last
   pub text_is : text ≡ trace_text u first entries last status
@@ -57,7 +57,7 @@ pub record TellTheSame (u : ℕ) (first : Flat) (entries : List JournalEntry) (s
 
 -- A LAW: two traces of a user that starts alike and has the same journal tell the same of it, whatever else is in the two systems, their schedules and disks
 abbrev pub EqualJournalsTellTheSame : Type 0
-EqualJournalsTellTheSame = (session another : Session) (u : ℕ) (s r : ImageSystem) (rows inputs : Rows) (before present : List (List ℕ)) (old new past now : Host) (status ended : ExitStatus)
+EqualJournalsTellTheSame = (session another : Session) (u : ℕ) (s r : ImageSystem) (rows inputs : Rows) (before present : List (List ℕ)) (old new past now : Host) (status ended : Status)
     (a : IsolatedTrace session u s rows before old new status) (b : IsolatedTrace another u r inputs present past now ended) →
     first_of (booted s rows) u ≡ first_of (booted r inputs) u → a.entries ≡ b.entries
     → TellTheSame u (first_of (booted s rows) u) a.entries a.last.status a.text b.last.status b.text

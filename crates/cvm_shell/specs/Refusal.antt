@@ -21,8 +21,8 @@ use Rattle.schedule_file.specs.declared.fault.ScheduleFault.{ScheduleFault}
 use Rattle.kernel_linker.specs.declared.fault.LinkFault.{LinkFault}
 use Rattle.saved_file.specs.Fault.{save_fault_number, save_fault_fields}
 use Rattle.saved_file.specs.declared.fault.SaveFault.{SaveFault}
-use Rattle.cvm_shell.specs.declared.exit_status.ExitStatus.{ExitStatus}
-use Rattle.cvm_shell.specs.declared.exit_status.ExitStatus.TheVariants.{Refused, Disk, Shelf}
+use Rattle.cvm_shell.specs.declared.exit_status.Status.{Status}
+use Rattle.cvm_shell.specs.declared.exit_status.Status.TheVariants.{Refused, Disk, Shelf}
 
 pub data Refusal : Type 0 where
   -- 1 to 7: a user's text has no words
@@ -114,7 +114,7 @@ refusal_text (no_such_user user users) = numbers_row 96 (user ∷ users ∷ [])
 refusal_text too_long = codes "refused 81\n"
 
 -- the status beside the row: a file that is too long is the shelf's fault, and a disk that is too small the disk's
-abbrev pub refusal_status : Refusal → ExitStatus
+abbrev pub refusal_status : Refusal → Status
 refusal_status (small_disk need have) = Disk
 refusal_status too_long = Shelf
 refusal_status other = Refused

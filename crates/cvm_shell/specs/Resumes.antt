@@ -15,8 +15,8 @@ use Rattle.boot_run.specs.declared.whole.RunEnd.{RunEnd}
 use Rattle.boot_run.specs.declared.whole.RunEnd.TheVariants as ends
 use Rattle.kernel_linker.specs.Accept.{ImageSystem}
 use Rattle.machine_save.specs.ResumeRun.{GoesOnFrom}
-use Rattle.cvm_shell.specs.declared.exit_status.ExitStatus.{ExitStatus}
-use Rattle.cvm_shell.specs.declared.exit_status.ExitStatus.TheVariants.{Disk, Memory}
+use Rattle.cvm_shell.specs.declared.exit_status.Status.{Status}
+use Rattle.cvm_shell.specs.declared.exit_status.Status.TheVariants.{Disk, Memory}
 use Rattle.cvm_shell.specs.declared.boot.Session.{Session}
 use Rattle.cvm_shell.specs.Command.{Save, IsResume, save_session}
 use Rattle.cvm_shell.specs.Host.{Host, LeavesHost, Says, counts}
@@ -50,7 +50,7 @@ pub record IsResumedSession (session : Session) (s : ImageSystem) (rows : Rows) 
 
 -- HOW A RESUME ENDS whose file is taken up: a disk that is too small is refused, with no fault of the disk; else there may be no memory, and nothing is
 -- printed and nothing changes; else the run goes on
-pub data ResumeEnds (session : Session) (s : ImageSystem) (rows : Rows) (words : List ℕ) (status : ExitStatus) (old new : Host) : Type 0 where
+pub data ResumeEnds (session : Session) (s : ImageSystem) (rows : Rows) (words : List ℕ) (status : Status) (old new : Host) : Type 0 where
   small_for_it : old.disk.size < sectors_needed session s rows → new.disk.faults ≡ old.disk.faults
       → Says Disk (refusal_text (small_disk (sectors_needed session s rows) old.disk.size)) old new status → ResumeEnds session s rows words status old new
   no_room : status ≡ Memory → LeavesHost old new [] → ResumeEnds session s rows words status old new
@@ -73,7 +73,7 @@ pub record IsHonestResume (words : List (List ℕ)) (c : Save) (s : ImageSystem)
   pub sink_done : Rose old.sink.faults new.sink.faults → ⊥
 
 -- THE THEOREM OF RESUME, by its end: the run goes on
-pub record ResumeHolds (c : Save) (s : ImageSystem) (rows : Rows) (machine : List ℕ) (left : List (List ℕ)) (old new : Host) (status : ExitStatus) : Type 0 where
+pub record ResumeHolds (c : Save) (s : ImageSystem) (rows : Rows) (machine : List ℕ) (left : List (List ℕ)) (old new : Host) (status : Status) : Type 0 where
   pub end : RunEnd
   pub status_is : status ≡ ended_as (ending_of_end end)
   pub no_disk : end ≢ ends.DiskFault
@@ -81,7 +81,7 @@ pub record ResumeHolds (c : Save) (s : ImageSystem) (rows : Rows) (machine : Lis
   pub went : Resumed (save_session c) s rows machine end left old new
   pub files_same : (n : List ℕ) → new.shelf.file n ≡ old.shelf.file n
 
-abbrev pub Resumes : {A : Type 0} → (A → Host) → List (List ℕ) → ExitStatus → (old new : A) → Type 0
+abbrev pub Resumes : {A : Type 0} → (A → Host) → List (List ℕ) → Status → (old new : A) → Type 0
 Resumes see words status old new = (c : Save) (s : ImageSystem) (rows : Rows) (machine : List ℕ) (left : List (List ℕ)) →
     IsHonestResume words c s rows machine left (see old) (see new) → status ≢ Memory → ResumeHolds c s rows machine left (see old) (see new) status
 
@@ -95,7 +95,7 @@ pub record IsSavedRun (c : Save) (s : ImageSystem) (rows : Rows) (machine : List
 
 -- THE BOOT AS A WHOLE: the sectors and the status are its, and so is the text behind what the first call showed; and its machine comes to the end of
 -- every turn
-pub record IsBootBehind (c : Save) (s : ImageSystem) (rows : Rows) (before : List (List ℕ)) (shown : List ℕ) (first old new : Host) (status : ExitStatus) : Type 0 where
+pub record IsBootBehind (c : Save) (s : ImageSystem) (rows : Rows) (before : List (List ℕ)) (shown : List ℕ) (first old new : Host) (status : Status) : Type 0 where
   pub after : List (List ℕ)
   pub text : List ℕ
   pub ending : Ending
@@ -122,6 +122,6 @@ pub record IsLeftBy (c d : Save) (s : ImageSystem) (rows : Rows) (bytes : List �
 -- left, the text of the first without its last row and that of the second behind it are the text of the boot with the second's turns and steps over the
 -- disk of the first; and status and sectors are that boot's
 abbrev pub SavedAndResumedAreBooted : Type 0
-SavedAndResumedAreBooted = (c d : Save) (s : ImageSystem) (rows : Rows) (before : List (List ℕ)) (first mid old new : Host) (words : List (List ℕ)) (status : ExitStatus)
+SavedAndResumedAreBooted = (c d : Save) (s : ImageSystem) (rows : Rows) (before : List (List ℕ)) (first mid old new : Host) (words : List (List ℕ)) (status : Status)
     (a : Stopped (save_session c) s rows before first mid (IsSavedIn c.file first mid)) → Resumes (λ o. o) words status old new → IsResume words d
     → IsLeftBy c d s rows (flat_map word a.words) a.after first old new → status ≢ Memory → IsBootBehind d s rows before a.shown first old new status

@@ -16,8 +16,8 @@ use Rattle.boot_run.specs.RunEnds.{ending_of_end}
 use Rattle.boot_run.specs.declared.whole.RunEnd.{RunEnd}
 use Rattle.kernel_linker.specs.Accept.{ImageSystem}
 use Rattle.machine_save.specs.Room.{FILE_ROOM}
-use Rattle.cvm_shell.specs.declared.exit_status.ExitStatus.{ExitStatus}
-use Rattle.cvm_shell.specs.declared.exit_status.ExitStatus.TheVariants.{Done, Disk, Shelf, Sink, Memory}
+use Rattle.cvm_shell.specs.declared.exit_status.Status.{Status}
+use Rattle.cvm_shell.specs.declared.exit_status.Status.TheVariants.{Done, Disk, Shelf, Sink, Memory}
 use Rattle.cvm_shell.specs.declared.boot.Session.{Session}
 use Rattle.cvm_shell.specs.Command.{Save, IsSave, save_session}
 use Rattle.cvm_shell.specs.Host.{Host, LeavesHost, Says}
@@ -98,7 +98,7 @@ pub record IsEnded (session : Session) (s : ImageSystem) (rows : Rows) (e : Endi
 -- HOW A SAVE ENDS whose image is accepted and whose schedule is valid: a disk that is too small is refused, with no fault of the disk; else there may be
 -- no memory, and nothing is printed and nothing changes; the disk may fail in the load; the run ends as its boot does; or it is left, and its machine is
 -- saved, unless the shelf fails, and then the sink may fail in the row
-pub data SaveSessionEnds (session : Session) (s : ImageSystem) (rows : Rows) (name : List ℕ) (status : ExitStatus) (old new : Host) : Type 0 where
+pub data SaveSessionEnds (session : Session) (s : ImageSystem) (rows : Rows) (name : List ℕ) (status : Status) (old new : Host) : Type 0 where
   too_small : old.disk.size < sectors_needed session s rows → new.disk.faults ≡ old.disk.faults
       → Says Disk (refusal_text (small_disk (sectors_needed session s rows) old.disk.size)) old new status → SaveSessionEnds session s rows name status old new
   out_of_memory : status ≡ Memory → HasPlace session s rows old new → LeavesHost old new [] → SaveSessionEnds session s rows name status old new
@@ -123,12 +123,12 @@ pub record IsHonestSave (words : List (List ℕ)) (c : Save) (s : ImageSystem) (
 -- THE THEOREM OF SAVE: sectors, status and text are those of the boot, whose kernel halted where it is done, and no file changes; or, exactly where the
 -- boot prints `stopped`, and so its machine is on, the row `saved` is printed in place of all from there on, and the file's bytes are the saved words of
 -- that machine
-pub data SaveHolds (c : Save) (s : ImageSystem) (rows : Rows) (before : List (List ℕ)) (old new : Host) (status : ExitStatus) : Type 0 where
+pub data SaveHolds (c : Save) (s : ImageSystem) (rows : Rows) (before : List (List ℕ)) (old new : Host) (status : Status) : Type 0 where
   as_boot : (h : Headline (save_session c) s rows before old new status) → (h.ending ≡ IsDone → SessionHalted (save_session c) s rows before old)
       → ((n : List ℕ) → new.shelf.file n ≡ old.shelf.file n) → SaveHolds c s rows before old new status
   is_saved : status ≡ Done → ((n : List ℕ) → n ≢ c.file → new.shelf.file n ≡ old.shelf.file n)
       → Stopped (save_session c) s rows before old new (IsSavedIn c.file old new) → SaveHolds c s rows before old new status
 
-abbrev pub Saves : {A : Type 0} → (A → Host) → List (List ℕ) → ExitStatus → (old new : A) → Type 0
+abbrev pub Saves : {A : Type 0} → (A → Host) → List (List ℕ) → Status → (old new : A) → Type 0
 Saves see words status old new = (c : Save) (s : ImageSystem) (rows : Rows) (before : List (List ℕ)) →
     IsHonestSave words c s rows before (see old) (see new) → status ≢ Memory → SaveHolds c s rows before (see old) (see new) status

@@ -51,8 +51,8 @@ use Rattle.cvm_shell.specs.declared.resuming.Resumable.{Resumable}
 use Rattle.cvm_shell.specs.declared.boot.Stop.{Stop}
 use Rattle.cvm_shell.specs.declared.boot.Stop.TheVariants as stop
 use Rattle.cvm_shell.specs.declared.refusal.Refusal.TheVariants as refusal
-use Rattle.cvm_shell.specs.declared.exit_status.ExitStatus.{ExitStatus}
-use Rattle.cvm_shell.specs.declared.exit_status.ExitStatus.TheVariants.{Done, Shelf, Sink, Memory}
+use Rattle.cvm_shell.specs.declared.exit_status.Status.{Status}
+use Rattle.cvm_shell.specs.declared.exit_status.Status.TheVariants.{Done, Shelf, Sink, Memory}
 use Rattle.std.specs.Global.{Vec}
 use Rattle.cvm_shell.specs.declared.boot.Session.{Session}
 use Rattle.cvm_shell.specs.CompileProgram.{CompileProgram}
@@ -150,15 +150,15 @@ abbrev pub PlanCounts : {T : Type 0} → ℕ → ℕ → Result T Stop → Type 
 PlanCounts before now result = MatchResult result (λ _. now ≡ before) (StopCount before now)
 
 -- how a command ends, whatever the disk, which it leaves alone
-abbrev pub CommandEndsAs : {A : Type 0} → Command → (Drive → A → Host) → ExitStatus → (old new : A) → Type 0
+abbrev pub CommandEndsAs : {A : Type 0} → Command → (Drive → A → Host) → Status → (old new : A) → Type 0
 CommandEndsAs c see status old new = (words : List (List ℕ)) (disk : Drive) → IsCommand words c → CommandEnds words status (see disk old) (see disk new)
 
 -- how a boot or a trace ends, which may change the disk
-abbrev pub BootEndsAs : {A : Type 0} → Boot → View → (A → Host) → ExitStatus → (old new : A) → Type 0
+abbrev pub BootEndsAs : {A : Type 0} → Boot → View → (A → Host) → Status → (old new : A) → Type 0
 BootEndsAs b view see status old new = (words : List (List ℕ)) → IsCommand words (command_of b view) → CommandEnds words status (see old) (see new)
 
 -- how a sample ends, whatever the files, which it leaves alone
-abbrev pub SampleEndsAs : {A : Type 0} → (number : ℕ) → (Files → A → Host) → ExitStatus → (old new : A) → Type 0
+abbrev pub SampleEndsAs : {A : Type 0} → (number : ℕ) → (Files → A → Host) → Status → (old new : A) → Type 0
 SampleEndsAs number see status old new = (words : List (List ℕ)) (shelf : Files) → IsSample words (record { number = number }) →
     CommandEnds words status (see shelf old) (see shelf new)
 
@@ -193,7 +193,7 @@ abbrev pub AnswersAs : {A : Type 0} → Ready → Session → (Files → A → H
 AnswersAs r session see answer old new = (before after : Files) → CallAnswers r session answer (see before old) (see after new)
 
 -- how the run of a system ends, whatever the files, which it leaves alone
-abbrev pub RunsAs : {A : Type 0} → Ready → Session → (Files → A → Host) → ExitStatus → (old new : A) → Type 0
+abbrev pub RunsAs : {A : Type 0} → Ready → Session → (Files → A → Host) → Status → (old new : A) → Type 0
 RunsAs r session see status old new = (before after : Files) → ((n : List ℕ) → after.file n ≡ before.file n)
     → SessionEnds session (system_of r.boot) r.schedule status (see before old) (see after new)
 
@@ -219,10 +219,10 @@ HasNoRoom s stop.Shelf = ⊥
 HasNoRoom s stop.Memory = ⊤
 
 -- how a save and how a resume ends, which may change the file and the disk
-abbrev pub SaveEndsAs : {A : Type 0} → Save → (A → Host) → ExitStatus → (old new : A) → Type 0
+abbrev pub SaveEndsAs : {A : Type 0} → Save → (A → Host) → Status → (old new : A) → Type 0
 SaveEndsAs c see status old new = (words : List (List ℕ)) → IsCommand words (save c) → CommandEnds words status (see old) (see new)
 
-abbrev pub ResumeEndsAs : {A : Type 0} → Save → (A → Host) → ExitStatus → (old new : A) → Type 0
+abbrev pub ResumeEndsAs : {A : Type 0} → Save → (A → Host) → Status → (old new : A) → Type 0
 ResumeEndsAs c see status old new = (words : List (List ℕ)) → IsCommand words (resume c) → CommandEnds words status (see old) (see new)
 
 -- WHAT A CALL ANSWERS that runs a system which is to be saved, of what is seen around it
@@ -252,19 +252,19 @@ abbrev pub SaveIs : {A : Type 0} → Saveable → Save → (A → Host) → Resu
 SaveIs r c see answer old new = SaveCallAnswers r.ready c answer (see old) (see new)
 
 -- how the run of a system ends that is to be saved, from other files that tell the same
-abbrev pub SavesAs : {A : Type 0} → Saveable → Save → (A → Host) → ExitStatus → (old new : A) → Type 0
+abbrev pub SavesAs : {A : Type 0} → Saveable → Save → (A → Host) → Status → (old new : A) → Type 0
 SavesAs r c see status old new = (before : Files) → ((n : List ℕ) → (see old).shelf.file n ≡ before.file n)
     → SaveSessionEnds (save_session c) (system_of r.ready.boot) r.ready.schedule c.file status (with_files before (see old)) (see new)
 
 -- the status of a run that was to be saved, by its end
-abbrev pub status_of_saved : SavedEnd → ExitStatus
+abbrev pub status_of_saved : SavedEnd → Status
 status_of_saved saved_end.Saved = Done
 status_of_saved saved_end.ShelfFault = Shelf
 status_of_saved saved_end.RowFault = Sink
 status_of_saved (saved_end.Ended e) = ended_as (ending_of_end e)
 
 -- how a resume ends, whatever the files, which it leaves alone: as its plan says, or there was no memory
-abbrev pub ResumesAs : {A : Type 0} → Resumable → Save → (Files → A → Host) → ExitStatus → (old new : A) → Type 0
+abbrev pub ResumesAs : {A : Type 0} → Resumable → Save → (Files → A → Host) → Status → (old new : A) → Type 0
 ResumesAs r c see status old new = (before after : Files) → ((n : List ℕ) → after.file n ≡ before.file n)
     → ((status ≡ Memory) × LeavesHost (see before old) (see after new) []) ⊎ PlanEnds (resumable_for c r) status (see before old) (see after new)
 

@@ -1,6 +1,6 @@
 -- Only for the contracts inside the crate: what they see of the enums and structs of the code, and of a stage that may stop.
 use Rattle.std.specs.Prelude.{◌≡◌, ◌≤◌, ℕ, List, Option, Result, MatchOption, MatchResult, decimal, ⊤}
-use Rattle.cvm_shell.specs.declared.exit_status.ExitStatus.{ExitStatus}
+use Rattle.cvm_shell.specs.declared.exit_status.Status.{Status}
 use Rattle.cvm_shell.specs.Command as command
 use Rattle.cvm_shell.specs.CompileProgram as compiling
 use Rattle.cvm_shell.specs.Check as checking
@@ -104,7 +104,7 @@ refusal_view TooLong = refusal.too_long
 abbrev pub stated_row : Refusal → List ℕ
 stated_row r = refusal.refusal_text (refusal_view r)
 
-abbrev pub stated_status : Refusal → ExitStatus
+abbrev pub stated_status : Refusal → Status
 stated_status r = refusal.refusal_status (refusal_view r)
 
 -- a fact of the plan, where a stop is a refusal

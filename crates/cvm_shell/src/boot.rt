@@ -12,7 +12,7 @@ ghost use Rattle.cvm_shell.specs.Views.{boot_view, IfPlan};
 
 use crate::accepted::accept_image;
 use crate::command::Boot;
-use crate::exit_status::ExitStatus;
+use crate::exit_status::Status;
 use crate::refusal::Refusal;
 use crate::saying::refuse;
 use crate::starting::load_and_run;
@@ -142,20 +142,20 @@ pub fn run_system<O: Sink, D: Sectors>(
     session: Session,
     out: &mut O,
     disk: &mut D,
-) -> ExitStatus
+) -> Status
     requires follows { SystemFollows ready }
     requires some { 1 ≤ session.turns }
     ensures ends { RunsAs ready session (within O.Sink D.Sectors) result (out.old, disk.old) (out.new, disk.new) }
-    ensures rose { result ≡ ExitStatus.Sink → Rose (O.faults out.old) (O.faults out.new) }
-    ensures same { result ≢ ExitStatus.Sink → O.faults out.new ≡ O.faults out.old }
-    ensures disk_same { result ≢ ExitStatus.Disk → D.faults disk.new ≡ D.faults disk.old }
-    ensures never { (result ≢ ExitStatus.Words) × (result ≢ ExitStatus.Shelf) }
+    ensures rose { result ≡ Status.Sink → Rose (O.faults out.old) (O.faults out.new) }
+    ensures same { result ≢ Status.Sink → O.faults out.new ≡ O.faults out.old }
+    ensures disk_same { result ≢ Status.Disk → D.faults disk.new ≡ D.faults disk.old }
+    ensures never { (result ≢ Status.Words) × (result ≢ Status.Shelf) }
 {
     match load_and_run(alloc, ready, session, out, disk) {
         Ok(end) => status_of(end),
         Err(LoadFault::SmallDisk { need, have }) => refuse(&Refusal::SmallDisk { need, have }, out),
-        Err(LoadFault::Disk) => ExitStatus::Disk,
-        Err(LoadFault::Memory) => ExitStatus::Memory,
+        Err(LoadFault::Disk) => Status::Disk,
+        Err(LoadFault::Memory) => Status::Memory,
         Err(LoadFault::NoSuchUser { user, users }) => {
             refuse(&Refusal::NoSuchUser { user, users }, out)
         }
@@ -163,14 +163,14 @@ pub fn run_system<O: Sink, D: Sectors>(
 }
 
 // The status of a run by its end.
-pub(crate) fn status_of(end: RunEnd) -> ExitStatus
+pub(crate) fn status_of(end: RunEnd) -> Status
     ensures { result ≡ ended_as (ending_of_end end) }
 {
     match end {
-        RunEnd::Done => ExitStatus::Done,
-        RunEnd::KernelFaulted => ExitStatus::KernelFault,
-        RunEnd::OutOfSteps => ExitStatus::StepLimit,
-        RunEnd::DiskFault => ExitStatus::Disk,
-        RunEnd::SinkFault => ExitStatus::Sink,
+        RunEnd::Done => Status::Done,
+        RunEnd::KernelFaulted => Status::KernelFault,
+        RunEnd::OutOfSteps => Status::StepLimit,
+        RunEnd::DiskFault => Status::Disk,
+        RunEnd::SinkFault => Status::Sink,
     }
 }

@@ -13,7 +13,7 @@ ghost use Rattle.cvm_shell.specs.Views.{check_view, IfPlan, IsStackNumber};
 
 use crate::boot::Stop;
 use crate::command::read_number;
-use crate::exit_status::ExitStatus;
+use crate::exit_status::Status;
 use crate::refusal::Refusal;
 use crate::saying::{refuse, say};
 use bound_check::{answer_text, answers_are_one, bound};
@@ -81,15 +81,15 @@ pub fn check_object<S: Shelf, O: Sink>(
     check: &Check,
     shelf: &mut S,
     out: &mut O,
-) -> ExitStatus
+) -> Status
     ensures ends { CommandEndsAs (command.check (check_view check.now)) (beside S.Shelf O.Sink) result (shelf.old, out.old) (shelf.new, out.new) }
     ensures causes { (disk : Drive) → Causes (beside S.Shelf O.Sink disk) result (shelf.old, out.old) (shelf.new, out.new) }
 {
     match stack_text(alloc, check, shelf) {
-        Ok(text) => say(out, &text, ExitStatus::Done),
+        Ok(text) => say(out, &text, Status::Done),
         Err(Stop::Refused(refusal)) => refuse(&refusal, out),
-        Err(Stop::Shelf) => ExitStatus::Shelf,
-        Err(Stop::Memory) => ExitStatus::Memory,
+        Err(Stop::Shelf) => Status::Shelf,
+        Err(Stop::Memory) => Status::Memory,
     }
 }
 

@@ -4,7 +4,7 @@ ghost use Rattle.cvm_shell.specs.ExitStatus.{code_of};
 
 /// How a command ended, in the order of the codes 0 to 8.
 #[derive(Clone, Copy, Debug, PartialEq, Eq)]
-pub enum ExitStatus {
+pub enum Status {
     /// The work is done.
     Done,
     /// The words match no form of a command.
@@ -25,21 +25,21 @@ pub enum ExitStatus {
     Memory,
 }
 
-impl ExitStatus {
+impl Status {
     /// The exit code, 0 to 8.
     pub fn code(&self) -> u8
         ensures { result ≡ code_of self.now }
     {
         match self {
-            ExitStatus::Done => 0,
-            ExitStatus::Words => 1,
-            ExitStatus::Refused => 2,
-            ExitStatus::KernelFault => 3,
-            ExitStatus::StepLimit => 4,
-            ExitStatus::Disk => 5,
-            ExitStatus::Shelf => 6,
-            ExitStatus::Sink => 7,
-            ExitStatus::Memory => 8,
+            Status::Done => 0,
+            Status::Words => 1,
+            Status::Refused => 2,
+            Status::KernelFault => 3,
+            Status::StepLimit => 4,
+            Status::Disk => 5,
+            Status::Shelf => 6,
+            Status::Sink => 7,
+            Status::Memory => 8,
         }
     }
 }

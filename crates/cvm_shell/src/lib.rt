@@ -44,7 +44,7 @@ pub use command::{
 };
 use cvm_model::{units_are_kernels, units_dont_matter, units_replay, users_are_isolated};
 use cvm_outside::{Sectors, Shelf, Sink};
-pub use exit_status::ExitStatus;
+pub use exit_status::Status;
 use kernel_linker::laws::opened_units_are_their_sources;
 pub use linking::system_image;
 pub use migration::migrated_image;
@@ -92,7 +92,7 @@ pub fn run<S: Shelf, O: Sink, D: Sectors>(
     shelf: &mut S,
     out: &mut O,
     disk: &mut D,
-) -> ExitStatus
+) -> Status
     ensures ends { RunOutcome (seen S.Shelf O.Sink D.Sectors) (texts words.now.items) result (shelf.old, out.old, disk.old) (shelf.new, out.new, disk.new) }
     ensures causes { Caused (seen S.Shelf O.Sink D.Sectors) (texts words.now.items) result (shelf.old, out.old, disk.old) (shelf.new, out.new, disk.new) }
     ensures headline { Headlines (seen S.Shelf O.Sink D.Sectors) (texts words.now.items) result (shelf.old, out.old, disk.old) (shelf.new, out.new, disk.new) }
@@ -133,12 +133,12 @@ fn run_command<S: Shelf, O: Sink, D: Sectors>(
     shelf: &mut S,
     out: &mut O,
     disk: &mut D,
-) -> ExitStatus
+) -> Status
     ensures ends { RunOutcome (seen S.Shelf O.Sink D.Sectors) (texts words.now.items) result (shelf.old, out.old, disk.old) (shelf.new, out.new, disk.new) }
     ensures causes { Causes (seen S.Shelf O.Sink D.Sectors) result (shelf.old, out.old, disk.old) (shelf.new, out.new, disk.new) }
 {
     match read_command(words) {
-        None => say(out, b"bad words\n", ExitStatus::Words),
+        None => say(out, b"bad words\n", Status::Words),
         Some(Command::Boot(boot)) => run_boot(alloc, &boot, View::Boot, shelf, out, disk),
         Some(Command::Trace(trace)) => {
             let view = View::Trace(trace.user);
@@ -164,7 +164,7 @@ fn run_boot<S: Shelf, O: Sink, D: Sectors>(
     shelf: &mut S,
     out: &mut O,
     disk: &mut D,
-) -> ExitStatus
+) -> Status
     requires { 1 ≤ (boot_view boot.now).turns }
     ensures ends { BootEndsAs (boot_view boot.now) view (seen S.Shelf O.Sink D.Sectors) result (shelf.old, out.old, disk.old) (shelf.new, out.new, disk.new) }
     ensures causes { Causes (seen S.Shelf O.Sink D.Sectors) result (shelf.old, out.old, disk.old) (shelf.new, out.new, disk.new) }
@@ -178,8 +178,8 @@ fn run_boot<S: Shelf, O: Sink, D: Sectors>(
     match plan(alloc, boot, shelf) {
         Ok(ready) => run_system(alloc, ready, session, out, disk),
         Err(Stop::Refused(refusal)) => refuse(&refusal, out),
-        Err(Stop::Shelf) => ExitStatus::Shelf,
-        Err(Stop::Memory) => ExitStatus::Memory,
+        Err(Stop::Shelf) => Status::Shelf,
+        Err(Stop::Memory) => Status::Memory,
     }
 }
 
@@ -189,19 +189,19 @@ fn compile_user<S: Shelf, O: Sink>(
     names: &CompileUser,
     shelf: &mut S,
     out: &mut O,
-) -> ExitStatus
+) -> Status
     ensures ends { CommandEndsAs (command.compile_user (user_view names.now)) (beside S.Shelf O.Sink) result (shelf.old, out.old) (shelf.new, out.new) }
     ensures causes { (disk : Drive) → Causes (beside S.Shelf O.Sink disk) result (shelf.old, out.old) (shelf.new, out.new) }
 {
     let image = match user_image(alloc, names, shelf) {
         Ok(image) => image,
         Err(Stop::Refused(refusal)) => return refuse(&refusal, out),
-        Err(Stop::Shelf) => return ExitStatus::Shelf,
-        Err(Stop::Memory) => return ExitStatus::Memory,
+        Err(Stop::Shelf) => return Status::Shelf,
+        Err(Stop::Memory) => return Status::Memory,
     };
     match shelf.put(names.image, &image) {
-        Ok(()) => ExitStatus::Done,
-        Err(_) => ExitStatus::Shelf,
+        Ok(()) => Status::Done,
+        Err(_) => Status::Shelf,
     }
 }
 
@@ -211,41 +211,36 @@ fn compile_kernel<S: Shelf, O: Sink>(
     names: &CompileKernel,
     shelf: &mut S,
     out: &mut O,
-) -> ExitStatus
+) -> Status
     ensures ends { CommandEndsAs (command.compile_kernel (kernel_view names.now)) (beside S.Shelf O.Sink) result (shelf.old, out.old) (shelf.new, out.new) }
     ensures causes { (disk : Drive) → Causes (beside S.Shelf O.Sink disk) result (shelf.old, out.old) (shelf.new, out.new) }
 {
     let object = match kernel_object(alloc, names, shelf) {
         Ok(object) => object,
         Err(Stop::Refused(refusal)) => return refuse(&refusal, out),
-        Err(Stop::Shelf) => return ExitStatus::Shelf,
-        Err(Stop::Memory) => return ExitStatus::Memory,
+        Err(Stop::Shelf) => return Status::Shelf,
+        Err(Stop::Memory) => return Status::Memory,
     };
     match shelf.put(names.object, &object) {
-        Ok(()) => ExitStatus::Done,
-        Err(_) => ExitStatus::Shelf,
+        Ok(()) => Status::Done,
+        Err(_) => Status::Shelf,
     }
 }
 
 // Puts the image of a system, whose object, parameters and users are got, read and linked.
-fn link_system<S: Shelf, O: Sink>(
-    alloc: Global,
-    names: &Link,
-    shelf: &mut S,
-    out: &mut O,
-) -> ExitStatus
+fn link_system<S: Shelf, O: Sink>(alloc: Global, names: &Link, shelf: &mut S, out: &mut O) -> Status
     ensures ends { CommandEndsAs (command.link (link_view names.now)) (beside S.Shelf O.Sink) result (shelf.old, out.old) (shelf.new, out.new) }
     ensures causes { (disk : Drive) → Causes (beside S.Shelf O.Sink disk) result (shelf.old, out.old) (shelf.new, out.new) }
 {
     let linked = match system_image::<RealLayer, S>(alloc, names, shelf) {
         Ok(linked) => linked,
         Err(Stop::Refused(refusal)) => return refuse(&refusal, out),
-        Err(Stop::Shelf) => return ExitStatus::Shelf,
-        Err(Stop::Memory) => return ExitStatus::Memory,
+        Err(Stop::Shelf) => return Status::Shelf,
+        Err(Stop::Memory) => return Status::Memory,
     };
     match shelf.put(names.image, &linked) {
-        Ok(()) => ExitStatus::Done,
-        Err(_) => ExitStatus::Shelf,
+        Ok(()) => Status::Done,
+        Err(_) => Status::Shelf,
     }
 }
 
@@ -255,29 +250,24 @@ fn migrate_image<S: Shelf, O: Sink>(
     names: &Migrate,
     shelf: &mut S,
     out: &mut O,
-) -> ExitStatus
+) -> Status
     ensures ends { CommandEndsAs (command.migrate (migrate_view names.now)) (beside S.Shelf O.Sink) result (shelf.old, out.old) (shelf.new, out.new) }
     ensures causes { (disk : Drive) → Causes (beside S.Shelf O.Sink disk) result (shelf.old, out.old) (shelf.new, out.new) }
 {
     let made = match migrated_image::<RealLayer, S>(alloc, names, shelf) {
         Ok(made) => made,
         Err(Stop::Refused(refusal)) => return refuse(&refusal, out),
-        Err(Stop::Shelf) => return ExitStatus::Shelf,
-        Err(Stop::Memory) => return ExitStatus::Memory,
+        Err(Stop::Shelf) => return Status::Shelf,
+        Err(Stop::Memory) => return Status::Memory,
     };
     match shelf.put(names.image, &made) {
-        Ok(()) => ExitStatus::Done,
-        Err(_) => ExitStatus::Shelf,
+        Ok(()) => Status::Done,
+        Err(_) => Status::Shelf,
     }
 }
 
 // Makes, links and boots the sample of a number.
-fn run_sample<O: Sink, D: Sectors>(
-    alloc: Global,
-    number: u32,
-    out: &mut O,
-    disk: &mut D,
-) -> ExitStatus
+fn run_sample<O: Sink, D: Sectors>(alloc: Global, number: u32, out: &mut O, disk: &mut D) -> Status
     ensures ends { SampleEndsAs number (within O.Sink D.Sectors) result (out.old, disk.old) (out.new, disk.new) }
     ensures causes { (shelf : Files) → Causes (within O.Sink D.Sectors shelf) result (out.old, disk.old) (out.new, disk.new) }
 {
@@ -290,7 +280,7 @@ fn run_sample<O: Sink, D: Sectors>(
     match sampled(alloc, number) {
         Ok(ready) => run_system(alloc, ready, session, out, disk),
         Err(Stop::Refused(refusal)) => refuse(&refusal, out),
-        Err(Stop::Shelf) => ExitStatus::Shelf,
-        Err(Stop::Memory) => ExitStatus::Memory,
+        Err(Stop::Shelf) => Status::Shelf,
+        Err(Stop::Memory) => Status::Memory,
     }
 }

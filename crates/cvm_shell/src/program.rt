@@ -11,7 +11,7 @@ ghost use Rattle.cvm_shell.specs.Views.{program_view, IfPlan};
 
 use crate::assembly::little_endian;
 use crate::boot::Stop;
-use crate::exit_status::ExitStatus;
+use crate::exit_status::Status;
 use crate::refusal::Refusal;
 use crate::saying::refuse;
 use c0_meaning::laws::least_fault_is_there;
@@ -98,18 +98,18 @@ pub fn compile_program<S: Shelf, O: Sink>(
     names: &CompileProgram,
     shelf: &mut S,
     out: &mut O,
-) -> ExitStatus
+) -> Status
     ensures ends { CommandEndsAs (command.compile_program (program_view names.now)) (beside S.Shelf O.Sink) result (shelf.old, out.old) (shelf.new, out.new) }
     ensures causes { (disk : Drive) → Causes (beside S.Shelf O.Sink disk) result (shelf.old, out.old) (shelf.new, out.new) }
 {
     let image = match program_image(alloc, names, shelf) {
         Ok(image) => image,
         Err(Stop::Refused(refusal)) => return refuse(&refusal, out),
-        Err(Stop::Shelf) => return ExitStatus::Shelf,
-        Err(Stop::Memory) => return ExitStatus::Memory,
+        Err(Stop::Shelf) => return Status::Shelf,
+        Err(Stop::Memory) => return Status::Memory,
     };
     match shelf.put(names.image, &image) {
-        Ok(()) => ExitStatus::Done,
-        Err(_) => ExitStatus::Shelf,
+        Ok(()) => Status::Done,
+        Err(_) => Status::Shelf,
     }
 }

@@ -6,7 +6,7 @@ ghost use Rattle.cvm_shell.specs.Refusal.{text_fault_row, source_fault_row, obje
 ghost use Rattle.cvm_shell.specs.Refusal as rows;
 ghost use Rattle.cvm_shell.specs.Views.{refusal_view};
 
-use crate::exit_status::ExitStatus;
+use crate::exit_status::Status;
 use arrayvec::ArrayString;
 use c0_parser::ReadFault;
 use c0_tree::Span;
@@ -72,14 +72,14 @@ impl Refusal {
     }
 
     /// The status beside the row: `Shelf` where a file is too long, `Disk` where the disk is too small, else `Refused`.
-    pub fn status(&self) -> ExitStatus
+    pub fn status(&self) -> Status
         ensures is { result ≡ refusal_status (refusal_view self.now) }
-        ensures row { result ≢ ExitStatus.Sink }
+        ensures row { result ≢ Status.Sink }
     {
         match self {
-            Refusal::SmallDisk { .. } => ExitStatus::Disk,
-            Refusal::TooLong => ExitStatus::Shelf,
-            _ => ExitStatus::Refused,
+            Refusal::SmallDisk { .. } => Status::Disk,
+            Refusal::TooLong => Status::Shelf,
+            _ => Status::Refused,
         }
     }
 }

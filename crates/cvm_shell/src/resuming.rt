@@ -11,7 +11,7 @@ ghost use Rattle.cvm_shell.specs.Stages.{resumable_for, SystemFollows, IsResumeP
 ghost use Rattle.cvm_shell.specs.Views.{save_view, IfPlan};
 
 use crate::boot::{Ready, Stop, ready_of, status_of};
-use crate::exit_status::ExitStatus;
+use crate::exit_status::Status;
 use crate::refusal::Refusal;
 use crate::saving_words::Save;
 use crate::saying::refuse;
@@ -50,15 +50,15 @@ pub fn run_resume<S: Shelf, O: Sink, D: Sectors>(
     shelf: &mut S,
     out: &mut O,
     disk: &mut D,
-) -> ExitStatus
+) -> Status
     ensures ends { ResumeEndsAs (save_view resume.now) (seen S.Shelf O.Sink D.Sectors) result (shelf.old, out.old, disk.old) (shelf.new, out.new, disk.new) }
     ensures causes { Causes (seen S.Shelf O.Sink D.Sectors) result (shelf.old, out.old, disk.old) (shelf.new, out.new, disk.new) }
 {
     match plan_resume(alloc, resume, shelf) {
         Ok(resumable) => resume_system(alloc, resumable, resume, out, disk),
         Err(Stop::Refused(refusal)) => refuse(&refusal, out),
-        Err(Stop::Shelf) => ExitStatus::Shelf,
-        Err(Stop::Memory) => ExitStatus::Memory,
+        Err(Stop::Shelf) => Status::Shelf,
+        Err(Stop::Memory) => Status::Memory,
     }
 }
 
@@ -69,13 +69,13 @@ fn resume_system<O: Sink, D: Sectors>(
     resume: &Save,
     out: &mut O,
     disk: &mut D,
-) -> ExitStatus
+) -> Status
     requires follows { SystemFollows resumable.ready }
     ensures ends { ResumesAs resumable (save_view resume.now) (within O.Sink D.Sectors) result (out.old, disk.old) (out.new, disk.new) }
-    ensures rose { result ≡ ExitStatus.Sink → Rose (O.faults out.old) (O.faults out.new) }
-    ensures same { result ≢ ExitStatus.Sink → O.faults out.new ≡ O.faults out.old }
-    ensures disk_same { result ≢ ExitStatus.Disk → D.faults disk.new ≡ D.faults disk.old }
-    ensures never { (result ≢ ExitStatus.Words) × (result ≢ ExitStatus.Shelf) }
+    ensures rose { result ≡ Status.Sink → Rose (O.faults out.old) (O.faults out.new) }
+    ensures same { result ≢ Status.Sink → O.faults out.new ≡ O.faults out.old }
+    ensures disk_same { result ≢ Status.Disk → D.faults disk.new ≡ D.faults disk.old }
+    ensures never { (result ≢ Status.Words) × (result ≢ Status.Shelf) }
 {
     match resume_run(
         alloc,
@@ -97,16 +97,16 @@ fn resume_system<O: Sink, D: Sectors>(
 }
 
 // Prints the row of a fault of a saved machine's file. Want of memory is none.
-fn refuse_file<O: Sink>(fault: SaveFault, out: &mut O) -> ExitStatus
-    ensures cases { ((result ≡ ExitStatus.Memory) × (out.new ≡ out.old))
-        ⊎ ((fault ≢ SaveFault.Memory) × ((result ≡ ExitStatus.Refused) ⊎ (result ≡ ExitStatus.Sink))) }
-    ensures whole { result ≡ ExitStatus.Refused → O.text out.new ≡ append_known (O.text out.old) (refusal_text (bad_save fault)) }
-    ensures part { result ≡ ExitStatus.Sink → AppendsPart (O.text out.old) (O.text out.new) (refusal_text (bad_save fault)) }
-    ensures rose { result ≡ ExitStatus.Sink → Rose (O.faults out.old) (O.faults out.new) }
-    ensures same { result ≢ ExitStatus.Sink → O.faults out.new ≡ O.faults out.old }
+fn refuse_file<O: Sink>(fault: SaveFault, out: &mut O) -> Status
+    ensures cases { ((result ≡ Status.Memory) × (out.new ≡ out.old))
+        ⊎ ((fault ≢ SaveFault.Memory) × ((result ≡ Status.Refused) ⊎ (result ≡ Status.Sink))) }
+    ensures whole { result ≡ Status.Refused → O.text out.new ≡ append_known (O.text out.old) (refusal_text (bad_save fault)) }
+    ensures part { result ≡ Status.Sink → AppendsPart (O.text out.old) (O.text out.new) (refusal_text (bad_save fault)) }
+    ensures rose { result ≡ Status.Sink → Rose (O.faults out.old) (O.faults out.new) }
+    ensures same { result ≢ Status.Sink → O.faults out.new ≡ O.faults out.old }
 {
     if let SaveFault::Memory = fault {
-        return ExitStatus::Memory;
+        return Status::Memory;
     }
     refuse(&Refusal::BadSave(fault), out)
 }

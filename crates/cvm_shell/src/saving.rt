@@ -14,7 +14,7 @@ ghost use Rattle.cvm_shell.specs.Stages.{SaveEndsAs, SaveIs, SavesAs};
 ghost use Rattle.cvm_shell.specs.Views.{save_view, IfPlan};
 
 use crate::boot::{Ready, Stop, plan, status_of};
-use crate::exit_status::ExitStatus;
+use crate::exit_status::Status;
 use crate::refusal::Refusal;
 use crate::saving_words::Save;
 use crate::saying::refuse;
@@ -79,7 +79,7 @@ pub fn run_save<S: Shelf, O: Sink, D: Sectors>(
     shelf: &mut S,
     out: &mut O,
     disk: &mut D,
-) -> ExitStatus
+) -> Status
     requires { 1 ≤ (save_view save.now).boot.turns }
     ensures ends { SaveEndsAs (save_view save.now) (seen S.Shelf O.Sink D.Sectors) result (shelf.old, out.old, disk.old) (shelf.new, out.new, disk.new) }
     ensures causes { Causes (seen S.Shelf O.Sink D.Sectors) result (shelf.old, out.old, disk.old) (shelf.new, out.new, disk.new) }
@@ -87,8 +87,8 @@ pub fn run_save<S: Shelf, O: Sink, D: Sectors>(
     match plan_save(alloc, save, shelf) {
         Ok(saveable) => save_system(alloc, saveable, save, shelf, out, disk),
         Err(Stop::Refused(refusal)) => refuse(&refusal, out),
-        Err(Stop::Shelf) => ExitStatus::Shelf,
-        Err(Stop::Memory) => ExitStatus::Memory,
+        Err(Stop::Shelf) => Status::Shelf,
+        Err(Stop::Memory) => Status::Memory,
     }
 }
 
@@ -100,25 +100,25 @@ fn save_system<S: Shelf, O: Sink, D: Sectors>(
     shelf: &mut S,
     out: &mut O,
     disk: &mut D,
-) -> ExitStatus
+) -> Status
     requires follows { SystemFollows saveable.ready }
     requires room { saveable.room.words ≡ most_words (frames_of (system_of saveable.ready.boot)) }
     requires short { most_bytes (system_of saveable.ready.boot) ≤ FILE_ROOM }
     requires some { 1 ≤ (save_view save.now).boot.turns }
     ensures ends { SavesAs saveable (save_view save.now) (seen S.Shelf O.Sink D.Sectors) result (shelf.old, out.old, disk.old) (shelf.new, out.new, disk.new) }
     ensures taken { S.taken shelf.new ≡ S.taken shelf.old }
-    ensures disk_same { result ≢ ExitStatus.Disk → D.faults disk.new ≡ D.faults disk.old }
-    ensures sink { result ≡ ExitStatus.Sink → Rose (O.faults out.old) (O.faults out.new) }
-    ensures sink_same { result ≢ ExitStatus.Sink → O.faults out.new ≡ O.faults out.old }
-    ensures shelf { result ≡ ExitStatus.Shelf → Rose (S.faults shelf.old) (S.faults shelf.new) }
-    ensures shelf_same { result ≢ ExitStatus.Shelf → S.faults shelf.new ≡ S.faults shelf.old }
-    ensures never { result ≢ ExitStatus.Words }
+    ensures disk_same { result ≢ Status.Disk → D.faults disk.new ≡ D.faults disk.old }
+    ensures sink { result ≡ Status.Sink → Rose (O.faults out.old) (O.faults out.new) }
+    ensures sink_same { result ≢ Status.Sink → O.faults out.new ≡ O.faults out.old }
+    ensures shelf { result ≡ Status.Shelf → Rose (S.faults shelf.old) (S.faults shelf.new) }
+    ensures shelf_same { result ≢ Status.Shelf → S.faults shelf.new ≡ S.faults shelf.old }
+    ensures never { result ≢ Status.Words }
 {
     match save_ready(alloc, saveable, save, shelf, out, disk) {
         Ok(end) => saved_status(end),
         Err(LoadFault::SmallDisk { need, have }) => refuse(&Refusal::SmallDisk { need, have }, out),
-        Err(LoadFault::Disk) => ExitStatus::Disk,
-        Err(LoadFault::Memory) => ExitStatus::Memory,
+        Err(LoadFault::Disk) => Status::Disk,
+        Err(LoadFault::Memory) => Status::Memory,
         Err(LoadFault::NoSuchUser { user, users }) => {
             refuse(&Refusal::NoSuchUser { user, users }, out)
         }
@@ -173,13 +173,13 @@ fn is_in_range(steps: u64)
 {}
 
 // The status of a run that was to be saved, by its end.
-fn saved_status(end: SavedEnd) -> ExitStatus
+fn saved_status(end: SavedEnd) -> Status
     ensures { result ≡ status_of_saved end }
 {
     match end {
-        SavedEnd::Saved => ExitStatus::Done,
-        SavedEnd::ShelfFault => ExitStatus::Shelf,
-        SavedEnd::RowFault => ExitStatus::Sink,
+        SavedEnd::Saved => Status::Done,
+        SavedEnd::ShelfFault => Status::Shelf,
+        SavedEnd::RowFault => Status::Sink,
         SavedEnd::Ended(end) => status_of(end),
     }
 }

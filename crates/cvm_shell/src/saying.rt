@@ -5,32 +5,32 @@ ghost use Rattle.cvm_outside.specs.Causes.{Rose};
 ghost use Rattle.cvm_outside.specs.Told.{AppendsPart};
 ghost use Rattle.cvm_shell.specs.Views.{stated_row, stated_status};
 
-use crate::exit_status::ExitStatus;
+use crate::exit_status::Status;
 use crate::refusal::Refusal;
 use cvm_outside::Sink;
 
 /// Prints a text beside a status. A sink that fails is `Sink`.
-pub fn say<O: Sink>(out: &mut O, text: &[u8], status: ExitStatus) -> ExitStatus
-    requires { status ≢ ExitStatus.Sink }
-    ensures cases { (result ≡ status) ⊎ (result ≡ ExitStatus.Sink) }
+pub fn say<O: Sink>(out: &mut O, text: &[u8], status: Status) -> Status
+    requires { status ≢ Status.Sink }
+    ensures cases { (result ≡ status) ⊎ (result ≡ Status.Sink) }
     ensures whole { result ≡ status → O.text out.new ≡ append_known (O.text out.old) text.now }
-    ensures part { result ≡ ExitStatus.Sink → AppendsPart (O.text out.old) (O.text out.new) text.now }
-    ensures rose { result ≡ ExitStatus.Sink → Rose (O.faults out.old) (O.faults out.new) }
-    ensures same { result ≢ ExitStatus.Sink → O.faults out.new ≡ O.faults out.old }
+    ensures part { result ≡ Status.Sink → AppendsPart (O.text out.old) (O.text out.new) text.now }
+    ensures rose { result ≡ Status.Sink → Rose (O.faults out.old) (O.faults out.new) }
+    ensures same { result ≢ Status.Sink → O.faults out.new ≡ O.faults out.old }
 {
     match out.put(text) {
         Ok(()) => status,
-        Err(_) => ExitStatus::Sink,
+        Err(_) => Status::Sink,
     }
 }
 
 /// Prints the row of a refusal, beside its status. A sink that fails is `Sink`.
-pub fn refuse<O: Sink>(refusal: &Refusal, out: &mut O) -> ExitStatus
-    ensures cases { (result ≡ stated_status refusal.now) ⊎ (result ≡ ExitStatus.Sink) }
+pub fn refuse<O: Sink>(refusal: &Refusal, out: &mut O) -> Status
+    ensures cases { (result ≡ stated_status refusal.now) ⊎ (result ≡ Status.Sink) }
     ensures whole { result ≡ stated_status refusal.now → O.text out.new ≡ append_known (O.text out.old) (stated_row refusal.now) }
-    ensures part { result ≡ ExitStatus.Sink → AppendsPart (O.text out.old) (O.text out.new) (stated_row refusal.now) }
-    ensures rose { result ≡ ExitStatus.Sink → Rose (O.faults out.old) (O.faults out.new) }
-    ensures same { result ≢ ExitStatus.Sink → O.faults out.new ≡ O.faults out.old }
+    ensures part { result ≡ Status.Sink → AppendsPart (O.text out.old) (O.text out.new) (stated_row refusal.now) }
+    ensures rose { result ≡ Status.Sink → Rose (O.faults out.old) (O.faults out.new) }
+    ensures same { result ≢ Status.Sink → O.faults out.new ≡ O.faults out.old }
 {
     let row = refusal.row();
     say(out, row.as_str().as_bytes(), refusal.status())

@@ -8,7 +8,7 @@ use Rattle.mips_table.specs.Turns.{complete, end_within, lines_of}
 use Rattle.mips_table.specs.Machine.{State}
 use Rattle.boot_turns.specs.declared.answers.View.TheVariants.{Boot}
 use Rattle.boot_turns.specs.Headline.{Ending, Done, KernelFaulted, OutOfSteps, DiskFault, SinkFault, NoMemory, ending_of, ending, TextAt, RanFrom}
-use Rattle.cvm_model.specs.Cvm.{System, Cvm, Status, Running, Halted, Faulted, IsCvm}
+use Rattle.cvm_model.specs.Cvm.{System, Cvm, Status as CvmStatus, Running, Halted, Faulted, IsCvm}
 use Rattle.cvm_model.specs.Invariant.{HasEight, IsSafe, RunsAreLawful}
 use Rattle.cvm_model.specs.Text.{rows_text, boot_text}
 use Rattle.c0_types.specs.Front.{IsUnitOf}
@@ -18,8 +18,8 @@ use Rattle.boot_image.specs.declared.fault.ImageFault.{ImageFault}
 use Rattle.boot_image.specs.Reading.{answer as image_of}
 use Rattle.kernel_linker.specs.Accept.{ImageSystem}
 use Rattle.kernel_linker.specs.Sources.{IsOfImage, AcceptedAreOfImages}
-use Rattle.cvm_shell.specs.declared.exit_status.ExitStatus.{ExitStatus}
-use Rattle.cvm_shell.specs.declared.exit_status.ExitStatus.TheVariants.{KernelFault}
+use Rattle.cvm_shell.specs.declared.exit_status.Status.{Status}
+use Rattle.cvm_shell.specs.declared.exit_status.Status.TheVariants.{KernelFault}
 use Rattle.cvm_shell.specs.declared.boot.Session.{Session}
 use Rattle.cvm_shell.specs.Host.{Host}
 use Rattle.cvm_shell.specs.Plan.{Accepts}
@@ -33,16 +33,16 @@ abbrev pub NoFault : Ending → Type 0
 NoFault KernelFaulted = ⊥
 NoFault other = Unit {0}
 
-no_fault_of : (s : Status) → IsSafe s → NoFault (ending_of s)
+no_fault_of : (s : CvmStatus) → IsSafe s → NoFault (ending_of s)
 no_fault_of Running h = tt
 no_fault_of Halted h = tt
 no_fault_of (Faulted f) h = h
 
-pub no_fault : (b : Bool) (s : Status) → IsSafe s → NoFault (if b then ending_of s else OutOfSteps)
+pub no_fault : (b : Bool) (s : CvmStatus) → IsSafe s → NoFault (if b then ending_of s else OutOfSteps)
 no_fault true s h = no_fault_of s h
 no_fault false s h = tt
 
-abbrev OtherStatus : ExitStatus → Type 0
+abbrev OtherStatus : Status → Type 0
 OtherStatus KernelFault = ⊥
 OtherStatus other = Unit {0}
 
@@ -111,7 +111,7 @@ boots_stand laws words status old new headlines session s rows before honest som
     record {
       text = h.text;
       printed = h.printed;
-      stands = subst (λ (z : ExitStatus). SessionStands session s rows before old z h.text) (sym h.status_is) (stands x y (ones laws s rows) first held before h.after session.turns session.steps h.ending h.text ran);
+      stands = subst (λ (z : Status). SessionStands session s rows before old z h.text) (sym h.status_is) (stands x y (ones laws s rows) first held before h.after session.turns session.steps h.ending h.text ran);
       goes_on = h.goes_on;
     }
 

@@ -10,7 +10,7 @@ use Rattle.mips_table.specs.Flat.{Flat}
 use Rattle.cvm_model.specs.Kernel.{JournalEntry}
 use Rattle.cvm_model.specs.KernelMeaning.{UnitsReplay}
 use Rattle.cvm_model.specs.Primitives.{user_of}
-use Rattle.cvm_model.specs.Cvm.{System, Cvm, Status, Running, Halted, Faulted, first_cvm, IsCvm, cvm}
+use Rattle.cvm_model.specs.Cvm.{System, Cvm, Status as CvmStatus, Running, Halted, Faulted, first_cvm, IsCvm, cvm}
 use Rattle.cvm_model.specs.Invariant.{HasEight, RunsAreLawful}
 use Rattle.cvm_model.specs.Journal.{journal, replay, Isolated}
 use Rattle.cvm_model.specs.Text.{rows_text, start_row, open_journal_rows, trace_text}
@@ -26,8 +26,8 @@ use Rattle.boot_run.specs.SavedRuns.{SavedAt, GoesOnAs}
 use Rattle.boot_run.specs.declared.whole.RunEnd.{RunEnd}
 use Rattle.boot_run.specs.declared.whole.RunEnd.TheVariants as ends
 use Rattle.kernel_linker.specs.Accept.{ImageSystem}
-use Rattle.cvm_shell.specs.declared.exit_status.ExitStatus.{ExitStatus}
-use Rattle.cvm_shell.specs.declared.exit_status.ExitStatus.TheVariants as statuses
+use Rattle.cvm_shell.specs.declared.exit_status.Status.{Status}
+use Rattle.cvm_shell.specs.declared.exit_status.Status.TheVariants as statuses
 use Rattle.cvm_shell.specs.declared.boot.Session.{Session}
 use Rattle.cvm_shell.specs.Command.{Save, save_session}
 use Rattle.cvm_shell.specs.Host.{Host, counts}
@@ -42,13 +42,13 @@ use Rattle.kernel_boots.proofs.EightLines.{eight_of, turns_have_eight}
 use Rattle.kernel_boots.proofs.Boots.{RunsAreOne, ones, stands, asked_eight}
 
 -- THE STATUS of a run with no failed call
-abbrev Allowed : ExitStatus → Type 0
+abbrev Allowed : Status → Type 0
 Allowed statuses.Done = Unit {0}
 Allowed statuses.KernelFault = Unit {0}
 Allowed statuses.StepLimit = Unit {0}
 Allowed other = ⊥
 
-allowed : (b : Bool) (s : Status) → Allowed (ended_as (if b then ending_of s else OutOfSteps))
+allowed : (b : Bool) (s : CvmStatus) → Allowed (ended_as (if b then ending_of s else OutOfSteps))
 allowed true Running = tt
 allowed true Halted = tt
 allowed true (Faulted f) = tt
@@ -64,7 +64,7 @@ spent_text x y s v t headline.SinkFault text e h = absurd (cc)
 spent_text x y s v t headline.NoMemory text e h = absurd (cc)
 
 -- a status other than that has the whole text
-whole_text : (u : ℕ) (first : Flat) (entries more : List JournalEntry) (status : ExitStatus) (c : Cvm) (text : List ℕ) → status ≢ statuses.StepLimit → text ≡ trace_text u first entries (user_of c.core.users u) c.status
+whole_text : (u : ℕ) (first : Flat) (entries more : List JournalEntry) (status : Status) (c : Cvm) (text : List ℕ) → status ≢ statuses.StepLimit → text ≡ trace_text u first entries (user_of c.core.users u) c.status
     → TraceTextOf u first entries more status c text
 whole_text u first entries more statuses.StepLimit c text isnt e = absurd (isnt refl)
 whole_text u first entries more statuses.Done c text isnt e = e
@@ -75,7 +75,7 @@ some_same : {A : Type 0} (a b : A) → Some a ≡ Some b → a ≡ b
 some_same a b e = cc
 
 -- A TRACE
-module _ (laws : RunsAreLawful) (replays : UnitsReplay) (isolated : Isolated) (session : Session) (u : ℕ) (s : ImageSystem) (rows : Rows) (before : List (List ℕ)) (status : ExitStatus) (old new : Host)
+module _ (laws : RunsAreLawful) (replays : UnitsReplay) (isolated : Isolated) (session : Session) (u : ℕ) (s : ImageSystem) (rows : Rows) (before : List (List ℕ)) (status : Status) (old new : Host)
     (user : (1 ≤ u) × (u ≤ length s.users)) (h : Headline session s rows before old new status) where
   abbrev x : Surroundings
   x = around rows old
@@ -111,7 +111,7 @@ module _ (laws : RunsAreLawful) (replays : UnitsReplay) (isolated : Isolated) (s
       let so : Printed x y m session.view t h.text = spent_text x y m session.view t h.ending h.text (sym h.status_is ∙ e) h.ran.text_is in
       let (j, shown, text) = subst (λ (v : View). Printed x y m v t h.text) traced so in
       made shown.past shown.units shown.cvm h.text
-      (subst (λ (z : ExitStatus). TraceTextOf u (first_of y u) (journal y (lines_of x m) shown.units u (complete x m t)) (under_way x y m shown.units u t) z shown.past h.text) (sym e)
+      (subst (λ (z : Status). TraceTextOf u (first_of y u) (journal y (lines_of x m) shown.units u (complete x m t)) (under_way x y m shown.units u t) z shown.past h.text) (sym e)
       (text ∙ ap (λ (k : List JournalEntry). start_row u (first_of y u) ++ open_journal_rows k) shown.is))
 
   whole : status ≢ statuses.StepLimit → (a : IsolatedTrace session u s rows before old new status) → Stands a.text
@@ -131,10 +131,10 @@ module _ (laws : RunsAreLawful) (replays : UnitsReplay) (isolated : Isolated) (s
   shows : session.view ≡ view.Trace u → ((status ≡ statuses.Done) ⊎ (status ≡ statuses.KernelFault) → IsolatedTrace session u s rows before old new status) → Shows
   shows traced isolates = by status refl (subst Allowed (sym (h.status_is ∙ ap ended_as h.ran.status)) (allowed (is_end x m session.turns t) h.ran.past.status))
     where
-      other : (z : ExitStatus) → status ≡ z → (z ≡ statuses.StepLimit → ⊥) → status ≢ statuses.StepLimit
+      other : (z : Status) → status ≡ z → (z ≡ statuses.StepLimit → ⊥) → status ≢ statuses.StepLimit
       other z e isnt limit = isnt (sym e ∙ limit)
 
-      by : (z : ExitStatus) → status ≡ z → Allowed z → Shows
+      by : (z : Status) → status ≡ z → Allowed z → Shows
       by statuses.Done e ok = let a = isolates (inl e) in (a.text, a.printed, whole (other statuses.Done e (λ i. absurd (cc))) a)
       by statuses.KernelFault e ok = let a = isolates (inr e) in (a.text, a.printed, whole (other statuses.KernelFault e (λ i. absurd (cc))) a)
       by statuses.StepLimit e ok = (h.text, h.printed, spent traced e)
@@ -158,7 +158,7 @@ files_eight : (file : List ℕ → Option (List ℕ)) (c : Save) (s : ImageSyste
 files_eight file c s rows before old files = turns_have_eight (around rows old) (first_state (save_session c) s rows before) (eight_of files.schedule rows files.valid)
 
 -- a machine that is on rests in a running state
-on_runs : (x : Surroundings) (s : State) (t : ℕ) (z : Status) → (run x s t).off ≡ None → Rests z (run x s t) → z ≡ Running
+on_runs : (x : Surroundings) (s : State) (t : ℕ) (z : CvmStatus) → (run x s t).off ≡ None → Rests z (run x s t) → z ≡ Running
 on_runs x s t Running on h = refl
 on_runs x s t Halted on h = absurd (cc)
 on_runs x s t (Faulted f) on h = absurd (cc)
@@ -168,7 +168,7 @@ stood_runs x y s zero t c on h = let is = h.cvm.is in let same : first_cvm y ≡
 stood_runs x y s (suc k) t c on h = on_runs x s t c.status on h.rests.0
 
 -- a headline of a boot stands
-boot_stands : RunsAreLawful → (session : Session) (s : ImageSystem) (rows : Rows) (before : List (List ℕ)) (status : ExitStatus) (old new : Host) → session.view ≡ view.Boot
+boot_stands : RunsAreLawful → (session : Session) (s : ImageSystem) (rows : Rows) (before : List (List ℕ)) (status : Status) (old new : Host) → session.view ≡ view.Boot
     → Headline session s rows before old new status → BootStands session s rows before status old new
 boot_stands laws session s rows before status old new seen h =
     let x = around rows old in
@@ -179,7 +179,7 @@ boot_stands laws session s rows before status old new seen h =
     record {
       text = h.text;
       printed = h.printed;
-      stands = subst (λ (z : ExitStatus). SessionStands session s rows before old z h.text) (sym h.status_is) (stands x y (ones laws s rows) first held before h.after session.turns session.steps h.ending h.text ran);
+      stands = subst (λ (z : Status). SessionStands session s rows before old z h.text) (sym h.status_is) (stands x y (ones laws s rows) first held before h.after session.turns session.steps h.ending h.text ran);
       goes_on = h.goes_on;
     }
 
@@ -198,7 +198,7 @@ saved_stands c s rows before old new h =
       printed = h.left.1 ∙ ap (λ text. append_known old.sink.text (text ++ saved_row)) w.shown_is;
     }
 
-save_stands : RunsAreLawful → (c : Save) (s : ImageSystem) (rows : Rows) (before : List (List ℕ)) (status : ExitStatus) (old new : Host) → AreFilesOf old.shelf.file c.boot s rows → SaveHolds c s rows before old new status
+save_stands : RunsAreLawful → (c : Save) (s : ImageSystem) (rows : Rows) (before : List (List ℕ)) (status : Status) (old new : Host) → AreFilesOf old.shelf.file c.boot s rows → SaveHolds c s rows before old new status
     → SaveStands c s rows before status old new
 save_stands laws c s rows before status old new files (as_boot h halted others) =
     record { shows = inl (boot_stands laws (save_session c) s rows before status old new refl h); eight = files_eight old.shelf.file c s rows before old files }
@@ -209,7 +209,7 @@ pub saves_stand : RunsAreLawful → SavesStand
 saves_stand laws words status old new saves c s rows before honest some = save_stands laws c s rows before status old new honest.files (saves c s rows before honest some)
 
 -- A RESUME
-module _ (laws : RunsAreLawful) (c : Save) (s : ImageSystem) (rows : Rows) (machine : List ℕ) (left before : List (List ℕ)) (shown : List ℕ) (status : ExitStatus) (old new : Host)
+module _ (laws : RunsAreLawful) (c : Save) (s : ImageSystem) (rows : Rows) (machine : List ℕ) (left before : List (List ℕ)) (shown : List ℕ) (status : Status) (old new : Host)
     (files : AreFilesOf old.shelf.file c.boot s rows) (w : IsSavedRun c s rows machine left before shown old) (h : ResumeHolds c s rows machine left old new status) where
   abbrev around_it : Surroundings
   around_it = around rows old
@@ -225,7 +225,7 @@ module _ (laws : RunsAreLawful) (c : Save) (s : ImageSystem) (rows : Rows) (mach
   resumed e is (text, printed, ran) = record {
     text = text;
     printed = printed;
-    stands = subst (λ (z : ExitStatus). SessionStands (save_session c) s rows before old z (shown ++ text)) (sym is)
+    stands = subst (λ (z : Status). SessionStands (save_session c) s rows before old z (shown ++ text)) (sym is)
         (stands around_it (booted s rows) (ones laws s rows) first (sectors_needed (save_session c) s rows) before h.went.now c.boot.turns c.boot.steps e (shown ++ text) ran);
     eight = files_eight old.shelf.file c s rows before old files;
     goes_on = h.went.goes_on before w.disk;

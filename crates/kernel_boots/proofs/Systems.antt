@@ -12,7 +12,7 @@ use Rattle.c0_tree.specs.Tree.{CUnit}
 use Rattle.c0_types.specs.Front.{IsUnitOf}
 use Rattle.cvm_model.specs.Kernel.{Core}
 use Rattle.cvm_model.specs.KernelMeaning.{kernel_meaning}
-use Rattle.cvm_model.specs.Cvm.{System, Cvm, Status, Running, Halted, Faulted, cvm, IsCvm, first_cvm, map_of, reset_steps, turn_steps, enter_steps, leave_steps, run_steps}
+use Rattle.cvm_model.specs.Cvm.{System, Cvm, Status as CvmStatus, Running, Halted, Faulted, cvm, IsCvm, first_cvm, map_of, reset_steps, turn_steps, enter_steps, leave_steps, run_steps}
 use Rattle.std.proofs.lemmas.Nat.{mul-le}
 use Rattle.cvm_model.specs.Text.{rows_text, boot_text, closing_text, report_text}
 use Rattle.cvm_model.specs.Invariant.{Dispatch, rows_of, dispatches_of, Known, HasEight, IsSafe, RunsAreLawful}
@@ -22,8 +22,8 @@ use Rattle.run_bounds.specs.Steps.{steps_for, BoundsAreSmall}
 use Rattle.run_bounds.specs.Lines.{turns_with_lines, LinesTakenAreFew, RaisedLinesAreFew}
 use Rattle.kernel_linker.specs.Accept.{ImageSystem}
 use Rattle.kernel_linker.specs.Sources.{AcceptedAreOfImages}
-use Rattle.cvm_shell.specs.declared.exit_status.ExitStatus.{ExitStatus}
-use Rattle.cvm_shell.specs.declared.exit_status.ExitStatus.TheVariants.{Done, KernelFault}
+use Rattle.cvm_shell.specs.declared.exit_status.Status.{Status}
+use Rattle.cvm_shell.specs.declared.exit_status.Status.TheVariants.{Done, KernelFault}
 use Rattle.cvm_shell.specs.declared.boot.Session.{Session}
 use Rattle.cvm_shell.specs.Plan.{Accepts}
 use Rattle.real_layer.specs.Image.{layer_image}
@@ -36,7 +36,7 @@ use Rattle.kernel_boots.proofs.EightLines.{turns_have_eight}
 use Rattle.kernel_boots.proofs.Boots.{RunsAreOne, ones, no_fault, no_status, boots_stand, of_image, asked_eight, asked_few, asked_read}
 
 -- a status that is neither running nor a fault
-halted_of : (s : Status) → IsSafe s → s ≢ Running → s ≡ Halted
+halted_of : (s : CvmStatus) → IsSafe s → s ≢ Running → s ≡ Halted
 halted_of Running safe off = absurd (off refl)
 halted_of Halted safe off = refl
 halted_of (Faulted f) safe off = absurd safe
@@ -49,24 +49,24 @@ sums : (r t b e f : ℕ) → e ≤ f → b ≤ r + t + e → b ≤ r + t + f
 sums r t b e f le h = omega (arith, le, h)
 
 -- the end of a text, by the status
-halted_text : (y : System) (c : Cvm) (s : Status) → s ≡ Halted → closing_text y c s ≡ codes "halted\n" ++ report_text y.boot.meaning.names c.core
+halted_text : (y : System) (c : Cvm) (s : CvmStatus) → s ≡ Halted → closing_text y c s ≡ codes "halted\n" ++ report_text y.boot.meaning.names c.core
 halted_text y c Halted e = refl
 halted_text y c Running e = absurd (cc)
 halted_text y c (Faulted f) e = absurd (cc)
 
-done_of : (b : Bool) (s : Status) → b ≡ true → s ≡ Halted → ended_as (if b then ending_of s else OutOfSteps) ≡ Done
+done_of : (b : Bool) (s : CvmStatus) → b ≡ true → s ≡ Halted → ended_as (if b then ending_of s else OutOfSteps) ≡ Done
 done_of true Halted e h = refl
 done_of true Running e h = absurd (cc)
 done_of true (Faulted f) e h = absurd (cc)
 done_of false s e h = absurd (cc)
 
 -- the text of a state whose status is that of a run that is done
-whole_text : (y : System) (status : ExitStatus) (c : Cvm) (text : List ℕ) → status ≡ Done → TextOfState y status c text → text ≡ boot_text y c
-whole_text y status c text e h = subst (λ (z : ExitStatus). TextOfState y z c text) e h
+whole_text : (y : System) (status : Status) (c : Cvm) (text : List ℕ) → status ≡ Done → TextOfState y status c text → text ≡ boot_text y c
+whole_text y status c text e h = subst (λ (z : Status). TextOfState y z c text) e h
 
 module _ (laws : RunsAreLawful) (counts : TurnLaws) (small : BoundsAreSmall) (takes : LinesTakenAreFew) (x : Surroundings) (y : System) (u : CUnit) (meaning_is : y.boot.meaning ≡ kernel_meaning u y.boot.params) (one : RunsAreOne y)
     (n : ℕ) (Fit : Core → Type 0) (I : SystemProperty) (known : Known y Fit) (inv : IsSystemInvariant y n Fit I) (s : State) (eight : HasEight (lines_of x s))
-    (late raised turns steps : ℕ) (goes : GoesOnWithin x y s late) (rises : (k : ℕ) → turns_with_lines (lines_of x s) k ≤ raised) (status : ExitStatus) (text : List ℕ) (w : StandsAt x y s turns steps status text) where
+    (late raised turns steps : ℕ) (goes : GoesOnWithin x y s late) (rises : (k : ℕ) → turns_with_lines (lines_of x s) k ≤ raised) (status : Status) (text : List ℕ) (w : StandsAt x y s turns steps status text) where
   abbrev at : ℕ
   at = end_within x s turns steps
 

@@ -15,8 +15,8 @@ use Rattle.cvm_model.specs.Cvm.{System, Cvm, IsCvm}
 use Rattle.cvm_model.specs.Invariant.{HasEight, IsSafe}
 use Rattle.cvm_model.specs.Text.{rows_text, boot_text}
 use Rattle.kernel_linker.specs.Accept.{ImageSystem}
-use Rattle.cvm_shell.specs.declared.exit_status.ExitStatus.{ExitStatus}
-use Rattle.cvm_shell.specs.declared.exit_status.ExitStatus.TheVariants.{KernelFault, StepLimit, Memory}
+use Rattle.cvm_shell.specs.declared.exit_status.Status.{Status}
+use Rattle.cvm_shell.specs.declared.exit_status.Status.TheVariants.{KernelFault, StepLimit, Memory}
 use Rattle.cvm_shell.specs.declared.boot.Session.{Session}
 use Rattle.cvm_shell.specs.Host.{Host}
 use Rattle.cvm_shell.specs.Boot.{booted, around, first_state, ended_as, SessionGoesOn, AskFor, by_boot, by_trace, by_sample, IsHonest}
@@ -31,7 +31,7 @@ abbrev pub AlwaysHas : System → OfStates → Type 0
 AlwaysHas y P = (lines : ℕ → ℕ) → HasEight lines → (k : ℕ) (c : Cvm) → IsCvm y lines k c → P lines k c
 
 -- THE TEXT of a state, by the status: where the steps ran out its rows so far, else the whole report, with its rows in front
-abbrev pub TextOfState : System → ExitStatus → Cvm → List ℕ → Type 0
+abbrev pub TextOfState : System → Status → Cvm → List ℕ → Type 0
 TextOfState y StepLimit c text = text ≡ rows_text c.rows
 TextOfState y other c text = text ≡ boot_text y c
 
@@ -41,7 +41,7 @@ turns_made x s turns steps = complete x s (end_within x s turns steps)
 
 -- WHERE A RUN STANDS at the headline's step: at the state of its own turns, with the lines that its machine met. Status and text are by that state; and
 -- where the run ended, its turns are complete or it has halted or faulted, and the machine rests as the status says and stands for that state.
-pub record StandsAt (x : Outside) (y : System) (s : State) (turns steps : ℕ) (status : ExitStatus) (text : List ℕ) : Type 0 where
+pub record StandsAt (x : Outside) (y : System) (s : State) (turns steps : ℕ) (status : Status) (text : List ℕ) : Type 0 where
   pub state : Cvm
   pub is : IsCvm y (lines_of x s) (turns_made x s turns steps) state
   pub status_is : status ≡ ended_as (ending x s turns steps state)
@@ -49,19 +49,19 @@ pub record StandsAt (x : Outside) (y : System) (s : State) (turns steps : ℕ) (
   pub over : is_end x s turns (end_within x s turns steps) ≡ true → IsOver x y s turns (end_within x s turns steps) state
 
 -- a text is that of the state where a run stands, which has the property
-pub record Shows (x : Outside) (y : System) (s : State) (turns steps : ℕ) (P : OfStates) (status : ExitStatus) (text : List ℕ) : Type 0 where
+pub record Shows (x : Outside) (y : System) (s : State) (turns steps : ℕ) (P : OfStates) (status : Status) (text : List ℕ) : Type 0 where
   pub stands : StandsAt x y s turns steps status text
   pub has : P (lines_of x s) (turns_made x s turns steps) stands.state
 
 -- the run of a session
-abbrev pub SessionStands : Session → ImageSystem → Rows → (before : List (List ℕ)) → Host → ExitStatus → List ℕ → Type 0
+abbrev pub SessionStands : Session → ImageSystem → Rows → (before : List (List ℕ)) → Host → Status → List ℕ → Type 0
 SessionStands session s rows before old = StandsAt (around rows old) (booted s rows) (first_state session s rows before) session.turns session.steps
 
-abbrev pub SessionShows : Session → ImageSystem → Rows → (before : List (List ℕ)) → Host → OfStates → ExitStatus → List ℕ → Type 0
+abbrev pub SessionShows : Session → ImageSystem → Rows → (before : List (List ℕ)) → Host → OfStates → Status → List ℕ → Type 0
 SessionShows session s rows before old = Shows (around rows old) (booted s rows) (first_state session s rows before) session.turns session.steps
 
 -- A BOOT STANDS SO: what it printed is the text of the state where its run stands; and the machine comes to the end of every turn of that run, within its bound
-pub record BootStands (session : Session) (s : ImageSystem) (rows : Rows) (before : List (List ℕ)) (status : ExitStatus) (old new : Host) : Type 0 where
+pub record BootStands (session : Session) (s : ImageSystem) (rows : Rows) (before : List (List ℕ)) (status : Status) (old new : Host) : Type 0 where
   pub text : List ℕ
   pub printed : new.sink.text ≡ append_known old.sink.text text
   pub stands : SessionStands session s rows before old status text
@@ -69,18 +69,18 @@ pub record BootStands (session : Session) (s : ImageSystem) (rows : Rows) (befor
 
 -- a law: EACH BOOT with no failed call shows the state of its own run
 abbrev pub BootsStand : Type 0
-BootsStand = (words : List (List ℕ)) (status : ExitStatus) (old new : Host) → Headlines (λ (o : Host). o) words status old new
+BootsStand = (words : List (List ℕ)) (status : Status) (old new : Host) → Headlines (λ (o : Host). o) words status old new
     → (session : Session) (s : ImageSystem) (rows : Rows) (before : List (List ℕ)) → IsHonest words session s rows before old new
     → status ≢ Memory → session.view ≡ Boot → BootStands session s rows before status old new
 
 -- A BOOT SHOWS IT: what it printed is the text of such a state; and where the property excludes faults, its status is not that of a kernel's fault
-pub record BootShows (session : Session) (s : ImageSystem) (rows : Rows) (before : List (List ℕ)) (P : OfStates) (old new : Host) (status : ExitStatus) : Type 0 where
+pub record BootShows (session : Session) (s : ImageSystem) (rows : Rows) (before : List (List ℕ)) (P : OfStates) (old new : Host) (status : Status) : Type 0 where
   pub printed : (text : List ℕ) × (new.sink.text ≡ append_known old.sink.text text) × SessionShows session s rows before old P status text
   pub no_fault : ((lines : ℕ → ℕ) (k : ℕ) (c : Cvm) → P lines k c → IsSafe c.status) → status ≢ KernelFault
 
 -- THE COROLLARY, for any property of states: by the headline of `run` each boot with no failed call shows it, where the system's run always has it
 abbrev pub BootsShow : Type 1
-BootsShow = (P : OfStates) (words : List (List ℕ)) (status : ExitStatus) (old new : Host) → Headlines (λ (o : Host). o) words status old new
+BootsShow = (P : OfStates) (words : List (List ℕ)) (status : Status) (old new : Host) → Headlines (λ (o : Host). o) words status old new
     → (session : Session) (s : ImageSystem) (rows : Rows) (before : List (List ℕ)) → IsHonest words session s rows before old new
     → status ≢ Memory → session.view ≡ Boot → AlwaysHas (booted s rows) P → BootShows session s rows before P old new status
 
@@ -101,14 +101,14 @@ RunsItsSource = (source : List ℕ) (words : List (List ℕ)) (session : Session
     → (h : IsHonest words session s rows before old new) → AsksSource source h.asked → IsUnitOf source s.unit
 
 -- what it printed is the text of a state that has the property, and its status is no kernel's fault
-abbrev pub ShowsOf : Session → ImageSystem → Rows → (before : List (List ℕ)) → OfStates → (old new : Host) → ExitStatus → Type 0
+abbrev pub ShowsOf : Session → ImageSystem → Rows → (before : List (List ℕ)) → OfStates → (old new : Host) → Status → Type 0
 ShowsOf session s rows before P old new status =
     (status ≢ KernelFault) × ((text : List ℕ) × (new.sink.text ≡ append_known old.sink.text text) × SessionShows session s rows before old P status text)
 
 -- EACH BOOT of an image with this source: where a fact of its system is given (how many users it has), it shows a property that excludes faults. A boot is
 -- one by `boot`, `rom` or `sample` under the headline's premises, with a status other than 8.
 abbrev pub BootsOf : (source : List ℕ) → (ImageSystem → Type 0) → (System → OfStates) → Type 0
-BootsOf source Is P = (words : List (List ℕ)) (status : ExitStatus) (old new : Host) → Headlines (λ (o : Host). o) words status old new
+BootsOf source Is P = (words : List (List ℕ)) (status : Status) (old new : Host) → Headlines (λ (o : Host). o) words status old new
     → (session : Session) (s : ImageSystem) (rows : Rows) (before : List (List ℕ)) → (h : IsHonest words session s rows before old new)
     → status ≢ Memory → session.view ≡ Boot → AsksSource source h.asked → Is s
     → ShowsOf session s rows before (P (booted s rows)) old new status

@@ -18,8 +18,8 @@ use Rattle.boot_turns.specs.Headline.{ending}
 use Rattle.boot_turns.specs.Trace.{entries_so_far}
 use Rattle.boot_turns.specs.TurnEnds.{first_of, IsOver, Stood}
 use Rattle.kernel_linker.specs.Accept.{ImageSystem}
-use Rattle.cvm_shell.specs.declared.exit_status.ExitStatus.{ExitStatus}
-use Rattle.cvm_shell.specs.declared.exit_status.ExitStatus.TheVariants.{Done, StepLimit, Memory}
+use Rattle.cvm_shell.specs.declared.exit_status.Status.{Status}
+use Rattle.cvm_shell.specs.declared.exit_status.Status.TheVariants.{Done, StepLimit, Memory}
 use Rattle.cvm_shell.specs.declared.boot.Session.{Session}
 use Rattle.cvm_shell.specs.Command.{Save, save_session}
 use Rattle.cvm_shell.specs.Host.{Host}
@@ -39,13 +39,13 @@ under_way x y s units u t = if nat_lt (complete x s t) (turn_of x s t) then entr
 
 -- THE TEXT OF A TRACE, by the status: where the steps ran out the rows of its journal over the complete turns and of what the turn under way has done, else
 -- the whole trace, whose last machine and status are those of the state
-abbrev pub TraceTextOf : (u : ℕ) → (first : Flat) → (entries more : List JournalEntry) → ExitStatus → Cvm → List ℕ → Type 0
+abbrev pub TraceTextOf : (u : ℕ) → (first : Flat) → (entries more : List JournalEntry) → Status → Cvm → List ℕ → Type 0
 TraceTextOf u first entries more StepLimit c text = text ≡ start_row u first ++ open_journal_rows (entries ++ more)
 TraceTextOf u first entries more other c text = text ≡ trace_text u first entries (user_of c.core.users u) c.status
 
 -- WHERE A RUN STANDS whose user u is traced, with the lines that its machine met, at the headline's step: as `StandsAt` says of a boot, and the journal is
 -- that of the user over the complete turns, whose replay over its first machine is its machine there
-pub record TraceStandsAt (x : Outside) (y : System) (s : State) (turns steps u : ℕ) (status : ExitStatus) (text : List ℕ) : Type 0 where
+pub record TraceStandsAt (x : Outside) (y : System) (s : State) (turns steps u : ℕ) (status : Status) (text : List ℕ) : Type 0 where
   pub state : Cvm
   pub units : ℕ
   pub run : cvm y (lines_of x s) units (turns_made x s turns steps) ≡ Some state
@@ -56,7 +56,7 @@ pub record TraceStandsAt (x : Outside) (y : System) (s : State) (turns steps u :
   pub over : is_end x s turns (end_within x s turns steps) ≡ true → IsOver x y s turns (end_within x s turns steps) state
 
 -- A TRACE STANDS SO: what it printed is the text of the state where its run stands
-pub record TraceStands (session : Session) (u : ℕ) (s : ImageSystem) (rows : Rows) (before : List (List ℕ)) (status : ExitStatus) (old new : Host) :
+pub record TraceStands (session : Session) (u : ℕ) (s : ImageSystem) (rows : Rows) (before : List (List ℕ)) (status : Status) (old new : Host) :
     Type 0 where
   pub text : List ℕ
   pub printed : new.sink.text ≡ append_known old.sink.text text
@@ -66,7 +66,7 @@ pub record TraceStands (session : Session) (u : ℕ) (s : ImageSystem) (rows : R
 
 -- a law: so does each trace with no failed call, by the clauses `headline` and `isolated` of `run`
 abbrev pub TracesStand : Type 0
-TracesStand = (words : List (List ℕ)) (status : ExitStatus) (old new : Host) → Headlines (λ (o : Host). o) words status old new
+TracesStand = (words : List (List ℕ)) (status : Status) (old new : Host) → Headlines (λ (o : Host). o) words status old new
     → Isolates (λ (o : Host). o) words status old new → (session : Session) (u : ℕ) (s : ImageSystem) (rows : Rows) (before : List (List ℕ))
     → IsHonest words session s rows before old new → status ≢ Memory → session.view ≡ view.Trace u → TraceStands session u s rows before status old new
 
@@ -84,19 +84,19 @@ pub record SavedStands (c : Save) (s : ImageSystem) (rows : Rows) (before : List
   pub printed : new.sink.text ≡ append_known old.sink.text (rows_text state.rows ++ saved_row)
 
 -- A SAVE STANDS SO: as a boot, or where its run was saved
-pub record SaveStands (c : Save) (s : ImageSystem) (rows : Rows) (before : List (List ℕ)) (status : ExitStatus) (old new : Host) : Type 0 where
+pub record SaveStands (c : Save) (s : ImageSystem) (rows : Rows) (before : List (List ℕ)) (status : Status) (old new : Host) : Type 0 where
   pub shows : BootStands (save_session c) s rows before status old new ⊎ ((status ≡ Done) × SavedStands c s rows before old new)
   pub eight : HasEight (lines_met (save_session c) s rows before old)
 
 -- a law: so does each save with no failed call, by the clause `saves` of `run`
 abbrev pub SavesStand : Type 0
-SavesStand = (words : List (List ℕ)) (status : ExitStatus) (old new : Host) → Saves (λ (o : Host). o) words status old new
+SavesStand = (words : List (List ℕ)) (status : Status) (old new : Host) → Saves (λ (o : Host). o) words status old new
     → (c : Save) (s : ImageSystem) (rows : Rows) (before : List (List ℕ)) → IsHonestSave words c s rows before old new → status ≢ Memory
     → SaveStands c s rows before status old new
 
 -- A RESUME STANDS SO, of a run that had printed `shown` when it was saved: what both printed is the text of the state where the whole run stands, from its
 -- start
-pub record ResumeStands (c : Save) (s : ImageSystem) (rows : Rows) (before : List (List ℕ)) (shown : List ℕ) (status : ExitStatus) (old new : Host) :
+pub record ResumeStands (c : Save) (s : ImageSystem) (rows : Rows) (before : List (List ℕ)) (shown : List ℕ) (status : Status) (old new : Host) :
     Type 0 where
   pub text : List ℕ
   pub printed : new.sink.text ≡ append_known old.sink.text text
@@ -106,6 +106,6 @@ pub record ResumeStands (c : Save) (s : ImageSystem) (rows : Rows) (before : Lis
 
 -- a law: so does each resume of a saved run, with no failed call, by the clause `resumes` of `run`
 abbrev pub ResumesStand : Type 0
-ResumesStand = (words : List (List ℕ)) (status : ExitStatus) (old new : Host) → Resumes (λ (o : Host). o) words status old new
+ResumesStand = (words : List (List ℕ)) (status : Status) (old new : Host) → Resumes (λ (o : Host). o) words status old new
     → (c : Save) (s : ImageSystem) (rows : Rows) (machine : List ℕ) (left before : List (List ℕ)) (shown : List ℕ)
     → IsHonestResume words c s rows machine left old new → status ≢ Memory → IsSavedRun c s rows machine left before shown old → ResumeStands c s rows before shown status old new

@@ -15,8 +15,8 @@ use Rattle.cvm_model.specs.Invariant.{Dispatch, IsSafe, HasUsers, dispatches_of}
 use Rattle.cvm_model.specs.Systems.{SystemProperty, status_after, lines_taken, EndsBelow, UsePages, SystemHolds, Chain}
 use Rattle.run_bounds.specs.Steps.{steps_for}
 use Rattle.kernel_linker.specs.Accept.{ImageSystem}
-use Rattle.cvm_shell.specs.declared.exit_status.ExitStatus.{ExitStatus}
-use Rattle.cvm_shell.specs.declared.exit_status.ExitStatus.TheVariants.{Done, KernelFault, Memory}
+use Rattle.cvm_shell.specs.declared.exit_status.Status.{Status}
+use Rattle.cvm_shell.specs.declared.exit_status.Status.TheVariants.{Done, KernelFault, Memory}
 use Rattle.cvm_shell.specs.declared.boot.Session.{Session}
 use Rattle.cvm_shell.specs.Host.{Host}
 use Rattle.cvm_shell.specs.Boot.{booted, around, first_state, steps_before, AskFor, by_boot, by_trace, by_sample, IsHonest}
@@ -33,14 +33,14 @@ pub record EndsWithin (y : System) (n : ℕ) (I : SystemProperty) (lines turns d
   pub safe : (k : ℕ) (past : List Dispatch) (c : Core) → I k past c → IsSafe (status_after past)
 
 -- IT HALTED: what it printed ends with `halted` and the report of a halted state
-pub record HasHalted (x : Outside) (y : System) (s : State) (turns steps : ℕ) (status : ExitStatus) (text : List ℕ) (stands : StandsAt x y s turns steps status text) : Type 0 where
+pub record HasHalted (x : Outside) (y : System) (s : State) (turns steps : ℕ) (status : Status) (text : List ℕ) (stands : StandsAt x y s turns steps status text) : Type 0 where
   pub status_is : status ≡ Done
   pub halted : stands.state.status ≡ Halted
   pub text_is : text ≡ rows_text stands.state.rows ++ (codes "halted\n" ++ report_text y.boot.meaning.names stands.state.core)
 
 -- WHAT A RUN SHOWS: the state where it stands has the invariant, as soon as a turn is complete; no more dispatches took lines than the schedule has `line`
 -- rows; its status is no kernel's fault, where the invariant excludes faults; and it halted, where the turns that are asked for are as many as the system may take under so many rows, and the steps are enough for them
-pub record SystemShown (x : Outside) (y : System) (s : State) (late raised turns steps : ℕ) (n : ℕ) (Fit : Core → Type 0) (I : SystemProperty) (status : ExitStatus) (text : List ℕ) :
+pub record SystemShown (x : Outside) (y : System) (s : State) (late raised turns steps : ℕ) (n : ℕ) (Fit : Core → Type 0) (I : SystemProperty) (status : Status) (text : List ℕ) :
     Type 0 where
   pub stands : StandsAt x y s turns steps status text
   pub holds : (k : ℕ) → turns_made x s turns steps ≡ suc k → SystemHolds Fit I (suc k) (dispatches_of y (lines_of x s) n (suc k)) stands.state
@@ -62,7 +62,7 @@ AsksSystem source users (by_sample x is same parts) = HasSystem source users par
 
 -- THE COROLLARY: each boot of an image with this source, of whose system a fact is given (which users it has), shows the invariant of its system
 abbrev pub SystemsBoot : (source : List ℕ) → (ImageSystem → Type 0) → (n : ℕ) → (System → Core → Type 0) → (System → SystemProperty) → Type 0
-SystemsBoot source Is n Fit I = (words : List (List ℕ)) (status : ExitStatus) (old new : Host) → Headlines (λ (o : Host). o) words status old new
+SystemsBoot source Is n Fit I = (words : List (List ℕ)) (status : Status) (old new : Host) → Headlines (λ (o : Host). o) words status old new
     → (session : Session) (s : ImageSystem) (rows : Rows) (before : List (List ℕ)) → (h : IsHonest words session s rows before old new)
     → status ≢ Memory → session.view ≡ Boot → AsksSource source h.asked → Is s
     → (text : List ℕ) × (new.sink.text ≡ append_known old.sink.text text)
@@ -71,7 +71,7 @@ SystemsBoot source Is n Fit I = (words : List (List ℕ)) (status : ExitStatus) 
 
 -- THE DISPATCHES OF A BOOT, whatever its kernel and its users are: the state where its run stands is reached by a chain of them, of which it printed the rows.
 -- Each begins where the one before it ended, but for untrapped steps of the user who was next, one for each turn between, and is what the kernel means.
-pub record BootIsChain (session : Session) (s : ImageSystem) (rows : Rows) (before : List (List ℕ)) (status : ExitStatus) (old new : Host) : Type 0 where
+pub record BootIsChain (session : Session) (s : ImageSystem) (rows : Rows) (before : List (List ℕ)) (status : Status) (old new : Host) : Type 0 where
   pub shows : BootStands session s rows before status old new
   pub units : ℕ
   pub chain : (k : ℕ) → turns_made (around rows old) (first_state session s rows before) session.turns session.steps ≡ suc k →
@@ -81,6 +81,6 @@ pub record BootIsChain (session : Session) (s : ImageSystem) (rows : Rows) (befo
 
 -- a law: so it is of each boot with no failed call
 abbrev pub BootsAreChains : Type 0
-BootsAreChains = (words : List (List ℕ)) (status : ExitStatus) (old new : Host) → Headlines (λ (o : Host). o) words status old new
+BootsAreChains = (words : List (List ℕ)) (status : Status) (old new : Host) → Headlines (λ (o : Host). o) words status old new
     → (session : Session) (s : ImageSystem) (rows : Rows) (before : List (List ℕ)) → IsHonest words session s rows before old new
     → status ≢ Memory → session.view ≡ Boot → BootIsChain session s rows before status old new

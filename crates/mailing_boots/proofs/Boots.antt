@@ -14,8 +14,8 @@ use Rattle.cvm_model.specs.Systems.{status_after, SystemHolds}
 use Rattle.run_bounds.specs.Lines.{LinesTakenAreFew, RaisedLinesAreFew}
 use Rattle.run_bounds.specs.Steps.{BoundsAreSmall}
 use Rattle.kernel_linker.specs.Sources.{AcceptedAreOfImages}
-use Rattle.cvm_shell.specs.declared.exit_status.ExitStatus.{ExitStatus}
-use Rattle.cvm_shell.specs.declared.exit_status.ExitStatus.TheVariants.{Done}
+use Rattle.cvm_shell.specs.declared.exit_status.Status.{Status}
+use Rattle.cvm_shell.specs.declared.exit_status.Status.TheVariants.{Done}
 use Rattle.cvm_shell.specs.Boot.{booted, around, first_state, steps_before}
 use Rattle.kernel_theorems.specs.Text.{Means}
 use Rattle.kernel_boots.specs.Boots.{turns_made}
@@ -53,7 +53,7 @@ rows_length : (past : List Dispatch) → length (rows_of past) ≡ length past
 rows_length [] = refl
 rows_length (d ∷ past) = ap suc (rows_length past)
 
-module _ (law : MailEnds) (x : Outside) (y : System) (ms : List Message) (one two : ℕ) (r : Mails y ms one two) (f g : Flat) (s : State) (late raised turns steps : ℕ) (status : ExitStatus) (text : List ℕ)
+module _ (law : MailEnds) (x : Outside) (y : System) (ms : List Message) (one two : ℕ) (r : Mails y ms one two) (f g : Flat) (s : State) (late raised turns steps : ℕ) (status : Status) (text : List ℕ)
     (h : SystemShown x y s late raised turns steps 200 (HasUsers y) (Mailing y ms one two f g) status text) where
   names : y.boot.meaning.names ≡ codes "box" ∷ codes "waits" ∷ codes "over" ∷ []
   names = ap (λ (m : KernelMeaning). m.names) r.meaning_is

@@ -8,7 +8,7 @@ use Rattle.c0_tree.specs.Tree.{CUnit}
 use Rattle.cvm_model.specs.Cvm.{System, first_flat, map_of, reset_steps, turn_steps, enter_steps, leave_steps, run_steps}
 use Rattle.cvm_model.specs.Text.{rows_text}
 use Rattle.run_bounds.specs.Steps.{steps_for}
-use Rattle.cvm_shell.specs.declared.exit_status.ExitStatus.{ExitStatus}
+use Rattle.cvm_shell.specs.declared.exit_status.Status.{Status}
 use Rattle.cvm_shell.specs.Boot.{booted, around, first_state, steps_before}
 use Rattle.user_c0.specs.Image.{image_words}
 use Rattle.user_c0.specs.Program.{steps_of as most_steps}
@@ -119,7 +119,7 @@ module _ (ns : List ℕ) (ms : List Message) (same : numbers ms ≡ ns) where
       omega (arith, a, b, c, d, e, few_one, few_two)
 
 module _ (x : Outside) (y : System) (s : State) (late raised turns steps : ℕ) (one two : CUnit) (n k : ℕ) (ns : List ℕ) (ms : List Message) (same : numbers ms ≡ ns) (a b : ℕ)
-    (few_a : untrapped_in (sends ms) a ≤ most_steps n) (few_b : untrapped_in (receives ms) b ≤ most_steps k) (status : ExitStatus) (text : List ℕ)
+    (few_a : untrapped_in (sends ms) a ≤ most_steps n) (few_b : untrapped_in (receives ms) b ≤ most_steps k) (status : Status) (text : List ℕ)
     (h : MailShown x y s late raised turns steps ms a b (first_flat (image_words one)) (first_flat (image_words two)) status text) where
   shown : ProgramMailShown x y s late raised turns steps one two n k ns status text
   shown = record {

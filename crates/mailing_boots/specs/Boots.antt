@@ -13,8 +13,8 @@ use Rattle.cvm_model.specs.Text.{rows_text, globals_text, log_text, users_text}
 use Rattle.cvm_model.specs.Invariant.{HasUsers, dispatches_of}
 use Rattle.run_bounds.specs.Steps.{steps_for}
 use Rattle.kernel_linker.specs.Accept.{ImageSystem}
-use Rattle.cvm_shell.specs.declared.exit_status.ExitStatus.{ExitStatus}
-use Rattle.cvm_shell.specs.declared.exit_status.ExitStatus.TheVariants.{Done, KernelFault, Memory}
+use Rattle.cvm_shell.specs.declared.exit_status.Status.{Status}
+use Rattle.cvm_shell.specs.declared.exit_status.Status.TheVariants.{Done, KernelFault, Memory}
 use Rattle.cvm_shell.specs.declared.boot.Session.{Session}
 use Rattle.cvm_shell.specs.Host.{Host}
 use Rattle.cvm_shell.specs.Boot.{booted, around, first_state, steps_before, IsHonest}
@@ -34,7 +34,7 @@ report_of messages users =
 -- for three messages at most; its status is no kernel's fault; and under a schedule of so many `line` rows, with as many turns more as the steps of both users
 -- and one, and with the steps of the machine for them, it is done, has halted, and printed at most a row for each trap, for each `line` row and for the start,
 -- and then the report, in which the console has the messages in order and each user stands behind its end
-pub record MailShown (x : Outside) (y : System) (s : State) (late raised turns steps : ℕ) (ms : List Message) (one two : ℕ) (f g : Flat) (status : ExitStatus) (text : List ℕ) : Type 0 where
+pub record MailShown (x : Outside) (y : System) (s : State) (late raised turns steps : ℕ) (ms : List Message) (one two : ℕ) (f g : Flat) (status : Status) (text : List ℕ) : Type 0 where
   pub shown : SystemShown x y s late raised turns steps 200 (HasUsers y) (Mailing y ms one two f g) status text
   pub carried : (k : ℕ) → turns_made x s turns steps ≡ suc k → IsCarried (dispatches_of y (lines_of x s) 200 (suc k)) shown.stands.state.core
   pub no_fault : status ≢ KernelFault
@@ -46,7 +46,7 @@ pub record MailShown (x : Outside) (y : System) (s : State) (late raised turns s
 abbrev pub AnyUsersMail : Type 0
 AnyUsersMail = (sender receiver : List ℕ) (ms : List Message) (one two : ℕ) → CallsInTurn (first_flat sender) (sends ms) one → CallsInTurn (first_flat receiver) (receives ms) two
     → AreSmall ms → length ms ≤ LOG_ROOM
-    → (words : List (List ℕ)) (status : ExitStatus) (old new : Host) → Headlines (λ (o : Host). o) words status old new
+    → (words : List (List ℕ)) (status : Status) (old new : Host) → Headlines (λ (o : Host). o) words status old new
     → (session : Session) (s : ImageSystem) (rows : Rows) (before : List (List ℕ)) → (h : IsHonest words session s rows before old new)
     → status ≢ Memory → session.view ≡ Boot → AsksSystem kernel_text (sender ∷ receiver ∷ []) h.asked
     → (text : List ℕ) × (new.sink.text ≡ append_known old.sink.text text)

@@ -15,8 +15,8 @@ use Rattle.run_bounds.specs.Steps.{steps_for}
 use Rattle.kernel_linker.specs.Accept.{ImageSystem}
 use Rattle.user_c0.specs.Image.{image_words}
 use Rattle.user_c0.specs.Program.{steps_of as most_steps}
-use Rattle.cvm_shell.specs.declared.exit_status.ExitStatus.{ExitStatus}
-use Rattle.cvm_shell.specs.declared.exit_status.ExitStatus.TheVariants.{Done, KernelFault, Memory}
+use Rattle.cvm_shell.specs.declared.exit_status.Status.{Status}
+use Rattle.cvm_shell.specs.declared.exit_status.Status.TheVariants.{Done, KernelFault, Memory}
 use Rattle.cvm_shell.specs.declared.boot.Session.{Session}
 use Rattle.cvm_shell.specs.Host.{Host}
 use Rattle.cvm_shell.specs.Boot.{booted, around, first_state, steps_before, IsHonest}
@@ -39,7 +39,7 @@ turns_by n k messages = 3 + 3 * messages + most_steps n + most_steps k
 -- WHAT A RUN SHOWS of programs that send and receive these numbers within n units and within k: they are messages, with some steps between, within the steps of
 -- these units; the run shows what it shows of such users, so the status is no kernel's fault; and with as many turns as these steps, each trap, the schedule's
 -- `line` rows and one, and the steps of the machine for them, it is done, has halted, and reports the numbers in order
-pub record ProgramMailShown (x : Outside) (y : System) (s : State) (late raised turns steps : ℕ) (one two : CUnit) (n k : ℕ) (ns : List ℕ) (status : ExitStatus) (text : List ℕ) : Type 0 where
+pub record ProgramMailShown (x : Outside) (y : System) (s : State) (late raised turns steps : ℕ) (one two : CUnit) (n k : ℕ) (ns : List ℕ) (status : Status) (text : List ℕ) : Type 0 where
   pub messages : List Message
   pub numbers_are : numbers messages ≡ ns
   pub sender_last : ℕ
@@ -55,7 +55,7 @@ pub record ProgramMailShown (x : Outside) (y : System) (s : State) (late raised 
 -- EACH BOOT of an image with the kernel's text and the images of two such programs shows this, under every schedule
 abbrev pub AnyProgramsMail : Type 0
 AnyProgramsMail = (one two : CUnit) (n k : ℕ) (ns : List ℕ) → AreMailers one two n k ns
-    → (words : List (List ℕ)) (status : ExitStatus) (old new : Host) → Headlines (λ (o : Host). o) words status old new
+    → (words : List (List ℕ)) (status : Status) (old new : Host) → Headlines (λ (o : Host). o) words status old new
     → (session : Session) (s : ImageSystem) (rows : Rows) (before : List (List ℕ)) → (h : IsHonest words session s rows before old new)
     → status ≢ Memory → session.view ≡ Boot → AsksSystem kernel_text (image_words one ∷ image_words two ∷ []) h.asked
     → (text : List ℕ) × (new.sink.text ≡ append_known old.sink.text text)
@@ -70,7 +70,7 @@ mail_lines =
 -- THE NAMED SYSTEM: whatever the programs' trees are, with their places in the text, what was sent was printed, once and in order, but for three messages at most;
 -- the status is no kernel's fault; and under a schedule of L `line` rows, with 604,033 turns and L more, and the steps of the machine for them, it is done, has
 -- halted, and its text is at most 33 + L rows and then the report: the numbers from 1 to 10 on the console, and each user's machine behind its end
-pub record NamedMailShown (x : Outside) (y : System) (s : State) (late raised turns steps : ℕ) (status : ExitStatus) (text : List ℕ) : Type 0 where
+pub record NamedMailShown (x : Outside) (y : System) (s : State) (late raised turns steps : ℕ) (status : Status) (text : List ℕ) : Type 0 where
   pub one : CUnit
   pub two : CUnit
   pub one_is : IsUnitAs User sender_text one
@@ -84,7 +84,7 @@ pub record NamedMailShown (x : Outside) (y : System) (s : State) (late raised tu
 
 -- EACH BOOT of an image with the kernel's text whose users are compiled of the two texts, under every schedule
 abbrev pub CompiledMailBoots : Type 0
-CompiledMailBoots = (words : List (List ℕ)) (status : ExitStatus) (old new : Host) → Headlines (λ (o : Host). o) words status old new
+CompiledMailBoots = (words : List (List ℕ)) (status : Status) (old new : Host) → Headlines (λ (o : Host). o) words status old new
     → (session : Session) (s : ImageSystem) (rows : Rows) (before : List (List ℕ)) → (h : IsHonest words session s rows before old new)
     → status ≢ Memory → session.view ≡ Boot → AsksSource kernel_text h.asked → (layer : Map → List ℕ → List ℕ) → IsLinkedOf layer sender_text receiver_text s
     → (text : List ℕ) × (new.sink.text ≡ append_known old.sink.text text)

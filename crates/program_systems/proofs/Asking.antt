@@ -10,7 +10,7 @@ use Rattle.c0_tree.specs.Tree.{CUnit}
 use Rattle.c0_meaning.specs.RunLaws.{HasEnded}
 use Rattle.c0_meaning.specs.UserProgram.{Seen, prog, done}
 use Rattle.cvm_model.specs.Cvm.{System, first_flat}
-use Rattle.cvm_shell.specs.declared.exit_status.ExitStatus.{ExitStatus}
+use Rattle.cvm_shell.specs.declared.exit_status.Status.{Status}
 use Rattle.cvm_shell.specs.Boot.{booted, around, first_state, steps_before}
 use Rattle.user_c0.specs.Image.{image_words}
 use Rattle.user_c0.specs.Events.{Event, step, call, other, replies, calls, others, untrapped, answer_of, answers}
@@ -102,7 +102,7 @@ fewer : (a b c d n k raised : ℕ) → a + b ≤ n → c + d ≤ k → 5 + a + b
 fewer a b c d n k raised la lb = omega (arith, la, lb)
 
 module _ (x : Outside) (y : System) (s : State) (late raised turns steps : ℕ) (one two : CUnit) (n k v w : ℕ) (first : AskedAndEnded (first_flat (image_words one)) (steps_of n) v v)
-    (second : AskedAndEnded (first_flat (image_words two)) (steps_of k) w (v + w)) (status : ExitStatus) (text : List ℕ)
+    (second : AskedAndEnded (first_flat (image_words two)) (steps_of k) w (v + w)) (status : Status) (text : List ℕ)
     (h : AnswersShown x y s late raised turns steps first.steps first.rest second.steps second.rest v w (first_flat (image_words one)) (first_flat (image_words two)) status text) where
   shown : ProgramsAnsweredShown x y s late raised turns steps one two n k v w status text
   shown = record {

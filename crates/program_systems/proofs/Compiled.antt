@@ -22,7 +22,7 @@ use Rattle.cvm_model.specs.Text.{rows_text, users_text}
 use Rattle.kernel_linker.specs.Accept.{ImageSystem}
 use Rattle.kernel_linker.specs.Sources.{AcceptedAreOfImages}
 use Rattle.user_c0.specs.Image.{image_words}
-use Rattle.cvm_shell.specs.declared.exit_status.ExitStatus.{ExitStatus}
+use Rattle.cvm_shell.specs.declared.exit_status.Status.{Status}
 use Rattle.cvm_shell.specs.declared.boot.Session.{Session}
 use Rattle.cvm_shell.specs.Boot.{booted, around, first_state, steps_before, AskFor, by_boot, by_trace, by_sample}
 use Rattle.cvm_shell.specs.Plan.{Accepts, words_from, before_them}
@@ -113,7 +113,7 @@ total = refl
 with_total : (users : List Flat) → report_of 265 users ≡ codes "halted\nglobal total 265\nglobal done true\n" ++ users_text 1 users
 with_total users = rw total refl
 
-module _ (x : Outside) (y : System) (s : State) (late raised turns steps : ℕ) (status : ExitStatus) (text : List ℕ) where
+module _ (x : Outside) (y : System) (s : State) (late raised turns steps : ℕ) (status : Status) (text : List ℕ) where
   shown : (f g : Flat) → SumShown x y s late raised turns steps 123 223 55 210 f g status text → AddersShown x y s late raised turns steps f g status text
   shown f g h = record {
     shows = h;

@@ -14,7 +14,7 @@ use Rattle.cvm_model.specs.Text.{rows_text, users_text}
 use Rattle.kernel_linker.specs.Accept.{ImageSystem}
 use Rattle.kernel_linker.specs.Sources.{AcceptedAreOfImages}
 use Rattle.user_c0.specs.Image.{image_words}
-use Rattle.cvm_shell.specs.declared.exit_status.ExitStatus.{ExitStatus}
+use Rattle.cvm_shell.specs.declared.exit_status.Status.{Status}
 use Rattle.cvm_shell.specs.Boot.{booted, around, first_state, steps_before}
 use Rattle.cvm_shell.specs.Programs.{HasProgram, LinkedPrograms}
 use Rattle.kernel_theorems.specs.Text.{MeansProgram}
@@ -43,7 +43,7 @@ total = refl
 with_total : (users : List Flat) → report_of 265 users ≡ codes "halted\nglobal total 265\n" ++ users_text 1 users
 with_total users = rw total refl
 
-module _ (x : Outside) (y : System) (s : State) (late raised turns steps : ℕ) (status : ExitStatus) (text : List ℕ) where
+module _ (x : Outside) (y : System) (s : State) (late raised turns steps : ℕ) (status : Status) (text : List ℕ) where
   shown : (f g : Flat) → AnswersShown x y s late raised turns steps 123 8 223 8 55 210 f g status text → AddersAnswered x y s late raised turns steps f g status text
   shown f g h = record {
     shows = h;

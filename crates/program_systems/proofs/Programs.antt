@@ -9,7 +9,7 @@ use Rattle.mips_table.specs.Flat.{Flat}
 use Rattle.c0_tree.specs.Tree.{CUnit}
 use Rattle.cvm_model.specs.Cvm.{System, first_flat, map_of, reset_steps, turn_steps, enter_steps, leave_steps, run_steps}
 use Rattle.run_bounds.specs.Steps.{steps_for}
-use Rattle.cvm_shell.specs.declared.exit_status.ExitStatus.{ExitStatus}
+use Rattle.cvm_shell.specs.declared.exit_status.Status.{Status}
 use Rattle.cvm_shell.specs.Boot.{booted, around, first_state, steps_before}
 use Rattle.user_c0.specs.Image.{image_words}
 use Rattle.user_c0.specs.Program.{steps_of}
@@ -31,7 +31,7 @@ fewer_turns y j k d n p late steps le h =
 fewer : (a b n k raised : ℕ) → a ≤ n → b ≤ k → 3 + a + b + raised ≤ 3 + n + k + raised
 fewer a b n k raised la lb = omega (arith, la, lb)
 
-module _ (x : Outside) (y : System) (s : State) (late raised turns steps : ℕ) (one two : CUnit) (n k v w a b : ℕ) (la : a ≤ steps_of n) (lb : b ≤ steps_of k) (status : ExitStatus) (text : List ℕ)
+module _ (x : Outside) (y : System) (s : State) (late raised turns steps : ℕ) (one two : CUnit) (n k v w a b : ℕ) (la : a ≤ steps_of n) (lb : b ≤ steps_of k) (status : Status) (text : List ℕ)
     (h : SumShown x y s late raised turns steps a b v w (first_flat (image_words one)) (first_flat (image_words two)) status text) where
   shown : ProgramSumShown x y s late raised turns steps one two n k v w status text
   shown = record {

@@ -16,8 +16,8 @@ use Rattle.kernel_linker.specs.Accept.{ImageSystem}
 use Rattle.user_c0.specs.Image.{image_words}
 use Rattle.user_c0.specs.Program.{steps_of}
 use Rattle.user_c0.specs.Users.{IsProgram}
-use Rattle.cvm_shell.specs.declared.exit_status.ExitStatus.{ExitStatus}
-use Rattle.cvm_shell.specs.declared.exit_status.ExitStatus.TheVariants.{Done, KernelFault, Memory}
+use Rattle.cvm_shell.specs.declared.exit_status.Status.{Status}
+use Rattle.cvm_shell.specs.declared.exit_status.Status.TheVariants.{Done, KernelFault, Memory}
 use Rattle.cvm_shell.specs.declared.boot.Session.{Session}
 use Rattle.cvm_shell.specs.Host.{Host}
 use Rattle.cvm_shell.specs.Boot.{booted, around, first_state, steps_before, IsHonest}
@@ -52,7 +52,7 @@ ProgramsAskAndEnd = (u : CUnit) (n value answer : ℕ) → BringsAndEnds u n val
 -- WHAT A RUN SHOWS of two programs that bring v within n units and w within k, and end where they are answered by v and by the sum: each within the steps of
 -- its units; the run shows what it shows of such users, so its status is no kernel's fault; and with as many turns as these steps, the schedule's `line` rows
 -- and five, and the steps of the machine for them, it is done, has halted, and reports the sum
-pub record ProgramsAnsweredShown (x : Outside) (y : System) (s : State) (late raised turns steps : ℕ) (one two : CUnit) (n k v w : ℕ) (status : ExitStatus) (text : List ℕ) : Type 0 where
+pub record ProgramsAnsweredShown (x : Outside) (y : System) (s : State) (late raised turns steps : ℕ) (one two : CUnit) (n k v w : ℕ) (status : Status) (text : List ℕ) : Type 0 where
   pub first : AskedAndEnded (first_flat (image_words one)) (steps_of n) v v
   pub second : AskedAndEnded (first_flat (image_words two)) (steps_of k) w (v + w)
   pub shows : AnswersShown x y s late raised turns steps first.steps first.rest second.steps second.rest v w (first_flat (image_words one)) (first_flat (image_words two)) status text
@@ -63,7 +63,7 @@ pub record ProgramsAnsweredShown (x : Outside) (y : System) (s : State) (late ra
 -- EACH BOOT of an image with the kernel's text and the images of two such programs shows this, under every schedule
 abbrev pub AnyProgramsAnswered : Type 0
 AnyProgramsAnswered = (one two : CUnit) (n k v w : ℕ) → BringsAndEnds one n v v → BringsAndEnds two k w (v + w) → v + w < 2 ^ 31
-    → (words : List (List ℕ)) (status : ExitStatus) (old new : Host) → Headlines (λ (o : Host). o) words status old new
+    → (words : List (List ℕ)) (status : Status) (old new : Host) → Headlines (λ (o : Host). o) words status old new
     → (session : Session) (s : ImageSystem) (rows : Rows) (before : List (List ℕ)) → (h : IsHonest words session s rows before old new)
     → status ≢ Memory → session.view ≡ Boot → AsksSystem kernel_text (image_words one ∷ image_words two ∷ []) h.asked
     → (text : List ℕ) × (new.sink.text ≡ append_known old.sink.text text)
@@ -74,7 +74,7 @@ AnyProgramsAnswered = (one two : CUnit) (n k v w : ℕ) → BringsAndEnds one n 
 abbrev pub AnyCountedProgramsAnswered : Type 0
 AnyCountedProgramsAnswered = (one two : CUnit) (n k v w a b c d : ℕ) → BringsAndEnds one n v v → BringsAndEnds two k w (v + w) → v + w < 2 ^ 31
     → AreCounted (first_flat (image_words one)) v a b → AreCounted (first_flat (image_words two)) (v + w) c d
-    → (words : List (List ℕ)) (status : ExitStatus) (old new : Host) → Headlines (λ (o : Host). o) words status old new
+    → (words : List (List ℕ)) (status : Status) (old new : Host) → Headlines (λ (o : Host). o) words status old new
     → (session : Session) (s : ImageSystem) (rows : Rows) (before : List (List ℕ)) → (h : IsHonest words session s rows before old new)
     → status ≢ Memory → session.view ≡ Boot → AsksSystem kernel_text (image_words one ∷ image_words two ∷ []) h.asked
     → (text : List ℕ) × (new.sink.text ≡ append_known old.sink.text text)
@@ -82,7 +82,7 @@ AnyCountedProgramsAnswered = (one two : CUnit) (n k v w a b c d : ℕ) → Bring
     a b c d v w (first_flat (image_words one)) (first_flat (image_words two)) status text
 
 -- THE TWO ADDERS, as in Boots, but answered and run to their ends: with 367 turns and L more for L `line` rows
-pub record AddersAnswered (x : Outside) (y : System) (s : State) (late raised turns steps : ℕ) (f g : Flat) (status : ExitStatus) (text : List ℕ) : Type 0 where
+pub record AddersAnswered (x : Outside) (y : System) (s : State) (late raised turns steps : ℕ) (f g : Flat) (status : Status) (text : List ℕ) : Type 0 where
   pub shows : AnswersShown x y s late raised turns steps 123 8 223 8 55 210 f g status text
   pub no_fault : status ≢ KernelFault
   pub halted : 367 + raised ≤ turns → steps_for y (367 + raised) (5 + raised) 100 0 + late ≤ steps
@@ -91,7 +91,7 @@ pub record AddersAnswered (x : Outside) (y : System) (s : State) (late raised tu
 
 -- EACH BOOT of an image with the kernel's text whose users are compiled of the two texts, under every schedule
 abbrev pub CompiledAnswersBoot : Type 0
-CompiledAnswersBoot = (words : List (List ℕ)) (status : ExitStatus) (old new : Host) → Headlines (λ (o : Host). o) words status old new
+CompiledAnswersBoot = (words : List (List ℕ)) (status : Status) (old new : Host) → Headlines (λ (o : Host). o) words status old new
     → (session : Session) (s : ImageSystem) (rows : Rows) (before : List (List ℕ)) → (h : IsHonest words session s rows before old new)
     → status ≢ Memory → session.view ≡ Boot → AsksSource kernel_text h.asked → (layer : Map → List ℕ → List ℕ) → IsLinkedOf layer text_ten text_twenty s
     → (text : List ℕ) × (new.sink.text ≡ append_known old.sink.text text)

@@ -17,8 +17,8 @@ use Rattle.kernel_linker.specs.Accept.{ImageSystem}
 use Rattle.user_c0.specs.Image.{image_words}
 use Rattle.user_c0.specs.Program.{steps_of}
 use Rattle.user_c0.specs.Users.{IsProgram}
-use Rattle.cvm_shell.specs.declared.exit_status.ExitStatus.{ExitStatus}
-use Rattle.cvm_shell.specs.declared.exit_status.ExitStatus.TheVariants.{Done, KernelFault, Memory}
+use Rattle.cvm_shell.specs.declared.exit_status.Status.{Status}
+use Rattle.cvm_shell.specs.declared.exit_status.Status.TheVariants.{Done, KernelFault, Memory}
 use Rattle.cvm_shell.specs.declared.boot.Session.{Session}
 use Rattle.cvm_shell.specs.Host.{Host}
 use Rattle.cvm_shell.specs.Boot.{booted, around, first_state, steps_before, IsHonest}
@@ -42,7 +42,7 @@ pub record Brings (u : CUnit) (n value : ℕ) : Type 0 where
 -- WHAT A RUN SHOWS of two programs that bring v within n units and w within k: each calls after steps within those of its units; the run shows what it shows
 -- of such users, so its status is no kernel's fault; and with as many turns as these steps, the schedule's `line` rows and three, and the steps of the machine
 -- for them, it is done, has halted, and reports the sum
-pub record ProgramSumShown (x : Outside) (y : System) (s : State) (late raised turns steps : ℕ) (one two : CUnit) (n k v w : ℕ) (status : ExitStatus) (text : List ℕ) : Type 0 where
+pub record ProgramSumShown (x : Outside) (y : System) (s : State) (late raised turns steps : ℕ) (one two : CUnit) (n k v w : ℕ) (status : Status) (text : List ℕ) : Type 0 where
   pub first_steps : ℕ
   pub second_steps : ℕ
   pub few_first : first_steps ≤ steps_of n
@@ -55,7 +55,7 @@ pub record ProgramSumShown (x : Outside) (y : System) (s : State) (late raised t
 -- EACH BOOT of an image with the kernel's text and the images of two programs that bring numbers shows this, under every schedule
 abbrev pub AnyProgramsSum : Type 0
 AnyProgramsSum = (one two : CUnit) (n k v w : ℕ) → Brings one n v → Brings two k w → v + w < 2 ^ 31
-    → (words : List (List ℕ)) (status : ExitStatus) (old new : Host) → Headlines (λ (o : Host). o) words status old new
+    → (words : List (List ℕ)) (status : Status) (old new : Host) → Headlines (λ (o : Host). o) words status old new
     → (session : Session) (s : ImageSystem) (rows : Rows) (before : List (List ℕ)) → (h : IsHonest words session s rows before old new)
     → status ≢ Memory → session.view ≡ Boot → AsksSystem kernel_text (image_words one ∷ image_words two ∷ []) h.asked
     → (text : List ℕ) × (new.sink.text ≡ append_known old.sink.text text)
@@ -66,7 +66,7 @@ AnyProgramsSum = (one two : CUnit) (n k v w : ℕ) → Brings one n v → Brings
 abbrev pub AnyCountedProgramsSum : Type 0
 AnyCountedProgramsSum = (one two : CUnit) (n k v w a b : ℕ) → Brings one n v → Brings two k w → v + w < 2 ^ 31
     → IsCounted (first_flat (image_words one)) a → IsCounted (first_flat (image_words two)) b
-    → (words : List (List ℕ)) (status : ExitStatus) (old new : Host) → Headlines (λ (o : Host). o) words status old new
+    → (words : List (List ℕ)) (status : Status) (old new : Host) → Headlines (λ (o : Host). o) words status old new
     → (session : Session) (s : ImageSystem) (rows : Rows) (before : List (List ℕ)) → (h : IsHonest words session s rows before old new)
     → status ≢ Memory → session.view ≡ Boot → AsksSystem kernel_text (image_words one ∷ image_words two ∷ []) h.asked
     → (text : List ℕ) × (new.sink.text ≡ append_known old.sink.text text)
@@ -91,7 +91,7 @@ pub record IsLinkedOf (layer : Map → List ℕ → List ℕ) (first_text second
 -- THE TWO ADDERS, whose machines at the start are f and g: the status is no kernel's fault; and under a schedule of L `line` rows, with 349 turns and L more,
 -- and the steps of the machine for them, it is done, has halted, and its text is at most 3 + L rows and then the report, which says the total of 265 and each
 -- user's machine behind its call
-pub record AddersShown (x : Outside) (y : System) (s : State) (late raised turns steps : ℕ) (f g : Flat) (status : ExitStatus) (text : List ℕ) : Type 0 where
+pub record AddersShown (x : Outside) (y : System) (s : State) (late raised turns steps : ℕ) (f g : Flat) (status : Status) (text : List ℕ) : Type 0 where
   pub shows : SumShown x y s late raised turns steps 123 223 55 210 f g status text
   pub no_fault : status ≢ KernelFault
   pub halted : 349 + raised ≤ turns → steps_for y (349 + raised) (3 + raised) 100 0 + late ≤ steps
@@ -101,7 +101,7 @@ pub record AddersShown (x : Outside) (y : System) (s : State) (late raised turns
 -- EACH BOOT of an image with the kernel's text whose users are compiled of the two texts, under every schedule; their machines at the start are those of the
 -- images of the two trees, whatever places the texts' own trees have
 abbrev pub CompiledSumsBoot : Type 0
-CompiledSumsBoot = (words : List (List ℕ)) (status : ExitStatus) (old new : Host) → Headlines (λ (o : Host). o) words status old new
+CompiledSumsBoot = (words : List (List ℕ)) (status : Status) (old new : Host) → Headlines (λ (o : Host). o) words status old new
     → (session : Session) (s : ImageSystem) (rows : Rows) (before : List (List ℕ)) → (h : IsHonest words session s rows before old new)
     → status ≢ Memory → session.view ≡ Boot → AsksSource kernel_text h.asked → (layer : Map → List ℕ → List ℕ) → IsLinkedOf layer text_ten text_twenty s
     → (text : List ℕ) × (new.sink.text ≡ append_known old.sink.text text)

@@ -12,15 +12,15 @@ use Rattle.boot_turns.specs.Headline.{Ending, Done as IsDone, KernelFaulted, Out
 use Rattle.cvm_model.specs.Kernel.{KernelMeaning}
 use Rattle.cvm_model.specs.KernelMeaning.{kernel_meaning, UnitsReplay}
 use Rattle.cvm_model.specs.Primitives.{no_flat, user_of}
-use Rattle.cvm_model.specs.Cvm.{System, Cvm, Status, Running, Halted, Faulted, first_flat, first_core, first_cvm, cvm}
+use Rattle.cvm_model.specs.Cvm.{System, Cvm, Status as CvmStatus, Running, Halted, Faulted, first_flat, first_core, first_cvm, cvm}
 use Rattle.cvm_model.specs.Journal.{journal, replay, KernelReplays, Isolated}
 use Rattle.cvm_model.specs.Text.{user_text, boot_text, trace_text}
 use Rattle.kernel_linker.specs.Accept.{ImageSystem}
 use Rattle.kernel_linker.specs.Sources.{AcceptedAreOfImages}
 use Rattle.kernel_theorems.specs.UserRuns.{after}
 use Rattle.kernel_theorems.specs.Text.{TextsMeanTrees}
-use Rattle.cvm_shell.specs.declared.exit_status.ExitStatus.{ExitStatus}
-use Rattle.cvm_shell.specs.declared.exit_status.ExitStatus.TheVariants.{Done, KernelFault, StepLimit}
+use Rattle.cvm_shell.specs.declared.exit_status.Status.{Status}
+use Rattle.cvm_shell.specs.declared.exit_status.Status.TheVariants.{Done, KernelFault, StepLimit}
 use Rattle.cvm_shell.specs.declared.boot.Session.{Session}
 use Rattle.cvm_shell.specs.Host.{Host}
 use Rattle.cvm_shell.specs.Plan.{Accepts}
@@ -57,7 +57,7 @@ is_there y u words some e = record {
 }
 
 -- a boot that is done has no fault
-done_reports : (b : Bool) (s : Status) → Done ≡ ended_as (if b then ending_of s else OutOfSteps) → IsReported s
+done_reports : (b : Bool) (s : CvmStatus) → Done ≡ ended_as (if b then ending_of s else OutOfSteps) → IsReported s
 done_reports b Running e = tt
 done_reports b Halted e = tt
 done_reports true (Faulted f) e = absurd (cc)

@@ -12,7 +12,7 @@ use Rattle.c0_types.specs.Front.{IsUnitOf}
 use Rattle.cvm_model.specs.Kernel.{parts_of}
 use Rattle.cvm_model.specs.KernelMeaning.{kernel_meaning}
 use Rattle.cvm_model.specs.Primitives.{user_of}
-use Rattle.cvm_model.specs.Cvm.{System, Cvm, Status, first_flat, cvm}
+use Rattle.cvm_model.specs.Cvm.{System, Cvm, Status as CvmStatus, first_flat, cvm}
 use Rattle.cvm_model.specs.Journal.{journal}
 use Rattle.cvm_model.specs.Text.{rows_text, end_text, globals_text, log_text, user_text, users_text, trace_text}
 use Rattle.kernel_linker.specs.Accept.{ImageSystem}
@@ -20,8 +20,8 @@ use Rattle.called_primitives.specs.Calls.{calls_only}
 use Rattle.called_primitives.specs.Kernels.{ChangesNoMachine, only_reads}
 use Rattle.kernel_theorems.specs.Text.{IsTextOf}
 use Rattle.kernel_theorems.specs.UserRuns.{after}
-use Rattle.cvm_shell.specs.declared.exit_status.ExitStatus.{ExitStatus}
-use Rattle.cvm_shell.specs.declared.exit_status.ExitStatus.TheVariants.{Done}
+use Rattle.cvm_shell.specs.declared.exit_status.Status.{Status}
+use Rattle.cvm_shell.specs.declared.exit_status.Status.TheVariants.{Done}
 use Rattle.cvm_shell.specs.declared.boot.Session.{Session}
 use Rattle.cvm_shell.specs.Host.{Host}
 use Rattle.cvm_shell.specs.Boot.{booted, around, first_state, AskFor, by_boot, by_trace, by_sample, IsHonest}
@@ -115,13 +115,13 @@ BootsAgree = (source another : List ℕ) → SourceChangesNone source → Source
     → (steps : ℕ) (one two : List ℕ) → PrintsUser a u steps one → PrintsUser b u steps two → Agree u words steps one two
 
 -- the trace of user u with these words by itself, for so many steps, of a run that ended so
-abbrev pub own_trace : (u : ℕ) → (words : List ℕ) → (steps : ℕ) → Status → List ℕ
+abbrev pub own_trace : (u : ℕ) → (words : List ℕ) → (steps : ℕ) → CvmStatus → List ℕ
 own_trace u words steps status = trace_text u (first_flat words) (own_journal steps (first_flat words)) (after steps (first_flat words)) status
 
 -- A LAW: so is what each trace of the user prints, with its journal's steps and with how its run ended
 abbrev pub TracesAreOwn : Type 0
 TracesAreOwn = (source : List ℕ) → SourceChangesNone source → (given : List (List ℕ)) (session : Session) (u : ℕ) (words : List ℕ)
-    (s : ImageSystem) (rows : Rows) (before : List (List ℕ)) (old new : Host) (status : ExitStatus)
+    (s : ImageSystem) (rows : Rows) (before : List (List ℕ)) (old new : Host) (status : Status)
     → (h : IsHonest given session s rows before old new) → AsksSource source h.asked → 1 ≤ u → AsksUser u words h.asked
     → (a : IsolatedTrace session u s rows before old new status) → a.text ≡ own_trace u words (own_steps a.entries) a.last.status
 

@@ -20,8 +20,8 @@ use Rattle.kernel_linker.specs.declared.fault.LinkFault.{LinkFault}
 use Rattle.kernel_linker.specs.declared.fault.AcceptFault.{AcceptFault}
 use Rattle.sample_maker.specs.Parts.{Parts as Sampled}
 use Rattle.sample_maker.specs.Sample.{sample_of}
-use Rattle.cvm_shell.specs.declared.exit_status.ExitStatus.{ExitStatus}
-use Rattle.cvm_shell.specs.declared.exit_status.ExitStatus.TheVariants.{Done, Words, Refused, Disk, Shelf, Sink}
+use Rattle.cvm_shell.specs.declared.exit_status.Status.{Status}
+use Rattle.cvm_shell.specs.declared.exit_status.Status.TheVariants.{Done, Words, Refused, Disk, Shelf, Sink}
 use Rattle.cvm_shell.specs.declared.boot.Session.{Session}
 use Rattle.cvm_shell.specs.Command.{Command, boot, trace, save, resume, compile_user, compile_kernel, compile_program, link, migrate, check, IsCommand, GetsFiles, sample_session}
 use Rattle.cvm_shell.specs.Host.{Host, Says, said, broken}
@@ -80,12 +80,12 @@ putting_gets words file p (check_plan c q is got) h = (check c, is, tt)
 
 -- THE STATUSES.
 
-says_one : (stated : ExitStatus) (row : List ℕ) (old new : Host) (status : ExitStatus) → Says stated row old new status → (status ≡ stated) ⊎ (status ≡ Sink)
+says_one : (stated : Status) (row : List ℕ) (old new : Host) (status : Status) → Says stated row old new status → (status ≡ stated) ⊎ (status ≡ Sink)
 says_one stated row old new status (said leaves) = inl refl
 says_one stated row old new status (broken n leaves) = inr refl
 
 -- a row is said with no other status
-says_no_other : (stated : ExitStatus) (row : List ℕ) (old new : Host) (status : ExitStatus) → status ≢ stated → status ≢ Sink → Says stated row old new status → ⊥
+says_no_other : (stated : Status) (row : List ℕ) (old new : Host) (status : Status) → status ≢ stated → status ≢ Sink → Says stated row old new status → ⊥
 says_no_other stated row old new status other unbroken says = elim (says_one stated row old new status says) [ inl e ↦ other e | inr e ↦ unbroken e ]
 
 long_status : (r : Refusal) → refusal_status r ≡ Shelf → r ≡ too_long
@@ -127,7 +127,7 @@ pub record Sure (old new : Host) : Type 0 where
   pub sink : Rose old.sink.faults new.sink.faults → ⊥
   pub disk : Rose old.disk.faults new.disk.faults → ⊥
 
-pub no_sink : (status : ExitStatus) (old new : Host) → Sure old new → CausedBy status old new → status ≢ Sink
+pub no_sink : (status : Status) (old new : Host) → Sure old new → CausedBy status old new → status ≢ Sink
 no_sink status old new sure caused e = sure.sink (subst (λ s. CausedBy s old new) e caused).0
 
 -- a file is too long where the status is the shelf's
@@ -151,7 +151,7 @@ taken_long : (old new : Host) → Sure old new → CausedBy Shelf old new → ne
 taken_long old new sure (inl rose, sink, disk) = absurd (sure.shelf rose)
 taken_long old new sure (inr (most, same), sink, disk) = most
 
-pub too_long_only : (words : List (List ℕ)) (status : ExitStatus) (old new : Host) → Sure old new → CommandEnds words status old new → CausedBy status old new → status ≡ Shelf
+pub too_long_only : (words : List (List ℕ)) (status : Status) (old new : Host) → Sure old new → CommandEnds words status old new → CausedBy status old new → status ≡ Shelf
     → PlanComesTo words old.shelf.file (refuses too_long) × (new.shelf.taken ≡ TOO_LONG)
 too_long_only words status old new sure ends caused e =
     let most = taken_long old new sure (subst (λ s. CausedBy s old new) e caused) in

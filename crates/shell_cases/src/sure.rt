@@ -5,7 +5,7 @@ ghost use Rattle.cvm_shell.specs.Command.{texts};
 ghost use Rattle.shell_cases.specs.Sure.{IsTooLong, IsTooSmall};
 
 use cvm_outside::{MemSectors, MemShelf, MemSink, Shelf, SureSectors, SureShelf, SureSink};
-use cvm_shell::{ExitStatus, run};
+use cvm_shell::{Status, run};
 use std::alloc::{AllocError, Global};
 
 /// Runs a command where no call of the shelf, the sink and the disk fails. A status of the sink doesn't come, one of the shelf only where a
@@ -16,10 +16,10 @@ pub fn run_surely(
     shelf: &mut SureShelf,
     sink: &mut SureSink,
     disk: &mut SureSectors,
-) -> ExitStatus
-    ensures sink { result ≢ ExitStatus.Sink }
-    ensures shelf { result ≡ ExitStatus.Shelf → IsTooLong (texts words.now.items) (taken_of (inside shelf.new)) }
-    ensures disk { result ≡ ExitStatus.Disk → IsTooSmall (texts words.now.items) (length disk.old) }
+) -> Status
+    ensures sink { result ≢ Status.Sink }
+    ensures shelf { result ≡ Status.Shelf → IsTooLong (texts words.now.items) (taken_of (inside shelf.new)) }
+    ensures disk { result ≡ Status.Disk → IsTooSmall (texts words.now.items) (length disk.old) }
 {
     run(alloc, words, shelf, sink, disk)
 }
@@ -45,7 +45,7 @@ pub fn run_over_copies(
     words: &Vec<String>,
     files: &mut MemShelf,
     sectors: u32,
-) -> Result<ExitStatus, AllocError> {
+) -> Result<Status, AllocError> {
     let mut shelf = copied(alloc, words, files)?;
     let mut sink = SureSink::new(MemSink::new(alloc, Vec::new(alloc))?);
     let mut disk = SureSectors::new(MemSectors::new(alloc, sectors, Vec::new(alloc))?);

@@ -15,8 +15,8 @@ use Rattle.cvm_model.specs.Systems.{status_after, SystemHolds}
 use Rattle.run_bounds.specs.Lines.{LinesTakenAreFew, RaisedLinesAreFew}
 use Rattle.run_bounds.specs.Steps.{BoundsAreSmall}
 use Rattle.kernel_linker.specs.Sources.{AcceptedAreOfImages}
-use Rattle.cvm_shell.specs.declared.exit_status.ExitStatus.{ExitStatus}
-use Rattle.cvm_shell.specs.declared.exit_status.ExitStatus.TheVariants.{Done}
+use Rattle.cvm_shell.specs.declared.exit_status.Status.{Status}
+use Rattle.cvm_shell.specs.declared.exit_status.Status.TheVariants.{Done}
 use Rattle.cvm_shell.specs.Boot.{booted, around, first_state, steps_before}
 use Rattle.kernel_theorems.specs.Text.{Means}
 use Rattle.kernel_boots.specs.Boots.{turns_made}
@@ -103,7 +103,7 @@ module _ (y : System) (m n v w : ℕ) (r : Runs y m n v w) (f g : Flat) (past : 
   report : codes "halted\n" ++ report_text y.boot.meaning.names c ≡ report_of (v + w) (after (suc m) f ∷ after (suc n) g ∷ [])
   report = reported y.boot.meaning.names c (v + w) (after (suc m) f ∷ after (suc n) g ∷ []) names data_then log_then users_then
 
-module _ (x : Outside) (y : System) (m n v w : ℕ) (r : Runs y m n v w) (f g : Flat) (s : State) (late raised turns steps : ℕ) (status : ExitStatus) (text : List ℕ)
+module _ (x : Outside) (y : System) (m n v w : ℕ) (r : Runs y m n v w) (f g : Flat) (s : State) (late raised turns steps : ℕ) (status : Status) (text : List ℕ)
     (h : SystemShown x y s late raised turns steps 100 (HasUsers y) (Sums y m n v w f g) status text) where
   abbrev Halts : Type 0
   Halts = (status ≡ Done) × (h.stands.state.status ≡ Halted) × (length h.stands.state.rows ≤ 3 + raised)
@@ -161,7 +161,7 @@ with_thirty users = rw thirty refl
 last : report_of 30 (after 22 (first_flat user_one) ∷ after 42 (first_flat user_two) ∷ []) ≡ last_report
 last = with_thirty (after 22 (first_flat user_one) ∷ after 42 (first_flat user_two) ∷ []) ∙ ap (λ (t : List ℕ). codes "halted\nglobal total 30\nglobal done true\n" ++ t) reports ∙ refl
 
-named : (x : Outside) (y : System) (s : State) (late raised turns steps : ℕ) (status : ExitStatus) (text : List ℕ)
+named : (x : Outside) (y : System) (s : State) (late raised turns steps : ℕ) (status : Status) (text : List ℕ)
     → SumShown x y s late raised turns steps 21 41 10 20 (first_flat user_one) (first_flat user_two) status text → NamedSumShown x y s late raised turns steps status text
 named x y s late raised turns steps status text h = record {
   shows = h;

@@ -12,8 +12,8 @@ use Rattle.c0_meaning.specs.Value.{int, bool, empty, part}
 use Rattle.cvm_model.specs.Invariant.{HasUsers}
 use Rattle.run_bounds.specs.Steps.{steps_for}
 use Rattle.kernel_linker.specs.Accept.{ImageSystem}
-use Rattle.cvm_shell.specs.declared.exit_status.ExitStatus.{ExitStatus}
-use Rattle.cvm_shell.specs.declared.exit_status.ExitStatus.TheVariants.{Done, KernelFault, Memory}
+use Rattle.cvm_shell.specs.declared.exit_status.Status.{Status}
+use Rattle.cvm_shell.specs.declared.exit_status.Status.TheVariants.{Done, KernelFault, Memory}
 use Rattle.cvm_shell.specs.declared.boot.Session.{Session}
 use Rattle.cvm_shell.specs.Host.{Host}
 use Rattle.cvm_shell.specs.Boot.{booted, around, first_state, steps_before, IsHonest}
@@ -33,7 +33,7 @@ report_of total users =
 -- WHAT A RUN SHOWS of two users that call after m and n steps with v and w: the state where it stands has the invariant; its status is no kernel's fault; and
 -- under a schedule of so many `line` rows, with as many turns more as these steps and three, and with the steps of the machine for them, it is done, has
 -- halted, and printed at most three rows more than there are `line` rows, and then the report, in which each user stands behind its call
-pub record SumShown (x : Outside) (y : System) (s : State) (late raised turns steps m n v w : ℕ) (f g : Flat) (status : ExitStatus) (text : List ℕ) : Type 0 where
+pub record SumShown (x : Outside) (y : System) (s : State) (late raised turns steps m n v w : ℕ) (f g : Flat) (status : Status) (text : List ℕ) : Type 0 where
   pub shown : SystemShown x y s late raised turns steps 100 (HasUsers y) (Sums y m n v w f g) status text
   pub no_fault : status ≢ KernelFault
   pub halted : 3 + m + n + raised ≤ turns → steps_for y (3 + m + n + raised) (3 + raised) 100 0 + late ≤ steps
@@ -43,7 +43,7 @@ pub record SumShown (x : Outside) (y : System) (s : State) (late raised turns st
 -- EACH BOOT of an image with the kernel's text and two users that call shows this, under every schedule, whatever else their programs are
 abbrev pub AnyUsersSum : Type 0
 AnyUsersSum = (one two : List ℕ) (m n v w : ℕ) → CallsAfter (first_flat one) m v → CallsAfter (first_flat two) n w → v + w < 2 ^ 31
-    → (words : List (List ℕ)) (status : ExitStatus) (old new : Host) → Headlines (λ (o : Host). o) words status old new
+    → (words : List (List ℕ)) (status : Status) (old new : Host) → Headlines (λ (o : Host). o) words status old new
     → (session : Session) (s : ImageSystem) (rows : Rows) (before : List (List ℕ)) → (h : IsHonest words session s rows before old new)
     → status ≢ Memory → session.view ≡ Boot → AsksSystem kernel_text (one ∷ two ∷ []) h.asked
     → (text : List ℕ) × (new.sink.text ≡ append_known old.sink.text text)
@@ -75,14 +75,14 @@ abbrev pub last_report : List ℕ
 last_report = by_lines report_lines
 
 -- THE NAMED SYSTEM: it shows this of its users, and its report is that one, letter by letter
-pub record NamedSumShown (x : Outside) (y : System) (s : State) (late raised turns steps : ℕ) (status : ExitStatus) (text : List ℕ) : Type 0 where
+pub record NamedSumShown (x : Outside) (y : System) (s : State) (late raised turns steps : ℕ) (status : Status) (text : List ℕ) : Type 0 where
   pub shows : SumShown x y s late raised turns steps 21 41 10 20 (first_flat user_one) (first_flat user_two) status text
   pub halted : 65 + raised ≤ turns → steps_for y (65 + raised) (3 + raised) 100 0 + late ≤ steps
       → (status ≡ Done) × (length shows.shown.stands.state.rows ≤ 3 + raised) × (text ≡ rows_text shows.shown.stands.state.rows ++ last_report)
 
 -- EACH BOOT of an image with the kernel's text and these two users, under every schedule
 abbrev pub SummingBoots : Type 0
-SummingBoots = (words : List (List ℕ)) (status : ExitStatus) (old new : Host) → Headlines (λ (o : Host). o) words status old new
+SummingBoots = (words : List (List ℕ)) (status : Status) (old new : Host) → Headlines (λ (o : Host). o) words status old new
     → (session : Session) (s : ImageSystem) (rows : Rows) (before : List (List ℕ)) → (h : IsHonest words session s rows before old new)
     → status ≢ Memory → session.view ≡ Boot → AsksSystem kernel_text (user_one ∷ user_two ∷ []) h.asked
     → (text : List ℕ) × (new.sink.text ≡ append_known old.sink.text text)
