@@ -25,6 +25,9 @@ from oracle.words import M
 K1 = 'int dispatch(int cause, int data, int user) { int next; if (cause == 0) { next = 1; } return next; }'
 PARAMS = 'pages 64\nframes 64\nheap 64\nstack 256\n'
 TURNS, STEPS = 4000000000, 1000000000
+# what the worked rows have where nothing else is said
+ROW_PARAMS = 'pages 64\nframes 8\nheap 64\nstack 256\n'
+ROW_TURNS, ROW_STEPS = 1000, 100000000
 ANSWERS = '''int s;
 int dispatch(int cause, int data, int user) {
   int next; int v; bool ok;
@@ -200,10 +203,10 @@ class Programs(Writer):
             self.told.append(text.rstrip('\n'))
         self.told.append('status %d' % status)
 
-    def system(self, kernel):
+    def system(self, kernel, params=PARAMS):
         """The files of a system with one user, and its kernel's object."""
         self.part('file k', kernel)
-        self.part('file par', PARAMS)
+        self.part('file par', params)
         self.part('file s')
         for name in ('o', 'img', 'u1'):
             self.part('zeros ' + name, '400000')
@@ -214,10 +217,10 @@ class Programs(Writer):
         self.run('compile program p u1')
         self.run('link o par img u1')
 
-    def journals(self, kernel, text):
+    def journals(self, kernel, text, params=PARAMS, turns=None, steps=STEPS):
         self.program(text)
-        rows = journal(kernel, [text], PARAMS, 1)
-        self.run('trace img s %d %d 1' % (turns_for(rows), STEPS), '\n'.join(rows), kind='journal')
+        rows = journal(kernel, [text], params, 1)
+        self.run('trace img s %d %d 1' % (turns or turns_for(rows), steps), '\n'.join(rows), kind='journal')
 
     def shows_words(self, name, at, words):
         self.part('part %s %d %d' % (name, at, 4 * len(words)))
@@ -230,17 +233,17 @@ class Programs(Writer):
         rows = re.sub(r'turn \d+', 'turn N', own).split('\n')
         if seen and rows[:len(rows_of)] != rows_of:
             raise BrokenRule('a rule is broken: case %s printed\n%s' % (name, own))
-        self.run('boot img s %d %d' % (TURNS, STEPS), own)
+        self.run('boot img s %d %d' % (ROW_TURNS, ROW_STEPS), own)
 
     def worked_rows(self):
         self.part('case a program that asks twice', 'sectors 64')
-        self.system(ANSWERS)
-        self.journals(ANSWERS, TWICE)
+        self.system(ANSWERS, ROW_PARAMS)
+        self.journals(ANSWERS, TWICE, ROW_PARAMS, ROW_TURNS, ROW_STEPS)
         begins = 'turn N cause 0 data 00000000 user 0 next 1'
         self.boot_of('a program that asks twice', [begins] + ['turn N cause 6 data 0000000c user 1 next 1'] * 2
                      + ['turn N cause 6 data 0000004c user 1 next 0', 'halted', 'global s 56'])
         self.part('case a program that divides by 0', 'sectors 64')
-        self.system(K1)
+        self.system(K1, ROW_PARAMS)
         self.program(INVERSE)
         self.boot_of('a program that divides by 0', [begins, 'turn N cause 6 data 0000010c user 1 next 0', 'halted'])
         self.part('case programs that use up their room', 'sectors 64')
