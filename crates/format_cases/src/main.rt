@@ -1,7 +1,7 @@
 // Tries files of cases on what reads and makes the files of the project, and prints what each answers, or the refusal of docs/REFUSALS.md.
 // `case_file` says how a case is written. Its kind says what is printed:
 //
-// - `text`: the words of a user's text in assembler, and the text that they are written as;
+// - `text`: the words of a user's text in assembler, and the text that they are written as, and whether that is read as other words;
 // - `object`: what an object file holds; `image`, `old`: what a boot image holds, or one of form 2; `params`, `user`: the parameters of a system,
 //   and the words of a user;
 // - `sample`, `checked`: the parts of the sample of a number, and whether they are read;

@@ -32,7 +32,21 @@ fn show_words(alloc: Global, shown: &mut String, words: &[u32]) -> Result<(), Al
     }
     shown.push_str(" |")?;
     let text = disassemble(alloc, words)?;
-    show_lines(shown, text.as_slice())
+    show_lines(shown, text.as_slice())?;
+    show_other(alloc, shown, words, text.as_slice())
+}
+
+// Says of a text that words are written as whether it is read as other words: of none that is right.
+fn show_other(
+    alloc: Global,
+    shown: &mut String,
+    words: &[u32],
+    text: &[u8],
+) -> Result<(), AllocError> {
+    match assemble(alloc, text) {
+        Ok(again) if again.as_slice() == words => Ok(()),
+        _ => shown.push_str(" but is read otherwise"),
+    }
 }
 
 // Shows why a text has no words: the fault's number and its fields.
