@@ -20,11 +20,13 @@ use mips_machine::Machine;
 use mips_table::encode;
 use schedule_file::Schedule;
 use std::alloc::{AllocError, Global};
+use thiserror::Error;
 
 /// Why a run is not loaded.
-#[derive(Clone, Copy, Debug, PartialEq, Eq)]
+#[derive(Clone, Copy, Debug, PartialEq, Eq, Error)]
 pub enum LoadFault {
     /// The disk has fewer sectors than the users' pages take.
+    #[error("{need} sectors are needed, and the disk has {have}")]
     SmallDisk {
         /// How many they take.
         need: u32,
@@ -32,10 +34,13 @@ pub enum LoadFault {
         have: u32,
     },
     /// The disk failed.
+    #[error("the disk failed")]
     Disk,
     /// Want of memory.
+    #[error("out of memory")]
     Memory,
     /// The user of a trace is none of the users.
+    #[error("user {user} of {users} users")]
     NoSuchUser {
         /// The user.
         user: u32,

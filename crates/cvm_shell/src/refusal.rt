@@ -18,35 +18,48 @@ use object_file::ObjectFault;
 use saved_file::SaveFault;
 use schedule_file::ScheduleFault;
 use system_files::FileFault;
+use thiserror::Error;
 use user_c0::UserFault;
 
 /// A fault that an image, a schedule, a source or a user's text has. Places are bytes, counted from
 /// 0, and lines are counted from 1.
-#[derive(Clone, Copy, Debug, PartialEq, Eq)]
+#[derive(Clone, Copy, Debug, PartialEq, Eq, Error)]
 pub enum Refusal {
     /// A user's text has no words.
+    #[error("{0}")]
     BadText(AsmFault),
     /// The source of a kernel or a user program has no tree, or its tree is not typed.
+    #[error("{0}")]
     BadSource(SourceFault),
     /// The image of a user program is too large.
+    #[error("{0}")]
     BadProgram(UserFault),
     /// A file is no object.
+    #[error("{0}")]
     BadObject(ObjectFault),
     /// A text has no parameters, or a user's file no words.
+    #[error("{0}")]
     BadFile(FileFault),
     /// An object, parameters and users are not linked.
+    #[error("{0}")]
     Unlinked(LinkFault),
     /// An image is not accepted.
+    #[error("{0}")]
     Unaccepted(AcceptFault),
     /// A text is no schedule.
+    #[error("{0}")]
     BadSchedule(ScheduleFault),
     /// A file of a saved machine is not taken up, or may be too long to be made.
+    #[error("{0}")]
     BadSave(SaveFault),
     /// The disk has fewer sectors than the users' pages need.
+    #[error("{need} sectors are needed, and the disk has {have}")]
     SmallDisk { need: u32, have: u32 },
     /// The user of a trace is none of the users.
+    #[error("user {user} of {users} users")]
     NoSuchUser { user: u32, users: u32 },
     /// A file has more than 67,108,864 bytes.
+    #[error("a file has more than 67,108,864 bytes")]
     TooLong,
 }
 
