@@ -5,6 +5,7 @@ use Rattle.mips_table.specs.Code.{Contents, Behind, World}
 use Rattle.masm.specs.Laws.{From}
 use Rattle.masm.specs.Frames.{HasDisk, Besides, WritesFrames}
 use Rattle.swap_layer.specs.Code.{move_words_code, swap_out_code, read_sector_code, copy_to_frame_code, swap_in_code}
+use Rattle.masm.specs.declared.roles.TheConstants.{PAGE, SOURCE, TARGET, VICTIM_AT, WORDS}
 
 -- 1,024 words from this one on lie in memory, or are the disk's buffer
 abbrev pub IsPlace : World → ℕ → Type 0
@@ -12,9 +13,9 @@ IsPlace w a = (a + 1024 ≤ w.words) ⊎ (a ≡ BUFFER)
 
 -- 1,024 words may be moved from word a on to word b on: the registers say so, the target isn't kept, and no command is under way
 pub record MoveAsked (w : World) (a b : ℕ) (c : Contents) (d : Behind) : Type 0 where
-  pub from : c.regs 1 ≡ 4 * a
-  pub to : c.regs 2 ≡ 4 * b
-  pub count : c.regs 3 ≡ 128
+  pub from : c.regs SOURCE ≡ 4 * a
+  pub to : c.regs TARGET ≡ 4 * b
+  pub count : c.regs WORDS ≡ 128
   pub system : w.system ≡ true
   pub source : IsPlace w a
   pub target : IsPlace w b
@@ -32,9 +33,9 @@ pub record Moved (a b : ℕ) (c0 : Contents) (d0 : Behind) (c : Contents) (d : B
   pub lo : c.lo ≡ c0.lo
   pub behind : d ≡ d0
 
--- the buffer is sector s, and register 1 is its address; memory and sectors are as before
+-- the buffer is sector s, and SOURCE is its address; memory and sectors are as before
 pub record Fetched (s : ℕ) (c0 : Contents) (d0 : Behind) (c : Contents) (d : Behind) : Type 0 where
-  pub from : c.regs 1 ≡ 4 * BUFFER
+  pub from : c.regs SOURCE ≡ 4 * BUFFER
   pub words : (i : ℕ) → i < 1024 → c.memory (BUFFER + i) ≡ d0.sectors s i
   pub memory : (x : ℕ) → x < BUFFER → c.memory x ≡ c0.memory x
   pub regs : (x : ℕ) → 5 < x → c.regs x ≡ c0.regs x
@@ -65,14 +66,14 @@ SwapsOut w = (b : ℕ) → HasDisk w b → WritesFrames w swap_out_code (b + 269
 
 -- a sector comes into the buffer
 abbrev pub Fetches : World → Type 0
-Fetches w = (b s : ℕ) (c : Contents) (d : Behind) → HasDisk w b → c.regs 16 ≡ s → s < w.count → d.pending ≡ Idle → From w read_sector_code (b + 8) c d (Fetched s c d)
+Fetches w = (b s : ℕ) (c : Contents) (d : Behind) → HasDisk w b → c.regs PAGE ≡ s → s < w.count → d.pending ≡ Idle → From w read_sector_code (b + 8) c d (Fetched s c d)
 
 -- words of memory, or of the buffer, come into a frame
 abbrev pub Settles : World → Type 0
-Settles w = (b a g : ℕ) (c : Contents) (d : Behind) → HasDisk w b → c.regs 1 ≡ 4 * a → c.regs 18 ≡ 4096 * g → MayFill w g → IsPlace w a → (a + 1024 ≤ 1024 * g) ⊎ (1024 * g + 1024 ≤ a) → d.pending ≡ Idle
+Settles w = (b a g : ℕ) (c : Contents) (d : Behind) → HasDisk w b → c.regs SOURCE ≡ 4 * a → c.regs VICTIM_AT ≡ 4096 * g → MayFill w g → IsPlace w a → (a + 1024 ≤ 1024 * g) ⊎ (1024 * g + 1024 ≤ a) → d.pending ≡ Idle
     → From w copy_to_frame_code 2691 c d (Moved a (1024 * g) c d)
 
 -- a sector comes to a frame
 abbrev pub SwapsIn : World → Type 0
-SwapsIn w = (b s g : ℕ) (c : Contents) (d : Behind) → HasDisk w b → c.regs 16 ≡ s → c.regs 18 ≡ 4096 * g → MayFill w g → s < w.count → d.pending ≡ Idle
+SwapsIn w = (b s g : ℕ) (c : Contents) (d : Behind) → HasDisk w b → c.regs PAGE ≡ s → c.regs VICTIM_AT ≡ 4096 * g → MayFill w g → s < w.count → d.pending ≡ Idle
     → From w swap_in_code (b + 2699) c d (SwappedIn s g c d)

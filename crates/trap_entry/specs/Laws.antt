@@ -7,7 +7,9 @@ use Rattle.mips_table.specs.declared.special.TheConstants.{ESR, ECA, EPC, EDATA,
 use Rattle.mips_table.specs.Code.{Contents, Behind, World, at_with, CodeAt, Reaches}
 use Rattle.layer_map.specs.Map.{current_at, hand_at, block_at, layer_words}
 use Rattle.masm.specs.declared.addresses.TheConstants.{POWER}
-use Rattle.masm.specs.declared.roles.TheConstants.{ZERO, T0}
+use Rattle.masm.specs.declared.roles.TheConstants.{ZERO, T0, T1}
+use Rattle.masm.specs.declared.registers.TheConstants.{ARGUMENTS}
+use Rattle.layer_map.specs.declared.entries.TheConstants.{ANSWER}
 use Rattle.masm.specs.Frames.{Besides}
 use Rattle.page_model.specs.Paging.{Pages, PagesStand}
 use Rattle.page_model.specs.Faults.{Brought}
@@ -68,9 +70,9 @@ HandlesFaults w = (p : Places) (b : ℕ) (page : PageBlock w p b) (v : Pages) (b
 
 -- `dispatch` is called for the current user, which is saved
 pub record UserEntered (u : ℕ) (c0 : Contents) (d0 : Behind) (c : Contents) (d : Behind) : Type 0 where
-  pub cause : c.regs 20 ≡ c0.special ECA
-  pub edata : c.regs 21 ≡ c0.special EDATA
-  pub user : c.regs 22 ≡ u
+  pub cause : c.regs ARGUMENTS ≡ c0.special ECA
+  pub edata : c.regs (ARGUMENTS + 1) ≡ c0.special EDATA
+  pub user : c.regs (ARGUMENTS + 2) ≡ u
   pub pc : c.memory (block_at u) ≡ c0.special EPC
   pub registers : (r : ℕ) → IsRegister r → c.memory (block_at u + r) ≡ c0.regs r
   pub high : c.memory (block_at u + 33) ≡ c0.hi
@@ -83,9 +85,9 @@ pub record UserEntered (u : ℕ) (c0 : Contents) (d0 : Behind) (c : Contents) (d
 
 -- `dispatch` is called after the reset
 pub record ResetEntered (c0 : Contents) (d0 : Behind) (c : Contents) (d : Behind) : Type 0 where
-  pub cause : c.regs 20 ≡ 0
-  pub edata : c.regs 21 ≡ c0.special EDATA
-  pub user : c.regs 22 ≡ c0.memory current_at
+  pub cause : c.regs ARGUMENTS ≡ 0
+  pub edata : c.regs (ARGUMENTS + 1) ≡ c0.special EDATA
+  pub user : c.regs (ARGUMENTS + 2) ≡ c0.memory current_at
   pub others : (x : ℕ) → IsUnsaved x → c.memory x ≡ c0.memory x
   pub special : c.special ≡ c0.special
   pub hi : c.hi ≡ c0.hi
@@ -130,9 +132,9 @@ pub record MayGo (w : World) (p : Places) (users per u : ℕ) : Type 0 where
   pub inside : block_at 65 ≤ w.words
   pub free : w.kept current_at ≡ None
 
--- the state is as before, but for registers 8 and 9
+-- the state is as before, but for T0 and T1
 pub record Passed (c0 : Contents) (d0 : Behind) (c : Contents) (d : Behind) : Type 0 where
-  pub regs : (r : ℕ) → r ≢ 8 → r ≢ 9 → c.regs r ≡ c0.regs r
+  pub regs : (r : ℕ) → r ≢ T0 → r ≢ T1 → c.regs r ≡ c0.regs r
   pub memory : c.memory ≡ c0.memory
   pub special : c.special ≡ c0.special
   pub hi : c.hi ≡ c0.hi
@@ -141,20 +143,20 @@ pub record Passed (c0 : Contents) (d0 : Behind) (c : Contents) (d : Behind) : Ty
 
 -- LEAVE, to user u: in 67 steps to the eret
 abbrev pub LeavesToUser : World → Type 0
-LeavesToUser w = (p : Places) (users per u n : ℕ) (c : Contents) (d : Behind) → MayGo w p users per u → CodeAt w n (act_on_answer_code p users per) → c.regs 2 ≡ u → d.pending ≡ Idle
+LeavesToUser w = (p : Places) (users per u n : ℕ) (c : Contents) (d : Behind) → MayGo w p users per u → CodeAt w n (act_on_answer_code p users per) → c.regs ANSWER ≡ u → d.pending ≡ Idle
     → ComesTo w 67 n (n + 6 + length (return_to_user_code p per)) Eret c d (UserReady p per u c d)
 
 -- LEAVE, with the answer 0: in 2 steps to the store of a 0 to the power port
 abbrev pub LeavesForGood : World → Type 0
-LeavesForGood w = (p : Places) (users per n : ℕ) (c : Contents) (d : Behind) → CodeAt w n (act_on_answer_code p users per) → c.regs 2 ≡ 0 → d.pending ≡ Idle
+LeavesForGood w = (p : Places) (users per n : ℕ) (c : Contents) (d : Behind) → CodeAt w n (act_on_answer_code p users per) → c.regs ANSWER ≡ 0 → d.pending ≡ Idle
     → ComesTo w 2 n (n + 2) (Sw ZERO ZERO POWER) c d (Passed c d)
 
 -- LEAVE, with no user's number: in 6 steps to the store of a 5
 abbrev pub LeavesBadly : World → Type 0
-LeavesBadly w = (p : Places) (users per n : ℕ) (c : Contents) (d : Behind) → users ≤ 64 → CodeAt w n (act_on_answer_code p users per) → users < c.regs 2 → c.regs 2 < 2 ^ 32 → d.pending ≡ Idle
-    → ComesTo w 6 n (n + 8 + length (return_to_user_code p per)) (Sw T0 ZERO POWER) c d (λ c' d'. Passed c d c' d' × (c'.regs 8 ≡ 5))
+LeavesBadly w = (p : Places) (users per n : ℕ) (c : Contents) (d : Behind) → users ≤ 64 → CodeAt w n (act_on_answer_code p users per) → users < c.regs ANSWER → c.regs ANSWER < 2 ^ 32 → d.pending ≡ Idle
+    → ComesTo w 6 n (n + 8 + length (return_to_user_code p per)) (Sw T0 ZERO POWER) c d (λ c' d'. Passed c d c' d' × (c'.regs T0 ≡ 5))
 
 -- FAULT EXIT: in one step to the store of the fault's power word
 abbrev pub ExitsWith : World → Type 0
 ExitsWith w = (power n : ℕ) (c : Contents) (d : Behind) → power < 32768 → CodeAt w n (exit_with_code power) → d.pending ≡ Idle
-    → ComesTo w 1 n (n + 1) (Sw T0 ZERO POWER) c d (λ c' d'. Passed c d c' d' × (c'.regs 8 ≡ power))
+    → ComesTo w 1 n (n + 1) (Sw T0 ZERO POWER) c d (λ c' d'. Passed c d c' d' × (c'.regs T0 ≡ power))
