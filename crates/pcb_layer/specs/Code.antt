@@ -1,14 +1,15 @@
 -- Saving and restoring a user: the instructions.
-use Rattle.std.specs.Prelude.{ℕ, zero, suc, ◌+◌, ◌*◌, List, [], ◌∷◌, ◌++◌}
+use Rattle.std.specs.Prelude.{ℕ, zero, suc, ◌+◌, ◌-◌, ◌*◌, List, [], ◌∷◌, ◌++◌}
 use Rattle.mips_table.specs.declared.inst.Inst.{Inst}
 use Rattle.mips_table.specs.declared.inst.Inst.TheVariants.{Lw, Sw}
+use Rattle.layer_map.specs.Map.{variables_at}
 use Rattle.masm.specs.declared.registers.TheConstants.{SCRATCH}
 use Rattle.masm.specs.declared.roles.TheConstants.{ZERO, BLOCK}
 use Rattle.pcb_layer.specs.declared.blocks.TheConstants.{FIND_CONTROL_BLOCK, SAVE_SPECIAL, RESTORE_SPECIAL}
 
 -- the word of the save area that register r, 1 to 31, is saved in: register 1's is the first of the layer's further variables
 abbrev pub saved_at : ℕ → ℕ
-saved_at r = 1030 + r
+saved_at r = variables_at - 1 + r
 
 -- the first n registers, from register 1 on, go to the save area
 abbrev pub save_registers_code : ℕ → List Inst
@@ -22,7 +23,7 @@ load_registers_code base offset (suc n) = load_registers_code base offset n ++ (
 
 -- they come back from the save area
 abbrev pub restore_registers_code : ℕ → List Inst
-restore_registers_code n = load_registers_code ZERO 1030 n
+restore_registers_code n = load_registers_code ZERO (saved_at 0) n
 
 -- BLOCK becomes the address of the current user's control block
 abbrev pub find_control_block_code : List Inst

@@ -4,7 +4,10 @@ use Rattle.mips_table.specs.Device.{Idle}
 use Rattle.mips_table.specs.declared.special.TheConstants.{EPC}
 use Rattle.mips_table.specs.Code.{Contents, Behind, World}
 use Rattle.layer_map.specs.Map.{current_at, block_at}
+use Rattle.layer_map.specs.declared.places.TheConstants.{BLOCK_SIZE, BLOCK_HI, BLOCK_LO}
 use Rattle.masm.specs.Laws.{From}
+use Rattle.masm.specs.declared.registers.TheConstants.{SCRATCH}
+use Rattle.masm.specs.declared.roles.TheConstants.{BLOCK}
 use Rattle.pcb_layer.specs.Code.{saved_at, save_registers_code, restore_registers_code, save_user_code, restore_user_code}
 
 -- the number of a register other than register 0
@@ -29,7 +32,7 @@ pub record IsCurrent (w : World) (u : ℕ) (c : Contents) : Type 0 where
 -- special registers may be used, and of user u's control block no word is kept that holds pc, registers, hi and lo
 pub record MayKeep (w : World) (u : ℕ) : Type 0 where
   pub system : w.system ≡ true
-  pub free : (k : ℕ) → k < 35 → w.kept (block_at u + k) ≡ None
+  pub free : (k : ℕ) → k < BLOCK_LO + 1 → w.kept (block_at u + k) ≡ None
 
 -- the save area holds the registers; all else is as before
 pub record Saved (c0 : Contents) (d0 : Behind) (c : Contents) (d : Behind) : Type 0 where
@@ -52,29 +55,29 @@ pub record Restored (c0 : Contents) (d0 : Behind) (c : Contents) (d : Behind) : 
 
 -- a word that no control block's pc, registers, hi or lo is, of user u
 abbrev pub IsBeside : ℕ → ℕ → Type 0
-IsBeside u x = (x < block_at u) ⊎ (block_at u + 34 < x) ⊎ (x ≡ block_at u + 32)
+IsBeside u x = (x < block_at u) ⊎ (block_at u + BLOCK_LO < x) ⊎ (x ≡ block_at u + BLOCK_SIZE)
 
--- user u's control block holds epc, hi, lo, and as registers what stands in the save area; all else but registers 1 and 31 is as before
+-- user u's control block holds epc, hi, lo, and as registers what stands in the save area; all else but SCRATCH and BLOCK is as before
 pub record Kept (u : ℕ) (c0 : Contents) (d0 : Behind) (c : Contents) (d : Behind) : Type 0 where
   pub pc : c.memory (block_at u) ≡ c0.special EPC
   pub registers : (r : ℕ) → IsRegister r → c.memory (block_at u + r) ≡ c0.memory (saved_at r)
-  pub high : c.memory (block_at u + 33) ≡ c0.hi
-  pub low : c.memory (block_at u + 34) ≡ c0.lo
+  pub high : c.memory (block_at u + BLOCK_HI) ≡ c0.hi
+  pub low : c.memory (block_at u + BLOCK_LO) ≡ c0.lo
   pub others : (x : ℕ) → IsBeside u x → c.memory x ≡ c0.memory x
-  pub regs : (r : ℕ) → r ≢ 1 → r ≢ 31 → c.regs r ≡ c0.regs r
+  pub regs : (r : ℕ) → r ≢ SCRATCH → r ≢ BLOCK → c.regs r ≡ c0.regs r
   pub special : c.special ≡ c0.special
   pub hi : c.hi ≡ c0.hi
   pub lo : c.lo ≡ c0.lo
   pub behind : d ≡ d0
 
--- user u's control block holds epc, the registers, hi and lo; all else but registers 1 and 31 and the save area is as before
+-- user u's control block holds epc, the registers, hi and lo; all else but SCRATCH, BLOCK and the save area is as before
 pub record UserSaved (u : ℕ) (c0 : Contents) (d0 : Behind) (c : Contents) (d : Behind) : Type 0 where
   pub pc : c.memory (block_at u) ≡ c0.special EPC
   pub registers : (r : ℕ) → IsRegister r → c.memory (block_at u + r) ≡ c0.regs r
-  pub high : c.memory (block_at u + 33) ≡ c0.hi
-  pub low : c.memory (block_at u + 34) ≡ c0.lo
+  pub high : c.memory (block_at u + BLOCK_HI) ≡ c0.hi
+  pub low : c.memory (block_at u + BLOCK_LO) ≡ c0.lo
   pub others : (x : ℕ) → IsBeside u x → (x < saved_at 1) ⊎ (saved_at 31 < x) → c.memory x ≡ c0.memory x
-  pub regs : (r : ℕ) → r ≢ 1 → r ≢ 31 → c.regs r ≡ c0.regs r
+  pub regs : (r : ℕ) → r ≢ SCRATCH → r ≢ BLOCK → c.regs r ≡ c0.regs r
   pub special : c.special ≡ c0.special
   pub hi : c.hi ≡ c0.hi
   pub lo : c.lo ≡ c0.lo
@@ -84,8 +87,8 @@ pub record UserSaved (u : ℕ) (c0 : Contents) (d0 : Behind) (c : Contents) (d :
 pub record UserRestored (u : ℕ) (c0 : Contents) (d0 : Behind) (c : Contents) (d : Behind) : Type 0 where
   pub pc : c.special EPC ≡ c0.memory (block_at u)
   pub registers : (r : ℕ) → IsRegister r → c.regs r ≡ c0.memory (block_at u + r)
-  pub high : c.hi ≡ c0.memory (block_at u + 33)
-  pub low : c.lo ≡ c0.memory (block_at u + 34)
+  pub high : c.hi ≡ c0.memory (block_at u + BLOCK_HI)
+  pub low : c.lo ≡ c0.memory (block_at u + BLOCK_LO)
   pub special : (k : ℕ) → k ≢ EPC → c.special k ≡ c0.special k
   pub memory : c.memory ≡ c0.memory
   pub behind : d ≡ d0

@@ -12,12 +12,12 @@ pub fn registers_are_restored()
     ensures { (w : World) → Sound w → RestoresRegisters w }
 {}
 
-/// What the save area holds, epc, hi and lo go to the current user's control block; all else but registers 1 and 31 stays.
+/// What the save area holds, epc, hi and lo go to the current user's control block; all else but SCRATCH and BLOCK stays.
 pub fn a_user_is_kept()
     ensures { (w : World) → Sound w → KeepsUser w }
 {}
 
-/// After both the control block holds registers 1 to 31, hi, lo and epc; all else but registers 1 and 31 and the save area stays.
+/// After both the control block holds registers 1 to 31, hi, lo and epc; all else but SCRATCH, BLOCK and the save area stays.
 pub fn a_user_is_saved()
     ensures { (w : World) → Sound w → SavesUser w }
 {

@@ -9,7 +9,7 @@
 //! |---|---|---|
 //! | [`save_registers`] | 31 | registers 1 to 31 go to the save area |
 //! | [`restore_registers`] | 31 | registers 1 to 31 come from the save area |
-//! | [`save_user`] | 73 | the save area, epc, hi and lo go to the current user's control block; registers 1 and 31 change |
+//! | [`save_user`] | 73 | the save area, epc, hi and lo go to the current user's control block; SCRATCH and BLOCK change |
 //! | [`restore_user`] | 42 | registers 1 to 31, epc, hi and lo come from the current user's control block |
 #![tactic(auto)]
 

@@ -5,7 +5,8 @@ use Rattle.mips_table.specs.Code.{Contents, Behind, World}
 use Rattle.masm.specs.Laws.{From}
 use Rattle.masm.specs.Frames.{HasDisk, Besides, WritesFrames}
 use Rattle.swap_layer.specs.Code.{move_words_code, swap_out_code, read_sector_code, copy_to_frame_code, swap_in_code}
-use Rattle.masm.specs.declared.roles.TheConstants.{PAGE, SOURCE, TARGET, VICTIM_AT, WORDS}
+use Rattle.masm.specs.declared.roles.TheConstants.{PAGE, SOURCE, TARGET, VICTIM_AT, WORD, WORDS, ORDER}
+use Rattle.swap_layer.specs.declared.swap.TheConstants.{TURNS}
 
 -- 1,024 words from this one on lie in memory, or are the disk's buffer
 abbrev pub IsPlace : World → ℕ → Type 0
@@ -15,7 +16,7 @@ IsPlace w a = (a + 1024 ≤ w.words) ⊎ (a ≡ BUFFER)
 pub record MoveAsked (w : World) (a b : ℕ) (c : Contents) (d : Behind) : Type 0 where
   pub from : c.regs SOURCE ≡ 4 * a
   pub to : c.regs TARGET ≡ 4 * b
-  pub count : c.regs WORDS ≡ 128
+  pub count : c.regs WORDS ≡ TURNS
   pub system : w.system ≡ true
   pub source : IsPlace w a
   pub target : IsPlace w b
@@ -23,31 +24,31 @@ pub record MoveAsked (w : World) (a b : ℕ) (c : Contents) (d : Behind) : Type 
   pub apart : (a + 1024 ≤ b) ⊎ (b + 1024 ≤ a)
   pub idle : d.pending ≡ Idle
 
--- the words were moved, and all else but registers 1 to 4 stays
+-- the words were moved, and all else stays but SOURCE, TARGET, WORDS and WORD, which are registers 1 to 4
 pub record Moved (a b : ℕ) (c0 : Contents) (d0 : Behind) (c : Contents) (d : Behind) : Type 0 where
   pub words : (k : ℕ) → k < 1024 → c.memory (b + k) ≡ c0.memory (a + k)
   pub others : (x : ℕ) → (x < b) ⊎ (b + 1024 ≤ x) → c.memory x ≡ c0.memory x
-  pub regs : (x : ℕ) → 4 < x → c.regs x ≡ c0.regs x
+  pub regs : (x : ℕ) → WORD < x → c.regs x ≡ c0.regs x
   pub special : c.special ≡ c0.special
   pub hi : c.hi ≡ c0.hi
   pub lo : c.lo ≡ c0.lo
   pub behind : d ≡ d0
 
--- the buffer is sector s, and SOURCE is its address; memory and sectors are as before
+-- the buffer is sector s, and SOURCE is its address; memory, sectors and the registers behind ORDER are as before
 pub record Fetched (s : ℕ) (c0 : Contents) (d0 : Behind) (c : Contents) (d : Behind) : Type 0 where
   pub from : c.regs SOURCE ≡ 4 * BUFFER
   pub words : (i : ℕ) → i < 1024 → c.memory (BUFFER + i) ≡ d0.sectors s i
   pub memory : (x : ℕ) → x < BUFFER → c.memory x ≡ c0.memory x
-  pub regs : (x : ℕ) → 5 < x → c.regs x ≡ c0.regs x
+  pub regs : (x : ℕ) → ORDER < x → c.regs x ≡ c0.regs x
   pub sectors : (x i : ℕ) → d.sectors x i ≡ d0.sectors x i
   pub commands : d.commands ≡ d0.commands + 1
   pub besides : Besides c0 d0 c d
 
--- frame g is sector s; other memory and the sectors are as before
+-- frame g is sector s; other memory, the sectors and the registers behind ORDER are as before
 pub record SwappedIn (s g : ℕ) (c0 : Contents) (d0 : Behind) (c : Contents) (d : Behind) : Type 0 where
   pub words : (i : ℕ) → i < 1024 → c.memory (1024 * g + i) ≡ d0.sectors s i
   pub memory : (x : ℕ) → x < BUFFER → (x < 1024 * g) ⊎ (1024 * g + 1024 ≤ x) → c.memory x ≡ c0.memory x
-  pub regs : (x : ℕ) → 5 < x → c.regs x ≡ c0.regs x
+  pub regs : (x : ℕ) → ORDER < x → c.regs x ≡ c0.regs x
   pub sectors : (x i : ℕ) → d.sectors x i ≡ d0.sectors x i
   pub commands : d.commands ≡ d0.commands + 1
   pub besides : Besides c0 d0 c d

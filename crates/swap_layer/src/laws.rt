@@ -5,7 +5,7 @@ ghost use Rattle.swap_layer.specs.Laws.{MovesRun, SwapsOut, Fetches, Settles, Sw
 use masm::laws::{registers_stay, runs_compose};
 use masm::waiting::sectors_are_transferred;
 
-/// 1,024 words are moved in 2,689 steps, within memory or from or to the disk's buffer; all else but registers 1 to 4 stays.
+/// 1,024 words are moved in 2,689 steps, within memory or from or to the disk's buffer; all else but SOURCE, TARGET, WORDS and WORD stays.
 pub fn words_are_moved()
     ensures { (w : World) → Sound w → MovesRun w }
 {
@@ -31,7 +31,7 @@ pub fn a_sector_is_fetched()
     sectors_are_transferred();
 }
 
-/// 1,024 words of memory or of the buffer come into a frame, in 2,691 steps; all else but registers 1 to 4 stays.
+/// 1,024 words of memory or of the buffer come into a frame, in 2,691 steps; all else but SOURCE, TARGET, WORDS and WORD stays.
 pub fn a_frame_is_settled()
     ensures { (w : World) → Sound w → Settles w }
 {

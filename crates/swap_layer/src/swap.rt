@@ -9,6 +9,9 @@ use masm::waiting::wait_for_disk;
 use masm::{Block, block, code};
 use mips_table::Inst;
 
+/// How many turns of eight words move the 1,024 words of a frame.
+pub const TURNS: u32 = 128;
+
 /// Eight words are moved, both addresses go on behind them, and one turn less is left.
 const MOVE_EIGHT_WORDS: [Inst; 19] = code! {
     lw WORD, 0(SOURCE);
@@ -32,21 +35,15 @@ const MOVE_EIGHT_WORDS: [Inst; 19] = code! {
     addiu WORDS, WORDS, -1;
 };
 
-// They are, as a block.
-fn move_eight_words() -> Block<19>
-    ensures { result ≡ map encoding MOVE_EIGHT_WORDS }
-{
-    block! {
-        code MOVE_EIGHT_WORDS;
-    }
-}
-
-/// Code that moves 1,024 words from the address in SOURCE to that in TARGET, where WORDS is 128: eight words a turn.
+/// Code that moves 1,024 words from the address in SOURCE to that in TARGET, where WORDS is TURNS, which is 128.
 pub fn move_words() -> Block<21>
     ensures { result ≡ map encoding move_words_code }
 {
+    let move_eight_words: Block<19> = block! {
+        code MOVE_EIGHT_WORDS;
+    };
     block! {
-        while WORDS, move_eight_words();
+        while WORDS, move_eight_words;
     }
 }
 
@@ -60,15 +57,15 @@ fn run_disk_command(sector: u32, order: u32) -> Block<6>
         sw sector, SECTOR(ZERO);
         addiu ORDER, ZERO, order;
         sw ORDER, COMMAND(ZERO);        // the disk begins
-        then wait_for_disk();
+        then wait_for_disk();           // until it is done
     }
 }
 
-/// The frame at the address in VICTIM_AT is to be moved to the disk's buffer, in 128 turns of eight words.
+/// The frame at the address in VICTIM_AT is to be moved to the disk's buffer.
 const FROM_FRAME_TO_BUFFER: [Inst; 3] = code! {
     addu SOURCE, VICTIM_AT, ZERO;
     addiu TARGET, ZERO, BUFFER;
-    addiu WORDS, ZERO, 128;
+    addiu WORDS, ZERO, TURNS;       // of eight words each
 };
 
 /// Code that writes the frame at the address in VICTIM_AT to the sector of OUT_PAGE.
@@ -97,10 +94,10 @@ pub fn read_sector() -> Block<7>
     }
 }
 
-/// Words are to be moved to the frame at the address in VICTIM_AT, in 128 turns of eight.
+/// Words are to be moved to the frame at the address in VICTIM_AT.
 const TO_FRAME: [Inst; 2] = code! {
     addu TARGET, VICTIM_AT, ZERO;
-    addiu WORDS, ZERO, 128;
+    addiu WORDS, ZERO, TURNS;       // of eight words each
 };
 
 /// Code that moves the 1,024 words at the address in SOURCE to the frame at that in VICTIM_AT.

@@ -2,7 +2,7 @@
 use Rattle.std.specs.Prelude.{ℕ, ◌*◌, ◌/◌, List, [], ◌∷◌, ◌++◌}
 use Rattle.mips_table.specs.declared.inst.Inst.{Inst}
 use Rattle.mips_table.specs.declared.inst.Inst.TheVariants.{Sll, Addu, Addiu, Sltiu, J, Sw, Multu, Mflo, Mtc0, Eret}
-use Rattle.layer_map.specs.declared.entries.TheConstants.{ANSWER, ENTRY}
+use Rattle.layer_map.specs.declared.entries.TheConstants.{ANSWER}
 use Rattle.layer_map.specs.declared.places.TheConstants.{CURRENT}
 use Rattle.masm.specs.Blocks.{minus, load_immediate_code, when_code}
 use Rattle.mips_table.specs.declared.special.TheConstants.{PTO}
@@ -10,8 +10,8 @@ use Rattle.masm.specs.declared.addresses.TheConstants.{POWER}
 use Rattle.masm.specs.declared.roles.TheConstants.{T0, T1, T2, ZERO}
 use Rattle.page_model.specs.Places.{Places}
 use Rattle.pcb_layer.specs.Code.{save_registers_code, restore_registers_code, find_control_block_code, save_user_code, restore_user_code}
-use Rattle.trap_entry.specs.declared.handler.TheConstants.{IS_PAGE_FAULT, FAULTING_PAGE, NUMBER_OVER_USERS, CAUSE, DISPATCH_ARGUMENTS}
-use Rattle.trap_entry.specs.declared.leaving.TheConstants.{SET_USER_LIMITS}
+use Rattle.trap_entry.specs.declared.handler.TheConstants.{KERNEL, IS_PAGE_FAULT, FAULTING_PAGE, NUMBER_OVER_USERS, CAUSE, DISPATCH_ARGUMENTS}
+use Rattle.trap_entry.specs.declared.leaving.TheConstants.{BAD_USER, SET_USER_LIMITS}
 
 -- T0 becomes 1 where the cause is a fetch or data fault and its page is below the current user's size, and else 0
 abbrev pub is_page_fault_code : List Inst
@@ -39,7 +39,7 @@ enter_kernel_code = CAUSE ++ (when_code T0 save_user_code ++ load_dispatch_argum
 
 -- HANDLER: a handled fault goes back to the user, and all else to `dispatch`
 abbrev pub handler_code : Places → List Inst → List Inst
-handler_code p page = save_and_classify_code ++ (when_code T0 (handle_page_fault_code p page ++ Eret ∷ []) ++ (enter_kernel_code ++ J (ENTRY / 4) ∷ []))
+handler_code p page = save_and_classify_code ++ (when_code T0 (handle_page_fault_code p page ++ Eret ∷ []) ++ (enter_kernel_code ++ J (KERNEL / 4) ∷ []))
 
 -- the user in ANSWER becomes the current one, and T1 the offset of its page table; a user has up to so many pages
 abbrev pub set_current_user_code : (per : ℕ) → List Inst
@@ -63,4 +63,4 @@ exit_with_code power = Addiu T0 ZERO power ∷ Sw T0 ZERO POWER ∷ []
 
 -- LEAVE: the answer of `dispatch`, in ANSWER, is 0, a user's number, or neither
 abbrev pub act_on_answer_code : Places → (users per : ℕ) → List Inst
-act_on_answer_code p users per = (Sltiu T0 ANSWER 1 ∷ []) ++ (when_code T0 (Sw ZERO ZERO POWER ∷ []) ++ ((Addiu T1 ANSWER (minus 1) ∷ Sltiu T1 T1 users ∷ []) ++ (when_code T1 (return_to_user_code p per ++ Eret ∷ []) ++ exit_with_code 5)))
+act_on_answer_code p users per = (Sltiu T0 ANSWER 1 ∷ []) ++ (when_code T0 (Sw ZERO ZERO POWER ∷ []) ++ ((Addiu T1 ANSWER (minus 1) ∷ Sltiu T1 T1 users ∷ []) ++ (when_code T1 (return_to_user_code p per ++ Eret ∷ []) ++ exit_with_code BAD_USER)))

@@ -2,7 +2,9 @@
 use Rattle.std.specs.Prelude.{◌≡◌, ◌≢◌, ℕ, ◌+◌, ◌-◌, ◌*◌, ◌/◌, ◌^◌, ◌<◌, ◌≤◌, ◌⊎◌, true, List, length, Some, None}
 use Rattle.mips_table.specs.declared.inst.Inst.{Inst}
 use Rattle.mips_table.specs.declared.inst.Inst.TheVariants.{Sw, Eret}
+use Rattle.mips_table.specs.declared.cause.Cause.TheVariants.{Reset, FetchFault, DataFault}
 use Rattle.mips_table.specs.Device.{Idle, BUFFER}
+use Rattle.mips_table.specs.Machine.{number_of}
 use Rattle.mips_table.specs.declared.special.TheConstants.{ESR, ECA, EPC, EDATA, PTO, PTL, EMODE}
 use Rattle.mips_table.specs.Code.{Contents, Behind, World, at_with, CodeAt, Reaches}
 use Rattle.layer_map.specs.Map.{current_at, hand_at, block_at, layer_words}
@@ -10,6 +12,7 @@ use Rattle.masm.specs.declared.addresses.TheConstants.{POWER}
 use Rattle.masm.specs.declared.roles.TheConstants.{ZERO, T0, T1}
 use Rattle.masm.specs.declared.registers.TheConstants.{ARGUMENTS}
 use Rattle.layer_map.specs.declared.entries.TheConstants.{ANSWER}
+use Rattle.layer_map.specs.declared.places.TheConstants.{BLOCK_SIZE, BLOCK_HI, BLOCK_LO}
 use Rattle.masm.specs.Frames.{Besides}
 use Rattle.page_model.specs.Paging.{Pages, PagesStand}
 use Rattle.page_model.specs.Faults.{Brought}
@@ -18,11 +21,12 @@ use Rattle.frame_table.specs.View.{Sited, Ported}
 use Rattle.page_fault.specs.Asked.{swap_steps, fault_steps, PageBlock}
 use Rattle.pcb_layer.specs.Code.{saved_at}
 use Rattle.pcb_layer.specs.Laws.{IsRegister, HasSaveArea, MaySave, IsCurrent, MayKeep, IsBeside}
+use Rattle.trap_entry.specs.declared.leaving.TheConstants.{BAD_USER}
 use Rattle.trap_entry.specs.Code.{save_and_classify_code, handle_page_fault_code, handler_code, return_to_user_code, act_on_answer_code, exit_with_code}
 
 -- a fetch or data fault of a page below the current user's size
 abbrev pub IsHandled : (cause edata pages : ℕ) → Type 0
-IsHandled cause edata pages = ((cause ≡ 3) ⊎ (cause ≡ 8)) × (edata / 4096 < pages)
+IsHandled cause edata pages = ((cause ≡ number_of FetchFault) ⊎ (cause ≡ number_of DataFault)) × (edata / 4096 < pages)
 
 -- a word that isn't one of the save area
 abbrev pub IsUnsaved : ℕ → Type 0
@@ -75,8 +79,8 @@ pub record UserEntered (u : ℕ) (c0 : Contents) (d0 : Behind) (c : Contents) (d
   pub user : c.regs (ARGUMENTS + 2) ≡ u
   pub pc : c.memory (block_at u) ≡ c0.special EPC
   pub registers : (r : ℕ) → IsRegister r → c.memory (block_at u + r) ≡ c0.regs r
-  pub high : c.memory (block_at u + 33) ≡ c0.hi
-  pub low : c.memory (block_at u + 34) ≡ c0.lo
+  pub high : c.memory (block_at u + BLOCK_HI) ≡ c0.hi
+  pub low : c.memory (block_at u + BLOCK_LO) ≡ c0.lo
   pub others : (x : ℕ) → IsBeside u x → IsUnsaved x → c.memory x ≡ c0.memory x
   pub special : c.special ≡ c0.special
   pub hi : c.hi ≡ c0.hi
@@ -85,7 +89,7 @@ pub record UserEntered (u : ℕ) (c0 : Contents) (d0 : Behind) (c : Contents) (d
 
 -- `dispatch` is called after the reset
 pub record ResetEntered (c0 : Contents) (d0 : Behind) (c : Contents) (d : Behind) : Type 0 where
-  pub cause : c.regs ARGUMENTS ≡ 0
+  pub cause : c.regs ARGUMENTS ≡ number_of Reset
   pub edata : c.regs (ARGUMENTS + 1) ≡ c0.special EDATA
   pub user : c.regs (ARGUMENTS + 2) ≡ c0.memory current_at
   pub others : (x : ℕ) → IsUnsaved x → c.memory x ≡ c0.memory x
@@ -96,12 +100,12 @@ pub record ResetEntered (c0 : Contents) (d0 : Behind) (c : Contents) (d : Behind
 
 -- ENTER, from a user: all interrupts but handled faults lead to the kernel's first word
 abbrev pub EntersKernel : World → Type 0
-EntersKernel w = (p : Places) (page : List Inst) (u n : ℕ) (c : Contents) (d : Behind) → length page ≤ 1000 → MaySave w → MayKeep w u → IsCurrent w u c → CodeAt w n (handler_code p page) → c.special ECA < 2 ^ 32 → c.special ECA ≢ 0
+EntersKernel w = (p : Places) (page : List Inst) (u n : ℕ) (c : Contents) (d : Behind) → length page ≤ 1000 → MaySave w → MayKeep w u → IsCurrent w u c → CodeAt w n (handler_code p page) → c.special ECA < 2 ^ 32 → c.special ECA ≢ number_of Reset
     → (IsHandled (c.special ECA) (c.special EDATA) (c.special PTL) → ⊥) → d.pending ≡ Idle → (c' : Contents) × (d' : Behind) × UserEntered u c d c' d' × Reaches w 124 (at_with n c d) (at_with layer_words c' d')
 
 -- ENTER, after the reset
 abbrev pub EntersFirst : World → Type 0
-EntersFirst w = (p : Places) (page : List Inst) (n : ℕ) (c : Contents) (d : Behind) → length page ≤ 1000 → w.system ≡ true → HasSaveArea w → MaySave w → CodeAt w n (handler_code p page) → c.special ECA ≡ 0 → d.pending ≡ Idle
+EntersFirst w = (p : Places) (page : List Inst) (n : ℕ) (c : Contents) (d : Behind) → length page ≤ 1000 → w.system ≡ true → HasSaveArea w → MaySave w → CodeAt w n (handler_code p page) → c.special ECA ≡ number_of Reset → d.pending ≡ Idle
     → (c' : Contents) × (d' : Behind) × ResetEntered c d c' d' × Reaches w 51 (at_with n c d) (at_with layer_words c' d')
 
 -- user u goes on behind the eret: it is the current one, and the processor is as its control block says
@@ -109,11 +113,11 @@ pub record UserReady (p : Places) (per u : ℕ) (c0 : Contents) (d0 : Behind) (c
   pub current : c.memory current_at ≡ u
   pub others : (x : ℕ) → x ≢ current_at → c.memory x ≡ c0.memory x
   pub registers : (r : ℕ) → IsRegister r → c.regs r ≡ c0.memory (block_at u + r)
-  pub high : c.hi ≡ c0.memory (block_at u + 33)
-  pub low : c.lo ≡ c0.memory (block_at u + 34)
+  pub high : c.hi ≡ c0.memory (block_at u + BLOCK_HI)
+  pub low : c.lo ≡ c0.memory (block_at u + BLOCK_LO)
   pub pc : c.special EPC ≡ c0.memory (block_at u)
   pub table : c.special PTO ≡ 4 * (p.tables + (u - 1) * per)
-  pub size : c.special PTL ≡ c0.memory (block_at u + 32)
+  pub size : c.special PTL ≡ c0.memory (block_at u + BLOCK_SIZE)
   pub interrupts : c.special ESR ≡ 1
   pub mode : c.special EMODE ≡ 1
   pub special : (k : ℕ) → k ≢ ESR → k ≢ EPC → k ≢ PTO → k ≢ PTL → k ≢ EMODE → c.special k ≡ c0.special k
@@ -151,10 +155,10 @@ abbrev pub LeavesForGood : World → Type 0
 LeavesForGood w = (p : Places) (users per n : ℕ) (c : Contents) (d : Behind) → CodeAt w n (act_on_answer_code p users per) → c.regs ANSWER ≡ 0 → d.pending ≡ Idle
     → ComesTo w 2 n (n + 2) (Sw ZERO ZERO POWER) c d (Passed c d)
 
--- LEAVE, with no user's number: in 6 steps to the store of a 5
+-- LEAVE, with no user's number: in 6 steps to the store of BAD_USER
 abbrev pub LeavesBadly : World → Type 0
 LeavesBadly w = (p : Places) (users per n : ℕ) (c : Contents) (d : Behind) → users ≤ 64 → CodeAt w n (act_on_answer_code p users per) → users < c.regs ANSWER → c.regs ANSWER < 2 ^ 32 → d.pending ≡ Idle
-    → ComesTo w 6 n (n + 8 + length (return_to_user_code p per)) (Sw T0 ZERO POWER) c d (λ c' d'. Passed c d c' d' × (c'.regs T0 ≡ 5))
+    → ComesTo w 6 n (n + 8 + length (return_to_user_code p per)) (Sw T0 ZERO POWER) c d (λ c' d'. Passed c d c' d' × (c'.regs T0 ≡ BAD_USER))
 
 -- FAULT EXIT: in one step to the store of the fault's power word
 abbrev pub ExitsWith : World → Type 0

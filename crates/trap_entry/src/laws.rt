@@ -55,7 +55,7 @@ pub fn the_kernel_is_left_for_good()
     a_condition_is_tested();
 }
 
-/// An answer that is no user's number comes to the store of a 5 to the power port.
+/// An answer that is no user's number comes to the store of BAD_USER to the power port.
 pub fn the_kernel_is_left_badly()
     ensures { (w : World) → Sound w → LeavesBadly w }
 {

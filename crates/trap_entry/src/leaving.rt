@@ -3,7 +3,7 @@ ghost use Rattle.std.specs.Prelude.{◌≡◌, ◌<◌, ◌≤◌, [], ◌∷◌
 ghost use Rattle.mips_table.specs.declared.inst.Inst.TheVariants.{Eret};
 ghost use Rattle.mips_table.specs.Encoding.{encoding};
 ghost use Rattle.page_model.specs.Places.{places_of};
-ghost use Rattle.trap_entry.specs.Code.{set_current_user_code, switch_page_table_code, return_to_user_code, act_on_answer_code, exit_with_code};
+ghost use Rattle.trap_entry.specs.Code.{switch_page_table_code, return_to_user_code, act_on_answer_code, exit_with_code};
 
 use layer_map::{ANSWER, BLOCK_SIZE, CURRENT, Map};
 use masm::addresses::POWER;
@@ -12,27 +12,20 @@ use masm::{Code, block, code, load_immediate};
 use mips_table::{EMODE, ESR, Inst, PTL, PTO};
 use pcb_layer::{find_control_block, restore_user};
 
-// The user in ANSWER becomes the current one, and T1 the offset of its page table.
-fn set_current_user(pages: u32) -> Code
-    requires { pages ≤ 1024 }
-    ensures { result ≡ each encoding (set_current_user_code pages) }
-{
-    block! {
-        sw ANSWER, CURRENT(ZERO);
-        addiu T1, ANSWER, -1;           // users are counted from 1
-        addiu T2, ZERO, pages;
-        multu T1, T2;
-        mflo T1;
-        sll T1, T1, 2;                  // an entry has four bytes
-    }
-}
+/// The power word that ends a run in which `dispatch` answers neither 0 nor a user's number.
+pub const BAD_USER: u32 = 5;
 
-// Its page table is the one that is used.
+// The user in ANSWER becomes the current one, and its page table the one that is used.
 fn switch_page_table(map: &Map) -> Code
     ensures { result ≡ each encoding (switch_page_table_code (places_of map.now) map.now.params.pages) }
 {
     block! {
-        then set_current_user(map.params().pages);
+        sw ANSWER, CURRENT(ZERO);
+        addiu T1, ANSWER, -1;           // users are counted from 1
+        addiu T2, ZERO, map.params().pages;
+        multu T1, T2;
+        mflo T1;
+        sll T1, T1, 2;                  // an entry has four bytes
         then load_immediate(T2, map.page_tables());
         addu T1, T1, T2;
         mtc0 T1, PTO;
@@ -72,7 +65,7 @@ pub fn exit_with(power: u32) -> Code
     }
 }
 
-/// Code that is run at an answer of `dispatch`, in ANSWER: a user goes on, or a 0 or a 5 goes to the power port.
+/// Code that is run at an answer of `dispatch`, in ANSWER: a user goes on, or a 0 or BAD_USER, which is 5, goes to the power port.
 pub fn act_on_answer(map: &Map) -> Code
     ensures { result ≡ each encoding (act_on_answer_code (places_of map.now) map.now.users map.now.params.pages) }
 {
@@ -84,6 +77,6 @@ pub fn act_on_answer(map: &Map) -> Code
         addiu T1, ANSWER, -1;
         sltiu T1, T1, map.users();      // whether it is a user's number
         when T1, return_to_user(map);
-        then exit_with(5);
+        then exit_with(BAD_USER);
     }
 }

@@ -13,4 +13,4 @@ pub use laws::{
     a_fault_is_handled, an_exit_comes, the_kernel_is_entered, the_kernel_is_entered_first,
     the_kernel_is_left_badly, the_kernel_is_left_for_a_user, the_kernel_is_left_for_good,
 };
-pub use leaving::{act_on_answer, exit_with};
+pub use leaving::{BAD_USER, act_on_answer, exit_with};
