@@ -5,6 +5,9 @@ use Rattle.mips_table.specs.Machine.{LOG, Console}
 use Rattle.mips_table.specs.Flat.{Flat}
 use Rattle.mips_table.specs.Code.{Contents, Behind, World}
 use Rattle.layer_map.specs.Map.{block_at, layer_words}
+use Rattle.layer_map.specs.declared.entries.TheConstants.{ANSWER}
+use Rattle.layer_map.specs.declared.places.TheConstants.{BLOCK_SIZE, BLOCK_HI, BLOCK_LO}
+use Rattle.masm.specs.declared.roles.TheConstants.{T3}
 use Rattle.cvm_model.specs.Kernel.{flat}
 use Rattle.cvm_model.specs.Primitives.{Given, user_of, pages_of, register_of}
 
@@ -19,9 +22,9 @@ IsOneOf users u = (1 ≤ u) × (u ≤ length users)
 -- the control blocks hold the pc, registers, hi, lo and size of each user
 pub record BlocksHold (users : List Flat) (memory : ℕ → ℕ) : Type 0 where
   pub registers : (u r : ℕ) → IsOneOf users u → 1 ≤ r → r ≤ 32 → memory (word_of u r) ≡ register_of (user_of users u) r
-  pub sizes : (u : ℕ) → IsOneOf users u → memory (block_at u + 32) ≡ pages_of (user_of users u)
-  pub hi : (u : ℕ) → IsOneOf users u → memory (block_at u + 33) ≡ (user_of users u).cpu.hi
-  pub lo : (u : ℕ) → IsOneOf users u → memory (block_at u + 34) ≡ (user_of users u).cpu.lo
+  pub sizes : (u : ℕ) → IsOneOf users u → memory (block_at u + BLOCK_SIZE) ≡ pages_of (user_of users u)
+  pub hi : (u : ℕ) → IsOneOf users u → memory (block_at u + BLOCK_HI) ≡ (user_of users u).cpu.hi
+  pub lo : (u : ℕ) → IsOneOf users u → memory (block_at u + BLOCK_LO) ≡ (user_of users u).cpu.lo
 
 -- the console behind the ports
 abbrev pub console_of : Behind → Console
@@ -43,16 +46,16 @@ pub record Entered (w : World) (users : List Flat) (c : Contents) (d : Behind) :
   pub idle : d.pending ≡ Idle
 
 -- What it leaves: its answer, the users, whose memories are as before, and the console after it. All words but those of the control blocks,
--- the registers from 12 on, hi and lo, the special registers and the sectors stay, and no command is under way.
+-- the registers behind T3, hi and lo, the special registers and the sectors stay, and no command is under way.
 pub record Left (users : List Flat) (g : Given) (c0 : Contents) (d0 : Behind) (c : Contents) (d : Behind) : Type 0 where
-  pub answer : flat (λ _. 0) g.answer ≡ c.regs 2 ∷ []
+  pub answer : flat (λ _. 0) g.answer ≡ c.regs ANSWER ∷ []
   pub blocks : BlocksHold g.users c.memory
   pub count : length g.users ≡ length users
   pub flats : (u : ℕ) → (user_of g.users u).words ≡ (user_of users u).words
   pub log : d.log ≡ g.console.log
   pub input : d.input ≡ g.console.input
   pub words : (k : ℕ) → (k < block_at 1) ⊎ (block_at (length users + 1) ≤ k) → c.memory k ≡ c0.memory k
-  pub regs : (r : ℕ) → 12 ≤ r → c.regs r ≡ c0.regs r
+  pub regs : (r : ℕ) → T3 + 1 ≤ r → c.regs r ≡ c0.regs r
   pub hi : c.hi ≡ c0.hi
   pub lo : c.lo ≡ c0.lo
   pub special : c.special ≡ c0.special

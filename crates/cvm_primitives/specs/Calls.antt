@@ -6,6 +6,9 @@ use Rattle.mips_table.specs.Flat.{Flat}
 use Rattle.mips_table.specs.declared.inst.Inst.{Inst}
 use Rattle.mips_table.specs.Code.{Contents, Behind, World}
 use Rattle.layer_map.specs.Map.{block_at, hand_at}
+use Rattle.layer_map.specs.declared.entries.TheConstants.{ANSWER}
+use Rattle.layer_map.specs.declared.places.TheConstants.{BLOCK_SIZE}
+use Rattle.masm.specs.declared.registers.TheConstants.{GLOBALS, RETURN}
 use Rattle.masm.specs.Laws.{From}
 use Rattle.page_model.specs.Paging.{PagesStand}
 use Rattle.page_model.specs.Places.{Places, frames_end, view}
@@ -16,6 +19,7 @@ use Rattle.cvm_model.specs.Primitives.{Call, VmWord, VmPut, VmCopy, VmResize, Gi
 use Rattle.cvm_model.specs.Paged.{pages_by}
 use Rattle.cvm_model.specs.Stands.{UserFits}
 use Rattle.cvm_primitives.specs.Blocks.{IsOneOf, BlocksHold, console_of}
+use Rattle.cvm_primitives.specs.declared.roles.TheConstants.{USER, ADDRESS, ASKED_SIZE, VALUE, TARGET_USER, TARGET_ADDRESS, LENGTH}
 use Rattle.cvm_primitives.specs.View.{page_steps, start, Held, Fresh}
 use Rattle.cvm_primitives.specs.Code.{vm_word_code, vm_put_code, vm_copy_code, vm_resize_code}
 
@@ -31,22 +35,22 @@ pub record CallEntered (w : World) (p : Places) (b most : ℕ) (users : List Fla
   pub shape : p.layout.pages ≡ length users * most
   pub blocks : BlocksHold users c.memory
   pub each : (u : ℕ) → IsOneOf users u → UserFits most (user_of users u)
-  pub free : (u : ℕ) → IsOneOf users u → w.kept (block_at u + 32) ≡ None
+  pub free : (u : ℕ) → IsOneOf users u → w.kept (block_at u + BLOCK_SIZE) ≡ None
   pub regs : (r : ℕ) → c.regs r < 2 ^ 32
 
 -- What it leaves: its answer, and the users and the console after it. All words below the page tables but the hand and the users' sizes, those behind
 -- the last frame, the special registers, registers 28 to 31 and the sectors past the pages stay; entries are words; and no command is under way.
 pub record CallLeft (p : Places) (per : ℕ) (users : List Flat) (g : Given) (c0 : Contents) (d0 : Behind) (c : Contents) (d : Behind) : Type 0 where
-  pub answer : flat (λ _. 0) g.answer ≡ c.regs 2 ∷ []
+  pub answer : flat (λ _. 0) g.answer ≡ c.regs ANSWER ∷ []
   pub stands : PagesStand p.layout (pages_by per g.users) (view p c.memory d.sectors)
   pub blocks : BlocksHold g.users c.memory
   pub log : d.log ≡ g.console.log
   pub input : d.input ≡ g.console.input
-  pub words : (x : ℕ) → x < p.tables → x ≢ hand_at → ((u : ℕ) → IsOneOf users u → x ≢ block_at u + 32) → c.memory x ≡ c0.memory x
+  pub words : (x : ℕ) → x < p.tables → x ≢ hand_at → ((u : ℕ) → IsOneOf users u → x ≢ block_at u + BLOCK_SIZE) → c.memory x ≡ c0.memory x
   pub above : (x : ℕ) → frames_end p ≤ x → x < BUFFER → c.memory x ≡ c0.memory x
   pub small : (x : ℕ) → x < p.layout.pages → c.memory (p.tables + x) < 2 ^ 32
   pub special : c.special ≡ c0.special
-  pub regs : (r : ℕ) → 28 ≤ r → r ≤ 31 → c.regs r ≡ c0.regs r
+  pub regs : (r : ℕ) → GLOBALS ≤ r → r ≤ RETURN → c.regs r ≡ c0.regs r
   pub past : (q i : ℕ) → p.layout.pages ≤ q → d.sectors q i ≡ d0.sectors q i
   pub idle : d.pending ≡ Idle
 
@@ -56,16 +60,16 @@ call_steps p b g = 598 + 600 * (g.words + g.pages) + page_steps p.layout.pages b
 
 -- the calls, with their arguments as registers hold them
 abbrev pub word_call : Contents → Call
-word_call c = VmWord (signed (c.regs 20)) (signed (c.regs 21))
+word_call c = VmWord (signed (c.regs USER)) (signed (c.regs ADDRESS))
 
 abbrev pub put_call : Contents → Call
-put_call c = VmPut (signed (c.regs 20)) (signed (c.regs 21)) (signed (c.regs 22))
+put_call c = VmPut (signed (c.regs USER)) (signed (c.regs ADDRESS)) (signed (c.regs VALUE))
 
 abbrev pub copy_call : Contents → Call
-copy_call c = VmCopy (signed (c.regs 20)) (signed (c.regs 21)) (signed (c.regs 22)) (signed (c.regs 23)) (signed (c.regs 24))
+copy_call c = VmCopy (signed (c.regs USER)) (signed (c.regs ADDRESS)) (signed (c.regs TARGET_USER)) (signed (c.regs TARGET_ADDRESS)) (signed (c.regs LENGTH))
 
 abbrev pub resize_call : Contents → Call
-resize_call c = VmResize (signed (c.regs 20)) (signed (c.regs 21))
+resize_call c = VmResize (signed (c.regs USER)) (signed (c.regs ASKED_SIZE))
 
 -- what a call comes to
 abbrev pub given : ℕ → List Flat → Behind → Call → Given
@@ -79,7 +83,7 @@ Answers w code call p b most users c d =
 -- the pages by which a good vm_resize makes a memory grow name the zero frame
 abbrev pub Grown : Places → ℕ → List Flat → Contents → Contents → Type 0
 Grown p most users c c' = is_good most users (resize_call c) ≡ true →
-    Fresh p ((c.regs 20 - 1) * most + pages_of (user_of users (c.regs 20))) (c.regs 21 - pages_of (user_of users (c.regs 20))) c'
+    Fresh p ((c.regs USER - 1) * most + pages_of (user_of users (c.regs USER))) (c.regs ASKED_SIZE - pages_of (user_of users (c.regs USER))) c'
 
 -- vm_word, vm_put, vm_copy and vm_resize, the last with what its new pages name
 pub record CallsAnswer (w : World) (p : Places) (b most : ℕ) (users : List Flat) (c : Contents) (d : Behind) : Type 0 where

@@ -1,4 +1,5 @@
--- The instructions of the primitives that use no page. Arguments stand in registers 20 to 22, and the answer comes into register 2.
+-- The instructions of the primitives that use no page. Arguments stand in USER, NUMBER and VALUE, which are registers 20 to 22, and the answer comes
+-- into ANSWER.
 use Rattle.std.specs.Prelude.{ℕ, List, [], ◌∷◌, ◌++◌, map}
 use Rattle.mips_table.specs.declared.inst.Inst.{Inst}
 use Rattle.mips_table.specs.declared.inst.Inst.TheVariants.{Addiu, Sltiu}
@@ -7,18 +8,18 @@ use Rattle.layer_map.specs.declared.entries.TheConstants.{ANSWER}
 use Rattle.masm.specs.Blocks.{minus, when_code, when_words}
 use Rattle.masm.specs.declared.roles.TheConstants.{ZERO, T0, T1}
 use Rattle.cvm_primitives.specs.declared.roles.TheConstants.{USER}
-use Rattle.cvm_primitives.specs.declared.parts.TheConstants.{FIND_SIZE}
+use Rattle.cvm_primitives.specs.declared.parts.TheConstants.{MINUS_ONE, FIND_SIZE}
 use Rattle.cvm_primitives.specs.declared.registers.TheConstants.{IS_REGISTER, FIND_WORD, LOAD_WORD, STORE_WORD, PUT, GET, TELL_LEFT}
 
--- the answer is the bad one first; register 8 becomes u - 1, and 9 isn't 0 where u, in register 20, is a user
+-- the answer is the bad one first; T0 becomes the number in USER less 1, and T1 isn't 0 where it is a user's
 abbrev pub user_code : ℕ → ℕ → List Inst
 user_code bad users = Addiu ANSWER ZERO bad ∷ Addiu T0 USER (minus 1) ∷ Sltiu T1 T0 users ∷ []
 
--- register 9 isn't 0 where the number in register 21 is that of a register, or 32
+-- T1 isn't 0 where NUMBER is that of a register, or 32
 abbrev pub register_code : List Inst
 register_code = IS_REGISTER
 
--- register 11 becomes the address of the word of the user's control block that holds this register
+-- T3 becomes the address of the word of the user's control block that holds this register
 abbrev pub place_code : List Inst
 place_code = FIND_WORD
 
@@ -32,7 +33,7 @@ asked_words bad users work = map encoding (user_code bad users) ++ when_words T1
 
 -- vm_get
 abbrev pub vm_get_code : ℕ → List Inst
-vm_get_code users = asked_code (minus 1) users LOAD_WORD
+vm_get_code users = asked_code MINUS_ONE users LOAD_WORD
 
 -- vm_set
 abbrev pub vm_set_code : ℕ → List Inst
@@ -40,7 +41,7 @@ vm_set_code users = asked_code 0 users STORE_WORD
 
 -- vm_size
 abbrev pub vm_size_code : ℕ → List Inst
-vm_size_code users = user_code (minus 1) users ++ when_code T1 (FIND_SIZE ++ LOAD_WORD)
+vm_size_code users = user_code MINUS_ONE users ++ when_code T1 (FIND_SIZE ++ LOAD_WORD)
 
 -- con_put: the port of the log tells its length, and a full log loses what is stored to it
 abbrev pub con_put_code : List Inst

@@ -4,8 +4,10 @@ use Rattle.mips_table.specs.declared.inst.Inst.{Inst}
 use Rattle.mips_table.specs.Arith.{signed}
 use Rattle.mips_table.specs.Flat.{Flat}
 use Rattle.mips_table.specs.Code.{Contents, Behind, World}
+use Rattle.masm.specs.declared.registers.TheConstants.{ARGUMENTS}
 use Rattle.masm.specs.Laws.{From}
 use Rattle.cvm_model.specs.Primitives.{Call, VmGet, VmSet, VmSize, ConPut, ConGet, ConLeft, prim}
+use Rattle.cvm_primitives.specs.declared.roles.TheConstants.{USER, NUMBER, VALUE}
 use Rattle.cvm_primitives.specs.RegisterCode.{vm_get_code, vm_set_code, vm_size_code, con_put_code, con_get_code, con_left_code}
 use Rattle.cvm_primitives.specs.Blocks.{Entered, Left, console_of}
 
@@ -15,16 +17,16 @@ Answers w code steps call most users c d = From w code steps c d (Left users (pr
 
 -- the calls, with their arguments as registers hold them
 abbrev pub get_call : Contents → Call
-get_call c = VmGet (signed (c.regs 20)) (signed (c.regs 21))
+get_call c = VmGet (signed (c.regs USER)) (signed (c.regs NUMBER))
 
 abbrev pub set_call : Contents → Call
-set_call c = VmSet (signed (c.regs 20)) (signed (c.regs 21)) (signed (c.regs 22))
+set_call c = VmSet (signed (c.regs USER)) (signed (c.regs NUMBER)) (signed (c.regs VALUE))
 
 abbrev pub size_call : Contents → Call
-size_call c = VmSize (signed (c.regs 20))
+size_call c = VmSize (signed (c.regs USER))
 
 abbrev pub put_call : Contents → Call
-put_call c = ConPut (signed (c.regs 20))
+put_call c = ConPut (signed (c.regs ARGUMENTS))
 
 -- vm_get, vm_set and vm_size, and the console's calls
 pub record CallsAnswer (w : World) (most : ℕ) (users : List Flat) (c : Contents) (d : Behind) : Type 0 where

@@ -6,6 +6,7 @@ use Rattle.masm.specs.Laws.{From}
 use Rattle.page_model.specs.Paging.{Pages}
 use Rattle.page_model.specs.Places.{Places}
 use Rattle.page_fault.specs.Code.{handle_page_code}
+use Rattle.cvm_primitives.specs.declared.roles.TheConstants.{LENGTH}
 use Rattle.cvm_primitives.specs.Copy.{copied}
 use Rattle.cvm_primitives.specs.View.{start, Held, Marks, SharesFrame, FourOthers}
 use Rattle.cvm_primitives.specs.Code.{vm_copy_code, pieces_code}
@@ -42,11 +43,11 @@ pub record LastPieceShares (w : World) (p : Places) (page : List Inst) (v : Page
 
 -- what such a copy answers, and its last piece
 abbrev pub LastAnswered : (w : World) → Places → (b per : ℕ) → Pages → Contents → Behind → Contents → Behind → Type 0
-LastAnswered w p b per v c d c' d' = Answered p (copied v (first_word per c) (second_word per c) (c.regs 24)) (start c d) 1 c' d' ×
-    LastPieceShares w p (handle_page_code p) v (first_word per c) (second_word per c) (c.regs 24) (copy_steps p b per c) c d c' d'
+LastAnswered w p b per v c d c' d' = Answered p (copied v (first_word per c) (second_word per c) (c.regs LENGTH)) (start c d) 1 c' d' ×
+    LastPieceShares w p (handle_page_code p) v (first_word per c) (second_word per c) (c.regs LENGTH) (copy_steps p b per c) c d c' d'
 
 -- vm_copy with good arguments, whose last piece is a whole page
 abbrev pub CopyShares : World → Type 0
 CopyShares w = (p : Places) (b users per : ℕ) (size : ℕ → ℕ) (v : Pages) (c : Contents) (d : Behind) →
-    Entered w p b users per size v c d → GoodCopy users size c → EndsWhole (first_word per c) (second_word per c) (c.regs 24) →
+    Entered w p b users per size v c d → GoodCopy users size c → EndsWhole (first_word per c) (second_word per c) (c.regs LENGTH) →
     From w (vm_copy_code p users per (handle_page_code p)) (copy_steps p b per c) c d (LastAnswered w p b per v c d)

@@ -2,9 +2,12 @@
 use Rattle.std.specs.Prelude.{◌≡◌, ◌≢◌, ℕ, ◌+◌, ◌-◌, ◌*◌, ◌/◌, ◌%◌, ◌^◌, ◌<◌, ◌≤◌, true, nat_eq, nat_lt, if◌then◌else◌, List}
 use Rattle.mips_table.specs.Device.{Idle, BUFFER}
 use Rattle.mips_table.specs.Code.{Contents, Behind}
-use Rattle.layer_map.specs.Map.{hand_at}
+use Rattle.layer_map.specs.Map.{block_at, hand_at}
+use Rattle.layer_map.specs.declared.places.TheConstants.{BLOCK_SIZE}
+use Rattle.masm.specs.declared.registers.TheConstants.{GLOBALS, FRAME_END, STACK_END, RETURN}
 use Rattle.page_model.specs.Paging.{Layout, IsUserFrame, Names, Pages, PagesStand, counted}
 use Rattle.page_model.specs.Places.{Places, frames_end, view}
+use Rattle.cvm_primitives.specs.declared.roles.TheConstants.{SOURCE_WORD, TARGET_WORD, LEFT_WORDS}
 use Rattle.cvm_primitives.specs.Copy.{Apart}
 
 -- the steps that one page is worth
@@ -38,18 +41,18 @@ pub record Held (p : Places) (u : Pages) (g : Start) (c : Contents) (d : Behind)
   pub low : (x : ℕ) → x < p.tables → x ≢ hand_at → c.memory x ≡ g.memory x
   pub above : (x : ℕ) → frames_end p ≤ x → x < BUFFER → c.memory x ≡ g.memory x
   pub special : c.special ≡ g.special
-  pub r28 : c.regs 28 ≡ g.regs 28
-  pub r29 : c.regs 29 ≡ g.regs 29
-  pub r30 : c.regs 30 ≡ g.regs 30
-  pub r31 : c.regs 31 ≡ g.regs 31
+  pub r28 : c.regs GLOBALS ≡ g.regs GLOBALS
+  pub r29 : c.regs FRAME_END ≡ g.regs FRAME_END
+  pub r30 : c.regs STACK_END ≡ g.regs STACK_END
+  pub r31 : c.regs RETURN ≡ g.regs RETURN
   pub behind : BehindStays p g d
   pub idle : d.pending ≡ Idle
 
 -- the loop's three numbers: word x to word y, n words left
 pub record Marks (x y n : ℕ) (c : Contents) : Type 0 where
-  pub from : c.regs 26 ≡ x
-  pub to : c.regs 27 ≡ y
-  pub left : c.regs 14 ≡ n
+  pub from : c.regs SOURCE_WORD ≡ x
+  pub to : c.regs TARGET_WORD ≡ y
+  pub left : c.regs LEFT_WORDS ≡ n
 
 -- what a copy of n words from x to y asks of the flat memories
 pub record CopyGood (l : Layout) (u : Pages) (x y n : ℕ) : Type 0 where
@@ -61,7 +64,7 @@ pub record CopyGood (l : Layout) (u : Pages) (x y n : ℕ) : Type 0 where
 
 -- the word of user u's size
 abbrev pub size_at : ℕ → ℕ
-size_at u = 12320 + 64 * (u - 1)
+size_at u = block_at 1 + BLOCK_SIZE + 64 * (u - 1)
 
 -- the users' sizes in memory, and which pages are below them
 pub record UsersIn (p : Places) (users per : ℕ) (size : ℕ → ℕ) (v : Pages) (c : Contents) : Type 0 where

@@ -4,13 +4,13 @@ ghost use Rattle.mips_table.specs.Encoding.{encoding};
 ghost use Rattle.cvm_primitives.specs.RegisterCode.{user_code, register_code, place_code, asked_words, vm_get_code};
 ghost use Rattle.cvm_primitives.specs.RegisterCode.{vm_set_code, vm_size_code, con_put_code, con_get_code, con_left_code};
 
-use crate::parts::FIND_SIZE;
+use crate::parts::{FIND_SIZE, MINUS_ONE};
 use crate::roles::{NUMBER, USER, VALUE};
 use layer_map::{ANSWER, Map};
 use masm::addresses::{BLOCKS, INPUT, INPUT_LEFT, LOG};
 use masm::registers::ARGUMENTS;
 use masm::roles::{T0, T1, T2, T3, ZERO};
-use masm::{Block, block, code, extend};
+use masm::{Block, block, code};
 use mips_table::Inst;
 
 /// ANSWER becomes what a bad call answers, as 16 bits; T1 isn't 0 where USER is a user's number, and T0 is that less 1.
@@ -49,16 +49,16 @@ fn asked(bad: u32, users: u32, work: &Block<2>) -> Block<15>
     ensures { result ≡ asked_words bad users work.now }
 {
     let _fits = work.len();
-    let mut inner = Block::<8>::new();
-    extend(&mut inner, &FIND_WORD);
-    inner.then(work);
-    let mut body = Block::<11>::new();
-    extend(&mut body, &IS_REGISTER);
-    body.when(T1, &inner);
-    let mut code = Block::<15>::new();
-    code.then(&user_test(bad, users));
-    code.when(T1, &body);
-    code
+    block! {
+        then user_test(bad, users);
+        when T1 {
+            code IS_REGISTER;
+            when T1 {
+                code FIND_WORD;
+                then *work;
+            }
+        }
+    }
 }
 
 /// The answer is the word.
@@ -72,17 +72,17 @@ const STORE_WORD: [Inst; 2] = code! {
     addiu ANSWER, ZERO, 1;
 };
 
-/// `vm_get`: the user stands in register 20, and the register, or 32 for the pc, in 21.
+/// `vm_get`: its arguments are USER and NUMBER.
 pub fn vm_get(map: &Map) -> Block<15>
     ensures { result ≡ each encoding (vm_get_code map.now.users) }
 {
     let work: Block<2> = block! {
         code LOAD_WORD;
     };
-    asked(65535, map.users(), &work)
+    asked(MINUS_ONE, map.users(), &work)
 }
 
-/// `vm_set`: the user stands in register 20, the register, or 32 for the pc, in 21, and its new value in 22.
+/// `vm_set`: its arguments are USER, NUMBER and VALUE, the new one.
 pub fn vm_set(map: &Map) -> Block<15>
     ensures { result ≡ each encoding (vm_set_code map.now.users) }
 {
@@ -92,7 +92,7 @@ pub fn vm_set(map: &Map) -> Block<15>
     asked(0, map.users(), &work)
 }
 
-/// `vm_size`: the user stands in register 20.
+/// `vm_size`: its argument is USER.
 pub fn vm_size(map: &Map) -> Block<8>
     ensures { result ≡ each encoding (vm_size_code map.now.users) }
 {
@@ -101,19 +101,22 @@ pub fn vm_size(map: &Map) -> Block<8>
         code LOAD_WORD;
     };
     block! {
-        then user_test(65535, map.users());
+        then user_test(MINUS_ONE, map.users());
         when T1, work;
     }
 }
 
+/// How many words the log has room for.
+const LOG_ROOM: u32 = 4096;
+
 /// The log's port tells its length. The answer is whether a word more has room; one that hasn't is lost.
 const PUT: [Inst; 3] = code! {
     lw T0, LOG(ZERO);
-    sltiu ANSWER, T0, 4096;
+    sltiu ANSWER, T0, LOG_ROOM;
     sw ARGUMENTS, LOG(ZERO);
 };
 
-/// `con_put`: the word stands in register 20.
+/// `con_put`: its one argument is the word.
 pub fn con_put() -> Block<3>
     ensures { result ≡ each encoding con_put_code }
 {

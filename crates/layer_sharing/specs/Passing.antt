@@ -6,6 +6,8 @@ use Rattle.mips_table.specs.Code.{Contents, Behind, World, Configuration, at_wit
 use Rattle.page_model.specs.Paging.{Pages}
 use Rattle.page_model.specs.Places.{Places}
 use Rattle.page_fault.specs.Code.{handle_page_code}
+use Rattle.masm.specs.declared.registers.TheConstants.{RETURN}
+use Rattle.cvm_primitives.specs.declared.roles.TheConstants.{LENGTH}
 use Rattle.cvm_primitives.specs.Copy.{copied}
 use Rattle.cvm_primitives.specs.View.{start, Held}
 use Rattle.cvm_primitives.specs.Code.{vm_copy_code}
@@ -26,11 +28,11 @@ pub record Passed (p : Places) (v : Pages) (x y n : ℕ) (c : Contents) (d : Beh
   pub held : Held p (copied v x y (n - 1024)) (start c d) t.contents t.behind
   pub first : n ≡ 1024 → t.contents.memory ≡ c.memory
   pub shared : LastShared p x y n c' t.contents.memory
-  pub r31 : c'.regs 31 ≡ c.regs 31
+  pub r31 : c'.regs RETURN ≡ c.regs RETURN
   pub idle : d'.pending ≡ Idle
 
 -- vm_copy with good arguments, whose last piece is a whole page, comes by that piece
 abbrev pub CopyPasses : World → Type 0
 CopyPasses w = (p : Places) (b users per : ℕ) (size : ℕ → ℕ) (v : Pages) (c : Contents) (d : Behind) →
-    Entered w p b users per size v c d → GoodCopy users size c → EndsWhole (first_word per c) (second_word per c) (c.regs 24) →
-    Through w (vm_copy_code p users per (handle_page_code p)) (copy_steps p b per c) c d (Passed p v (first_word per c) (second_word per c) (c.regs 24) c d)
+    Entered w p b users per size v c d → GoodCopy users size c → EndsWhole (first_word per c) (second_word per c) (c.regs LENGTH) →
+    Through w (vm_copy_code p users per (handle_page_code p)) (copy_steps p b per c) c d (Passed p v (first_word per c) (second_word per c) (c.regs LENGTH) c d)

@@ -1,10 +1,17 @@
 -- By the words of its parts.
+use Rattle.std.proofs.Common.{refl}
 use Rattle.page_model.specs.Places.{places_of}
 use Rattle.page_fault.specs.Code.{handle_page_code}
-use Rattle.cvm_primitives.specs.Code.{length_code, piece_read_code}
-use Rattle.cvm_primitives.proofs.Emit.{two}
+use Rattle.masm.specs.Blocks.{when_code}
+use Rattle.cvm_primitives.specs.Code.{length_code, read_code, choose_code, words_code, advance_code}
+use Rattle.cvm_primitives.proofs.Emit.{five, when_is}
 use Rattle.cvm_primitives.proofs.copy_parts.piece.Goals as goal
 
 pub returns : goal.returns
 returns c =
-    two c.words_are_encodings.ensures length_code (piece_read_code (places_of c.args.map.now) (handle_page_code (places_of c.args.map.now))) _ _ _ _ _ c.new-code.ensures c.then.ensures c.then-2.ensures c.piece_length.ensures c.piece_read.ensures
+    let laws = c.words_are_encodings.ensures in
+    let p = places_of c.args.map.now in
+    let page = handle_page_code p in
+    five laws length_code (read_code page) (choose_code p) (when_code 15 (words_code p page)) advance_code _ _ _ _ _ _ _ _ _ _ _
+    c.block-new.ensures c.block-then.ensures c.block-then-2.ensures c.block-then-3.ensures c.block-when.ensures c.block-extend.ensures
+    c.piece_length.ensures c.read.ensures c.choose.ensures (when_is laws 15 (words_code p page) _ c.words.ensures) refl
