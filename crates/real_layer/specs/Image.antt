@@ -5,10 +5,15 @@ use Rattle.std.specs.List.{range_with_len}
 use Rattle.mips_table.specs.declared.inst.Inst.{Inst}
 use Rattle.mips_table.specs.declared.inst.Inst.TheVariants.{J, Jr}
 use Rattle.mips_table.specs.Encoding.{encoding}
-use Rattle.layer_map.specs.Map.{Map, MapInRange, leave_at, heap_at, stack_at}
+use Rattle.layer_map.specs.Map.{Map, MapInRange, block_at, current_at, heap_at, layer_words, leave_at, primitives_at, stack_at, variables_end}
+use Rattle.layer_map.specs.declared.places.TheConstants.{BLOCK_SIZE}
+use Rattle.masm.specs.declared.registers.TheConstants.{RETURN}
 use Rattle.page_model.specs.Places.{places_of}
 use Rattle.page_fault.specs.Code.{handle_page_code}
 use Rattle.trap_entry.specs.Code.{handler_code, act_on_answer_code, exit_with_code}
+use Rattle.cvm_model.specs.declared.kernel_fault.KernelFault.{KernelFault}
+use Rattle.cvm_model.specs.declared.kernel_fault.KernelFault.TheVariants.{NullUse, Bounds, DivZero, StackOut}
+use Rattle.cvm_model.specs.Kernel.{power_of}
 use Rattle.cvm_model.specs.Stands.{Site}
 use Rattle.layer_contract.specs.Layer.{site_with}
 use Rattle.cvm_primitives.specs.RegisterCode.{vm_get_code, vm_set_code, vm_size_code, con_put_code, con_get_code, con_left_code}
@@ -18,9 +23,13 @@ use Rattle.cvm_primitives.specs.Code.{vm_word_code, vm_put_code, vm_copy_code, v
 unfoldable pub interrupt_code : Map → List Inst
 interrupt_code m = handler_code (places_of m) (handle_page_code (places_of m))
 
--- a primitive goes back to the address in register 31
+-- a primitive goes back to the address in RETURN
 abbrev pub returning : List Inst → List Inst
-returning is = is ++ Jr 31 ∷ []
+returning is = is ++ Jr RETURN ∷ []
+
+-- the exit of a kernel's fault
+abbrev pub fault_exit : KernelFault → List Inst
+fault_exit f = exit_with_code (power_of f)
 
 -- The routines, in the order of their entries: the ten primitives as their table has them, the exits of the four faults, and what follows
 -- an answer of `dispatch`.
@@ -33,7 +42,7 @@ routines m =
     returning (vm_get_code n) ∷ returning (vm_set_code n) ∷ returning (vm_size_code n)
     ∷ returning (vm_resize_code p n per) ∷ returning (vm_word_code p n per page) ∷ returning (vm_put_code p n per page) ∷ returning (vm_copy_code p n per page)
     ∷ returning con_put_code ∷ returning con_get_code ∷ returning con_left_code
-    ∷ exit_with_code 1 ∷ exit_with_code 2 ∷ exit_with_code 3 ∷ exit_with_code 4
+    ∷ fault_exit NullUse ∷ fault_exit Bounds ∷ fault_exit DivZero ∷ fault_exit StackOut
     ∷ act_on_answer_code p n per ∷ []
 
 -- lists of instructions one after the other
@@ -54,7 +63,7 @@ routine_at m k = entries_end + length (joined (take k (routines m)))
 
 -- an entry is a jump to its routine
 abbrev pub entries : Map → List Inst
-entries m = map (λ k. J (routine_at m k)) (range_with_len 0 15)
+entries m = map (λ k. J (routine_at m k)) (range_with_len 0 (entries_end - primitives_at))
 
 -- words with zeros behind them, so many in all
 abbrev pub filled : ℕ → List ℕ → List ℕ
@@ -65,9 +74,9 @@ filled n words = words ++ replicate (n - length words) 0
 abbrev pub variables : Map → List ℕ
 variables m = 0 ∷ 0 ∷ 0 ∷ m.params.heap ∷ 4 * heap_at m ∷ 4 * stack_at m ∷ m.params.stack ∷ []
 
--- a control block at load: all 0 but for the size
+-- a control block at load: 64 words, all 0 but for the size
 abbrev pub block_words : ℕ → List ℕ
-block_words pages = replicate 32 0 ++ pages ∷ replicate 31 0
+block_words pages = replicate BLOCK_SIZE 0 ++ pages ∷ replicate (63 - BLOCK_SIZE) 0
 
 abbrev pub blocks : List ℕ → List ℕ
 blocks [] = []
@@ -77,11 +86,12 @@ blocks (pages ∷ sizes) = block_words pages ++ blocks sizes
 abbrev pub second_code : Map → List Inst
 second_code m = entries m ++ joined (routines m)
 
--- THE IMAGE of a layer made for a map, and for users of these sizes in pages: code up to word 1024, variables up to 2048, entries and
--- routines up to 12288, control blocks up to 16384
+-- THE IMAGE of a layer made for a map, and for users of these sizes in pages: the handler up to the current user, variables, entries and routines up
+-- to the control blocks, and these
 abbrev pub layer_image : Map → List ℕ → List ℕ
 layer_image m sizes =
-    filled 1024 (map encoding (interrupt_code m)) ++ (filled 1024 (variables m) ++ (filled 10240 (map encoding (second_code m)) ++ filled 4096 (blocks sizes)))
+    filled current_at (map encoding (interrupt_code m)) ++ (filled (variables_end - current_at) (variables m)
+    ++ (filled (block_at 1 - primitives_at) (map encoding (second_code m)) ++ filled (layer_words - block_at 1) (blocks sizes)))
 
 -- the memory of a layer made for this map and these users, with a kernel's code behind it
 abbrev pub image_site : Map → (sizes code : List ℕ) → Site

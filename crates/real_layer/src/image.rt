@@ -5,10 +5,23 @@ ghost use Rattle.mips_table.specs.Encoding.{encoding};
 ghost use Rattle.real_layer.specs.Image.{interrupt_code, filled, variables, block_words, blocks, second_code, layer_image};
 
 use crate::routines::lay_routines;
-use layer_map::Map;
+use layer_map::{BLOCK_SIZE, CURRENT, LAYER_WORDS, Map, PRIMITIVES, VARIABLES_END};
 use masm::Code;
+use masm::addresses::BLOCKS;
 use std::alloc::{AllocError, Global};
 use trap_entry::handle_interrupts;
+
+/// The words of the image before the variables: the handler's.
+const HANDLER_WORDS: u32 = CURRENT / 4;
+
+/// The words of the variables, which follow.
+const VARIABLE_WORDS: u32 = (VARIABLES_END - CURRENT) / 4;
+
+/// The words of the entries and the routines, which follow these.
+const ROUTINE_WORDS: u32 = (BLOCKS - PRIMITIVES) / 4;
+
+/// The words of the control blocks, which are the last.
+const BLOCK_WORDS: u32 = LAYER_WORDS - BLOCKS / 4;
 
 // Appends so many zeros.
 fn put_zeros(words: &mut Vec<u32>, count: usize) -> Result<(), AllocError>
@@ -28,13 +41,13 @@ fn put_filled(words: &mut Vec<u32>, count: usize, part: &[u32]) -> Result<(), Al
     put_zeros(words, count.saturating_sub(part.len()))
 }
 
-// Appends the control block of a user of so many pages.
+// Appends the control block of a user of so many pages: 64 words, of which one holds them.
 fn put_block(words: &mut Vec<u32>, pages: u32) -> Result<(), AllocError>
     ensures { OnOk result (words.new.items ≡ words.old.items ++ block_words pages) }
 {
-    put_zeros(words, 32)?;
+    put_zeros(words, BLOCK_SIZE as usize)?;
     words.push(pages)?;
-    put_zeros(words, 31)
+    put_zeros(words, (63 - BLOCK_SIZE) as usize)
 }
 
 // The control blocks of users of these sizes.
@@ -78,9 +91,17 @@ pub fn layer_words(alloc: Global, map: &Map, sizes: &[u32]) -> Result<Vec<u32>, 
     ensures { IfOk result (λ v. v.items ≡ layer_image map.now sizes.now) }
 {
     let mut words = Vec::new(alloc);
-    put_filled(&mut words, 1024, interrupts(map).words())?;
-    put_filled(&mut words, 1024, &first_variables(map))?;
-    put_filled(&mut words, 10240, &second_part(alloc, map)?)?;
-    put_filled(&mut words, 4096, &control_blocks(alloc, sizes)?)?;
+    put_filled(&mut words, HANDLER_WORDS as usize, interrupts(map).words())?;
+    put_filled(&mut words, VARIABLE_WORDS as usize, &first_variables(map))?;
+    put_filled(
+        &mut words,
+        ROUTINE_WORDS as usize,
+        &second_part(alloc, map)?,
+    )?;
+    put_filled(
+        &mut words,
+        BLOCK_WORDS as usize,
+        &control_blocks(alloc, sizes)?,
+    )?;
     Ok(words)
 }

@@ -4,21 +4,26 @@ ghost use Rattle.mips_table.specs.declared.inst.Inst.{Inst as Instruction};
 ghost use Rattle.mips_table.specs.Encoding.{encoding};
 ghost use Rattle.page_model.specs.Places.{places_of};
 ghost use Rattle.page_fault.specs.Code.{handle_page_code};
-ghost use Rattle.trap_entry.specs.Code.{act_on_answer_code, exit_with_code};
+ghost use Rattle.trap_entry.specs.Code.{act_on_answer_code};
+ghost use Rattle.cvm_model.specs.declared.kernel_fault.KernelFault.TheVariants.{NullUse, Bounds, DivZero, StackOut};
 ghost use Rattle.cvm_primitives.specs.RegisterCode.{con_put_code, con_get_code, con_left_code};
 ghost use Rattle.cvm_primitives.specs.Code.{vm_word_code, vm_put_code, vm_copy_code, vm_resize_code};
-ghost use Rattle.real_layer.specs.Image.{returning, entries, joined, routines};
+ghost use Rattle.real_layer.specs.Image.{returning, fault_exit, entries, joined, routines};
 ghost use Rattle.real_layer.specs.Laid.{Lays, memory_routines, register_routines};
 
+use cvm_model::KernelFault;
 use cvm_primitives::{
     con_get, con_left, con_put, vm_copy, vm_get, vm_put, vm_resize, vm_set, vm_size, vm_word,
 };
-use layer_map::Map;
+use layer_map::{LEAVE, Map};
 use masm::instruction;
 use masm::registers::RETURN;
 use mips_table::encode;
 use std::alloc::{AllocError, Global};
 use trap_entry::{act_on_answer, exit_with};
+
+/// The word behind the last entry: the routines stand from there on.
+pub const ENTRIES_END: u32 = LEAVE / 4 + 1;
 
 /// Routines one after another, and the jumps to them.
 #[derive(Drop)]
@@ -32,8 +37,8 @@ impl Routines {
     fn put(&mut self, words: &[u32]) -> Result<(), AllocError>
         ensures { (is : List Instruction) → words.now ≡ each encoding is → OnOk result (Lays self.old self.new (is ∷ [])) }
     {
-        let word = 2063 + self.words.len();
-        let index = (word % 0x400_0000) as u32;
+        let word = ENTRIES_END as usize + self.words.len();
+        let index = (word % 0x400_0000) as u32; // a jump names its target by 26 bits
         self.entries.push(encode(&instruction!(j index)))?;
         self.words.extend_from_slice(words)
     }
@@ -77,12 +82,12 @@ impl Routines {
 
     // Appends the exits of the four faults.
     fn put_exits(&mut self) -> Result<(), AllocError>
-        ensures { OnOk result (Lays self.old self.new (exit_with_code 1 ∷ exit_with_code 2 ∷ exit_with_code 3 ∷ exit_with_code 4 ∷ [])) }
+        ensures { OnOk result (Lays self.old self.new (fault_exit NullUse ∷ fault_exit Bounds ∷ fault_exit DivZero ∷ fault_exit StackOut ∷ [])) }
     {
-        self.put(exit_with(1).words())?;
-        self.put(exit_with(2).words())?;
-        self.put(exit_with(3).words())?;
-        self.put(exit_with(4).words())
+        self.put(exit_with(KernelFault::NullUse.power()).words())?;
+        self.put(exit_with(KernelFault::Bounds.power()).words())?;
+        self.put(exit_with(KernelFault::DivZero.power()).words())?;
+        self.put(exit_with(KernelFault::StackOut.power()).words())
     }
 }
 
