@@ -16,6 +16,7 @@ use Rattle.c0_meaning.specs.RunLaws.{HasEnded}
 use Rattle.cvm_model.specs.Primitives.{with_register}
 use Rattle.cvm_model.specs.Cvm.{first_flat}
 use Rattle.cvm_model.specs.Journal.{replay}
+use Rattle.user_c0.specs.declared.image.TheConstants.{TOLD}
 use Rattle.user_c0.specs.Image.{map_of, image_words}
 use Rattle.user_c0.specs.Events.{SYSCALL, CALL, Event, step, call, other, journal_of, AreProper, calls, others, untrapped, answer_of, answers}
 use Rattle.user_c0.specs.Program.{MAX_IMAGE, EndsBy, steps_of}
@@ -40,12 +41,12 @@ pub record UsersGoOn : Type 0 where
 abbrev pub IntsAreTold : Type 0
 IntsAreTold = (v : ℤ) → FitsSigned w32 v → (cast_unsigned w32 v < 2 ^ 32) × (answer_of (Some (cast_unsigned w32 v)) ≡ v)
 
--- a trap is the program's next call: register 4 has its argument
+-- a trap is the program's next call: TOLD, which is register 4, has its argument
 pub record IsCall (u : CUnit) (es : List Event) (f : Flat) (cause edata : ℕ) : Type 0 where
   pub cause_is : cause ≡ SYSCALL
   pub edata_is : edata ≡ CALL
   pub units : ℕ
-  pub argument : slice_get (prog u (answers es) units).arguments (calls es) ≡ Some (signed (slice_index f.cpu.regs 4))
+  pub argument : slice_get (prog u (answers es) units).arguments (calls es) ≡ Some (signed (slice_index f.cpu.regs TOLD))
 
 -- a trap is that of the program's end, which came after the last of these calls
 pub record IsEnd (u : CUnit) (es : List Event) (cause edata : ℕ) : Type 0 where
@@ -69,7 +70,7 @@ pub record ProgramsTrap : Type 0 where
 pub record IsCallOf (f : Flat) (a : ℤ) (cause edata : ℕ) : Type 0 where
   pub cause_is : cause ≡ SYSCALL
   pub edata_is : edata ≡ CALL
-  pub argument : signed (slice_index f.cpu.regs 4) ≡ a
+  pub argument : signed (slice_index f.cpu.regs TOLD) ≡ a
 
 -- A LAW: where the program is known to call next with some argument, its next trap is that call; where it is known to end without a further call, its
 -- next trap is that of its end. In how many units that is known plays no part. And where it is known to end it was answered no more often than it calls.
