@@ -23,8 +23,8 @@ behind_first globals dispatch = Ori GLOBALS GLOBALS (globals % 2 ^ 16) ∷ (load
 abbrev pub entry_code : (globals dispatch : ℕ) → List Inst
 entry_code globals dispatch = Lui GLOBALS (globals / 2 ^ 16) ∷ behind_first globals dispatch
 
--- The first part of the routine `new`: register 2 has the object's words. The words used, with these, go to register 5, and where they
--- exceed the heap the code goes on at its last two instructions.
+-- The first part of the routine `new`: ANSWER has the object's words. The words used, with these, go to END, and where they exceed the heap the code goes
+-- on at its last two instructions.
 abbrev pub room_code : List Inst
 room_code = TEST_ROOM
 
@@ -32,7 +32,7 @@ room_code = TEST_ROOM
 abbrev pub raise_code : List Inst
 raise_code = BUMP_HEAP
 
--- The third part: the object's address goes to registers 2 and 3, and that of its end to register 5.
+-- The third part: the object's address goes to ANSWER and NEXT, and that of its end to END.
 abbrev pub bounds_code : List Inst
 bounds_code = FIND_OBJECT
 
@@ -40,23 +40,23 @@ bounds_code = FIND_OBJECT
 abbrev pub clear_code : List Inst
 clear_code = ZERO_OBJECT ++ NO_ROOM
 
--- The routine `new`: register 2 has the words of an object, one or more, and becomes the object's address, or 0 where there is no room.
+-- The routine `new`: ANSWER has the words of an object, one or more, and becomes the object's address, or 0 where there is no room.
 abbrev pub new_code : List Inst
 new_code = room_code ++ (raise_code ++ (bounds_code ++ clear_code))
 
--- multiplication: register 2 becomes the product of registers 20 and 21
+-- multiplication: ANSWER becomes the product of the first two arguments
 abbrev pub multiply_code : List Inst
 multiply_code = MULTIPLY_INTS
 
--- a division of register 20 by register 21: where that is 0 the code goes on at the exit, else hi and lo are set
+-- a division of the first argument by the second: where that is 0 the code goes on at the exit, else hi and lo are set
 abbrev pub division_code : (exit : ℕ) → List Inst
 division_code exit = Bne (ARGUMENTS + 1) ZERO 1 ∷ J (exit / 4) ∷ Div ARGUMENTS (ARGUMENTS + 1) ∷ []
 
--- division: register 2 becomes the quotient of registers 20 and 21
+-- division: ANSWER becomes their quotient
 abbrev pub divide_code : (exit : ℕ) → List Inst
 divide_code exit = division_code exit ++ GIVE_QUOTIENT
 
--- remainder: register 2 becomes what the quotient leaves
+-- remainder: ANSWER becomes what the quotient leaves
 abbrev pub remainder_code : (exit : ℕ) → List Inst
 remainder_code exit = division_code exit ++ GIVE_REMAINDER
 

@@ -13,6 +13,7 @@ use Rattle.c0_meaning.specs.Value.{int}
 use Rattle.c0_meaning.specs.Operators.{DivZero, faulted, on_ints}
 use Rattle.c0_runtime.specs.Code.{entry_code, behind_first, new_code, multiply_code, divide_code, remainder_code, zero_exit}
 use Rattle.layer_map.specs.declared.entries.TheConstants.{LEAVE}
+use Rattle.c0_runtime.specs.declared.new_object.TheConstants.{END}
 use Rattle.c0_runtime.specs.declared.runtime.TheConstants.{NEW_OBJECT, MULTIPLY, DIVIDE, REMAINDER}
 
 -- A routine is called: the return address is in its register, and no disk command is under way.
@@ -48,7 +49,7 @@ pub record IsAsked (size : ℕ) (c : Contents) : Type 0 where
 
 -- `new` changes no register above 5, and neither hi, lo nor a special register
 pub record NewKeeps (c c' : Contents) : Type 0 where
-  pub regs : (r : ℕ) → 5 < r → c'.regs r ≡ c.regs r
+  pub regs : (r : ℕ) → END < r → c'.regs r ≡ c.regs r
   pub hi : c'.hi ≡ c.hi
   pub lo : c'.lo ≡ c.lo
   pub special : c'.special ≡ c.special
@@ -88,7 +89,7 @@ pub record AreOperands (a b : ℕ) (c : Contents) : Type 0 where
 abbrev pub HasAnswer : BinaryOp → (a b answer : ℕ) → Type 0
 HasAnswer op a b answer = (v : _) × (on_ints op (int_of a) (int_of b) ≡ Ok (int v)) × (answer ≡ word_of v)
 
--- register 2 has the operation's answer, and beside it only hi and lo have changed
+-- ANSWER has the operation's answer, and beside it only hi and lo have changed
 pub record IsComputed (op : BinaryOp) (a b : ℕ) (c c' : Contents) : Type 0 where
   pub answer : HasAnswer op a b (c'.regs ANSWER)
   pub regs : (r : ℕ) → r ≢ ANSWER → c'.regs r ≡ c.regs r

@@ -1,8 +1,10 @@
 -- Small runs of the routines, whose ends are known: each says where the code is after so many steps, and what it has then.
-use Rattle.std.specs.Prelude.{◌≡◌, ℕ, ◌*◌, ◌==◌, if◌then◌else◌, List, [], None}
+use Rattle.std.specs.Prelude.{◌≡◌, ℕ, ◌+◌, ◌*◌, ◌==◌, if◌then◌else◌, List, [], None}
 use Rattle.mips_table.specs.declared.inst.Inst.{Inst}
 use Rattle.mips_table.specs.Device.{Idle}
 use Rattle.mips_table.specs.Code.{Contents, World, on_flat, Configuration, at_with, code_run}
+use Rattle.layer_map.specs.Map.{heap_used_at, heap_words_at, heap_first_at, stack_first_at, stack_words_at}
+use Rattle.masm.specs.declared.registers.TheConstants.{ANSWER, ARGUMENTS, GLOBALS, FRAME_END, STACK_END, RETURN}
 use Rattle.masm.specs.Standing.{placed}
 use Rattle.c0_runtime.specs.Code.{multiply_code, divide_code, remainder_code}
 
@@ -13,17 +15,17 @@ world_of is = on_flat (record { code = placed 2048 is; kept = λ k. None; words 
 -- A heap of 8 words from word 3000 on, of which 5 are used, and a stack of 64 words from word 3100 on. All other words are 7.
 abbrev pub memory : ℕ → ℕ
 memory k =
-    if k == 1026 then 5 else
-    if k == 1027 then 8 else
-    if k == 1028 then 12000 else
-    if k == 1029 then 12400 else
-    if k == 1030 then 64 else
+    if k == heap_used_at then 5 else
+    if k == heap_words_at then 8 else
+    if k == heap_first_at then 12000 else
+    if k == stack_first_at then 12400 else
+    if k == stack_words_at then 64 else
     7
 
--- register 2, 20 and 21 have these words, and register 31 the address of word 100
+-- ANSWER and the first two arguments have these words, and RETURN the address of word 100
 abbrev pub contents : (size left right : ℕ) → Contents
 contents size left right = record {
-  regs = λ r. if r == 2 then size else if r == 20 then left else if r == 21 then right else if r == 31 then 400 else 9;
+  regs = λ r. if r == ANSWER then size else if r == ARGUMENTS then left else if r == ARGUMENTS + 1 then right else if r == RETURN then 400 else 9;
   hi = 1;
   lo = 2;
   special = λ r. 0;
@@ -37,8 +39,8 @@ after is c steps = code_run (world_of is) (at_with 2048 c (record { pending = Id
 -- an object of three words takes the heap's last words
 pub record LastWords (s : Configuration) : Type 0 where
   pub at : s.at ≡ 100
-  pub answer : s.contents.regs 2 ≡ 12020
-  pub used : s.contents.memory 1026 ≡ 8
+  pub answer : s.contents.regs ANSWER ≡ 12020
+  pub used : s.contents.memory heap_used_at ≡ 8
   pub before : s.contents.memory 3004 ≡ 7
   pub first : s.contents.memory 3005 ≡ 0
   pub last : s.contents.memory 3007 ≡ 0
@@ -47,14 +49,14 @@ pub record LastWords (s : Configuration) : Type 0 where
 -- one of four words finds no room
 pub record NoRoom (s : Configuration) : Type 0 where
   pub at : s.at ≡ 100
-  pub answer : s.contents.regs 2 ≡ 0
-  pub used : s.contents.memory 1026 ≡ 5
+  pub answer : s.contents.regs ANSWER ≡ 0
+  pub used : s.contents.memory heap_used_at ≡ 5
   pub first : s.contents.memory 3005 ≡ 7
 
 -- a routine has come back with this answer
 pub record Answers (answer : ℕ) (s : Configuration) : Type 0 where
   pub at : s.at ≡ 100
-  pub is : s.contents.regs 2 ≡ answer
+  pub is : s.contents.regs ANSWER ≡ answer
 
 -- Products and quotients of -7, 2, the least int and -1. A division by 0 goes to the exit, here at word 50.
 pub record SampleAnswers : Type 0 where
@@ -68,7 +70,7 @@ pub record SampleAnswers : Type 0 where
 -- the entry has called the function at word 3, with the registers of the globals (at 0x12345678), of the frames and of the stack set
 pub record SampleEntered (s : Configuration) : Type 0 where
   pub at : s.at ≡ 3
-  pub globals : s.contents.regs 28 ≡ 0x12345678
-  pub frames : s.contents.regs 29 ≡ 12400
-  pub stack : s.contents.regs 30 ≡ 12656
-  pub back : s.contents.regs 31 ≡ 4 * 2055
+  pub globals : s.contents.regs GLOBALS ≡ 0x12345678
+  pub frames : s.contents.regs FRAME_END ≡ 12400
+  pub stack : s.contents.regs STACK_END ≡ 12656
+  pub back : s.contents.regs RETURN ≡ 4 * 2055
