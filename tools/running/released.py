@@ -8,6 +8,7 @@ import tempfile
 
 from explain import pages
 from running import rooms
+from running.guard import Bad
 
 PATH = os.path.join(pages.TOP, 'release', 'path')
 PREFIX = 'cvm-released-'
@@ -53,7 +54,11 @@ def sentence(tool, why):
     return "%s: the released program isn't run: %s" % (tool, why)
 
 
-def version(other):
-    """What program is run: the released one, or the other that is named."""
+def version(other, there=False):
+    """What program is run: the released one, or the other that is named, which is there or can be built."""
     said, why = asked('--version')
-    return said or "%s (the released program isn't run: %s)" % (other, why)
+    if said:
+        return said
+    if not there and shutil.which('rt') is None:
+        raise Bad("the released program isn't run: %s; and the Rattle toolchain's command, rt, which builds another, is not on the path" % why, 70)
+    return "%s (the released program isn't run: %s)" % (other, why)

@@ -91,6 +91,12 @@ class Clones(unittest.TestCase):
         self.assertIn('rt, is not on the path', said)
         self.assertEqual(os.listdir(self.rooms), [])
 
+    def has_no_version(self, why):
+        """There is no program, and none can be built."""
+        for tool in ('cvm', 'try'):
+            self.assertEqual(self.run_it(tool, '--version'), (
+                70, '', "%s: the released program isn't run: %s; and the Rattle toolchain's command, rt, which builds another, is not on the path\n" % (tool, why)))
+
     def kept(self):
         return self.path('out', 'released', 'cvm')
 
@@ -117,10 +123,13 @@ class Run(Clones):
         os.remove(self.path('crates', name))
         status, text, said = self.run_it('try', 'sample', '3')
         self.assertEqual((status, text, said.split('\n')[0]), (70, '', "try: the released program isn't run: " + why))
+        self.has_no_version(why)
+        os.symlink(shutil.which('true'), os.path.join(self.bin, 'rt'))
         for tool in ('cvm', 'try'):
             status, text, said = self.run_it(tool, '--version')
             self.assertEqual((status, said), (0, ''))
             self.assertIn("(the released program isn't run: %s)" % why, text)
+        os.remove(os.path.join(self.bin, 'rt'))
         put(self.path('crates', name), SOURCES[name])
         put(self.path('crates/cvm/proofs/New.antt'), '')
         self.is_not_run(why)
@@ -143,6 +152,7 @@ class Run(Clones):
         for data in (whole[:-9], whole[:20], b'', whole[:12] + bytes([whole[12] ^ 1]) + whole[13:], gzip.compress(OTHER.encode()), b'no such form'):
             put(packed, data)
             self.is_not_run(why)
+            self.has_no_version(why)
         put(packed, whole)
         with open(manifest, encoding='utf-8') as file:
             rows = file.read()
@@ -218,6 +228,15 @@ class Run(Clones):
         self.assertEqual(self.run_it('cvm', 'sample', '3'), (70, '', "cvm: the released program isn't run: the sources changed since it was built; to build it there has to be Python 3\n"))
         ran = subprocess.run([self.path('cvm'), 'sample'], env={'PATH': self.bin}, stderr=subprocess.PIPE, text=True, preexec_fn=lambda: os.close(1))
         self.assertEqual((ran.returncode, ran.stderr), (7, 'cvm: there is no standard output; nothing was done\n'))
+        self.assertEqual(self.run_it('try', 'sample', '3'), (70, '', 'try: there has to be Python 3, as the command python3; ./cvm runs single commands without it\n'))
+
+    def test_without_standard_output(self):
+        for word in ('', '--version', '--sources'):
+            ran = subprocess.run([self.path('release', 'path'), *word.split()], env={'PATH': self.bin}, stderr=subprocess.PIPE, text=True, preexec_fn=lambda: os.close(1))
+            self.assertEqual((ran.returncode, ran.stderr), (7, 'release/path: there is no standard output; nothing was done\n'))
+            with open('/dev/full', 'wb') as full:
+                ran = subprocess.run([self.path('release', 'path'), *word.split()], env={'PATH': self.bin}, stdout=full, stderr=subprocess.PIPE, text=True)
+            self.assertEqual((ran.returncode, ran.stderr), (7, 'release/path: standard output takes nothing\n'))
 
     def test_the_checked_program_is_asked_for(self):
         for words in (('--checked', 'sample', '3'), ('--anew', 'sample', '3'), ('--keep',)):

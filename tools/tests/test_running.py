@@ -159,7 +159,7 @@ class Full(unittest.TestCase):
 
 class BadInput(unittest.TestCase):
     def run_tool(self, *words):
-        ran = subprocess.run([sys.executable, *words], cwd=pages.TOP, stdin=subprocess.DEVNULL, capture_output=True, text=True)
+        ran = subprocess.run([os.path.join(pages.TOP, words[0]), *words[1:]], cwd=pages.TOP, stdin=subprocess.DEVNULL, capture_output=True, text=True)
         self.assertNotIn('Traceback', ran.stderr)
         return ran
 
