@@ -1,7 +1,7 @@
 -- Each dispatch, and each step of a user, keeps `IsAnswering`.
-use Rattle.std.proofs.Common.{◌≡◌, ℕ, suc, ◌+◌, ◌≤◌, ◌<◌, ◌^◌, List, [], ◌∷◌, ◌++◌, length, false, nat_lt, refl, sym, ap, ap₂, ◌∙◌, subst, arith}
-use Rattle.std.specs.Prelude.{◌==◌, if◌then◌else◌, ℤ, pos, ◌+ℤ◌, slice_index, map}
-use Rattle.std.specs.Int.{int_wrap, w32, cast_unsigned}
+use Rattle.std.proofs.Common.{◌≡◌, ℕ, suc, ◌+◌, ◌≤◌, ◌<◌, ◌^◌, List, [], ◌∷◌, ◌++◌, length, false, nat_lt, refl, sym, ap, ◌∙◌, arith}
+use Rattle.std.specs.Prelude.{◌==◌, if◌then◌else◌, ℤ, pos, slice_index, map}
+use Rattle.std.specs.Int.{w32, cast_unsigned}
 use Rattle.std.proofs.lemmas.Bool.{le-ltb}
 use Rattle.mips_table.specs.Arith.{signed}
 use Rattle.mips_table.specs.Machine.{number_of, Console}
@@ -13,16 +13,16 @@ use Rattle.cvm_model.specs.Kernel.{Core, KernelMeaning}
 use Rattle.cvm_model.specs.Primitives.{user_of, with_register}
 use Rattle.cvm_model.specs.Cvm.{System, Running, Halted, first_flat, first_core, status_of}
 use Rattle.cvm_model.specs.Invariant.{Dispatch, IsTrapOf, with_machine, HasUsers, RunsAreLawful}
-use Rattle.cvm_model.specs.Systems.{SystemProperty, status_after, lines_taken, UsePages, KeepsAll, KeptAllAt, IsSystemInvariant}
+use Rattle.cvm_model.specs.Systems.{SystemProperty, status_after, lines_taken, UsePages, KeepsAll, IsSystemInvariant}
 use Rattle.cvm_model.proofs.Systems.{systems_hold, status_join, lines_join}
 use Rattle.cvm_model.proofs.KeptAll.{all_user, all_halt}
-use Rattle.kernel_theorems.specs.UserRuns.{after}
+use Rattle.kernel_theorems.specs.UserRuns.{after, told}
 use Rattle.kernel_theorems.proofs.UserRuns.{core_of_parts, known_step, KnownTrap, known_trap, arrives}
 use Rattle.kernel_theorems.proofs.Histories.{one_more}
 use Rattle.kernel_theorems.proofs.Tests.{small_sum}
 use Rattle.kernel_theorems.proofs.OneKernel.{DoesWithin, keeps_within}
 use Rattle.answering.specs.Tree.{kernel_tree}
-use Rattle.answering.specs.Property.{told, Runs, data_of, Phase, FirstAsks, FirstEnds, SecondAsks, SecondEnds, Over, traps_of, total_of, status_of_phase, IsTurn, most_of, gone_by, first_at, second_at, IsAnswering, Answering, AnswersAreRight}
+use Rattle.answering.specs.Property.{Runs, data_of, Phase, FirstAsks, FirstEnds, SecondAsks, SecondEnds, Over, traps_of, total_of, status_of_phase, IsTurn, most_of, gone_by, first_at, second_at, IsAnswering, Answering, AnswersAreRight}
 
 turn_within : (p : Phase) (u : ℕ) → IsTurn p u → status_of_phase p ≡ Running → (1 ≤ u) × (u ≤ 2)
 turn_within FirstAsks u e on = (omega (arith, e), omega (arith, e))

@@ -1,7 +1,6 @@
 -- A whole system in which users are answered: a kernel that lets user 1 and then user 2 run to its end. Each asks it once, with a number in register 4; the
 -- kernel adds it to the total, and answers with the total in register 2. When both have ended, the system halts.
 use Rattle.std.specs.Prelude.{◌≡◌, ◌≤◌, ◌<◌, ◌^◌, ℕ, suc, ◌+◌, ℤ, pos, List, [], ◌∷◌, length, slice_index, Some}
-use Rattle.std.specs.Int.{w32, cast_unsigned}
 use Rattle.mips_table.specs.Arith.{signed}
 use Rattle.mips_table.specs.declared.cause.Cause.TheVariants.{Syscall}
 use Rattle.mips_table.specs.Flat.{Flat}
@@ -9,16 +8,11 @@ use Rattle.c0_meaning.specs.Value.{int, group, empty, part}
 use Rattle.c0_meaning.specs.State.{State}
 use Rattle.cvm_model.specs.Kernel.{Core}
 use Rattle.cvm_model.specs.KernelMeaning.{kernel_meaning}
-use Rattle.cvm_model.specs.Primitives.{with_register}
 use Rattle.cvm_model.specs.Cvm.{System, Cvm, Status, Running, Halted, first_flat, first_core, cvm, IsCvm}
 use Rattle.cvm_model.specs.Invariant.{Dispatch, dispatches_of, HasEight, HasUsers}
 use Rattle.cvm_model.specs.Systems.{SystemProperty, status_after, lines_taken, UsePages, SystemHolds}
-use Rattle.kernel_theorems.specs.UserRuns.{after, TrapsAfter}
+use Rattle.kernel_theorems.specs.UserRuns.{after, TrapsAfter, told}
 use Rattle.answering.specs.Tree.{kernel_tree}
-
--- a machine that was answered this number
-abbrev pub told : Flat → ℕ → Flat
-told f x = with_register f 2 (cast_unsigned w32 (pos x))
 
 -- a user asks after so many untrapped steps, with this number in register 4; and answered so it ends after so many more
 pub record AsksAndEnds (f : Flat) (steps rest value answer : ℕ) : Type 0 where

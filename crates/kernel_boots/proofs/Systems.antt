@@ -64,6 +64,10 @@ done_of false s e h = absurd (cc)
 whole_text : (y : System) (status : Status) (c : Cvm) (text : List ℕ) → status ≡ Done → TextOfState y status c text → text ≡ boot_text y c
 whole_text y status c text e h = subst (λ (z : Status). TextOfState y z c text) e h
 
+-- before the first turn it is running
+first_runs_of : (y : System) (c : Cvm) (lines : ℕ → ℕ) → IsCvm y lines 0 c → c.status ≡ Running
+first_runs_of y c lines is = let same : first_cvm y ≡ c = let e = is.is in cc in sym (ap (λ (c : Cvm). c.status) same)
+
 module _ (laws : RunsAreLawful) (counts : TurnLaws) (small : BoundsAreSmall) (takes : LinesTakenAreFew) (x : Surroundings) (y : System) (u : CUnit) (meaning_is : y.boot.meaning ≡ kernel_meaning u y.boot.params) (one : RunsAreOne y)
     (n : ℕ) (Fit : Core → Type 0) (I : SystemProperty) (known : Known y Fit) (inv : IsSystemInvariant y n Fit I) (s : State) (eight : HasEight (lines_of x s))
     (late raised turns steps : ℕ) (goes : GoesOnWithin x y s late) (rises : (k : ℕ) → turns_with_lines (lines_of x s) k ≤ raised) (status : Status) (text : List ℕ) (w : StandsAt x y s turns steps status text) where
@@ -74,7 +78,7 @@ module _ (laws : RunsAreLawful) (counts : TurnLaws) (small : BoundsAreSmall) (ta
   holds k e = (systems_hold laws y u n Fit I meaning_is known inv (lines_of x s) eight k).1 w.state (subst (λ j. IsCvm y (lines_of x s) j w.state) e w.is)
 
   first_runs : (c : Cvm) → IsCvm y (lines_of x s) 0 c → c.status ≡ Running
-  first_runs c is = let same : first_cvm y ≡ c = let e = is.is in cc in sym (ap (λ (c : Cvm). c.status) same)
+  first_runs c is = first_runs_of y c (lines_of x s) is
 
   -- no dispatch faulted, where the invariant excludes faults
   safe_at : ((k : ℕ) (past : List Dispatch) (c : Core) → I k past c → IsSafe (status_after past)) → (k : ℕ) → turns_made x s turns steps ≡ k → IsSafe w.state.status
@@ -167,6 +171,35 @@ module _ (laws : RunsAreLawful) (counts : TurnLaws) (small : BoundsAreSmall) (ta
 
   shown : SystemShown x y s late raised turns steps n Fit I status text
   shown = record { stands = w; holds = holds; few_lines = few_lines; no_fault = not_faulted; halts = halts }
+
+-- THE STATE OF A SYSTEM THAT HALTED: a turn was made, so the invariant holds of it; its history has halted; it printed a row for each dispatch, and few of them
+-- took lines
+pub record Stopped (I : SystemProperty) (raised : ℕ) (c : Cvm) : Type 0 where
+  pub turns : ℕ
+  pub past : List Dispatch
+  pub kept : I turns past c.core
+  pub over : status_after past ≡ Halted
+  pub rows : length c.rows ≡ length past
+  pub few : lines_taken past ≤ raised
+
+pub stopped : {x : Surroundings} {y : System} {s : State} {late raised turns steps n : ℕ} {Fit : Core → Type 0} {I : SystemProperty} {status : ExitStatus} {text : List ℕ}
+    → (h : SystemShown x y s late raised turns steps n Fit I status text) → HasHalted x y s turns steps status text h.stands → Stopped I raised h.stands.state
+stopped {x} {y} {s} {late} {raised} {turns} {steps} {n} {Fit} {I} {status} {text} h halted = by (turns_made x s turns steps) refl
+  where
+    by : (k : ℕ) → turns_made x s turns steps ≡ k → Stopped I raised h.stands.state
+    by zero e =
+        let first : IsCvm y (lines_of x s) 0 h.stands.state = subst (λ j. IsCvm y (lines_of x s) j h.stands.state) e h.stands.is in
+        absurd (let z : Running ≡ Halted = sym (first_runs_of y h.stands.state (lines_of x s) first) ∙ halted.halted in cc)
+    by (suc k) e =
+        let held : SystemHolds Fit I (suc k) (dispatches_of y (lines_of x s) n (suc k)) h.stands.state = h.holds k e in
+        record {
+          turns = held.made;
+          past = dispatches_of y (lines_of x s) n (suc k);
+          kept = held.kept;
+          over = sym held.status ∙ halted.halted;
+          rows = ap length held.rows ∙ rows_length (dispatches_of y (lines_of x s) n (suc k));
+          few = h.few_lines k;
+        }
 
 -- AN IMAGE with this source and these users: its source, and the users of the system that is run
 pub asks_source : (source : List ℕ) (users : List (List ℕ)) (words : List (List ℕ)) (file : List ℕ → Option (List ℕ)) (session : Session) (s : ImageSystem) (rows : Rows)

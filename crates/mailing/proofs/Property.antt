@@ -22,20 +22,17 @@ use Rattle.cvm_model.specs.Invariant.{Dispatch, IsTrapOf, with_machine, HasUsers
 use Rattle.cvm_model.specs.Systems.{SystemProperty, status_after, lines_taken, UsePages, KeepsAll, KeptAllAt, IsSystemInvariant}
 use Rattle.cvm_model.proofs.Systems.{systems_hold, status_join, lines_join, append_none}
 use Rattle.cvm_model.proofs.KeptAll.{ComesWithin, keeps_within_by, all_user, all_halt}
-use Rattle.kernel_theorems.specs.UserRuns.{after}
+use Rattle.kernel_theorems.specs.UserRuns.{after, told}
+use Rattle.kernel_theorems.proofs.Histories.{one_more}
 use Rattle.kernel_theorems.proofs.UserRuns.{goes_before, goes_next, its_step, put_in}
 use Rattle.mailing.specs.Tree.{kernel_tree}
-use Rattle.mailing.specs.Users.{Leg, told, before_trap, Place, Runs, Waits, Ended, machine_at, IsRunning, Follows}
+use Rattle.mailing.specs.Users.{Leg, before_trap, Place, Runs, Waits, Ended, machine_at, IsRunning, Follows}
 use Rattle.mailing.specs.Property.{Message, sends, receives, asks, prints, numbers, ints, AreSmall, Mails, data_of, held, number_in, IsFull, IsEmpty, calls_left, waits_by, over_of, status_of_places, Standing, stand, unsent, sent_by, sent, StandsSo, IsMailing, Mailing, MailIsKept, MailIsPrinted}
 use Rattle.mailing.proofs.Dispatching.{core_of, Gives, Code}
 use Rattle.mailing.proofs.Dispatching as code
 use Rattle.mailing.proofs.Following.{goes_on, is_answered, is_waiting, is_answered_late, is_over, TrapsSo, its_trap, IsThat, is_that}
 
 -- HISTORY with a dispatch more
-one_more : (past : List Dispatch) (d : Dispatch) → length (past ++ d ∷ []) ≡ suc (length past)
-one_more [] d = refl
-one_more (e ∷ past) d = ap suc (one_more past d)
-
 sent_join : (past : List Dispatch) (e : Dispatch) (xs : List ℤ) → sent (past ++ e ∷ []) ++ xs ≡ sent past ++ (sent_by e ++ xs)
 sent_join [] e xs = ap (λ (z : List ℤ). z ++ xs) (append_none (sent_by e))
 sent_join (d ∷ past) e xs =

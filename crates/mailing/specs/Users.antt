@@ -1,18 +1,12 @@
 -- Users that make known calls, one after another: each call goes on from what it is answered, and behind the last one the user ends.
 use Rattle.std.specs.Prelude.{◌≡◌, ℕ, suc, ◌+◌, ◌≤◌, pos, List, [], ◌∷◌, length, slice_index}
-use Rattle.std.specs.Int.{w32, cast_unsigned}
 use Rattle.mips_table.specs.Arith.{signed}
 use Rattle.mips_table.specs.declared.cause.Cause.TheVariants.{Syscall}
 use Rattle.mips_table.specs.Flat.{Flat}
-use Rattle.cvm_model.specs.Primitives.{with_register}
-use Rattle.kernel_theorems.specs.UserRuns.{after, TrapsAfter}
+use Rattle.kernel_theorems.specs.UserRuns.{after, TrapsAfter, told}
 
--- a machine that was answered this number, in register 2
-abbrev pub told : Flat → ℕ → Flat
-told f x = with_register f 2 (cast_unsigned w32 (pos x))
-
--- a machine calls after so many untrapped steps, with this number in register 4
-pub record CallsAfter (f : Flat) (steps argument : ℕ) : Type 0 where
+-- a machine asks by `trap` after so many untrapped steps, with this number in register 4
+pub record AsksAfter (f : Flat) (steps argument : ℕ) : Type 0 where
   pub traps : TrapsAfter f steps Syscall
   pub word_is : traps.edata ≡ 12
   pub argument_is : signed (slice_index (after (suc steps) f).cpu.regs 4) ≡ pos argument
@@ -35,7 +29,7 @@ behind f leg = told (after (suc leg.steps) f) leg.answer
 -- A USER makes these calls in this order, where it is answered so, and ends after so many steps behind the last one
 abbrev pub CallsInTurn : Flat → List Leg → (last : ℕ) → Type 0
 CallsInTurn f [] last = EndsAfter f last
-CallsInTurn f (leg ∷ legs) last = CallsAfter f leg.steps leg.argument × CallsInTurn (behind f leg) legs last
+CallsInTurn f (leg ∷ legs) last = AsksAfter f leg.steps leg.argument × CallsInTurn (behind f leg) legs last
 
 -- its machine behind its end
 abbrev pub ended : Flat → List Leg → (last : ℕ) → Flat

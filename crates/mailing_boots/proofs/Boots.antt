@@ -1,5 +1,5 @@
 -- Each boot of the system with a mailbox shows its messages.
-use Rattle.std.proofs.Common.{◌≡◌, ℕ, zero, suc, ◌+◌, ◌≤◌, List, [], ◌∷◌, ◌++◌, length, refl, sym, ap, ◌∙◌, subst, arith}
+use Rattle.std.proofs.Common.{◌≡◌, ℕ, suc, ◌+◌, ◌≤◌, List, [], ◌∷◌, ◌++◌, length, refl, ap, ◌∙◌, arith}
 use Rattle.std.specs.Prelude.{codes}
 use Rattle.mips_table.specs.Device.{Outside}
 use Rattle.mips_table.specs.Machine.{State, LOG_ROOM}
@@ -7,10 +7,10 @@ use Rattle.mips_table.specs.Turns.{lines_of, TurnLaws}
 use Rattle.mips_table.specs.Flat.{Flat}
 use Rattle.cvm_model.specs.Kernel.{Core, KernelMeaning}
 use Rattle.cvm_model.specs.KernelMeaning.{kernel_meaning}
-use Rattle.cvm_model.specs.Cvm.{System, Cvm, Running, Halted, IsCvm, first_flat, first_cvm}
+use Rattle.cvm_model.specs.Cvm.{System, Halted, first_flat}
 use Rattle.cvm_model.specs.Text.{rows_text, report_text}
-use Rattle.cvm_model.specs.Invariant.{Dispatch, rows_of, dispatches_of, HasUsers, RunsAreLawful}
-use Rattle.cvm_model.specs.Systems.{status_after, SystemHolds}
+use Rattle.cvm_model.specs.Invariant.{dispatches_of, HasUsers, RunsAreLawful}
+use Rattle.cvm_model.specs.Systems.{SystemHolds}
 use Rattle.run_bounds.specs.Lines.{LinesTakenAreFew, RaisedLinesAreFew}
 use Rattle.run_bounds.specs.Steps.{BoundsAreSmall}
 use Rattle.kernel_linker.specs.Sources.{AcceptedAreOfImages}
@@ -21,7 +21,7 @@ use Rattle.kernel_theorems.specs.Text.{Means}
 use Rattle.kernel_boots.specs.Boots.{turns_made}
 use Rattle.kernel_boots.specs.Systems.{EndsWithin, HasHalted, SystemShown}
 use Rattle.kernel_boots.proofs.Boots.{asked_read}
-use Rattle.kernel_boots.proofs.Systems.{asks_source, asked_users, systems_boot}
+use Rattle.kernel_boots.proofs.Systems.{asks_source, asked_users, stopped, systems_boot}
 use Rattle.mailing.specs.Tree.{kernel_tree}
 use Rattle.mailing.specs.Text.{text as kernel_text}
 use Rattle.mailing.specs.Users.{CallsInTurn, ended}
@@ -49,10 +49,6 @@ reported : (names : List (List ℕ)) (at : Core) (messages : List ℕ) (users : 
     → codes "halted\n" ++ report_text names at ≡ report_of messages users
 reported names at messages users named data_is logged same = rw (named, data_is, logged, same) refl
 
-rows_length : (past : List Dispatch) → length (rows_of past) ≡ length past
-rows_length [] = refl
-rows_length (d ∷ past) = ap suc (rows_length past)
-
 module _ (law : MailEnds) (x : Outside) (y : System) (ms : List Message) (one two : ℕ) (r : Mails y ms one two) (f g : Flat) (s : State) (late raised turns steps : ℕ) (status : Status) (text : List ℕ)
     (h : SystemShown x y s late raised turns steps 200 (HasUsers y) (Mailing y ms one two f g) status text) where
   names : y.boot.meaning.names ≡ codes "box" ∷ codes "waits" ∷ codes "over" ∷ []
@@ -62,18 +58,13 @@ module _ (law : MailEnds) (x : Outside) (y : System) (ms : List Message) (one tw
   Halts = (status ≡ Done) × (h.stands.state.status ≡ Halted) × (length h.stands.state.rows ≤ dispatches_for ms + raised)
       × (text ≡ rows_text h.stands.state.rows ++ report_of (numbers ms) (ended f (sends ms) one ∷ ended g (receives ms) two ∷ []))
 
-  by_turns : HasHalted x y s turns steps status text h.stands → (k : ℕ) → turns_made x s turns steps ≡ k → Halts
-  by_turns halted zero e =
-      let first : IsCvm y (lines_of x s) 0 h.stands.state = subst (λ j. IsCvm y (lines_of x s) j h.stands.state) e h.stands.is in
-      let same : first_cvm y ≡ h.stands.state = let z = first.is in cc in
-      absurd (let z : Running ≡ Halted = ap (λ (c : Cvm). c.status) same ∙ halted.halted in cc)
-  by_turns halted (suc k) e =
-      let held : SystemHolds (HasUsers y) (Mailing y ms one two f g) (suc k) (dispatches_of y (lines_of x s) 200 (suc k)) h.stands.state = h.holds k e in
-      let over : status_after (dispatches_of y (lines_of x s) 200 (suc k)) ≡ Halted = sym held.status ∙ halted.halted in
-      let long = law.few ms one two f g held.made (dispatches_of y (lines_of x s) 200 (suc k)) h.stands.state.core held.kept.0 in
-      let few = h.few_lines k in
-      let rows : length h.stands.state.rows ≡ length (dispatches_of y (lines_of x s) 200 (suc k)) = ap length held.rows ∙ rows_length (dispatches_of y (lines_of x s) 200 (suc k)) in
-      let done : IsFinished ms one two f g h.stands.state.core = law.finished ms one two f g held.made (dispatches_of y (lines_of x s) 200 (suc k)) h.stands.state.core held.kept.0 over in (
+  by_end : HasHalted x y s turns steps status text h.stands → Halts
+  by_end halted =
+      let end = stopped h halted in
+      let long = law.few ms one two f g end.turns end.past h.stands.state.core end.kept.0 in
+      let few = end.few in
+      let rows = end.rows in
+      let done : IsFinished ms one two f g h.stands.state.core = law.finished ms one two f g end.turns end.past h.stands.state.core end.kept.0 end.over in (
         halted.status_is,
         halted.halted,
         omega (arith, long, few, rows),
@@ -91,7 +82,7 @@ module _ (law : MailEnds) (x : Outside) (y : System) (ms : List Message) (one tw
     shown = h;
     carried = carried;
     no_fault = h.no_fault (ends law y ms one two f g raised).safe;
-    halted = λ enough long. by_turns (h.halts raised (turns_for ms one two + raised) (dispatches_for ms + raised) 0 (ends law y ms one two f g raised) (omega arith) enough long) (turns_made x s turns steps) refl;
+    halted = λ enough long. by_end (h.halts raised (turns_for ms one two + raised) (dispatches_for ms + raised) 0 (ends law y ms one two f g raised) (omega arith) enough long);
   }
 
 pub any_users_mail : AcceptedAreOfImages → RunsAreLawful → TurnLaws → BoundsAreSmall → LinesTakenAreFew → RaisedLinesAreFew → Means kernel_text kernel_tree → MailIsKept → MailEnds → AnyUsersMail

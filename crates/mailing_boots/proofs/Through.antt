@@ -1,7 +1,7 @@
 -- A program comes through its calls: from each answer it comes to the next one (`calls_come`), and behind the last to its end (`ends_come`).
 use Rattle.std.specs.Prelude.{ℤ, pos, map, take, slice_get}
 use Rattle.std.specs.Int.{w32, cast_unsigned}
-use Rattle.std.proofs.Common.{◌≡◌, ℕ, suc, ◌+◌, ◌≤◌, ◌<◌, ◌^◌, List, [], ◌∷◌, ◌++◌, length, Option, Some, refl, sym, ap, ap₂, ◌∙◌, subst, append_assoc, arith}
+use Rattle.std.proofs.Common.{◌≡◌, ℕ, suc, ◌+◌, ◌≤◌, ◌<◌, ◌^◌, List, [], ◌∷◌, ◌++◌, length, Some, refl, sym, ap, ap₂, ◌∙◌, subst, append_assoc, arith}
 use Rattle.std.proofs.lemmas.List.{map-append, map_push}
 use Rattle.mips_table.specs.Flat.{Flat}
 use Rattle.c0_tree.specs.Tree.{CUnit}
@@ -11,32 +11,14 @@ use Rattle.c0_meaning.specs.UserProgram.{Seen, prog, done}
 use Rattle.cvm_model.specs.Cvm.{first_flat}
 use Rattle.cvm_model.proofs.Systems.{append_none}
 use Rattle.user_c0.specs.Image.{image_words}
-use Rattle.user_c0.specs.Events.{Event, step, call, other, replies, calls, others, untrapped, answer_of, answers}
+use Rattle.user_c0.specs.Events.{Event, call, replies, calls, others, untrapped, answer_of, answers}
 use Rattle.user_c0.specs.Program.{EndsBy, steps_of as most_steps}
 use Rattle.user_c0.specs.Users.{HasCome, UsersGoOn, IntsAreTold}
-use Rattle.kernel_theorems.specs.UserRuns.{after}
+use Rattle.kernel_theorems.specs.UserRuns.{after, told}
 use Rattle.program_systems.specs.Coming.{CallsNext, CallsCome, EndsNext, EndsCome}
-use Rattle.mailing.specs.Users.{told, Leg, CallsInTurn}
+use Rattle.program_systems.proofs.Asking.{replies_call, others_call, untrapped_call}
+use Rattle.mailing.specs.Users.{Leg, CallsInTurn}
 use Rattle.mailing_boots.specs.Through.{ints, AreInts, CallsAndReturns, untrapped_in, ComesThrough, ProgramsComeThrough}
-
--- a call more
-replies_call : (es : List Event) (x : Option ℕ) → replies (es ++ call x ∷ []) ≡ replies es ++ x ∷ []
-replies_call [] x = refl
-replies_call (step ∷ es) x = replies_call es x
-replies_call (call r ∷ es) x = ap (λ rs. r ∷ rs) (replies_call es x)
-replies_call (other c d ∷ es) x = replies_call es x
-
-others_call : (es : List Event) (x : Option ℕ) → others es ≡ [] → others (es ++ call x ∷ []) ≡ []
-others_call [] x e = refl
-others_call (step ∷ es) x e = others_call es x e
-others_call (call r ∷ es) x e = others_call es x e
-others_call (other c d ∷ es) x e = absurd (cc)
-
-untrapped_call : (es : List Event) (x : Option ℕ) → untrapped (es ++ call x ∷ []) ≡ untrapped es
-untrapped_call [] x = refl
-untrapped_call (step ∷ es) x = ap suc (untrapped_call es x)
-untrapped_call (call r ∷ es) x = untrapped_call es x
-untrapped_call (other c d ∷ es) x = untrapped_call es x
 
 map_length : {A B : Type 0} (f : A → B) (xs : List A) → length (map f xs) ≡ length xs
 map_length f [] = refl

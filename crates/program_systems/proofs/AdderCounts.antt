@@ -3,8 +3,7 @@ use Rattle.std.proofs.Common.{◌≡◌, ℕ, suc, Some, refl}
 use Rattle.mips_table.specs.Flat.{Flat}
 use Rattle.cvm_model.specs.Cvm.{first_flat}
 use Rattle.user_c0.specs.Image.{image_words}
-use Rattle.kernel_theorems.specs.UserRuns.{after}
-use Rattle.answering.specs.Property.{told}
+use Rattle.kernel_theorems.specs.UserRuns.{after, told}
 use Rattle.program_systems.specs.Adders.{adder, AddersAreCounted}
 use Rattle.program_systems.specs.Counts.{steps_below, AreCounted}
 

@@ -16,28 +16,28 @@ use Rattle.user_c0.specs.Image.{image_words}
 use Rattle.user_c0.specs.Events.{Event, step, call, other, replies, calls, others, untrapped, answer_of, answers}
 use Rattle.user_c0.specs.Program.{EndsBy, steps_of}
 use Rattle.user_c0.specs.Users.{HasCome, UsersGoOn, IntsAreTold}
-use Rattle.kernel_theorems.specs.UserRuns.{after}
-use Rattle.answering.specs.Property.{told, AsksAndEnds}
+use Rattle.kernel_theorems.specs.UserRuns.{after, told}
+use Rattle.answering.specs.Property.{AsksAndEnds}
 use Rattle.answering.specs.Boots.{AnswersShown, AnyUsersAnswered}
 use Rattle.program_systems.specs.Coming.{CallsNext, CallsCome, EndsNext, EndsCome}
 use Rattle.program_systems.specs.Answered.{BringsAndEnds, AskedAndEnded, ProgramsAskAndEnd, ProgramsAnsweredShown, AnyProgramsAnswered, AnyCountedProgramsAnswered}
 use Rattle.program_systems.specs.Counts.{AreCounted, CountsTell}
 use Rattle.program_systems.proofs.Programs.{fewer_turns}
 
--- a call more
-replies_call : (es : List Event) (x : Option ℕ) → replies (es ++ call x ∷ []) ≡ replies es ++ x ∷ []
+-- A CALL MORE: these three may be cited from other crates
+pub replies_call : (es : List Event) (x : Option ℕ) → replies (es ++ call x ∷ []) ≡ replies es ++ x ∷ []
 replies_call [] x = refl
 replies_call (step ∷ es) x = replies_call es x
 replies_call (call r ∷ es) x = ap (λ rs. r ∷ rs) (replies_call es x)
 replies_call (other c d ∷ es) x = replies_call es x
 
-others_call : (es : List Event) (x : Option ℕ) → others es ≡ [] → others (es ++ call x ∷ []) ≡ []
+pub others_call : (es : List Event) (x : Option ℕ) → others es ≡ [] → others (es ++ call x ∷ []) ≡ []
 others_call [] x e = refl
 others_call (step ∷ es) x e = others_call es x e
 others_call (call r ∷ es) x e = others_call es x e
 others_call (other c d ∷ es) x e = absurd (cc)
 
-untrapped_call : (es : List Event) (x : Option ℕ) → untrapped (es ++ call x ∷ []) ≡ untrapped es
+pub untrapped_call : (es : List Event) (x : Option ℕ) → untrapped (es ++ call x ∷ []) ≡ untrapped es
 untrapped_call [] x = refl
 untrapped_call (step ∷ es) x = ap suc (untrapped_call es x)
 untrapped_call (call r ∷ es) x = untrapped_call es x

@@ -1,6 +1,6 @@
 -- What is known of any two users that call serves two programs, whose calls come within the steps of their units.
 use Rattle.std.specs.Prelude.{pos}
-use Rattle.std.proofs.Common.{ℕ, ◌+◌, ◌*◌, ◌≤◌, List, [], length, subst, arith}
+use Rattle.std.proofs.Common.{ℕ, ◌+◌, ◌*◌, ◌≤◌, List, length, subst, arith}
 use Rattle.std.proofs.lemmas.Nat.{mul-le}
 use Rattle.mips_table.specs.Device.{Outside}
 use Rattle.mips_table.specs.Machine.{State}
@@ -13,7 +13,7 @@ use Rattle.cvm_shell.specs.declared.exit_status.Status.{Status}
 use Rattle.cvm_shell.specs.Boot.{booted, around, first_state, steps_before}
 use Rattle.user_c0.specs.Image.{image_words}
 use Rattle.user_c0.specs.Program.{steps_of}
-use Rattle.summing.specs.Property.{CallsAfter}
+use Rattle.kernel_theorems.specs.UserRuns.{CallsAfter}
 use Rattle.summing.specs.Boots.{SumShown, AnyUsersSum}
 use Rattle.program_systems.specs.Counts.{IsCounted, CountsTell}
 use Rattle.program_systems.specs.Coming.{ComesToCall, FirstCallsCome}

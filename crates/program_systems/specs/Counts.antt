@@ -6,8 +6,7 @@ use Rattle.mips_table.specs.Flat.{Flat, VStep, Next as Goes, Trap, vstep}
 use Rattle.c0_tree.specs.Tree.{CUnit}
 use Rattle.c0_meaning.specs.Bare.{bare}
 use Rattle.user_c0.specs.Image.{image_words}
-use Rattle.kernel_theorems.specs.UserRuns.{after, TrapsAfter}
-use Rattle.answering.specs.Property.{told}
+use Rattle.kernel_theorems.specs.UserRuns.{after, TrapsAfter, told}
 
 -- a step, and those behind it
 abbrev pub counted : VStep → (Flat → Option ℕ) → Option ℕ

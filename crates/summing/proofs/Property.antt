@@ -1,5 +1,5 @@
 -- The sums are right: each dispatch, and each step of a user, keeps `IsSum`.
-use Rattle.std.proofs.Common.{◌≡◌, inl, inr, ℕ, suc, ◌+◌, ◌≤◌, ◌<◌, ◌^◌, List, [], ◌∷◌, ◌++◌, length, Bool, true, false, nat_lt, refl, sym, ap, ◌∙◌, subst, arith}
+use Rattle.std.proofs.Common.{◌≡◌, inl, inr, ℕ, suc, ◌+◌, ◌≤◌, List, [], ◌∷◌, ◌++◌, length, Bool, true, false, nat_lt, refl, sym, ap, ◌∙◌, arith}
 use Rattle.std.specs.Prelude.{◌==◌, if◌then◌else◌, pos, map}
 use Rattle.std.specs.Ordering.{int_eq}
 use Rattle.std.proofs.lemmas.Bool.{le-ltb}
@@ -12,10 +12,9 @@ use Rattle.cvm_model.specs.Kernel.{Core, KernelMeaning}
 use Rattle.cvm_model.specs.Primitives.{user_of}
 use Rattle.cvm_model.specs.Cvm.{System, Running, Halted, first_flat, first_core, status_of}
 use Rattle.cvm_model.specs.Invariant.{Dispatch, IsTrapOf, with_machine, HasUsers, RunsAreLawful}
-use Rattle.cvm_model.specs.Systems.{SystemProperty, status_after, lines_taken, UsePages, KeepsAll, KeptAllAt, IsSystemInvariant}
+use Rattle.cvm_model.specs.Systems.{SystemProperty, status_after, lines_taken, UsePages, KeepsAll, IsSystemInvariant}
 use Rattle.cvm_model.proofs.Systems.{systems_hold, status_join, lines_join}
 use Rattle.cvm_model.proofs.KeptAll.{all_user, all_halt}
-use Rattle.kernel_theorems.specs.UserRuns.{after}
 use Rattle.kernel_theorems.proofs.UserRuns.{core_of_parts, known_step, KnownTrap, known_trap, arrives}
 use Rattle.kernel_theorems.proofs.Histories.{one_more}
 use Rattle.kernel_theorems.proofs.Tests.{small_sum}

@@ -1,17 +1,17 @@
 -- Each boot of the summing system shows its sum.
-use Rattle.std.proofs.Common.{◌≡◌, ℕ, zero, suc, ◌+◌, ◌^◌, ◌<◌, ◌≤◌, List, [], ◌∷◌, ◌++◌, length, refl, sym, ap, ◌∙◌, subst, arith}
+use Rattle.std.proofs.Common.{◌≡◌, ℕ, suc, ◌+◌, ◌^◌, ◌<◌, ◌≤◌, List, [], ◌∷◌, ◌++◌, length, refl, sym, ap, ◌∙◌, subst, arith}
 use Rattle.std.specs.Prelude.{codes, pos, true}
 use Rattle.std.specs.Fmt.{digits, signed_decimal}
 use Rattle.mips_table.specs.Device.{Outside}
 use Rattle.mips_table.specs.Machine.{State, Console}
-use Rattle.mips_table.specs.Turns.{lines_of, TurnLaws}
+use Rattle.mips_table.specs.Turns.{TurnLaws}
 use Rattle.mips_table.specs.Flat.{Flat}
 use Rattle.cvm_model.specs.Kernel.{Core, KernelMeaning}
 use Rattle.cvm_model.specs.KernelMeaning.{kernel_meaning}
-use Rattle.cvm_model.specs.Cvm.{System, Cvm, Running, Halted, IsCvm, first_flat, first_cvm}
+use Rattle.cvm_model.specs.Cvm.{System, Running, Halted, first_flat}
 use Rattle.cvm_model.specs.Text.{rows_text, users_text, report_text}
-use Rattle.cvm_model.specs.Invariant.{Dispatch, dispatches_of, HasUsers, IsSafe, RunsAreLawful}
-use Rattle.cvm_model.specs.Systems.{status_after, SystemHolds}
+use Rattle.cvm_model.specs.Invariant.{Dispatch, HasUsers, IsSafe, RunsAreLawful}
+use Rattle.cvm_model.specs.Systems.{status_after}
 use Rattle.run_bounds.specs.Lines.{LinesTakenAreFew, RaisedLinesAreFew}
 use Rattle.run_bounds.specs.Steps.{BoundsAreSmall}
 use Rattle.kernel_linker.specs.Sources.{AcceptedAreOfImages}
@@ -19,15 +19,13 @@ use Rattle.cvm_shell.specs.declared.exit_status.Status.{Status}
 use Rattle.cvm_shell.specs.declared.exit_status.Status.TheVariants.{Done}
 use Rattle.cvm_shell.specs.Boot.{booted, around, first_state, steps_before}
 use Rattle.kernel_theorems.specs.Text.{Means}
-use Rattle.kernel_boots.specs.Boots.{turns_made}
 use Rattle.kernel_boots.specs.Systems.{EndsWithin, HasHalted, SystemShown}
 use Rattle.kernel_boots.proofs.Boots.{asked_read}
-use Rattle.kernel_boots.proofs.Systems.{asks_source, asked_users, systems_boot}
-use Rattle.kernel_theorems.proofs.Histories.{rows_length}
+use Rattle.kernel_boots.proofs.Systems.{asks_source, asked_users, stopped, systems_boot}
 use Rattle.summing.specs.Tree.{kernel_tree}
 use Rattle.summing.specs.Text.{text as kernel_text}
-use Rattle.kernel_theorems.specs.UserRuns.{after}
-use Rattle.summing.specs.Property.{CallsAfter, Runs, data_of, Phase, Nobody, FirstOnly, SecondOnly, Everybody, status_of_phase, calls_of, first_called, second_called, total_of, done_of, machine_of, IsSum, Sums}
+use Rattle.kernel_theorems.specs.UserRuns.{after, CallsAfter}
+use Rattle.summing.specs.Property.{Runs, data_of, Phase, Nobody, FirstOnly, SecondOnly, Everybody, status_of_phase, calls_of, first_called, second_called, total_of, done_of, machine_of, IsSum, Sums}
 use Rattle.summing.specs.Users.{user_one, user_two, UsersCall}
 use Rattle.summing.specs.Boots.{report_of, last_report, SumShown, AnyUsersSum, NamedSumShown, SummingBoots}
 use Rattle.summing.proofs.Property.{invariant}
@@ -109,29 +107,24 @@ module _ (x : Outside) (y : System) (m n v w : ℕ) (r : Runs y m n v w) (f g : 
   Halts = (status ≡ Done) × (h.stands.state.status ≡ Halted) × (length h.stands.state.rows ≤ 3 + raised)
       × (text ≡ rows_text h.stands.state.rows ++ report_of (v + w) (after (suc m) f ∷ after (suc n) g ∷ []))
 
-  by_turns : HasHalted x y s turns steps status text h.stands → (k : ℕ) → turns_made x s turns steps ≡ k → Halts
-  by_turns halted zero e =
-      let first : IsCvm y (lines_of x s) 0 h.stands.state = subst (λ j. IsCvm y (lines_of x s) j h.stands.state) e h.stands.is in
-      let same : first_cvm y ≡ h.stands.state = let z = first.is in cc in
-      absurd (let z : Running ≡ Halted = ap (λ (c : Cvm). c.status) same ∙ halted.halted in cc)
-  by_turns halted (suc k) e =
-      let held : SystemHolds (HasUsers y) (Sums y m n v w f g) (suc k) (dispatches_of y (lines_of x s) 100 (suc k)) h.stands.state = h.holds k e in
-      let over : status_after (dispatches_of y (lines_of x s) 100 (suc k)) ≡ Halted = sym held.status ∙ halted.halted in
-      let long = held.kept.0.length_is in
-      let calls = most_calls held.kept.0.phase in
-      let few = h.few_lines k in
-      let rows : length h.stands.state.rows ≡ length (dispatches_of y (lines_of x s) 100 (suc k)) = ap length held.rows ∙ rows_length (dispatches_of y (lines_of x s) 100 (suc k)) in (
+  by_end : HasHalted x y s turns steps status text h.stands → Halts
+  by_end halted =
+      let end = stopped h halted in
+      let long = end.kept.0.length_is in
+      let calls = most_calls end.kept.0.phase in
+      let few = end.few in
+      let rows = end.rows in (
         halted.status_is,
         halted.halted,
         omega (arith, long, calls, few, rows),
-        halted.text_is ∙ ap (λ (t : List ℕ). rows_text h.stands.state.rows ++ t) (report y m n v w r f g (dispatches_of y (lines_of x s) 100 (suc k)) held.made h.stands.state.core held.kept.0 over),
+        halted.text_is ∙ ap (λ (t : List ℕ). rows_text h.stands.state.rows ++ t) (report y m n v w r f g end.past end.turns h.stands.state.core end.kept.0 end.over),
       )
 
   shown : SumShown x y s late raised turns steps m n v w f g status text
   shown = record {
     shown = h;
     no_fault = h.no_fault (ends y m n v w f g raised).safe;
-    halted = λ enough long. by_turns (h.halts raised (3 + m + n + raised) (3 + raised) 0 (ends y m n v w f g raised) (omega arith) enough long) (turns_made x s turns steps) refl;
+    halted = λ enough long. by_end (h.halts raised (3 + m + n + raised) (3 + raised) 0 (ends y m n v w f g raised) (omega arith) enough long);
   }
 
 pub any_users_sum : AcceptedAreOfImages → RunsAreLawful → TurnLaws → BoundsAreSmall → LinesTakenAreFew → RaisedLinesAreFew → Means kernel_text kernel_tree → AnyUsersSum

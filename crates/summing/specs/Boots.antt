@@ -21,8 +21,8 @@ use Rattle.cvm_shell.specs.CommandEnds.{Headlines}
 use Rattle.kernel_theorems.specs.Lines.{by_lines}
 use Rattle.kernel_boots.specs.Systems.{AsksSystem, SystemShown}
 use Rattle.summing.specs.Text.{text as kernel_text}
-use Rattle.kernel_theorems.specs.UserRuns.{after}
-use Rattle.summing.specs.Property.{CallsAfter, Sums}
+use Rattle.kernel_theorems.specs.UserRuns.{after, CallsAfter}
+use Rattle.summing.specs.Property.{Sums}
 use Rattle.summing.specs.Users.{user_one, user_two}
 
 -- the report of the system once it has halted, with this total and these machines: nothing was logged

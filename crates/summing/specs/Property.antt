@@ -1,8 +1,6 @@
 -- A whole system: a kernel that adds up what its two users bring it by a system call, in register 4, and halts when both have called. Whatever lines are
 -- raised, each user is heard once, the total is the sum, and the system halts.
-use Rattle.std.specs.Prelude.{◌≡◌, ◌⊎◌, ◌≤◌, ◌<◌, ◌^◌, ℕ, suc, ◌+◌, ℤ, pos, Bool, true, false, List, [], ◌∷◌, length, slice_index, Some}
-use Rattle.mips_table.specs.Arith.{signed}
-use Rattle.mips_table.specs.declared.cause.Cause.TheVariants.{Syscall}
+use Rattle.std.specs.Prelude.{◌≡◌, ◌⊎◌, ◌≤◌, ◌<◌, ◌^◌, ℕ, suc, ◌+◌, ℤ, pos, Bool, true, false, List, [], ◌∷◌, length, Some}
 use Rattle.mips_table.specs.Flat.{Flat}
 use Rattle.c0_meaning.specs.Value.{int, bool, group, empty, part}
 use Rattle.c0_meaning.specs.State.{State}
@@ -11,13 +9,8 @@ use Rattle.cvm_model.specs.KernelMeaning.{kernel_meaning}
 use Rattle.cvm_model.specs.Cvm.{System, Cvm, Status, Running, Halted, first_flat, first_core, cvm, IsCvm}
 use Rattle.cvm_model.specs.Invariant.{Dispatch, dispatches_of, HasEight, HasUsers}
 use Rattle.cvm_model.specs.Systems.{SystemProperty, status_after, lines_taken, UsePages, SystemHolds}
-use Rattle.kernel_theorems.specs.UserRuns.{after, TrapsAfter}
+use Rattle.kernel_theorems.specs.UserRuns.{after, CallsAfter}
 use Rattle.summing.specs.Tree.{kernel_tree}
-
--- a user calls after so many untrapped steps, with this number in register 4
-pub record CallsAfter (f : Flat) (steps value : ℕ) : Type 0 where
-  pub calls : TrapsAfter f steps Syscall
-  pub value_is : signed (slice_index (after (suc steps) f).cpu.regs 4) ≡ pos value
 
 -- a system of this kernel: two users, which call after m and n steps with v and w, whose sum is an int; and its stack has room for a frame
 pub record Runs (y : System) (m n v w : ℕ) : Type 0 where

@@ -1,7 +1,7 @@
 -- The two users of the system: each counts register 4 up to a number, and then calls.
 use Rattle.std.specs.Prelude.{ℕ, List, [], ◌∷◌}
 use Rattle.cvm_model.specs.Cvm.{first_flat}
-use Rattle.summing.specs.Property.{CallsAfter}
+use Rattle.kernel_theorems.specs.UserRuns.{CallsAfter}
 
 -- ori r5, r0, 10; addiu r4, r4, 1; bne r4, r5, -2; syscall
 abbrev pub user_one : List ℕ
