@@ -1,6 +1,6 @@
 -- Traces, saves and resumes print the text of the state where their run stands.
-use Rattle.std.proofs.Common.{◌≡◌, inl, inr, ℕ, zero, suc, ◌≤◌, List, [], ◌++◌, length, Bool, true, false, Option, Some, None, refl, sym, ap, ◌∙◌, subst}
-use Rattle.std.specs.Prelude.{◌≢◌, ◌⊎◌, if◌then◌else◌, option_map, codes}
+use Rattle.std.proofs.Common.{◌≡◌, inl, inr, ℕ, zero, suc, ◌≤◌, List, ◌++◌, length, Bool, true, false, Option, Some, None, refl, sym, ap, ◌∙◌, subst}
+use Rattle.std.specs.Prelude.{◌≢◌, ◌⊎◌, if◌then◌else◌, option_map}
 use Rattle.std.specs.Io.KnownBytes.{append_known}
 use Rattle.schedule_file.specs.Rows.{Rows}
 use Rattle.mips_table.specs.Device.{Outside as Surroundings}
@@ -10,17 +10,16 @@ use Rattle.mips_table.specs.Flat.{Flat}
 use Rattle.cvm_model.specs.Kernel.{JournalEntry}
 use Rattle.cvm_model.specs.KernelMeaning.{UnitsReplay}
 use Rattle.cvm_model.specs.Primitives.{user_of}
-use Rattle.cvm_model.specs.Cvm.{System, Cvm, Status as CvmStatus, Running, Halted, Faulted, first_cvm, IsCvm, cvm}
+use Rattle.cvm_model.specs.Cvm.{System, Cvm, Status as CvmStatus, Running, Halted, Faulted, first_cvm, cvm}
 use Rattle.cvm_model.specs.Invariant.{HasEight, RunsAreLawful}
 use Rattle.cvm_model.specs.Journal.{journal, replay, Isolated}
-use Rattle.cvm_model.specs.Text.{rows_text, start_row, open_journal_rows, trace_text}
+use Rattle.cvm_model.specs.Text.{start_row, open_journal_rows, trace_text}
 use Rattle.layer_contract.specs.Layer.{Rests}
 use Rattle.boot_turns.specs.declared.answers.View.{View}
 use Rattle.boot_turns.specs.declared.answers.View.TheVariants as view
 use Rattle.boot_turns.specs.Headline.{Ending, Done as IsDone, KernelFaulted, OutOfSteps, ending_of, ending, TextAt, RanFrom}
 use Rattle.boot_turns.specs.Headline as headline
-use Rattle.boot_turns.specs.Trace.{Shown}
-use Rattle.boot_turns.specs.TurnEnds.{first_of, RestsAfter, Stood, Printed, IsOver}
+use Rattle.boot_turns.specs.TurnEnds.{first_of, Stood, Printed, IsOver}
 use Rattle.boot_run.specs.RunEnds.{SeesUser, CallsFrom, ending_of_end}
 use Rattle.boot_run.specs.SavedRuns.{SavedAt, GoesOnAs}
 use Rattle.boot_run.specs.declared.whole.RunEnd.{RunEnd}
@@ -32,14 +31,13 @@ use Rattle.cvm_shell.specs.declared.boot.Session.{Session}
 use Rattle.cvm_shell.specs.Command.{Save, save_session}
 use Rattle.cvm_shell.specs.Host.{Host, counts}
 use Rattle.cvm_shell.specs.Boot.{booted, around, first_state, sectors_needed, ended_as, SessionRan, AreFilesOf, Headline}
-use Rattle.cvm_shell.specs.CommandEnds.{Headlines, Isolates}
 use Rattle.cvm_shell.specs.Isolation.{IsolatedTrace}
 use Rattle.cvm_shell.specs.Saves.{saved_row, Stopped, IsSavedIn, SaveHolds, as_boot, is_saved}
 use Rattle.cvm_shell.specs.Resumes.{ResumeHolds, IsSavedRun}
-use Rattle.kernel_boots.specs.Boots.{turns_made, StandsAt, SessionStands, BootStands}
-use Rattle.kernel_boots.specs.Stands.{lines_met, under_way, TraceTextOf, TraceStandsAt, TraceStands, TracesStand, SavedStands, SaveStands, SavesStand, ResumeStands, ResumesStand}
+use Rattle.kernel_boots.specs.Boots.{SessionStands, BootStands}
+use Rattle.kernel_boots.specs.Stands.{lines_met, under_way, TraceTextOf, TraceStandsAt, TracesStand, SavedStands, SaveStands, SavesStand, ResumeStands, ResumesStand}
 use Rattle.kernel_boots.proofs.EightLines.{eight_of, turns_have_eight}
-use Rattle.kernel_boots.proofs.Boots.{RunsAreOne, ones, stands, asked_eight}
+use Rattle.kernel_boots.proofs.Boots.{ones, stands, asked_eight}
 
 -- THE STATUS of a run with no failed call
 abbrev Allowed : Status → Type 0

@@ -1,6 +1,6 @@
 -- Where the run of a trace, of a save and of a resume stands, and what is printed of that state: as specs/Boots says it of a boot. What was proved of each
 -- state of a system's run holds of these, whatever lines their schedules raise: of `state` by `is` or `run`, and by `eight`.
-use Rattle.std.specs.Prelude.{◌≡◌, ◌≢◌, ◌⊎◌, ◌≤◌, ℕ, true, None, nat_lt, if◌then◌else◌, List, [], ◌++◌, Some, codes}
+use Rattle.std.specs.Prelude.{◌≡◌, ◌≢◌, ◌⊎◌, ◌≤◌, ℕ, true, None, nat_lt, if◌then◌else◌, List, [], ◌++◌, Some}
 use Rattle.std.specs.Io.KnownBytes.{append_known}
 use Rattle.schedule_file.specs.Rows.{Rows}
 use Rattle.mips_table.specs.Device.{Outside}

@@ -1,10 +1,9 @@
 -- The current user of a dispatch: which caller fits the tests of primitives, and a call that is answered in a register. This file may be cited from other crates.
-use Rattle.std.proofs.Common.{◌≡◌, ℕ, ◌-◌, ◌≤◌, ◌<◌, List, length, Bool, true, false, refl, sym, ap, ap₂, ◌∙◌, subst, arith}
+use Rattle.std.proofs.Common.{◌≡◌, ℕ, ◌-◌, ◌≤◌, ◌<◌, length, Bool, true, false, refl, ap₂, ◌∙◌, subst, arith}
 use Rattle.std.specs.Prelude.{ℤ, nat_le, ◌==◌, ◌&&◌, FitsSigned}
 use Rattle.std.specs.Int.{w32}
 use Rattle.std.proofs.lemmas.Bool.{le-leb, eqb-true, eq-eqb}
 use Rattle.std.proofs.lemmas.List.Elements.{All-get_or}
-use Rattle.mips_table.specs.Flat.{Flat}
 use Rattle.cvm_model.specs.Kernel.{Core}
 use Rattle.cvm_model.specs.Primitives.{user_of, no_flat}
 use Rattle.cvm_model.specs.Stands.{IsUser}

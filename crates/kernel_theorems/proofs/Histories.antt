@@ -1,5 +1,5 @@
 -- Histories with a dispatch more. This file may be cited from other crates.
-use Rattle.std.proofs.Common.{◌≡◌, ℕ, zero, suc, List, [], ◌∷◌, ◌++◌, length, refl, ap}
+use Rattle.std.proofs.Common.{◌≡◌, suc, List, [], ◌∷◌, ◌++◌, length, refl, ap}
 use Rattle.cvm_model.specs.Invariant.{Dispatch, rows_of}
 use Rattle.kernel_theorems.specs.History.{told_by}
 

@@ -3,7 +3,7 @@
 use Rattle.std.specs.Prelude.{◌≡◌, ℕ, suc, ◌+◌, ◌%◌, ◌==◌, ◌≤◌, ◌<◌, ℤ, pos, if◌then◌else◌, List, [], ◌∷◌, ◌++◌, codes, length}
 use Rattle.c0_tree.specs.declared.tree.Kind.TheVariants.{Global}
 use Rattle.c0_tree.specs.declared.tree.BinaryOp.TheVariants.{Add, Rem, Gt}
-use Rattle.c0_tree.specs.Tree.{CUnit, CExpr, CStmt, assign, binary, choice, done}
+use Rattle.c0_tree.specs.Tree.{CUnit, CExpr, assign, binary, choice, done}
 use Rattle.c0_tree.specs.Tree as tree
 use Rattle.worked_rows.specs.Kernels.{z, decl, global, local, number, block}
 use Rattle.worked_rows.specs.SystemKernels.{kernel, next, cause_is}

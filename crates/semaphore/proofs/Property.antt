@@ -1,14 +1,14 @@
 -- The kernel semaphore: each of its dispatches keeps what is so between them.
 use native.Mathlib.Nat.{mod-lt}
-use Rattle.std.proofs.Common.{◌≡◌, ◌≢◌, ℕ, zero, suc, ◌+◌, ◌%◌, ◌≤◌, ◌<◌, List, [], ◌∷◌, ◌++◌, length, true, false, nat_lt, Some, refl, sym, ap, ap₂, ◌∙◌, subst, arith}
-use Rattle.std.specs.Prelude.{ℤ, pos, ◌==◌, ◌&&◌, ◌||◌, if◌then◌else◌}
+use Rattle.std.proofs.Common.{◌≡◌, ◌≢◌, ℕ, suc, ◌+◌, ◌%◌, ◌≤◌, ◌<◌, List, [], ◌∷◌, ◌++◌, true, false, nat_lt, Some, refl, sym, ap, ◌∙◌, subst, arith}
+use Rattle.std.specs.Prelude.{pos, ◌==◌, if◌then◌else◌}
 use Rattle.std.specs.Int.{w32}
 use Rattle.std.specs.Ordering.{int_eq}
 use Rattle.std.proofs.lemmas.Bool.{le-ltb, eqb-true, eq-eqb, ne_eqb}
 use Rattle.std.proofs.lemmas.Int.{int_wrap_fits}
 use Rattle.mips_table.specs.declared.cause.Cause.TheVariants as causes
 use Rattle.kernel_theorems.proofs.ForKernels.{signed, Cause, number_of, int, Core, KernelMeaning, user_of, IsUser, System, first_core, Next, Dispatch, IsTrap, IsInvariant, Shaped, RunsAreLawful, invariants_hold}
-use Rattle.kernel_theorems.proofs.ForKernels.{calls, set_in, SetsAreFound, EachHas, each_more, told_more, not_both, left_of, and_false, by_test, by_same, by_equal, small_fits, Caller, caller, the_caller, AnsweredCall, answered_call, Does, keeps_from, to_user}
+use Rattle.kernel_theorems.proofs.ForKernels.{calls, set_in, SetsAreFound, EachHas, each_more, told_more, not_both, left_of, and_false, by_test, by_same, by_equal, small_fits, Caller, caller, AnsweredCall, answered_call, Does, keeps_from, to_user}
 use Rattle.semaphore.specs.Tree.{kernel_tree}
 use Rattle.semaphore.specs.Property.{data_of, asks, inside_after, inside, IsAnswered, Between, Runs, PropertyHolds}
 

@@ -1,6 +1,6 @@
 -- What is proved of the kernel semaphore, by what its users find: a user asks to be let in by a system call of code 0, is let in where it then finds 1 in
 -- its register 2, and is inside until it says by a system call of code 1 that it leaves. At most one is inside.
-use Rattle.std.specs.Prelude.{◌≡◌, ◌≤◌, ◌==◌, ◌&&◌, ◌||◌, if◌then◌else◌, ℕ, suc, ℤ, pos, Bool, true, false, List, [], ◌∷◌, length}
+use Rattle.std.specs.Prelude.{◌≡◌, ◌≤◌, ◌==◌, ◌&&◌, ◌||◌, if◌then◌else◌, ℕ, suc, ℤ, pos, Bool, true, false, List, [], length}
 use Rattle.std.specs.Ordering.{int_eq}
 use Rattle.mips_table.specs.Arith.{signed}
 use Rattle.c0_meaning.specs.Value.{int, group, empty, part}

@@ -1,5 +1,5 @@
 -- A report, cut at a user's block; and a user of a list of words.
-use Rattle.std.proofs.Common.{◌≡◌, ℕ, zero, suc, ◌+◌, ◌-◌, ◌<◌, ◌≤◌, List, [], ◌∷◌, ◌++◌, length, refl, sym, ap, ap₂, ◌∙◌, subst, arith}
+use Rattle.std.proofs.Common.{◌≡◌, ℕ, zero, suc, ◌+◌, ◌-◌, ◌<◌, ◌≤◌, List, [], ◌∷◌, ◌++◌, length, refl, sym, ap, ◌∙◌, arith}
 use Rattle.std.specs.Prelude.{take, drop, map, Some, slice_get, slice_index_or}
 use Rattle.std.proofs.lemmas.List.{append_assoc}
 use Rattle.mips_table.specs.Flat.{Flat}

@@ -1,5 +1,5 @@
 -- A journal without changes is that of the user's own steps, and its replay is the machine behind them.
-use Rattle.std.proofs.Common.{◌≡◌, ℕ, zero, suc, ◌+◌, ◌&&◌, ◌≤◌, List, [], ◌∷◌, ◌++◌, length, Bool, true, false, refl, sym, ap, ap₂, ◌∙◌, subst}
+use Rattle.std.proofs.Common.{◌≡◌, ℕ, zero, suc, ◌+◌, ◌&&◌, List, [], ◌∷◌, ◌++◌, Bool, true, false, refl, sym, ap, ap₂, ◌∙◌}
 use Rattle.std.specs.Prelude.{◌==◌, if◌then◌else◌, Option, Some, None, option_and_then, bit_or}
 use Rattle.std.specs.List.{list_all}
 use Rattle.std.proofs.lemmas.Bool.{and_parts, and_from, eqb-true}
@@ -7,14 +7,14 @@ use Rattle.std.proofs.lemmas.List.{append-nil}
 use Rattle.std.proofs.lemmas.List.Folds.{list_all-append}
 use Rattle.mips_table.specs.Machine.{number_of}
 use Rattle.mips_table.specs.Flat.{Flat, VStep, Next as Goes, Trap, vstep}
-use Rattle.cvm_model.specs.Kernel.{Core, JournalEntry, Stepped, Trapped, Set, Size, Put, Changes}
+use Rattle.cvm_model.specs.Kernel.{Core, JournalEntry, Stepped, Trapped, Set, Size, Put}
 use Rattle.cvm_model.specs.Primitives.{user_of}
-use Rattle.cvm_model.specs.Cvm.{System, Cvm, Status, Running, Halted, Faulted, Begin, Steps, Traps, Interrupts, begin, dispatch_of, first_core, cvm}
+use Rattle.cvm_model.specs.Cvm.{System, Cvm, Status, Running, Halted, Faulted, Begin, Steps, Traps, Interrupts, begin, first_core, cvm}
 use Rattle.cvm_model.specs.Invariant.{machine_after}
-use Rattle.cvm_model.specs.Journal.{changes_of, begin_entries, running_entries, turn_entries, journal, replay_step, replay_trap, replay_entry, replay, KernelReplays, Isolated}
+use Rattle.cvm_model.specs.Journal.{begin_entries, running_entries, turn_entries, journal, replay_step, replay_trap, replay_entry, replay, Isolated}
 use Rattle.kernel_theorems.specs.UserRuns.{after}
 use Rattle.called_primitives.specs.Kernels.{LeavesAlone}
-use Rattle.separation.specs.Runs.{own_steps, entry_of, own_journal, OwnRun, RunsAreOwn}
+use Rattle.separation.specs.Runs.{own_steps, entry_of, own_journal, RunsAreOwn}
 
 -- AN ENTRY OF ITS OWN is a step or a trap
 abbrev is_own : JournalEntry → Bool

@@ -1,37 +1,33 @@
 -- From a kernel that leaves users alone to what boots and traces print of them.
-use Rattle.std.proofs.Common.{◌≡◌, ◌≤◌, ◌-◌, ◌+◌, ℕ, zero, suc, List, [], ◌∷◌, ◌++◌, length, Bool, true, false, Option, Some, None, refl, sym, ap, ◌∙◌, subst, arith}
-use Rattle.std.specs.Prelude.{if◌then◌else◌, Ok, map, option_map, slice_get, slice_index_or}
+use Rattle.std.proofs.Common.{◌≡◌, ◌≤◌, ◌-◌, ℕ, zero, suc, List, length, Bool, true, false, Option, Some, refl, sym, ap, ◌∙◌, subst, arith}
+use Rattle.std.specs.Prelude.{if◌then◌else◌, Ok, map, option_map, slice_get}
 use Rattle.std.specs.Io.KnownBytes.{append_known}
 use Rattle.std.proofs.lemmas.List.{length-map}
 use Rattle.schedule_file.specs.Rows.{Rows}
-use Rattle.mips_table.specs.Turns.{is_end, end_within}
-use Rattle.mips_table.specs.Flat.{Flat}
 use Rattle.real_layer.specs.Image.{layer_image}
 use Rattle.boot_image.specs.Reading.{answer as image_of}
-use Rattle.boot_turns.specs.Headline.{Ending, Done as IsDone, KernelFaulted, OutOfSteps, ending_of}
-use Rattle.cvm_model.specs.Kernel.{KernelMeaning}
-use Rattle.cvm_model.specs.KernelMeaning.{kernel_meaning, UnitsReplay}
-use Rattle.cvm_model.specs.Primitives.{no_flat, user_of}
+use Rattle.boot_turns.specs.Headline.{OutOfSteps, ending_of}
+use Rattle.cvm_model.specs.KernelMeaning.{UnitsReplay}
+use Rattle.cvm_model.specs.Primitives.{user_of}
 use Rattle.cvm_model.specs.Cvm.{System, Cvm, Status as CvmStatus, Running, Halted, Faulted, first_flat, first_core, first_cvm, cvm}
-use Rattle.cvm_model.specs.Journal.{journal, replay, KernelReplays, Isolated}
-use Rattle.cvm_model.specs.Text.{user_text, boot_text, trace_text}
+use Rattle.cvm_model.specs.Journal.{journal, replay, Isolated}
+use Rattle.cvm_model.specs.Text.{user_text, trace_text}
 use Rattle.kernel_linker.specs.Accept.{ImageSystem}
 use Rattle.kernel_linker.specs.Sources.{AcceptedAreOfImages}
 use Rattle.kernel_theorems.specs.UserRuns.{after}
 use Rattle.kernel_theorems.specs.Text.{TextsMeanTrees}
-use Rattle.cvm_shell.specs.declared.exit_status.Status.{Status}
-use Rattle.cvm_shell.specs.declared.exit_status.Status.TheVariants.{Done, KernelFault, StepLimit}
+use Rattle.cvm_shell.specs.declared.exit_status.Status.TheVariants.{Done}
 use Rattle.cvm_shell.specs.declared.boot.Session.{Session}
 use Rattle.cvm_shell.specs.Host.{Host}
 use Rattle.cvm_shell.specs.Plan.{Accepts}
-use Rattle.cvm_shell.specs.Boot.{booted, around, first_state, ended_as, AskFor, by_boot, by_trace, by_sample, IsHonest}
-use Rattle.cvm_shell.specs.Isolation.{IsolatedTrace, lines_met}
-use Rattle.kernel_boots.specs.Boots.{turns_made, BootStands, AsksSource, RunsItsSource}
+use Rattle.cvm_shell.specs.Boot.{booted, ended_as, AskFor, by_boot, by_trace, by_sample, IsHonest}
+use Rattle.cvm_shell.specs.Isolation.{lines_met}
+use Rattle.kernel_boots.specs.Boots.{BootStands, AsksSource, RunsItsSource}
 use Rattle.kernel_boots.specs.Systems.{BootIsChain, BootsAreChains}
 use Rattle.kernel_boots.proofs.Boots.{of_image}
 use Rattle.called_primitives.specs.Kernels.{LeavesAlone, ChangesNoMachine, ReadersChangeNone}
 use Rattle.separation.specs.Runs.{own_steps, own_journal, OwnRun, RunsAreOwn}
-use Rattle.separation.specs.Boots.{SourceChangesNone, DoneBoot, system_of, met, made, in_front, behind, PrintsUser, HasUser, AsksUser, Boots, own_block, BlocksAreOwn, BootsPrintOwn, Agree, BootsAgree, own_trace, TracesAreOwn, TextsChangeNone}
+use Rattle.separation.specs.Boots.{SourceChangesNone, DoneBoot, system_of, met, made, PrintsUser, HasUser, AsksUser, Boots, own_block, BootsPrintOwn, BootsAgree, TracesAreOwn, TextsChangeNone}
 use Rattle.separation.proofs.Blocks.{IsReported, cut_boot, there, mapped}
 
 -- THE USER'S WORDS are those of the image

@@ -1,5 +1,5 @@
 -- Separation: what two boots print of a user that has the same words in both, where the kernels leave it alone.
-use Rattle.std.specs.Prelude.{◌≡◌, IsTrue, ℕ, ◌+◌, ◌-◌, ◌≤◌, List, ◌++◌, length, take, drop, Option, Ok, Some, slice_get}
+use Rattle.std.specs.Prelude.{◌≡◌, IsTrue, ℕ, ◌+◌, ◌-◌, ◌≤◌, List, ◌++◌, take, drop, Option, Ok, Some, slice_get}
 use Rattle.std.specs.Io.KnownBytes.{append_known}
 use Rattle.schedule_file.specs.Rows.{Rows}
 use Rattle.mips_table.specs.Turns.{lines_of}
