@@ -112,7 +112,7 @@ class Examples(Folders):
         self.from_rom(name, kernel, schedule)
 
     def write(self):
-        for name in ('adder', 'faults', 'mailbox', 'messages', 'round_robin', 'sharing'):
+        for name in ('adder', 'alternating', 'faults', 'mailbox', 'messages', 'round_robin', 'sharing'):
             self.example(name)
             if name == 'messages':
                 self.saved_example(name, 50)

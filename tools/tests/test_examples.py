@@ -28,14 +28,15 @@ class Proved(unittest.TestCase):
         return re.findall(r'codes "([^"]*)"', body)
 
     def test_kernels_are_those_of_the_theorems(self):
-        for example, crate in (('summing', 'summing'), ('compiled_sums', 'summing'), ('answering', 'answering')):
+        for example, crate in (('summing', 'summing'), ('compiled_sums', 'summing'), ('answering', 'answering'), ('alternating', 'alternating')):
             self.assertEqual('\n'.join(self.codes((crate, 'specs', 'Text.antt'), 'text')) + '\n', stored('examples', example, 'kernel.c0'), example)
 
     def test_users_are_those_of_the_theorems(self):
-        specs = stored('crates', 'summing', 'specs', 'Users.antt')
-        for file, name in (('user1.s', 'user_one'), ('user2.s', 'user_two')):
-            words = [int(word, 16) for word in re.findall('0x[0-9a-f]+', re.search(r'^%s = .*$' % name, specs, re.M).group())]
-            self.assertEqual(assembler.words_of(stored('examples', 'summing', file)), words)
+        for example, names in (('summing', ('user_one', 'user_two')), ('alternating', ('user_1', 'user_2'))):
+            specs = stored('crates', example, 'specs', 'Users.antt')
+            for file, name in zip(('user1.s', 'user2.s'), names):
+                words = [int(word, 16) for word in re.findall('0x[0-9a-f]+', re.search(r'^%s = .*$' % name, specs, re.M).group())]
+                self.assertEqual(assembler.words_of(stored('examples', example, file)), words)
         for example in ('compiled_sums', 'answering'):
             for file, limit in (('user1.c0', '10'), ('user2.c0', '20')):
                 lines = self.codes(('program_systems', 'specs', 'AdderTexts.antt'), 'text_of limit')
@@ -43,10 +44,12 @@ class Proved(unittest.TestCase):
                 self.assertEqual('\n'.join(lines[:2] + [first + limit + last] + lines[4:]) + '\n', stored('examples', example, file))
 
     def test_what_is_printed_is_what_the_theorem_states(self):
-        rows = self.codes(('summing', 'specs', 'Boots.antt'), 'report_lines')
-        printed = stored('examples', 'summing', 'printed').rstrip('\n').split('\n')
-        self.assertEqual(printed[-len(rows):], rows)
-        for example, report, most in (('summing', ['global total 30', 'global done true'], 3), ('compiled_sums', ['global total 265', 'global done true'], 3), ('answering', ['global total 265'], 5)):
+        for example in ('summing', 'alternating'):
+            rows = self.codes((example, 'specs', 'Boots.antt'), 'report_lines')
+            printed = stored('examples', example, 'printed').rstrip('\n').split('\n')
+            self.assertEqual(printed[-len(rows):], rows)
+        for example, report, most in (('summing', ['global total 30', 'global done true'], 3), ('compiled_sums', ['global total 265', 'global done true'], 3), ('answering', ['global total 265'], 5),
+                                      ('alternating', ['global calls 6', 'con 00000001'], 7)):
             printed = stored('examples', example, 'printed').split('\n')
             over = printed.index('halted')
             self.assertEqual(printed[over + 1:over + 1 + len(report)], report)

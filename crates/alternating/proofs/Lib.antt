@@ -1,0 +1,5 @@
+mod Property
+mod Users
+mod Boots
+mod Reports
+mod Texts

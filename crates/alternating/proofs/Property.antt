@@ -1,0 +1,244 @@
+-- The users alternate: each dispatch, and each step of a user, keeps `Alternates`.
+use Rattle.std.proofs.Common.{◌≡◌, ℕ, zero, suc, ◌+◌, ◌*◌, ◌≤◌, List, [], ◌∷◌, ◌++◌, length, false, nat_lt, refl, sym, ap, ◌∙◌, subst, arith}
+use Rattle.std.specs.Prelude.{◌==◌, if◌then◌else◌, pos, map, slice_index}
+use Rattle.std.specs.Int.{int_wrap}
+use Rattle.std.proofs.lemmas.Bool.{le-ltb}
+use Rattle.mips_table.specs.Arith.{signed}
+use Rattle.mips_table.specs.declared.cause.Cause.{Cause}
+use Rattle.mips_table.specs.declared.cause.Cause.TheVariants as causes
+use Rattle.mips_table.specs.Machine.{number_of}
+use Rattle.mips_table.specs.Flat.{Flat, Next as Goes, vstep}
+use Rattle.cvm_model.specs.Kernel.{Core, KernelMeaning}
+use Rattle.cvm_model.specs.Primitives.{user_of, with_user}
+use Rattle.cvm_model.specs.Cvm.{System, Running, Halted, first_flat, first_core, status_of}
+use Rattle.cvm_model.specs.Invariant.{Dispatch, IsTrapOf, with_machine, HasUsers, RunsAreLawful}
+use Rattle.cvm_model.specs.Systems.{SystemProperty, status_after, lines_taken, UsePages, KeepsAll, IsSystemInvariant}
+use Rattle.cvm_model.proofs.Systems.{systems_hold, status_join, lines_join}
+use Rattle.cvm_model.proofs.KeptAll.{all_user, all_halt}
+use Rattle.kernel_theorems.specs.UserRuns.{after, CallsAfter}
+use Rattle.kernel_theorems.proofs.UserRuns.{core_of_parts, known_step, known_trap, arrives}
+use Rattle.kernel_theorems.proofs.Histories.{one_more}
+use Rattle.kernel_theorems.proofs.Tests.{by_same}
+use Rattle.kernel_theorems.proofs.OneKernel.{DoesWithin, keeps_within}
+use Rattle.alternating.specs.Tree.{kernel_tree}
+use Rattle.alternating.specs.Users.{user_1, user_2}
+use Rattle.alternating.specs.Property.{data_of, half, turn_of, leg, steps_up_to, behind, machines, status_behind, console_of, Alternates, Alternating, Runs, UsersAlternate}
+use Rattle.alternating.proofs.Users.{brings_odd, brings_even}
+
+-- a state that is running is behind five calls at most
+pub still_few : (calls : ℕ) → calls ≤ 6 → status_behind calls ≡ Running → calls ≤ 5
+still_few calls few on = by_same calls 6
+    (λ e six. absurd (let z : Halted ≡ Running = sym (ap (λ b. if b then Halted else Running) e) ∙ on in cc))
+    (λ e other. omega (arith, few, other))
+
+module _ (y : System) (r : Runs y) (f g : Flat) (odd : (c : ℕ) → c ≤ 2 → CallsAfter (behind f c) (leg c) (suc (2 * c))) (even : (c : ℕ) → c ≤ 2 → CallsAfter (behind g c) (leg c) (suc (suc (2 * c))))
+    (users_are : map first_flat y.boot.users ≡ f ∷ g ∷ []) where
+  abbrev I : SystemProperty
+  I = Alternates y.input f g
+
+  abbrev J : SystemProperty
+  J k past c = I k past c × UsePages y 300 0 past
+
+  has_room : nat_lt y.boot.params.stack 9 ≡ false
+  has_room = le-ltb y.boot.params.stack 9 (let room = r.room in omega (arith, room))
+
+  many_users : length y.boot.users ≡ 2
+  many_users = ap length r.users_are
+
+  -- the machine of the user whose turn it is, behind its last call
+  abbrev starts : ℕ → Flat
+  starts zero = f
+  starts (suc zero) = g
+  starts (suc (suc calls)) = starts calls
+
+  abbrev caller : ℕ → Flat
+  caller calls = behind (starts calls) (half calls)
+
+  -- A TURN: who has it goes on to its next call, and brings the next number
+  record Turn (calls : ℕ) : Type 0 where
+    brings : CallsAfter (caller calls) (leg (half calls)) (suc calls)
+    stands : (t : ℕ) → user_of (machines f g calls t) (turn_of calls) ≡ after t (caller calls)
+    steps : (t : ℕ) → with_user (machines f g calls t) (turn_of calls) (after (suc t) (caller calls)) ≡ machines f g calls (suc t)
+    passes : (t : ℕ) → with_user (machines f g calls t) (turn_of calls) (after (suc (leg (half calls))) (caller calls)) ≡ machines f g (suc calls) 0
+    some : 1 ≤ turn_of calls
+    most : turn_of calls ≤ 2
+
+  turn : (calls : ℕ) → calls ≤ 5 → Turn calls
+  turn zero few = record { brings = odd 0 (omega arith); stands = λ t. refl; steps = λ t. refl; passes = λ t. refl; some = omega arith; most = omega arith }
+  turn (suc zero) few = record { brings = even 0 (omega arith); stands = λ t. refl; steps = λ t. refl; passes = λ t. refl; some = omega arith; most = omega arith }
+  turn (suc (suc zero)) few = record { brings = odd 1 (omega arith); stands = λ t. refl; steps = λ t. refl; passes = λ t. refl; some = omega arith; most = omega arith }
+  turn (suc (suc (suc zero))) few = record { brings = even 1 (omega arith); stands = λ t. refl; steps = λ t. refl; passes = λ t. refl; some = omega arith; most = omega arith }
+  turn (suc (suc (suc (suc zero)))) few = record { brings = odd 2 (omega arith); stands = λ t. refl; steps = λ t. refl; passes = λ t. refl; some = omega arith; most = omega arith }
+  turn (suc (suc (suc (suc (suc zero))))) few = record { brings = even 2 (omega arith); stands = λ t. refl; steps = λ t. refl; passes = λ t. refl; some = omega arith; most = omega arith }
+  turn (suc (suc (suc (suc (suc (suc calls)))))) few = absurd (omega (arith, few))
+
+  -- BEHIND A DISPATCH
+  made : (k : ℕ) (past : List Dispatch) (d : Dispatch) (calls steps : ℕ) (c : Core) → calls ≤ 6 → steps ≤ leg (half calls) → (calls ≡ 6 → steps ≡ 0)
+      → suc k ≡ 1 + steps_up_to calls + steps + calls + (lines_taken past + (if d.cause == 1 then 1 else 0)) → suc (length past) ≡ 1 + calls + (lines_taken past + (if d.cause == 1 then 1 else 0))
+      → c.c0 ≡ data_of calls → c.users ≡ machines f g calls steps → c.console ≡ console_of y.input calls → (calls ≤ 5 → c.current ≡ turn_of calls) → status_of d.next ≡ status_behind calls
+      → I (suc k) (past ++ d ∷ []) c
+  made k past d calls steps c few before at_end turns long data_is users console turn status =
+      let l = lines_join past d in
+      let m = one_more past d in
+      record {
+        calls = calls;
+        few = few;
+        steps = steps;
+        before_call = before;
+        at_end = at_end;
+        turns_are = omega (arith, turns, l);
+        length_is = omega (arith, long, l, m);
+        data_is = data_is;
+        users_are = users;
+        console_is = console;
+        turn_is = turn;
+        status_is = status_join Running past d ∙ status;
+      }
+
+  -- the code of a dispatch, behind so many calls
+  abbrev Does : (k cause edata : ℕ) → List Dispatch → Core → (calls : ℕ) → Type 0
+  Does k cause edata past at calls = DoesWithin y kernel_tree r.meaning_is 300 0 I k cause edata past at (data_of calls)
+
+  -- THE START: user 1's turn
+  started : Does 0 0 0 [] (first_core y) 0
+  started = rw has_room (
+    omega arith,
+    all_user y I 0 0 0 [] (first_core y) _ 1 refl (omega arith) (let many = many_users in omega (arith, many))
+        (made 0 [] _ 0 0 _ (omega arith) (omega arith) (λ e. refl) (omega arith) (omega arith) refl users_are refl (λ few. refl) refl),
+  )
+
+  -- LINES: the current user goes on
+  lined : (k mask : ℕ) (past : List Dispatch) (at : Core) → 1 ≤ at.current → at.current ≤ 2 → (h : I k past at) → status_after past ≡ Running → Does k 1 mask past at h.calls
+  lined k mask past at some most h on =
+      let turns = h.turns_are in
+      let long = h.length_is in
+      rw has_room (
+        omega arith,
+        all_user y I k 1 mask past at _ at.current refl some (let many = many_users in omega (arith, many, most))
+            (made k past _ h.calls h.steps _ h.few h.before_call h.at_end (omega (arith, turns)) (omega (arith, long)) refl h.users_are h.console_is h.turn_is (sym (sym h.status_is ∙ on))),
+      )
+
+  -- A CALL, at a state that is written out: f' and g' are the machines as it left them, and its number is known
+  abbrev at_call : (calls : ℕ) → Flat → Flat → ℕ → Core
+  at_call calls f' g' u = core_of_parts (data_of calls) (f' ∷ g' ∷ []) (console_of y.input calls) u
+
+  module _ (k edata : ℕ) (past : List Dispatch) (f' g' : Flat) where
+    abbrev First : (calls : ℕ) → Type 0
+    First calls = signed (slice_index f'.cpu.regs 4) ≡ pos (suc calls) → k ≡ 1 + steps_up_to (suc calls) + calls + lines_taken past → length past ≡ 1 + calls + lines_taken past
+        → f' ∷ g' ∷ [] ≡ machines f g (suc calls) 0 → Does k 6 edata past (at_call calls f' g' 1) calls
+
+    abbrev Second : (calls : ℕ) → Type 0
+    Second calls = signed (slice_index g'.cpu.regs 4) ≡ pos (suc calls) → k ≡ 1 + steps_up_to (suc calls) + calls + lines_taken past → length past ≡ 1 + calls + lines_taken past
+        → f' ∷ g' ∷ [] ≡ machines f g (suc calls) 0 → Does k 6 edata past (at_call calls f' g' 2) calls
+
+    call_1 : First 0
+    unfolding int_wrap
+    call_1 is turns long users = rw (has_room, is) (
+      omega arith,
+      all_user y I k 6 edata past _ _ 2 refl (omega arith) (let many = many_users in omega (arith, many))
+          (made k past _ 1 0 _ (omega arith) (omega arith) (λ e. refl) (omega (arith, turns)) (omega (arith, long)) refl users refl (λ few. refl) refl),
+    )
+
+    call_2 : Second 1
+    unfolding int_wrap
+    call_2 is turns long users = rw (has_room, is) (
+      omega arith,
+      all_user y I k 6 edata past _ _ 1 refl (omega arith) (let many = many_users in omega (arith, many))
+          (made k past _ 2 0 _ (omega arith) (omega arith) (λ e. refl) (omega (arith, turns)) (omega (arith, long)) refl users refl (λ few. refl) refl),
+    )
+
+    call_3 : First 2
+    unfolding int_wrap
+    call_3 is turns long users = rw (has_room, is) (
+      omega arith,
+      all_user y I k 6 edata past _ _ 2 refl (omega arith) (let many = many_users in omega (arith, many))
+          (made k past _ 3 0 _ (omega arith) (omega arith) (λ e. refl) (omega (arith, turns)) (omega (arith, long)) refl users refl (λ few. refl) refl),
+    )
+
+    call_4 : Second 3
+    unfolding int_wrap
+    call_4 is turns long users = rw (has_room, is) (
+      omega arith,
+      all_user y I k 6 edata past _ _ 1 refl (omega arith) (let many = many_users in omega (arith, many))
+          (made k past _ 4 0 _ (omega arith) (omega arith) (λ e. refl) (omega (arith, turns)) (omega (arith, long)) refl users refl (λ few. refl) refl),
+    )
+
+    call_5 : First 4
+    unfolding int_wrap
+    call_5 is turns long users = rw (has_room, is) (
+      omega arith,
+      all_user y I k 6 edata past _ _ 2 refl (omega arith) (let many = many_users in omega (arith, many))
+          (made k past _ 5 0 _ (omega arith) (omega arith) (λ e. refl) (omega (arith, turns)) (omega (arith, long)) refl users refl (λ few. refl) refl),
+    )
+
+    call_6 : Second 5
+    unfolding int_wrap
+    call_6 is turns long users = rw (has_room, is) (
+      omega arith,
+      all_halt y I k 6 edata past _ _ refl (made k past _ 6 0 _ (omega arith) (omega arith) (λ e. refl) (omega (arith, turns)) (omega (arith, long)) refl users refl (λ few. absurd (omega (arith, few))) refl),
+    )
+
+  -- each of the six
+  called : (k edata : ℕ) (past : List Dispatch) (calls : ℕ) → calls ≤ 5 → CallsAfter (caller calls) (leg (half calls)) (suc calls) → k ≡ 1 + steps_up_to (suc calls) + calls + lines_taken past
+      → length past ≡ 1 + calls + lines_taken past → Does k 6 edata past (core_of_parts (data_of calls) (machines f g (suc calls) 0) (console_of y.input calls) (turn_of calls)) calls
+  called k edata past zero few h turns long = call_1 k edata past (behind f 1) g h.value_is turns long refl
+  called k edata past (suc zero) few h turns long = call_2 k edata past (behind f 1) (behind g 1) h.value_is turns long refl
+  called k edata past (suc (suc zero)) few h turns long = call_3 k edata past (behind f 2) (behind g 1) h.value_is turns long refl
+  called k edata past (suc (suc (suc zero))) few h turns long = call_4 k edata past (behind f 2) (behind g 2) h.value_is turns long refl
+  called k edata past (suc (suc (suc (suc zero)))) few h turns long = call_5 k edata past (behind f 3) (behind g 2) h.value_is turns long refl
+  called k edata past (suc (suc (suc (suc (suc zero))))) few h turns long = call_6 k edata past (behind f 3) (behind g 3) h.value_is turns long refl
+  called k edata past (suc (suc (suc (suc (suc (suc calls)))))) few h turns long = absurd (omega (arith, few))
+
+  -- A TRAP is the call of the user whose turn it is
+  trapped : (k : ℕ) (cause : Cause) (edata : ℕ) (past : List Dispatch) (before at : Core) → IsTrapOf before cause edata at → status_after past ≡ Running → UsePages y 300 0 past → (h : I k past before)
+      → KeepsAll y 300 J k (number_of cause) edata past at
+  trapped k cause edata past before at came on touch h =
+      let few : h.calls ≤ 5 = still_few h.calls h.few (sym h.status_is ∙ on) in
+      let w : Turn h.calls = turn h.calls few in
+      let trap = known_trap before at (machines f g h.calls h.steps) (turn_of h.calls) (caller h.calls) (leg (half h.calls)) causes.Syscall w.brings.calls w.brings.calls.edata h.steps cause edata
+      (data_of h.calls) (console_of y.input h.calls) refl h.before_call h.users_are (h.turn_is few) (w.stands h.steps) h.data_is h.console_is came in
+      let turns = h.turns_are in
+      let last = trap.last in
+      arrives trap (subst (λ us. KeepsAll y 300 J k 6 w.brings.calls.edata past (core_of_parts (data_of h.calls) us (console_of y.input h.calls) (turn_of h.calls))) (sym (w.passes h.steps))
+      (keeps_within y kernel_tree r.meaning_is 300 0 I k 6 w.brings.calls.edata past (core_of_parts (data_of h.calls) (machines f g (suc h.calls) 0) (console_of y.input h.calls) (turn_of h.calls)) (data_of h.calls) touch refl
+      (called k w.brings.calls.edata past h.calls few w.brings (omega (arith, turns, last)) h.length_is)))
+
+  -- A STEP of that user
+  stepped : (k : ℕ) (past : List Dispatch) (c : Core) (next : Flat) → vstep (user_of c.users c.current) ≡ Goes next → status_after past ≡ Running → (h : I k past c) → I (suc k) past (with_machine c next)
+  stepped k past c next e on h =
+      let few : h.calls ≤ 5 = still_few h.calls h.few (sym h.status_is ∙ on) in
+      let w : Turn h.calls = turn h.calls few in
+      let step = known_step c (machines f g h.calls h.steps) (turn_of h.calls) (caller h.calls) (leg (half h.calls)) causes.Syscall w.brings.calls h.steps h.before_call h.users_are (h.turn_is few)
+      (w.stands h.steps) next e in
+      let turns = h.turns_are in
+      let before = step.before in
+      record {
+        calls = h.calls;
+        few = h.few;
+        steps = suc h.steps;
+        before_call = omega (arith, before);
+        at_end = λ e. absurd (omega (arith, few, e));
+        turns_are = omega (arith, turns);
+        length_is = h.length_is;
+        data_is = h.data_is;
+        users_are = step.users ∙ w.steps h.steps;
+        console_is = h.console_is;
+        turn_is = h.turn_is;
+        status_is = h.status_is;
+      }
+
+  pub invariant : IsSystemInvariant y 300 (HasUsers y) J
+  invariant = record {
+    start = λ fit. keeps_within y kernel_tree r.meaning_is 300 0 I 0 0 0 [] (first_core y) (data_of 0) tt (ap (λ (m : KernelMeaning). m.first) r.meaning_is) started;
+    line = λ k mask past at some eight fit user on h. keeps_within y kernel_tree r.meaning_is 300 0 I (suc k) 1 mask past at (data_of h.0.calls) h.1 h.0.data_is
+        (lined (suc k) mask past at user.0 (let most = user.1 in let two = ap length h.0.users_are in omega (arith, most, two)) h.0 on);
+    trap = λ k cause edata past before at came fit user fits one on h. trapped (suc k) cause edata past before at came on h.1 h.0;
+    step = λ k past c next e fit user fits on h. (stepped (suc k) past c next e on h.0, h.1);
+  }
+
+pub always : (y : System) → Runs y → IsSystemInvariant y 300 (HasUsers y) (Alternating y)
+always y r = invariant y r (first_flat user_1) (first_flat user_2) brings_odd brings_even (ap (map first_flat) r.users_are)
+
+pub users_alternate : RunsAreLawful → UsersAlternate
+users_alternate laws y r lines eight k =
+    systems_hold laws y kernel_tree 300 (HasUsers y) (Alternating y) r.meaning_is (laws.counted y kernel_tree r.meaning_is) (always y r) lines eight k

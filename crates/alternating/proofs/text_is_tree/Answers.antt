@@ -1,0 +1,5 @@
+use Rattle.alternating.proofs.Texts.{is_text}
+use Rattle.alternating.proofs.text_is_tree.Goals as goal
+
+pub returns : goal.returns
+returns c = is_text

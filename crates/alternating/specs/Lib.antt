@@ -1,0 +1,5 @@
+pub mod Tree
+pub mod Text
+pub mod Users
+pub mod Property
+pub mod Boots
