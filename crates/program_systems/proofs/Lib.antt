@@ -1,11 +1,12 @@
 mod Coming
+mod Dispatches
 mod Counting
 mod Places
 mod AdderCounts
 mod Adders
 mod AdderTexts
-mod Programs
+pub mod Programs
 pub mod Compiled
 mod StepCounts
-mod Asking
+pub mod Asking
 mod CompiledAnswers

@@ -1,4 +1,5 @@
 pub mod Coming
+pub mod Dispatches
 pub mod Counts
 pub mod Adders
 pub mod AdderTexts

@@ -8,6 +8,7 @@ ghost use Rattle.program_systems.specs.Answered.{AnsweredStepsAreFew, AnyCounted
 ghost use Rattle.program_systems.specs.Boots.{AnyCountedProgramsSum, AnyProgramsSum, CompiledStepsAreFew, CompiledSumsBoot};
 ghost use Rattle.program_systems.specs.Coming.{CallsCome, EndsCome, FirstCallsCome, ProgramsCome};
 ghost use Rattle.program_systems.specs.Counts.{CountsTell, ImagesIgnorePlaces};
+ghost use Rattle.program_systems.specs.Dispatches.{DispatchesAnswer};
 
 use answering::any_users_answered;
 use cvm_shell::laws::linked_users_have_their_programs;
@@ -42,6 +43,15 @@ pub fn ends_come()
     programs_come();
     programs_trap();
     traps_are_known();
+}
+
+/// A law: a dispatch for a program's call that sets register 2 of its caller is that call answered, as an event of the program, which is told what was set; one
+/// that changes no machine is the call without an answer.
+pub fn dispatches_answer()
+    ensures { DispatchesAnswer }
+{
+    users_go_on();
+    ints_are_told();
 }
 
 /// A law: so the image of a program whose first call is known comes to that call.
