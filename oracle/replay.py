@@ -278,16 +278,17 @@ class Replay:
                 program.answered(answers[program.given])
             program.given += 1
         program.seen = recorder
+        frames = [(frame.function.name, [(n, v) for n, _, v in values.frame_values(program, frame)]) for frame in program.frames]
         trap = program.to_trap()
         program.seen = None
         argument = program.trap[1][0] & M if trap == CALL else self.users[user - 1].r[4]
         if trap != (call.cause, call.data) or argument != self.run.argument:
             raise Differs('user %d traps in turn %d with cause %d, data %08x and %d in register 4, and its source means cause %d, data %08x and %d' % (
                 user, call.turn, call.cause, call.data, self.run.argument, *trap, argument))
-        return events + [self.of_trap(user, call, program)]
+        return events + [self.of_trap(user, call, program, frames)]
 
-    def of_trap(self, user, call, program):
-        """The trap of a user in C0: its call of `trap`, its end, or its fault."""
+    def of_trap(self, user, call, program, frames):
+        """The trap of a user in C0: its call of `trap`, its end, or its fault. `frames` are the functions that ran at its trap before, with their variables."""
         source, node = self.given.users[user - 1].source, program.trap[0] if program.trap is not None else None
         line, text, why = source.line(node.span[0]) if node else None, source.part(node.span) if node else '', None
         if program.ending is not None:
@@ -296,7 +297,7 @@ class Replay:
         elif node is None:
             why = TRAPS.get(call.data, 'its end')
         return Event('trap', call.turn, user=user, file=source.name, line=line, text=text, argument=program.trap[1][0] if node else None, ended=why,
-                     fault=program.ending, program=program)
+                     fault=program.ending, program=program, frames=frames)
 
     # ---- a fault of the kernel
     def of_fault(self, call):

@@ -1,11 +1,13 @@
 'use strict';
 /* A run to step through. `Run` has its places and state and knows nothing of the page; `View` shows it.
 
-A place is a part of a turn: the user's step, the call of the kernel, each statement of the kernel, and what it answered. Place -1 is before the first
-turn. The state of a place is what stands when it is done. */
+A place is a part of a turn: the user's step, each statement of a user in C0 since its last trap, the call of the kernel, each statement of the kernel, and
+what it answered. Place -1 is before the first turn. The state of a place is what stands when it is done. */
 
 const PC = 32, HI = 33, LO = 34, PAGES = 35;
-const STEP = 0, CALLED = 1, STATEMENT = 2, ANSWERED = 3;
+const STEP = 0, CALLED = 1, STATEMENT = 2, ANSWERED = 3, OWN = 4;
+// a flag of a step: the source of its user tells what it does, in statements that stand at its next trap
+const BY_SOURCE = 8;
 // slots of what is no register, word or value: who is next, a word more on the console, an object more
 const CURRENT = -1, CONSOLE = -2, OBJECT = -3;
 const NOTHING = [];
@@ -51,7 +53,7 @@ class Run {
 
   /** Lays the places out, and goes through them once, so that each change has the value before it. */
   lay() {
-    Object.assign(this, { turns: [], kinds: [], events: [], files: [], atLines: [], begins: [0], slotOf: [], to: [], from: [], firstOf: [], lastOf: [] });
+    Object.assign(this, { turns: [], kinds: [], events: [], files: [], atLines: [], begins: [0], slotOf: [], to: [], from: [], firstOf: [], lastOf: [], lastOwn: [] });
     this.data.turns.forEach((row, at) => {
       this.firstOf.push(this.turns.length);
       this.layTurn(this.first + at, row);
@@ -70,6 +72,8 @@ class Run {
       this.add(turn, STEP, { row, pc }, user, this.lineOf(user, pc), changes);
     }
     if (!call) return;
+    for (const event of call[5]) this.add(turn, OWN, event, ...this.statement(event).slice(0, 2), NOTHING);
+    if (call[5].length) this.lastOwn[user] = turn;
     this.add(turn, CALLED, { row, call }, 0, 0, []);
     for (const event of call[6]) this.add(turn, STATEMENT, event, 0, this.statement(event)[1], this.changesOf(event));
     const lastLine = call[6].length ? this.statement(call[6][call[6].length - 1])[1] : 0;
@@ -187,14 +191,21 @@ class Run {
     return this.place;
   }
 
-  statementOn() { return this.find(1, place => this.kinds[place] === STATEMENT); }
-  statementBack() { return this.find(-1, place => this.kinds[place] === STATEMENT); }
+  isStatement(place) { return this.kinds[place] === STATEMENT || this.kinds[place] === OWN; }
+  statementOn() { return this.find(1, place => this.isStatement(place)); }
+  statementBack() { return this.find(-1, place => this.isStatement(place)); }
   dispatchOn() { return this.find(1, place => this.kinds[place] === CALLED); }
   dispatchBack() { return this.find(-1, place => this.kinds[place] === CALLED); }
 
   /** The next place of lines of sources, given as `FILE:LINE` with the kernel as file 0. */
   toStop(direction, stops) {
-    return this.find(direction, place => (this.kinds[place] === STEP || this.kinds[place] === STATEMENT) && stops.has(this.files[place] + ':' + this.atLines[place]));
+    return this.find(direction, place => stops.has(this.files[place] + ':' + this.atLines[place]) && (this.isStatement(place) || this.kinds[place] === STEP && !this.isTold(place)));
+  }
+
+  /** Whether a step of a user in C0 is told by statements, which stand at a trap behind it. */
+  isTold(place) {
+    const row = this.events[place].row;
+    return row[1] & BY_SOURCE && this.turns[place] <= this.lastOwn[row[0]];
   }
 
   /** The next place at which what is chosen becomes another. */
@@ -341,15 +352,15 @@ class Run {
     return this.texts[event[2]] + '(' + event[3].join(', ') + ') is ' + this.said(event[4]) + (event[5] ? ': ' + this.texts[event[5]] : '');
   }
 
-  /** The rows of a turn: of each its text, how deep it stands, and its place (-1 of a user's own statements, which are no places). */
+  /** The rows of a turn: of each its text, how deep it stands, and its place. */
   rowsOf(turn) {
     if (turn < this.first || turn > this.last) return [];
     const rows = [];
-    let depth = 1;
+    let depth = Math.max(1, this.before(turn).length);
     for (let place = this.firstOf[turn - this.first]; place <= this.lastOf[turn - this.first]; place++) {
       const event = this.events[place];
       if (this.kinds[place] === STEP) rows.push({ text: this.stepText(place), depth: 0, place });
-      else if (this.kinds[place] === CALLED) rows.push(...this.ownRows(event.call), { text: this.calledText(event.call), depth: 0, place });
+      else if (this.kinds[place] === CALLED) { rows.push({ text: this.calledText(event.call), depth: 0, place }); depth = 1; }
       else if (this.kinds[place] === ANSWERED) rows.push({ text: this.answeredText(event.call), depth: 0, place });
       else {
         rows.push({ text: this.eventText(event, this.oldOf(place)), depth, place });
@@ -367,8 +378,10 @@ class Run {
     return undefined;
   }
 
-  ownRows(call) {
-    return call[5].map(event => ({ text: this.eventText(event), depth: 1, place: -1 }));
+  /** The functions of a user in C0 that ran at its trap before the one of this turn, each with its variables. */
+  before(turn) {
+    const call = this.data.turns[turn - this.first][4];
+    return call && call[8] || NOTHING;
   }
 
   calledText(call) {
@@ -379,18 +392,24 @@ class Run {
     return call[4] < 0 ? 'fault ' + this.texts[call[7]] : call[4] ? 'next is user ' + call[4] : 'next is 0: the run halts';
   }
 
-  /** The functions of the kernel that run at this place, each with its variables as far as they were set. */
+  /** The functions of the kernel, or of a user in C0, that run at this place, each with its variables as far as they are known. */
   calls() {
-    if (this.place < 0 || this.kinds[this.place] !== STATEMENT) return [];
-    const frames = [];
+    if (this.place < 0 || !this.isStatement(this.place)) return [];
+    const kind = this.kinds[this.place], frames = [];
+    if (kind === OWN) for (const [name, variables] of this.before(this.turn)) frames.push({ name: this.texts[name], variables: new Map(variables.map(([one, value]) => [this.texts[one], this.said(value)])) });
     for (let place = this.firstOf[this.turn - this.first]; place <= this.place; place++) {
-      if (this.kinds[place] !== STATEMENT) continue;
+      if (this.kinds[place] !== kind) continue;
       const event = this.events[place], store = event[0] === 2 ? event[7] : event;
       if (event[0] === 3) frames.push({ name: this.texts[this.statement(event)[2]], variables: new Map(event[2].map(([name, value]) => [this.texts[name], this.said(value)])) });
       else if (event[0] === 4 && place < this.place) frames.pop();
-      else if (store && store[0] === 5 && frames.length) frames[frames.length - 1].variables.set(this.texts[store[2]], this.said(store[3]));
+      else if (store && store[0] === 5 && frames.length && this.isVariable(frames[frames.length - 1], store, kind)) frames[frames.length - 1].variables.set(this.texts[store[2]], this.said(store[3]));
     }
     return frames;
+  }
+
+  /** Whether a store is to a variable of a function: a user's stores are to its globals and objects, too. */
+  isVariable(frame, store, kind) {
+    return kind === STATEMENT || frame.variables.has(this.texts[store[2]].replace(/[.[].*/, ''));
   }
 
   /** The lines of a source that ran in this turn up to here. */
@@ -642,8 +661,8 @@ class View {
     const now = Math.max(0, rows.findIndex(row => row.place === run.place)), first = rows.length > most ? Math.max(0, now - most / 2) : 0;
     const shown = rows.slice(first, first + most).map(row => {
       const text = '  '.repeat(row.depth) + row.text;
-      const inner = row.place < 0 ? text : this.element('button', {}, text);
-      if (row.place >= 0) inner.addEventListener('click', () => this.to(row.place));
+      const inner = this.element('button', {}, text);
+      inner.addEventListener('click', () => this.to(row.place));
       return this.element('li', row.place === run.place ? { class: 'now', 'aria-current': 'step' } : {}, inner);
     });
     if (rows.length > most) shown.push(this.element('li', { class: 'note' }, 'rows ' + (first + 1) + ' to ' + Math.min(rows.length, first + most) + ' of ' + rows.length));
@@ -660,8 +679,8 @@ class View {
     this.mark(this.get('kernel'), run.linesHere(0), kernelNow, 0);
     if (!user) return;
     if (this.shownFile !== user) { this.layLines(list, user); this.shownFile = user; }
-    const did = [...run.linesHere(user)][0] || 0;
-    this.mark(list, new Set(), did, run.lineOf(user, run.users[user - 1].r[PC]));
+    const here = run.linesHere(user), isOwn = run.place >= 0 && run.kinds[run.place] === OWN && run.files[run.place] === user, did = isOwn ? run.atLines[run.place] : [...here][0] || 0;
+    this.mark(list, here, did, run.lineOf(user, run.users[user - 1].r[PC]));
   }
 
   mark(list, ran, now, next) {

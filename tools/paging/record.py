@@ -221,7 +221,7 @@ class Record:
         return row
 
     def step(self, event):
-        """A user's step. Flags are 1 for a trap, 2 for a branch that was taken, 4 for one that was not."""
+        """A user's step. Flags are 1 for a trap, 2 for a branch that was taken, 4 for one that was not, 8 where a source in C0 tells what it does."""
         changes = []
         for name, _, new in event.changes:
             if name.startswith('mem['):
@@ -232,19 +232,25 @@ class Record:
         after = (following if event.trap[0] in (5, 6) else event.pc) if event.trap else self.users[event.user - 1].pc
         if after != following:
             changes += [self.slot('r', event.user, PC), after]
-        flags = (1 if event.trap else 0) | (0 if event.taken is None else 2 if event.taken else 4)
+        flags = (1 if event.trap else 0) | (0 if event.taken is None else 2 if event.taken else 4) | (8 if event.by_source else 0)
         # a line of a user in assembler is the instruction itself
         is_line = event.line and self.given.users[event.user - 1].kind == 's'
         return [event.user, flags, changes, 0 if is_line else self.text(event.text)]
 
     # ---- the kernel's calls
     def call(self, events, dispatch):
-        """A call of the kernel: cause, data, user, the cause in words, who is next (-1 at a fault), the user's own statements, and the kernel's."""
+        """A call of the kernel: cause, data, user, the cause in words, who is next (-1 at a fault), the user's own statements, the kernel's, its fault, and
+        for a user in C0 the functions that ran before these statements, with their variables."""
         own = [self.event(event) for event in events if getattr(event, 'by', 0) or event.kind == 'trap']
         kernel = self.joined([event for event in events if event.kind not in ('step', 'dispatch', 'console', 'next', 'trap') and not getattr(event, 'by', 0)])
         next_event = events[-1]
         following = -1 if next_event.fault else next_event.next
-        return [dispatch.cause, dispatch.data, dispatch.user, self.text(dispatch.why), following, own, kernel, self.text(next_event.fault or '')]
+        row = [dispatch.cause, dispatch.data, dispatch.user, self.text(dispatch.why), following, own, kernel, self.text(next_event.fault or '')]
+        trap = next((event for event in events if event.kind == 'trap'), None)
+        return row + [[self.frame(*frame) for frame in trap.frames]] if trap else row
+
+    def frame(self, name, variables):
+        return [self.text(name), [[self.text(variable), self.answer(value)] for variable, value in variables]]
 
     def joined(self, events):
         """The kernel's events, where what a call or a primitive answered is stored by the same statement: the store stands within."""
