@@ -1,4 +1,5 @@
 """Habits from SPIM and MARS that a user's text is refused for, each by the sentence that names it."""
+import difflib
 import re
 
 # Their names of the registers, by the numbers here.
@@ -39,7 +40,18 @@ PSEUDO = {
     'bal': "there is no 'bal': 'jal LABEL' calls",
     'break': "there is no 'break': 'syscall CODE' traps to the kernel",
     'ret': "there is no 'ret': 'jr r31' returns",
+    'trap': "a user traps to its kernel by 'syscall CODE'",
+    'ecall': "a user traps to its kernel by 'syscall CODE'",
+    'mov': "there is no 'mov': 'addu rD, rS, r0' copies a register",
+    'jmp': "there is no 'jmp': 'j LABEL' jumps",
+    'call': "there is no 'call': 'jal LABEL' calls",
+    'halt': "no user halts the run: its kernel does, where dispatch answers 0",
 }
+# How each instruction is written.
+FORMS = {name: '%s %s' % (name, form) for form, names in (
+    ('rD, rT, N', 'sll srl sra'), ('rD, rT, rS', 'sllv srlv srav'), ('rD, rS, rT', 'add addu sub subu and or xor nor slt sltu'), ('rS', 'jr mthi mtlo'), ('rD', 'mfhi mflo'),
+    ('rS, rT', 'mult multu div divu'), ('rD, rS', 'jalr'), ('rS, LABEL', 'bltz bgez blez bgtz'), ('rS, rT, LABEL', 'beq bne'), ('LABEL', 'j jal'),
+    ('rT, rS, N', 'addi addiu slti sltiu andi ori xori'), ('rT, N', 'lui'), ('rT, N(rS)', 'lw sw'), ('CODE', 'syscall'), ('V', '.word'), ('N', '.zero')) for name in names.split()}
 BYTES_OF_MEMORY = ('lb', 'lbu', 'lh', 'lhu', 'sb', 'sh', 'lwl', 'lwr', 'swl', 'swr')
 DIRECTIVES = {
     '.data': "there is no '.data': code and data stand in one list of words from address 0, as they are written",
@@ -104,9 +116,23 @@ def operands(name, rest):
         return "the third operand of '%s' is a register: '%s' takes a number" % (name, with_number)
     if "'" in rest:
         return "there are no signs in quotes: write the number, as 65 for 'A'"
+    if rest.endswith(';'):
+        return "no ';' stands behind an instruction"
     if ';' in rest or '//' in rest:
         return "a comment begins with '#'"
     return None
+
+
+def of_form(name, rest):
+    """The sentence on operands that don't have the instruction's form."""
+    wrong = next((word for word in re.findall(r'\br(\d+)\b', rest) if int(word) > 31), None)
+    if wrong is not None:
+        return "registers are r0 to r31, and 'r%s' is none" % wrong
+    if name not in FORMS:
+        return None
+    number = re.search(r'(?:^|,)\s*0\s*(?=,)', rest)
+    return "it is written '%s'%s" % (FORMS[name], "; the register that is always 0 is r0" if number and name in ('beq', 'bne') else
+                                     ', with commas' if rest and ',' not in rest and ',' in FORMS[name] else '')
 
 
 def out_of_range(name, rest):
@@ -118,7 +144,13 @@ def out_of_range(name, rest):
             word = int(last, 0) & 0xffffffff
         except ValueError:
             return None
+        if name in ('andi', 'ori', 'xori') and -32768 <= int(last, 0) < 0:
+            return "'%s' takes 0 to 65535: 'addiu rD, r0, %s' loads %s" % (name, last, last)
         return "an instruction holds 16 bits of a number: 'lui rD, %d' and 'ori rD, rD, %d' load %s" % (word >> 16, word & 0xffff, last)
+    if name in ('lw', 'sw') and re.fullmatch(r'-?\w+\(r\d+\)', parts[-1]):
+        return "an address's number is -32768 to 32767: load %s into a register by 'lui' and 'ori', and write '%s %s, 0(rS)'" % (parts[-1].partition('(')[0], name, parts[0])
+    if name in ('beq', 'bne', 'bltz', 'bgez', 'blez', 'bgtz'):
+        return "a branch reaches 32767 words: branch over 'j LABEL' in place of it"
     return None
 
 
@@ -140,9 +172,15 @@ def habit(key, line):
             return "the ':' follows a label's name directly"
         if name != name.lower() and name.isalpha():
             return "instructions are written in lower case"
+        second = rest.split(' ')[0]
+        if re.fullmatch(r'[A-Za-z_]\w*', name) and (second in FORMS or second in PSEUDO):
+            return "a label ends with ':': '%s: %s'" % (name, rest)
+        close = difflib.get_close_matches(name, FORMS, 1, 0.6)
+        if rest and close:
+            return "there is no '%s': did you mean '%s'?" % (name, FORMS[close[0]])
         return "a label ends with ':'" if re.fullmatch(r'[A-Za-z_]\w*', code) else None
     if key == 3:
-        return register(code) or operands(name, rest)
+        return register(code) or operands(name, rest) or of_form(name, rest)
     if key == 4:
         return out_of_range(name, rest)
     if key == 5:
@@ -203,4 +241,4 @@ def inside(text, number):
         return PSEUDO[name].replace('; no delay slot has to be filled here', '')
     if name != name.lower() and name.isalpha():
         return "instructions are written in lower case"
-    return little_register(rest) or operands(name, rest.strip()) or out_of_range(name, rest)
+    return little_register(rest) or operands(name, rest.strip()) or out_of_range(name, rest) or of_form(name, rest)

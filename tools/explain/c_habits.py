@@ -1,7 +1,7 @@
 """Habits from C that a source of C0 is refused for, each by the sentence that names it."""
 import re
 
-from explain import c_names, c_shapes, c_wrong_types, places
+from explain import c_counts, c_marks, c_names, c_shapes, c_wrong_types, places
 from explain.c_tokens import tokens
 
 # What a word of C stands for that C0 has not, by the word.
@@ -12,21 +12,21 @@ FOREIGN = {
     'case': "C0 has no 'switch': write an 'if' for each value",
     'break': "C0 has no 'break': let the loop's condition be a bool that a statement sets",
     'continue': "C0 has no 'continue': put the rest of the body into an 'if'",
-    'goto': "C0 has no 'goto'",
+    'goto': "C0 has no 'goto': 'while' and 'if' lead from place to place",
     'void': "C0 has no 'void': a function answers an int or a bool, and takes nothing by '()'",
     'char': "C0 has no 'char': its scalars are int, bool and pointers",
     'long': "C0 has no 'long': an int has 32 bits",
     'short': "C0 has no 'short': an int has 32 bits",
     'unsigned': "C0 has no 'unsigned': an int is signed and has 32 bits",
     'signed': "C0 has no 'signed': an int is signed as it stands",
-    'float': "C0 has no 'float'",
-    'double': "C0 has no 'double'",
-    'const': "C0 has no 'const'",
+    'float': "C0 has no 'float': its numbers are ints",
+    'double': "C0 has no 'double': its numbers are ints",
+    'const': "C0 has no 'const': write the number where it is used, or a global that dispatch sets at cause 0",
     'static': "C0 has no 'static': a variable that stays from one dispatch to the next is a global",
     'extern': "C0 has no 'extern': a kernel is one source",
     'typedef': "C0 has no 'typedef': write the type out, as 'struct s'",
     'enum': "C0 has no 'enum': write the numbers",
-    'union': "C0 has no 'union'",
+    'union': "C0 has no 'union': write a struct with a field for each",
     'sizeof': "C0 has no 'sizeof': 'new T' takes an object of a type",
     'malloc': "C0 has no 'malloc': 'p = new T;' takes an object of a type, and null stands for a full heap",
     'free': "C0 has no 'free': nothing is given back",
@@ -68,7 +68,12 @@ class Before:
         last = max([place for place, text in found if place < at], default=0)
         first = min([place for place, text in found if place >= at], default=len(data))
         self.new_line = b'\n' in data[last:first]
+        self.data = data
         self.glued = [text for place, text in found if place + len(text.encode()) == at]
+
+    def has(self, name):
+        """Whether a function of this name can be called."""
+        return name in PRIMITIVES + ('trap',) or declares(self.data, name)
 
     def statement(self):
         """The tokens of the statement so far, in order."""
@@ -116,9 +121,10 @@ def declaration(near, part):
             name = near.back[0]
             return "a declaration has no value in C0: write '%s %s;' among the declarations, which begin as 0, false or null, and '%s = ..;' behind them" % (' '.join(part[:-1]), name, name)
         if here == ',' and '(' not in part:
-            return "one declaration has one name: write '%s;' and a declaration for each further name" % ' '.join(part)
+            return "one declaration has one name: write '%s;' and a declaration for each further name" % ' '.join(part).replace(' *', '*')
         if here == '[':
-            return "the length stands with the type: 'int[4] a;' in place of 'int a[4];'"
+            lengths = ''.join(near.here[:near.here.index(';')] if ';' in near.here else ['[4]'])
+            return "the length stands with the type: '%s%s %s;'" % (' '.join(part[:-1]).replace(' *', '*'), lengths, near.back[0])
     if here in TYPES and near.back[0] == '(' and not is_name(near.back[1]):
         return "C0 has no casts: an int becomes a bool by a comparison, and a bool an int by 'if'"
     if here in TYPES:
@@ -134,12 +140,13 @@ def statement(near, part):
     """Habits in statements: calls without an answer, short forms, blocks without braces, and where 'return' stands."""
     here, back = near.here[0], near.back
     if here == '(' and part and is_name(part[-1]) and len(part) == 1:
-        return "a call needs its answer taken: 'ok = %s(..);', with a variable of its type" % part[0]
+        return "a call needs its answer taken: 'ok = %s(..);', with a variable of its type%s" % (part[0], '' if near.has(part[0]) else ", and nothing here has the name '%s'" % part[0])
     behind = near.here[1]
     if here in ('+', '-') and behind == here and '=' not in part:
-        return "C0 has no '%s%s': write 'x = x %s 1;'" % (here, here, here)
+        what = ''.join(part) or near.here[2] or 'x'
+        return "C0 has no '%s%s': write '%s = %s %s 1;'" % (here, here, what, what, here)
     if here in ('+', '-', '*', '/', '%') and behind == '=' and '=' not in part:
-        return "C0 has no '%s=': write 'x = x %s ..;'" % (here, here)
+        return "C0 has no '%s=': write '%s = %s %s ..;'" % (here, ''.join(part) or 'x', ''.join(part) or 'x', here)
     if here == '=' and '=' in part:
         return "an assignment is no expression in C0: write one statement for each"
     if here == 'if' and back[0] == 'else':
@@ -240,12 +247,14 @@ def unexpected(data, at, is_program):
     called = near.back[0]
     if near.here[0] == '(' and not word and is_name(called) and not declares(data, called):
         word = primitive(called, is_program)
-    return word or c_shapes.sentence(data, at, is_program) or missing(near, part) or declaration(near, part) or right_side(near, part) or statement(near, part)
+    return word or c_marks.sentence(data, at) or c_shapes.sentence(data, at, is_program) or missing(near, part) or declaration(near, part) or right_side(near, part) or statement(near, part)
 
 
 def bad_byte(data, at, is_program):
     """The habit behind a byte that begins no token (10)."""
     byte = data[at:at + 1]
+    if data[at:at + 2] == b':=':
+        return "an assignment is written '=' in C0, and not ':='"
     if is_program and byte in OF_PROGRAMS:
         return OF_PROGRAMS[byte]
     if byte in BYTES:
@@ -258,6 +267,8 @@ def bad_byte(data, at, is_program):
 def unknown(data, start, end, is_program):
     """The habit behind a name that nothing has (20)."""
     name = re.split(r'\W', data[start:end].decode('utf-8', errors='replace'))[0]
+    if is_program and name == 'syscall':
+        return "a user program asks its kernel by 'trap', as 'x = trap(n);'"
     return foreign(name, is_program) or primitive(name, is_program) or c_names.nearest_of(data, start, end, is_program)
 
 
@@ -266,6 +277,11 @@ def number(data, at):
     text = places.readable(data[at:at + 12])
     if re.match(r'0\d', text):
         return 'numbers are decimal in C0, with no 0 before a further digit'
+    digits = re.match(r'\d*', places.readable(data[at:at + 40])).group()
+    if digits and 2147483647 < int(digits) < 4294967296:
+        return 'an int goes from -2147483648 to 2147483647: the one with the bits of %s is %s' % (digits, decimal(hex(int(digits))).split(',')[0] if digits != '2147483648' else '-2147483647 - 1')
+    if digits:
+        return 'an int has 32 bits, and goes to 2147483647'
     return None
 
 
@@ -279,6 +295,14 @@ def habit(key, data, start, end, is_program=False):
         return unexpected(data, start, is_program)
     if key == 20:
         return unknown(data, start, end, is_program)
+    if key == 21:
+        return c_counts.twice(data, start, end, is_program)
+    if key == 23:
+        return c_counts.count(data, start, end, is_program)
+    if key == 24:
+        return c_counts.no_place(data, start, end)
+    if key == 26:
+        return c_counts.itself(data, start, end)
     if key == 22:
         return c_wrong_types.sentence(data, start, end, is_program)
     if key == 25:

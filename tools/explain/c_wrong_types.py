@@ -155,6 +155,8 @@ def of_assignment(place, node, text):
         return "%s: write 'if (%s) { %s = 1; } else { %s = 0; }', or declare 'bool %s;'" % (both, text, left, left, left)
     if target(kind) and text == '0':
         return "%s: the pointer to nothing is 'null', '%s = null;'" % (both, left)
+    if target(kind) == node.kind and node.how == 'unary *':
+        return "%s: the pointer itself is '%s'" % (both, node.parts[0].text)
     if target(kind) == node.kind:
         return "%s: a pointer to it is '&%s'" % (both, text)
     if target(node.kind) == kind:
@@ -199,13 +201,29 @@ def sentence(data, start, end, is_program=False):
     behind = next((word for where, word in source.tokens if where >= end), '')
     if not place.words and behind == '=':
         kind = source.type_of(start, end)
+        place_node = source.expression(start, end)
+        if not kind and place_node is not None:
+            return of_operator(place_node)
         return kind and "%s is %s, and only an int, a bool or a pointer is assigned: assign each %s" % (text, named(kind), 'element' if element(kind) else 'field')
     node = source.expression(start, end)
     if node is None:
         return of_call(source, place, data, start, end)
+    if node.how == 'null' and place.words[-1:] and place.words[-1] in ('==', '!='):
+        return of_null(source, place)
     if node.kind is None or node.how == 'null' and place.words[-1:] != ['='] and not place.call()[0]:
         return of_operator(node)
     return of_place(source, place, node, text)
+
+
+def of_null(source, place):
+    """What 'null' is compared with."""
+    end, how = place.part[-1]
+    for first, _ in place.part[:-1]:
+        node = source.expression(first, end)
+        if node and node.kind and node.how not in LOGICAL + COMPARING:
+            better = {'int': "write '%s %s 0'" % (node.text, how), 'bool': "write '%s%s'" % ('!' if how == '==' else '', node.text)}.get(node.kind, 'only a pointer is compared with it')
+            return "'%s' is %s, and 'null' is a pointer: %s" % (node.text, named(node.kind), better)
+    return None
 
 
 def of_place(source, place, node, text):
@@ -215,7 +233,8 @@ def of_place(source, place, node, text):
     if place.words[:1] == ['return']:
         function = source.around(place.start)
         result = function.result
-        more = ": write 'return %s;'" % as_bool(node) if result == 'bool' and node.kind == 'int' else ''
+        more = ": write 'return %s;'" % as_bool(node) if result == 'bool' and node.kind == 'int' else \
+            ": write 'return %d;', or 'bool %s(..)'" % (node.text == 'true', function.name) if result == 'int' and node.how == 'truth' else ''
         return "'%s' gives %s, and '%s' is %s%s" % (function.name, named(result), text, named(node.kind) if node.kind != 'null' else 'a pointer', more)
     return of_argument(place, node, text) or of_assignment(place, node, text)
 

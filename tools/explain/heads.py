@@ -37,4 +37,4 @@ def of_main(name, data, wanted):
 
 def shown(name, source, function, said):
     _, end = head_of(source, function)
-    return [places.shown(name, source.data, function.head, end), 'cvm: %s.' % said.rstrip('.')]
+    return [places.shown(name, source.data, function.head, end), 'cvm: %s' % (said if said.endswith('?') else said.rstrip('.') + '.')]

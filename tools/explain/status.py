@@ -2,10 +2,14 @@
 import os
 import re
 
-from explain import asm_habits, c_habits, files, heads, pages, places, row_habits, steps, words
+from explain import asm_habits, c_counts, c_habits, files, heads, pages, places, row_habits, steps, words
 
 # The number of docs/REFUSALS.md that says what to do where a command finds no memory.
 MEMORY = {'compile user': '8', 'compile program': '38', 'compile': '15', 'link': '64', 'check': '64', 'migrate': '57', 'save': '108', 'resume': '108'}
+
+
+# What a file is, by its first bytes.
+MARKS = {b'CVMO': "an object, which 'link' takes", b'CVMI': "an image, which 'boot' takes", b'CVMS': "a saved machine, which 'resume' takes"}
 
 
 class Way:
@@ -65,8 +69,10 @@ def remedy(key):
 
 def source_place(key, fields, name, data, is_program=False):
     """The place of a fault of a source (10 to 14, 20 to 39) and the habit behind it."""
-    if not fields or key == 37:
+    if not fields:
         return []
+    if key in (30, 37):
+        return of_largest(name, data, is_program)
     start = fields[0]
     end = fields[1] if key >= 20 and len(fields) > 1 else start + 1
     if data is None or start > len(data):
@@ -85,6 +91,22 @@ def source_place(key, fields, name, data, is_program=False):
     return said + ([sentence(found)] if found else [])
 
 
+def of_largest(name, data, is_program):
+    """The largest global of a source whose globals are too large; the whole source where it has none."""
+    found = c_counts.largest(data, is_program) if data is not None else None
+    return [places.shown(name, data, *found[:2]), sentence(found[2])] if found else ['%s: the whole source' % name]
+
+
+def other_kind(head, name, way):
+    """That a source was given to the command for another kind, by the end of its name."""
+    is_text = head == 'compile user'
+    if not name.endswith('.c0' if is_text else ('.s', '.asm')):
+        return []
+    what = ("a source in C0, and 'compile user' takes a text in assembler: 'compile program' takes a user in C0" if is_text
+            else "a text in assembler, and '%s' takes a source in C0: 'compile user' takes it" % head)
+    return [sentence('%s is %s' % (way.shown(name), what))]
+
+
 def text_place(key, fields, name, data):
     """The place of a fault of a user's text (1 to 7) and the habit behind it."""
     if data is None or not fields:
@@ -92,8 +114,17 @@ def text_place(key, fields, name, data):
     if key == 1:
         return [places.shown(name, data, fields[0], fields[0] + 1)]
     start, end = places.span_of_line(data, fields[0])
-    found = asm_habits.habit(key, places.readable(data[start:end].rstrip(b'\r')))
+    found = asm_habits.habit(key, places.readable(data[start:end].rstrip(b'\r'))) or (set_before(data, start, end) if key == 6 else None)
     return [places.shown_line(name, data, fields[0])] + ([sentence(found)] if found else [])
+
+
+def set_before(data, start, end):
+    """Where a label of a line was set before."""
+    for name in re.findall(rb'([A-Za-z_]\w*):', data[start:end].split(b'#')[0]):
+        found = re.search(rb'(?m)^[^#\n]*?\b' + name + rb':', data[:start])
+        if found:
+            return "the label '%s' is set in line %d, too" % (name.decode(), places.line_at(data, found.end())[0])
+    return None
 
 
 def row_habit(data, number, is_schedule):
@@ -154,9 +185,9 @@ def located(key, fields, command, way):
     head = ' '.join(words.literal(form)) if form else ''
     gets, _ = words.files(command)
     if key <= 7 and head == 'compile user' and gets:
-        return text_place(key, fields, way.shown(gets[0]), files.stored(gets[0]))
+        return other_kind(head, gets[0], way) or text_place(key, fields, way.shown(gets[0]), files.stored(gets[0]))
     if key < 40 and head.startswith('compile') and gets:
-        return source_place(key, fields, way.shown(gets[0]), files.stored(gets[0]), head == 'compile program')
+        return (other_kind(head, gets[0], way) if key in (10, 11, 12) else []) or source_place(key, fields, way.shown(gets[0]), files.stored(gets[0]), head == 'compile program')
     if key in (54, 55, 68, 69) and gets and fields:
         inner = 'the source in ' + way.shown(gets[0])
         return ["cvm: the source's own fault is %d: %s" % (fields[0], row_of(str(fields[0])))] \
@@ -164,12 +195,12 @@ def located(key, fields, command, way):
     if key == 66 and len(gets) > 1 and fields:
         return line_of(gets[1], fields[0], way)
     if 70 <= key <= 74 and len(gets) > 1 and fields:
-        return line_of(gets[1], fields[0], way, True)
+        return line_of(gets[1], fields[0], way, True) + (order_of(gets[1], fields[0]) if key == 71 else [])
     if key in (61, 65) and fields and len(gets) > fields[0] + 1:
         room = line_of(gets[1], 1, way) + pages_for(fields[1]) if key == 61 and len(fields) > 1 else []
         return room + ['cvm: user %d is %s.' % (fields[0], way.shown(gets[fields[0] + 1]))] + given_text(gets[fields[0] + 1], key)
     if key == 62 and len(gets) > 1 and fields:
-        return line_of(gets[1], fields[0], way)
+        return line_of(gets[1], fields[0], way) + said_if(row_habits.of_range(fields[0]))
     if key in (40, 50) and gets:
         return what_it_is(gets[0], way)
     if 100 <= key <= 106 and len(gets) > 2:
@@ -196,7 +227,19 @@ def line_of(name, number, way, is_schedule=False):
     data, habit = row_place(name, number, is_schedule)
     if data == []:
         return []
+    if data[:4] in MARKS:
+        return [sentence('%s is %s, and %s to stand here' % (way.shown(name), MARKS[data[:4]], 'a schedule is' if is_schedule else 'parameters are'))]
     return [places.shown_line(way.shown(name), data, number)] + ([sentence(habit)] if habit else [])
+
+
+def said_if(said):
+    return [sentence(said)] if said else []
+
+
+def order_of(name, number):
+    """Behind which row of a schedule one is to come."""
+    rows = (files.content(name) or b'').decode('latin-1').split('\n')
+    return said_if(row_habits.of_order(rows[number - 1], rows[:number - 1]) if 0 < number <= len(rows) else None)
 
 
 def pages_for(words):
@@ -217,12 +260,14 @@ def given_text(name, key):
 
 def what_it_is(name, way):
     """What a file looks like that has not the mark which is asked for."""
-    data = (files.stored(name) or b'')[:4]
-    kinds = {b'CVMO': "an object, which 'link' takes", b'CVMI': "an image, which 'boot' takes", b'CVMS': "a saved machine, which 'resume' takes"}
-    if data in kinds:
-        return ['cvm: %s is %s.' % (way.shown(name), kinds[data])]
+    whole = files.stored(name) or b''
+    data = whole[:4]
+    if data in MARKS:
+        return ['cvm: %s is %s.' % (way.shown(name), MARKS[data])]
     if data and all(9 <= byte < 127 for byte in data):
         return ["cvm: %s is a text, and nothing that 'compile' or 'link' wrote." % way.shown(name)]
+    if data and len(whole) % 4 == 0:
+        return ["cvm: %s has no mark of a file that 'compile kernel', 'link' or 'save' wrote: an image of a user has none, and 'link' takes those behind OUT." % way.shown(name)]
     return []
 
 

@@ -63,7 +63,8 @@ def head_fault(words):
     listed = ' or '.join("'%s'" % second for second in seconds)
     if len(words) < 2:
         return "word 2 is missing: behind '%s' stands %s" % (words[0], listed)
-    return "word 2, '%s', is to be %s" % (words[1], listed)
+    close = nearest(words[1].lower(), seconds)
+    return "word 2, '%s', is to be %s%s" % (words[1], listed, ": did you mean '%s'?" % close if close else '')
 
 
 def number_fault(word, least, most):

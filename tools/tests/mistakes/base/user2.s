@@ -1,0 +1,2 @@
+loop:   syscall 3
+        j loop
