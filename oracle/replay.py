@@ -13,6 +13,8 @@ from oracle.run import Run, System, report_rows
 from oracle.sources import Source
 from oracle.words import M, signed
 
+# the parts of a source's code that are what a line does: a loop's jump to its test and the jump over an `else` are none
+BEGUN = ('assign', 'call', 'new', 'test', 'return')
 TRAPS = {0x4c: 'main returned', 0x8c: 'a use of null', 0xcc: 'an index out of bounds', 0x10c: 'a division by 0', 0x14c: 'a want of stack'}
 
 
@@ -36,22 +38,39 @@ class User:
     """A user of a system: its source, its kind `s` or `c0`, and the words of its image."""
 
     def __init__(self, name, text, words):
-        self.source, self.kind, self.words, self.numbers = Source(name, text), name.rpartition('.')[2], words, None
+        self.source, self.kind, self.words, self.numbers, self.first_words = Source(name, text), name.rpartition('.')[2], words, None, None
 
     def line(self, pc):
         """The line that the word at an address was made of; None where the address is none of its text's words, or its code isn't cut."""
+        numbers, at = self.line_numbers(), pc // 4 - (0 if self.kind == 's' else START // 4)
+        return numbers[at] if pc % 4 == 0 and 0 <= at < len(numbers) else None
+
+    def line_numbers(self):
         if self.numbers is None:
             self.numbers = line_numbers(self.source.text) if self.kind == 's' else self.lines_of_code()
-        at = pc // 4 - (0 if self.kind == 's' else START // 4)
-        return self.numbers[at] if pc % 4 == 0 and 0 <= at < len(self.numbers) else None
+        return self.numbers
 
     def lines_of_code(self):
+        cut = self.cut()
+        return [None if place is None else self.source.line(place) for place in places(cut)] if cut else []
+
+    def cut(self):
+        """The words of a user in C0, cut by its source; None where they aren't."""
         try:
             cut = Cut(self.source.text)
         except FarDisplacement:
-            return []
-        words = self.words[START // 4:START // 4 + cut.at]
-        return [None if place is None else self.source.line(place) for place in places(cut)] if cut.unfit(words) is None else []
+            return None
+        return cut if cut.unfit(self.words[START // 4:START // 4 + cut.at]) is None else None
+
+    def begins(self):
+        """The addresses at which what stands on a line begins, each with its line: instructions, or in C0 statements, tests and returns."""
+        if self.first_words is None:
+            if self.kind == 's':
+                self.first_words = {4 * at: line for at, line in enumerate(self.line_numbers()) if line}
+            else:
+                parts = [part for part in (self.cut().parts if self.cut() else []) if part.what in BEGUN]
+                self.first_words = {START + 4 * part.first: self.source.line(part.place) for part in parts}
+        return self.first_words
 
 
 class Given:

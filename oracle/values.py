@@ -78,6 +78,13 @@ def frame_values(meaning, frame):
     return [(name, type_name(t), whole(unit, t, frame.words, at, meaning.objects)) for name, (t, at) in frame.variables.items()]
 
 
+def parts_said(unit, t):
+    """What parts a type has, in words."""
+    if t[0] == 'array':
+        return ': its parts are [0] to [%d]' % (t[2] - 1)
+    return ': its parts are %s' % ', '.join(part for part, _, _ in parts(unit, t)) if t[0] == 'struct' else ': it is one word'
+
+
 class BadName(Exception):
     """Why a name stands for no place, in a sentence."""
 
@@ -95,6 +102,6 @@ def found(unit, name):
             raise BadName("behind '%s' stands '%s', which is neither '.FIELD' nor '[INDEX]'" % (name[:len(name) - len(rest)], rest))
         inner = next(((inner, before) for part, inner, before in (parts(unit, t) if t[0] in ('array', 'struct') else ()) if part == step.group()), None)
         if inner is None:
-            raise BadName("'%s' has no part '%s'" % (name[:len(name) - len(rest)], step.group()))
+            raise BadName("'%s' has no part '%s'%s" % (name[:len(name) - len(rest)], step.group(), parts_said(unit, t)))
         t, at, rest = inner[0], at + inner[1], rest[step.end():]
     return t, at

@@ -338,13 +338,13 @@ class Run {
       case 2: return where + '  ' + this.primitiveText(event) + (event[7] ? '; ' + this.storeText(event[7], old) : '');
       case 3: return where + '(' + event[2].map(([name, value]) => this.texts[name] + ' = ' + this.said(value)).join(', ') + ')';
       case 4: return where + '  ' + this.texts[event[2]] + ' is ' + this.said(event[3]);
-      case 5: return where + '  ' + this.storeText(event);
+      case 5: case 9: return where + '  ' + this.storeText(event);
       default: return where + '  ' + this.texts[event[2]];
     }
   }
 
   storeText(event, old) {
-    if (event[0] === 5) return this.texts[event[2]] + ' = ' + this.said(event[3]);
+    if (event[0] === 5 || event[0] === 9) return this.texts[event[2]] + ' = ' + this.said(event[3]);
     return this.slotName(event[2]) + ' = ' + this.slotValue(event[2], event[3]) + (old === undefined ? '' : ' (was ' + this.slotValue(event[2], old) + ')');
   }
 
@@ -402,14 +402,9 @@ class Run {
       const event = this.events[place], store = event[0] === 2 ? event[7] : event;
       if (event[0] === 3) frames.push({ name: this.texts[this.statement(event)[2]], variables: new Map(event[2].map(([name, value]) => [this.texts[name], this.said(value)])) });
       else if (event[0] === 4 && place < this.place) frames.pop();
-      else if (store && store[0] === 5 && frames.length && this.isVariable(frames[frames.length - 1], store, kind)) frames[frames.length - 1].variables.set(this.texts[store[2]], this.said(store[3]));
+      else if (store && store[0] === 5 && frames.length) frames[frames.length - 1].variables.set(this.texts[store[2]], this.said(store[3]));
     }
     return frames;
-  }
-
-  /** Whether a store is to a variable of a function: a user's stores are to its globals and objects, too. */
-  isVariable(frame, store, kind) {
-    return kind === STATEMENT || frame.variables.has(this.texts[store[2]].replace(/[.[].*/, ''));
   }
 
   /** The lines of a source that ran in this turn up to here. */

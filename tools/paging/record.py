@@ -280,7 +280,8 @@ class Record:
     def of_stored(self, event):
         made = [] if event.by else [[first, self.type(t)] for first, t in event.objects]
         if event.location[0] == 'l' or event.by:
-            return [5, self.statement(event), self.text(event.name), self.answer(event.new), *made]
+            # a user's globals and objects are no variables of its functions
+            return [5 if event.location[0] == 'l' else 9, self.statement(event), self.text(event.name), self.answer(event.new), *made]
         return [1, self.statement(event), *event.changes, *made]
 
     def of_primitive(self, event):

@@ -6,7 +6,9 @@ from running.guard import Bad, say
 from showing import made, state, unasked
 from showing.rows import Rows
 from oracle import values
-from oracle.replay import Differs, Replay
+from oracle.c0.meaning import Fault
+from oracle.programs import Program
+from oracle.replay import Differs, Recorder, Replay
 
 LAST = 40
 
@@ -38,11 +40,13 @@ def look(run, folder, options):
     """Shows what is asked of a run that was booted. Gives the status to end with: that of the boot, or 70 where the models and the program differ."""
     wanted, quiet = options.looking, run.put
     run.put, run.says_spent = (lambda text: None), False
-    status = run.boot(options.turns, options.steps)
-    run.put = quiet
-    if status not in (0, 3, 4):
-        return status
     try:
+        # a name that is not there is told before the run is made
+        way_of(Replay(made.given(run, folder, False)), wanted, run.put)
+        status = run.boot(options.turns, options.steps)
+        run.put = quiet
+        if status not in (0, 3, 4):
+            return status
         given = made.given(run, folder)
         shown = show(given, wanted, turns_made(given, options.turns))
     except Differs as differs:
@@ -64,9 +68,7 @@ def show(given, wanted, turns):
     """Puts the rows. Gives how many there were."""
     first, last = (max(0, turns - LAST), turns - 1) if wanted.turns == 'last' else wanted.turns or (0, turns - 1)
     replay, lines = Replay(given), Lines()
-    if wanted.user and wanted.user > len(given.users):
-        raise Bad('--user %d: there are %d users' % (wanted.user, len(given.users)))
-    way = watching(replay, wanted, lines.put) if wanted.watch else breaking(replay, wanted, lines.put) if wanted.breaks else showing_rows(replay, wanted, lines.put)
+    way = way_of(replay, wanted, lines.put)
     try:
         replay.quietly(min(first, turns))
         way(min(last + 1, turns))
@@ -75,6 +77,17 @@ def show(given, wanted, turns):
     finally:
         lines.flush()
     return lines.count
+
+
+def way_of(replay, wanted, put):
+    """How the rows are made: a function that goes on to a number of turns."""
+    if wanted.user and wanted.user > len(replay.users):
+        raise Bad('--user %d: there %s' % (wanted.user, users_said(replay.users)))
+    return (watching if wanted.watch else breaking if wanted.breaks else showing_rows)(replay, wanted, put)
+
+
+def users_said(users):
+    return 'is 1 user' if len(users) == 1 else 'are %d users' % len(users)
 
 
 def end_rows(replay, put):
@@ -106,6 +119,8 @@ class Watch:
         found = re.fullmatch(r'user(\d+)\.(?:r(\d+)|(pc|hi|lo)|mem\[(\d+)\])', name)
         if found:
             self.of_user(*found.groups())
+        elif re.match(r'user\d+\W', name):
+            raise Bad('--watch %s: of a user it is user1.r4, user1.pc, user1.hi, user1.lo or user1.mem[64], with the byte address of a word in decimal' % name)
         else:
             self.of_global(name)
         self.value = self.read()
@@ -113,7 +128,7 @@ class Watch:
     def of_user(self, user, register, special, word):
         self.user = int(user)
         if not 1 <= self.user <= len(self.replay.users):
-            raise Bad("--watch %s: there are %d users" % (self.name, len(self.replay.users)))
+            raise Bad('--watch %s: there %s' % (self.name, users_said(self.replay.users)))
         flat = self.replay.users[self.user - 1]
         if register:
             if not 1 <= int(register) <= 31:
@@ -223,25 +238,27 @@ class Stepping:
 
 # ---- lines that are reached
 def breaking(replay, wanted, put):
-    given, stops, of_users = replay.given, {}, {}
+    given, stops, of_users, beside = replay.given, {}, {}, {}
     names = {user.source.name: number for number, user in enumerate(given.users, 1)}
 
-    def tell(where, text):
+    def tell(where, text, own=()):
         put('turn %d  %s is reached: %s' % (replay.turn, where, text))
-        for row in state.rows(given, replay):
+        for row in [*own, *state.rows(given, replay)]:
             put(row)
 
     for name, line in wanted.breaks:
         if name == given.kernel.name:
-            check_line(given.kernel, line, kernel_lines(given))
+            check_line(given.kernel, line, code_lines(given.kernel, given.system.unit))
             stops[line] = lambda number: tell(given.kernel.where(number), given.kernel.line_text(number))
-        elif name in names and given.users[names[name] - 1].kind == 's':
+        elif name in names:
             user = given.users[names[name] - 1]
-            check_line(user.source, line, {user.line(4 * n) for n in range(len(user.words))} - {None})
+            check_line(user.source, line, set(user.begins().values()))
             of_users.setdefault(names[name], set()).add(line)
         else:
-            raise Bad("--break %s:%d: it is to be a line of kernel.c0 or of a user in assembler: %s" % (
-                name, line, ', '.join(user.source.name for user in given.users if user.kind == 's') or 'none is here'))
+            raise Bad('--break %s:%d: it is to be a line of one of the sources: %s' % (name, line, ', '.join([given.kernel.name, *names])))
+    for number, lines in of_users.items():
+        if given.users[number - 1].kind == 'c0':
+            beside[number] = Beside(given.users[number - 1].source, lines)
 
     def to(turns):
         replay.recorder.stops, replay.recorder.take = stops, lambda event: None
@@ -249,29 +266,57 @@ def breaking(replay, wanted, put):
         while replay.turn < turns and replay.end is None:
             user = replay.run.current
             if user in of_users and not replay.run.pending | replay.run.lines.get(replay.turn, 0):
-                line = given.users[user - 1].line(replay.users[user - 1].pc)
+                line = given.users[user - 1].begins().get(replay.users[user - 1].pc)
                 if line in of_users[user]:
-                    tell(given.users[user - 1].source.where(line), given.users[user - 1].source.line_text(line))
+                    own = beside[user].rows(replay.run.answers[user]) if user in beside and user not in replay.run.changed else []
+                    tell(given.users[user - 1].source.where(line), given.users[user - 1].source.line_text(line), own)
             replay.quietly(replay.turn + 1)
         replay.kernel.seen = None
     return to
 
 
-def kernel_lines(given):
-    """The lines on which a statement, a test or a return begins."""
+class Beside:
+    """A user in C0 by its meaning, which goes from one time that one of its lines is reached to the next, beside the user's machine."""
+
+    def __init__(self, source, lines):
+        self.source, self.program, self.answered, self.found = source, Program(source.text, 10**9), 0, None
+        self.program.seen = Recorder(source, self.program, lambda event: None)
+        self.program.seen.stops = dict.fromkeys(lines, self.note)
+
+    def note(self, line):
+        self.found = state.c0_rows(self.source, self.program)
+
+    def rows(self, answers):
+        """Its functions with their variables, and its globals, where the line is reached next; `answers` are those of its calls of `trap` so far."""
+        self.found, program = None, self.program
+        try:
+            while self.found is None and (program.trap is None or self.answered < len(answers)):
+                if program.trap is not None:
+                    program.answered(answers[self.answered])
+                    self.answered += 1
+                if not program.work:
+                    break
+                program.act()
+        except Fault as fault:
+            program.ending = fault
+        return self.found or []
+
+
+def code_lines(source, unit):
+    """The lines on which a statement, a test or a return of a source in C0 begins."""
     found = set()
 
     def visit(statements):
         for s in statements:
-            found.add(given.kernel.line(s.span[0]))
+            found.add(source.line(s.span[0]))
             if s.kind in ('if', 'while'):
                 visit(s.parts[1])
                 visit(s.parts[2])
 
-    for f in given.system.unit.functions:
+    for f in unit.functions:
         if f.asm is None:
             visit(f.body)
-            found.add(given.kernel.line(f.return_at))
+            found.add(source.line(f.return_at))
     return found
 
 

@@ -26,12 +26,16 @@ def user_of(run, name):
     return user
 
 
-def given(run, folder):
-    """What a run that was booted is made of."""
-    users = [user_of(run, name) for name in folder.users]
+def printed(run):
+    """What the boot of a run printed."""
     with open(run.made('boot'), encoding='latin-1') as file:
-        printed = file.read()
+        return file.read()
+
+
+def given(run, folder, is_booted=True):
+    """What a run is made of: one that was booted, or one of which nothing was printed yet."""
+    users = [user_of(run, name) for name in folder.users]
     try:
-        return Given(text_of(folder.kernel), users, text_of(folder.params), text_of(run.schedule), printed)
+        return Given(text_of(folder.kernel), users, text_of(folder.params), text_of(run.schedule), printed(run) if is_booted else '')
     except NoTree as none:
         raise Differs('the model has no tree of a source that the program compiled (%s)' % none) from None

@@ -20,7 +20,7 @@ def lines(given, turns, steps):
     way = Way(given, steps)
     found = way.loop(turns)
     if found:
-        return found + [so_far(way.complete, turns, steps)]
+        return found + [gone_into(way.complete, turns, steps)]
     traps = way.again()
     return traps + [so_far(way.complete, turns, steps)] if traps else [so_far(way.complete, turns, steps), enough(way.complete, turns, steps)]
 
@@ -29,6 +29,11 @@ def so_far(complete, turns, steps):
     if not complete:
         return 'no turn was complete within %d steps.' % steps
     return 'of %d turns some %d were complete within %d steps: about %s steps a turn.' % (turns, complete, steps, short(steps / complete))
+
+
+def gone_into(complete, turns, steps):
+    """How far the run came before a call that does not come back: an average over its turns would say nothing of it."""
+    return 'of %d turns %d were complete; what was left of the %d steps went into this call.' % (turns, complete, steps)
 
 
 def enough(complete, turns, steps):

@@ -4,13 +4,13 @@ from oracle.faults import chain
 from oracle.words import signed
 
 
-def kernel_rows(given, kernel):
-    """The functions that run, each with its variables, and the globals."""
+def c0_rows(source, meaning):
+    """The functions of a source that run, each with its variables, and the globals."""
     rows = []
-    for (name, _, line), frame in zip(chain(given.kernel, kernel), kernel.frames):
-        variables = ', '.join('%s = %s' % (n, v) for n, _, v in values.frame_values(kernel, frame))
-        rows.append('  %s, at %s: %s' % (name, given.kernel.where(line), variables or 'no variables'))
-    return rows + global_rows(kernel)
+    for (name, _, line), frame in zip(chain(source, meaning), meaning.frames):
+        variables = ', '.join('%s = %s' % (n, v) for n, _, v in values.frame_values(meaning, frame))
+        rows.append('  %s, at %s: %s' % (name, source.where(line), variables or 'no variables'))
+    return rows + global_rows(meaning)
 
 
 def global_rows(kernel):
@@ -34,4 +34,4 @@ def user_rows(given, users):
 
 
 def rows(given, replay):
-    return kernel_rows(given, replay.kernel) + user_rows(given, replay.users)
+    return c0_rows(given.kernel, replay.kernel) + user_rows(given, replay.users)

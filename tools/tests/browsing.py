@@ -79,6 +79,10 @@ class Browser:
             raise AssertionError(json.dumps(found['exceptionDetails'])[:2000])
         return found['result'].get('value')
 
+    def thread_seconds(self):
+        """How many seconds of a processor the thread of the page has taken, once `Performance.enable` was asked."""
+        return next(one['value'] for one in self.ask('Performance.getMetrics')['metrics'] if one['name'] == 'ThreadTime')
+
     def dark(self, is_dark):
         """Has pages be told that dark ones are wanted, or light ones."""
         self.ask('Emulation.setEmulatedMedia', features=[{'name': 'prefers-color-scheme', 'value': 'dark' if is_dark else 'light'}])

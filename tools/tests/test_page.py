@@ -5,8 +5,8 @@ import unittest
 
 from explain import pages
 from paging import page, record
-from running import guard, try_main
-from tests import page_against_program as against, page_parts as parts
+from running import guard, rooms, try_main
+from tests import browsing, page_against_program as against, page_parts as parts
 from oracle import journals, values
 from oracle import run as running
 from oracle.assembler import assemble
@@ -137,6 +137,65 @@ console.log(JSON.stringify({ told, calls: run.calls().map(f => [f.name, [...f.va
             script = against.BY_NODE.replace('TURNS', str([last])).replace('run.go(run.complete(turn));', 'run.go(run.complete(turn)); %s;' % change)
             said = against.differences(last, parts.node(script, parts.data_of(text))[str(last)], parts.report(rows))
             self.assertEqual(len(said), 1 if change else 0, change)
+
+
+# A system that goes on for ever: users that count and call, and a kernel with a queue, objects and a console.
+BUSY = '''struct entry { int user; struct entry* next; };
+struct entry* first;
+int[8] queue;
+int[4] counts;
+int head; int tail; int calls; int total;
+
+int put(int user) {
+  queue[tail % 8] = user;
+  tail = tail + 1;
+  return tail;
+}
+
+int dispatch(int cause, int data, int user) {
+  struct entry* made; bool ok; int number; int next; int value;
+  next = 1;
+  if (cause == 6) {
+    calls = calls + 1;
+    counts[user] = counts[user] + 1;
+    if (calls % 100 == 0) {
+      made = new struct entry;
+      if (made != null) { made->user = user; made->next = first; first = made; }
+    }
+    value = vm_get(user, 4);
+    total = total + value;
+    ok = vm_put(3, 1024 + 4 * user, total);
+    ok = vm_set(user, 7, 0 - total);
+    if (calls % 50 == 0) { ok = con_put(total); }
+    number = put(user);
+    next = user % 3 + 1;
+  }
+  return next;
+}
+'''
+COUNTS = 'loop: addiu r4, r4, 1\nsw r4, 256(r0)\nmult r4, r4\nmflo r5\naddiu r6, r6, 1\nandi r6, r6, 15\nsll r7, r6, 2\nsw r5, 512(r7)\nsyscall 3\nj loop\n'
+CALLS = 'loop: addiu r4, r4, 1\nsyscall 3\nj loop\n'
+
+
+@unittest.skipUnless(parts.browser(), 'no Chromium is installed, so no page is opened')
+class Opening(unittest.TestCase):
+    def test_a_page_is_open_within_a_second(self):
+        """The page's own thread takes less than a second of a processor until it is painted: its time by the clock is of the machine, too."""
+        with rooms.room('cvm-page-') as room, browsing.browsing(parts.browser()) as browser:
+            browser.ask('Performance.enable', timeDomain='threadTicks')
+            for turns, user in ((1000, COUNTS), (10000, COUNTS), (10000, CALLS)):
+                text, made = page_of(given_of(turns, BUSY, [user] * 3)[0], total=turns)
+                self.assertGreater(made.last - made.first, turns - 30)
+                name = room + '/page.html'
+                with open(name, 'w', encoding='utf-8') as file:
+                    file.write(text)
+                browser.open('about:blank')
+                before = browser.thread_seconds()
+                browser.open('file://' + name)
+                self.assertLess(browser.thread_seconds() - before, 1, (turns, user))
+                self.assertEqual(browser.value('document.getElementById("turnname").textContent'), 'turn %d' % made.first)
+                browser.key('End')
+                self.assertEqual(browser.value('document.getElementById("turnname").textContent'), 'turn %d' % made.last)
 
 
 class Pages(unittest.TestCase):

@@ -6,7 +6,7 @@ import unittest
 from unittest import mock
 
 from explain import files, pages
-from running import program
+from running import folder, program
 from running.guard import Bad
 from showing import listing, looking, made, spent, unasked, wanted
 from oracle import run as running
@@ -92,10 +92,11 @@ class Rows(unittest.TestCase):
 
     def test_bad_words(self):
         given = given_of(FAULTY, [ASKS])
-        for words, part in ((['--watch', 'tial'], "no global 'tial'"), (['--watch', 'queue[4]'], "no part '[4]'"), (['--watch', 'user2.r1'], 'there are 1 users'),
+        for words, part in ((['--watch', 'tial'], "no global 'tial'"), (['--watch', 'queue[4]'], "no part '[4]'"), (['--watch', 'user2.r1'], 'there is 1 user'),
                             (['--watch', 'user1.r32'], 'r1 to r31'), (['--watch', 'user1.mem[2]'], 'multiple of 4'), (['--break', 'kernel.c0:2'], 'nearest that is run is 5'),
-                            (['--break', 'user1.s:99'], 'nothing is run'), (['--break', 'k:1'], 'a line of kernel.c0'), (['--break', '12'], 'FILE:LINE'),
-                            (['--show', '5..2'], 'ends before it begins'), (['--show', '..2'], 'a turn stands on either side'), (['--user', '2', '--show'], 'there are 1 users')):
+                            (['--break', 'user1.s:99'], 'nothing is run'), (['--break', 'k:1'], 'one of the sources: kernel.c0, user1.s'), (['--break', '12'], 'FILE:LINE'),
+                            (['--show', '5..2'], 'ends before it begins'), (['--show', '..2'], 'a turn stands on either side'), (['--user', '2', '--show'], 'there is 1 user'), (['--watch', 'queue[9]'], 'its parts are [0] to [3]'),
+                            (['--watch', 'user1.mem[64'], 'of a user it is user1.r4'), (['--watch', 'user1.r1x'], 'of a user it is user1.r4'), (['--watch', 'tail.x'], 'it is one word')):
             with self.assertRaises(Bad) as caught:
                 shown(given, *words)
             self.assertIn(part, str(caught.exception))
@@ -132,6 +133,7 @@ class Unasked(unittest.TestCase):
         spins = 'int n; int dispatch(int cause, int data, int user) { if (cause == 6) {\n while (n < 5) { n = n % 3 + 1; } } return 1; }'
         self.assertIn('kernel.c0:2: the kernel, called in turn 2, has not come back after 1000 statements and tests: `while (n < 5)` goes round',
                       spent.lines(given_of(spins, [ASKS], turns=2, cut=1), 100, 1000)[0])
+        self.assertEqual(spent.lines(given_of(spins, [ASKS], turns=2, cut=1), 100, 1000)[1], 'of 100 turns 1 were complete; what was left of the 1000 steps went into this call.')
         polls = 'int n; int dispatch(int cause, int data, int user) { n = n + 1; return 1; }'
         said = spent.lines(given_of(polls, ['again: syscall 3\nj again\n'], turns=60, cut=25), 100000, 9000)
         self.assertEqual((len(said), 'user1.s:1: `again: syscall 3` of user 1 traps at the same pc again and again' in said[0]), (2, True))
@@ -168,6 +170,23 @@ class Listings(unittest.TestCase):
 
 
 class Program(unittest.TestCase):
+    def test_bad_names_are_told_before_the_run(self):
+        with tempfile.TemporaryDirectory() as room:
+            for name, text in (('kernel.c0', FAULTY), ('params', PARAMS), ('schedule', ''), ('user1.s', ASKS)):
+                with open(os.path.join(room, name), 'w', encoding='utf-8') as file:
+                    file.write(text)
+            with open(os.path.join(room, 'user1.img'), 'wb') as file:
+                file.write(b''.join(word.to_bytes(4, 'little') for word in assemble(ASKS)))
+            run = mock.Mock(image=lambda name: os.path.join(room, 'user1.img'), schedule=os.path.join(room, 'schedule'))
+            for words in (['--watch', 'tial'], ['--break', 'kernel.c0:2'], ['--show', '--user', '2']):
+                options = mock.Mock(looking=wanted.Wanted())
+                left = list(words)
+                while left:
+                    options.looking.take(left.pop(0), left)
+                with self.assertRaises(Bad):
+                    looking.look(run, folder.Folder(room), options)
+            run.boot.assert_not_called()
+
     def test_words_of_a_user_that_are_others_are_told(self):
         with tempfile.TemporaryDirectory() as room:
             path = os.path.join(room, 'user1.s')

@@ -1,0 +1,71 @@
+"""Looking into users in C0, over the run of an example that the program made: the lines at which --break stops are the statements that --page steps through.
+`tools/tests/looking_by_program.py [--checked]`"""
+import os
+import re
+import sys
+
+sys.dont_write_bytecode = True
+sys.path.insert(0, os.path.dirname(os.path.dirname(os.path.realpath(__file__))))
+from running import guard, rooms, try_main  # noqa: E402
+from running.guard import say  # noqa: E402
+from showing import looking, made, wanted  # noqa: E402
+from tests import page_against_program as against, page_parts as parts  # noqa: E402
+
+EXAMPLE, USER, LINE = 'services', 'user1.c0', 9
+# Each statement of a user that the page steps to on a line, on and back, with the variables of its functions; and where a chosen line is stopped at.
+OWN = '''
+const run = new page.Run(data), told = { on: [], back: [], stops: [] }, here = () => [run.turn, run.calls().map(frame => [frame.name, [...frame.variables].map(pair => pair.join(' = ')).join(', ')])];
+const isOn = () => run.files[run.place] === 1 && run.atLines[run.place] === LINE;
+run.go(-1);
+for (let to; (to = run.statementOn()) !== run.place;) { run.go(to); if (isOn()) told.on.push(here()); }
+run.go(run.turns.length - 1);
+for (let to; (to = run.statementBack()) !== run.place;) { run.go(to); if (isOn()) told.back.unshift(here()); }
+run.go(-1);
+for (let to; (to = run.toStop(1, new Set(['1:LINE']))) !== run.place;) { run.go(to); told.stops.push(here()); }
+console.log(JSON.stringify(told));
+'''
+
+
+def reached(given, turns):
+    """Of each time that the line is reached, the functions with their variables."""
+    asked, rows = wanted.Wanted(), []
+    asked.take('--break', ['%s:%d' % (USER, LINE)])
+    looking.way_of(looking.Replay(given), asked, rows.append)(turns)
+    found = []
+    for row in rows:
+        if row.startswith('turn '):
+            found.append([])
+        else:
+            frame = re.fullmatch(r'  (\w+), at %s:\d+: (.*)' % re.escape(USER), row)
+            found[-1] += [[frame[1], frame[2]]] if frame else []
+    return found
+
+
+def main(words):
+    if not parts.has_node():
+        say('node is missing, so the statements of users in C0 are not stepped through')
+        return 0
+    options = try_main.Options()
+    options.checked = '--checked' in words
+    start = try_main.start_of(options)
+    with rooms.room('cvm-looking-') as work:
+        run = against.built(start, EXAMPLE, work)
+        text, total = against.page_of(run)
+        machine = reached(made.given(run, run.folder), total)
+    told = parts.node(OWN.replace('LINE', str(LINE)), parts.data_of(text))
+    said = []
+    if len(machine) < 20 or len(machine) != len(told['on']):
+        said.append('--break stops %d times at line %d, and the page %d times' % (len(machine), LINE, len(told['on'])))
+    if told['on'] != told['back'] or told['on'] != told['stops']:
+        said.append('the page steps on, back and to the chosen line to other places')
+    # the page shows the state behind a statement, and --break the one before it: all but what line 9 changes are the same
+    without = lambda frames: [[name, re.sub(r'\bd = -?\d+', 'd', variables)] for name, variables in frames]
+    for number, (one, (turn, other)) in enumerate(zip(machine, told['on'])):
+        if without(one) != without(other):
+            said.append('stop %d: --break shows %s, and the page in turn %d %s' % (number, one, turn, other))
+    say(said[:5])
+    return 1 if said else 0
+
+
+if __name__ == '__main__':
+    sys.exit(guard.guarded('looking_by_program', main, sys.argv[1:]))
