@@ -4,7 +4,7 @@ usage: oracle/model programs KERNEL PARAMS PROGRAM..   prints of each program's 
 """
 import re
 
-from oracle.c0.code import FarDisplacement, code_words
+from oracle.c0.code import code_words
 from oracle.c0.meaning import Fault, Meaning, TooLong, Unit
 from oracle.c0.tree import Parser
 from oracle.kernel import Kernel
@@ -62,21 +62,11 @@ class Program(Meaning):
         return CALL if self.ending is None else FAULTS[self.ending.kind]
 
 
-def words_of_code(text):
-    """The words of a program's code. With far displacements they aren't counted: a short source has fewer than a page."""
-    try:
-        return code_words(text)
-    except FarDisplacement:
-        if len(text) >= 1024:
-            raise
-        return len(text)
-
-
 def pages_of(text):
     """The pages of a program's image: start and stubs, code, globals, heap and stack."""
     unit = Unit(Parser(text))
     pages = lambda words: (words + 1023) // 1024
-    return 16 + pages(words_of_code(text)) + pages(unit.global_words) + 2
+    return 16 + pages(code_words(text)) + pages(unit.global_words) + 2
 
 
 class ProgramUser:

@@ -1,7 +1,6 @@
 """A run that is made again, turn by turn, with what happens in it: README.md, "Looking into a run"."""
 from oracle import values
 from oracle.assembler import line_numbers
-from oracle.c0.code import FarDisplacement
 from oracle.c0.cut import START, Cut, places
 from oracle.c0.meaning import Seen
 from oracle.c0.tree import Node, Parser
@@ -56,10 +55,7 @@ class User:
 
     def cut(self):
         """The words of a user in C0, cut by its source; None where they aren't."""
-        try:
-            cut = Cut(self.source.text)
-        except FarDisplacement:
-            return None
+        cut = Cut(self.source.text, True)
         return cut if cut.unfit(self.words[START // 4:START // 4 + cut.at]) is None else None
 
     def begins(self):

@@ -2,14 +2,13 @@
 answers.
 
 usage: oracle/model c0_words FILE..    prints the number for each kernel
-
-It knows near displacements alone: the globals, each frame and each struct have fewer than 8,192 words.
 """
 from oracle.c0.meaning import Unit
 from oracle.c0.tree import Parser, bare, is_scalar
 from oracle.words import M
 
 BEFORE = 8 + 31     # the entry and the routines
+LARGEST = 262144    # a frame of more words has room in no stack
 
 
 def near(k):
@@ -23,10 +22,16 @@ def constant(n):
     return 1 if n < 0x10000 or near(n) else 2
 
 
+def reach(displacement):
+    """The words of an access at a displacement in bytes: what doesn't fit 16 bits is added before it."""
+    return 1 if near(displacement) else 3
+
+
 class Value:
-    """An expression: the words of its value, and of the place before the access; whether it stands without code, and which word it is."""
-    def __init__(self, ty, value, place=None, stands=False, known=None, literal=None):
-        self.ty, self.value, self.place, self.stands, self.known, self.literal = ty, value, place, stands, known, literal
+    """An expression: the words of its value, and of the place before the access, with the displacement of that; whether it stands without code, and which
+    word it is."""
+    def __init__(self, ty, value, place=None, stands=False, known=None, literal=None, displacement=0):
+        self.ty, self.value, self.place, self.stands, self.known, self.literal, self.displacement = ty, value, place, stands, known, literal, displacement
 
     def operand(self):
         return 0 if self.stands else self.value(True)
@@ -40,12 +45,8 @@ def plain(ty, words):
     return Value(ty, lambda same: words)
 
 
-def at(ty, words):
-    return Value(ty, lambda same: words + 1, words)
-
-
-class FarDisplacement(ValueError):
-    """A unit whose globals, frames or structs have 8,000 words or more: its code isn't counted."""
+def at(ty, words, displacement):
+    return Value(ty, lambda same: words + reach(displacement), words, displacement=displacement)
 
 
 class Words:
@@ -57,9 +58,6 @@ class Words:
         self.globals = {}
         for ty, name in self.sizes.globals:
             self.globals.setdefault(name, ty)
-        parts = [self.sizes.globals, *self.sizes.structs.values(), *(f.names for f in self.tree.functions)]
-        if any(sum(self.sizes.words(ty) for ty, _ in part) >= 8000 for part in parts):
-            raise FarDisplacement('the code of a unit with far displacements is not counted')
 
     def whole(self):
         return BEFORE + sum(self.function(f) for f in self.tree.functions)
@@ -77,10 +75,12 @@ class Words:
             return self.variable(parts[0])
         if kind == 'field':
             inner = self.node(parts[0])
-            return at(self.sizes.field(inner.ty, parts[1][0])[0], inner.place)
+            ty, before = self.sizes.field(inner.ty, parts[1][0])
+            return at(ty, inner.place, inner.displacement + 4 * before)
         if kind == 'arrow':
             inner = self.node(parts[0])
-            return at(self.sizes.field(inner.ty[1], parts[1][0])[0], inner.operand() + 2)
+            ty, before = self.sizes.field(inner.ty[1], parts[1][0])
+            return at(ty, inner.operand() + 2, 4 * before)
         if kind == 'index':
             return self.indexed(self.node(parts[0]), self.node(parts[1]))
         if kind == 'un':
@@ -90,23 +90,27 @@ class Words:
     def variable(self, name):
         if name in self.variables:
             ty = self.variables[name]
-            return Value(ty, lambda same: 1, None, True) if self.in_registers else at(ty, 0)
-        return at(self.globals[name], 0)
+            return Value(ty, lambda same: 1, None, True) if self.in_registers else at(ty, 0, self.offset(self.layout[0][name][1]))
+        return at(self.globals[name], 0, 4 * self.sizes.places[name][1])
+
+    def offset(self, number):
+        """The displacement of a variable of the frame, by the words before it: from the frame's end."""
+        return 4 * (3 + number - self.layout[2])
 
     def indexed(self, base, index):
         element, length = base.ty[1], base.ty[2]
-        if index.literal is not None and index.literal < length:
-            return at(element, base.place)
         words = self.sizes.words(element)
+        if index.literal is not None and index.literal < length:
+            return at(element, base.place, base.displacement + 4 * words * index.literal)
         bound = 3 if length <= 0x7fff else constant(length) + 3
         scale = 1 if words & (words - 1) == 0 else constant(4 * words) + 2
-        return at(element, base.place + index.operand() + bound + scale + 1)
+        return at(element, base.place + index.operand() + bound + scale + 1, base.displacement)
 
     def unary(self, op, inner):
         if op == '*':
-            return at(inner.ty[1], inner.operand() + 2)
+            return at(inner.ty[1], inner.operand() + 2, 0)
         if op == '&':
-            return plain(('ptr', inner.ty), inner.place + 1)
+            return plain(('ptr', inner.ty), inner.place + reach(inner.displacement))
         if op == '-' and inner.literal is not None:
             return fixed(('int',), -inner.literal & M)
         return plain(('int',) if op == '-' else ('bool',), inner.operand() + 1)
@@ -160,12 +164,12 @@ class Words:
         return sum(self.statement(s) for s in statements)
 
     def stored(self, place):
-        return 1 if place.stands else place.place + 1
+        return 1 if place.stands else place.place + reach(place.displacement)
 
     def statement(self, s):
         if s.kind == 'assign':
             place, value = self.node(s.parts[0]), self.node(s.parts[1])
-            return value.value(False) if place.stands else value.operand() + place.place + 1
+            return value.value(False) if place.stands else value.operand() + self.stored(place)
         if s.kind == 'call':
             return sum(self.node(a).value(False) for a in s.parts[2]) + 1 + self.stored(self.node(s.parts[0]))
         if s.kind == 'new':
@@ -188,17 +192,32 @@ class Words:
     def function(self, f):
         if f.asm is not None:
             return 4 + 6 + sum(1 for line in f.asm[0].split('\n') if line.split('#')[0].strip()) + 1
+        head = self.enter(f)
+        return head + self.block(f.body) + self.node(f.result).value(False) + self.end()
+
+    def enter(self, f):
+        """Begins with a function that has a body of code: the words of its head."""
         kinds = self.kinds(f.body)
         self.in_registers = 'call' not in kinds and all(is_scalar(ty) for ty, _ in f.names) and len(f.names) <= 8
-        self.variables = {}
+        self.variables, self.layout = {}, self.sizes.layout(f)
         for ty, name in f.names:
             self.variables.setdefault(name, ty)
-        local = self.sizes.layout(f)[1]
-        inside = self.block(f.body) + self.node(f.result).value(False)
+        self.is_calling = bool(kinds & {'call', 'new'})
         if self.in_registers:
-            return 4 + ('new' in kinds) * 2 + len(f.locals) + inside + 1
-        calling = bool(kinds & {'call', 'new'})
-        return 4 + calling * 2 + len(f.params) + (local if local <= 8 else 4) + inside + 2
+            return 4 + self.is_calling + len(f.locals)
+        _, local, frame = self.layout
+        cells = [reach(self.offset(number)) for number in range(len(f.params) + min(local, 9))]
+        cleared = sum(cells[len(f.params):]) if local <= 8 else cells[len(f.params)] + 3
+        return self.tested() + (reach(-4 * frame) if self.is_calling else 0) + sum(cells[:len(f.params)]) + cleared
+
+    def tested(self):
+        """The words that test the stack: a frame that has room in none has a jump to the fault before it."""
+        return reach(4 * self.layout[2]) + 3 + (self.layout[2] > LARGEST) if not self.in_registers else 4
+
+    def end(self):
+        """The words behind the answer of a function."""
+        frame = reach(-4 * self.layout[2])
+        return self.is_calling + 1 if self.in_registers else (frame if self.is_calling else 0) + frame + 1
 
 
 def code_words(text):

@@ -4,7 +4,6 @@ from collections import namedtuple
 
 from oracle.c0.code import Words
 from oracle.c0.meaning import NUMBERS
-from oracle.c0.tree import is_scalar
 
 START = 0x10000         # the address of the code
 ENTRY, ROUTINES = 8, (('new', 18), ('multiply', 3), ('divide', 5), ('remainder', 5))
@@ -19,9 +18,10 @@ Part = namedtuple('Part', 'first count what place node')
 class Cut(Words):
     """The parts of a source's code, in the order of their words; `starts` has the first word of each function, `functions` their order."""
 
-    def __init__(self, text):
+    def __init__(self, text, is_program=False):
         Words.__init__(self, text)
-        self.parts, self.at, self.starts, self.ends = [], 0, {}, {}
+        self.is_program = is_program
+        self.parts, self.at, self.starts, self.ends, self.tests = [], 0, {}, {}, {}
         self.add(ENTRY, 'entry', None)
         for name, count in ROUTINES:
             self.add(count, 'routine ' + name, None)
@@ -44,16 +44,11 @@ class Cut(Words):
                 self.add(1 if line.split('#')[0].strip() else 0, 'instruction', at + len(line) - len(line.lstrip()))
                 at += len(line) + 1
             return self.add(1, 'end of %s' % f.name, f.asm[1][1] - 1)
-        kinds, local = self.kinds(f.body), self.sizes.layout(f)[1]
-        self.in_registers = 'call' not in kinds and all(is_scalar(t) for t, _ in f.names) and len(f.names) <= 8
-        self.variables = {}
-        for t, name in f.names:
-            self.variables.setdefault(name, t)
-        calling = 1 if kinds & {'call', 'new'} else 0
-        self.add(4 + calling + (len(f.locals) if self.in_registers else len(f.params) + (local if local <= 8 else 4)), 'head of %s' % f.name, head)
+        self.add(self.enter(f), 'head of %s' % f.name, head)
+        self.tests[f.name] = self.tested()
         self.cut_block(f.body)
         self.add(self.node(f.result).value(False), 'return', f.return_at)
-        return self.add(calling + (1 if self.in_registers else 2), 'end of %s' % f.name, f.return_at)
+        return self.add(self.end(), 'end of %s' % f.name, f.return_at)
 
     def cut_block(self, statements):
         for s in statements:
@@ -81,8 +76,9 @@ class Cut(Words):
             first, last = self.starts[f.name], self.ends[f.name] - 1
             if words[last] != RETURN:
                 return last, '%s does not end with jr r31 here' % f.name
-            if words[first + 3] != STACK_OUT:
-                return first + 3, 'the test of the stack of %s does not end here' % f.name
+            tested = first + self.tests.get(f.name, 4) - 1
+            if words[tested] != STACK_OUT:
+                return tested, 'the test of the stack of %s does not end here' % f.name
         for part in self.parts:
             why = self.odd(part, words)
             if why:
@@ -109,7 +105,7 @@ class Cut(Words):
         return PRIMITIVES + 4 * self.primitive_numbers()[name]
 
     def primitive_numbers(self):
-        return NUMBERS if 'dispatch' in self.starts else {'trap': 0}
+        return {'trap': 0} if self.is_program else NUMBERS
 
     # ---- what stands at an address
     def names(self):

@@ -16,6 +16,14 @@ int dispatch(int cause, int data, int user) {
   return next;
 }
 '''
+# Globals, frames and structs of which parts stand far away.
+FAR = '''int g; int[9000] pad; int h; struct s { int[8189] a; int b; int c; struct s* n; int[3] d; }; struct s t; struct s* p;
+int f(int a, int b) { int x; int[9000] big; int y; struct s l; x = a; big[2] = a; big[a] = y; y = 3; x = y; big[8999] = b; l.b = x; l.c = l.b; y = l.d[a % 3]; h = h + y; return x; }
+int k(int a) { int[8190] z; int b; b = z[a]; return b; }
+int huge(int a) { int[262200] z; z[3] = a; return z[a]; }
+int m() { int x; int y; struct s[2] w; x = p->c; p->d[x] = 5; w[1].c = x; w[x].b = y; p->n = &t; t.n = p; p = p->n->n; if (p->c < t.d[2] && w[1].c == x) { while (w[0].d[1] > 3) { w[0].d[1] = 2; } } return t.c; }
+int q(int a, int b, int c, int d, int e, int f, int g, int h) { int x; int[8187] u; x = huge(a); p = new struct s; u[3] = x; return u[x]; }
+int dispatch(int cause, int data, int user) { int n; int[8184] v; int r; n = f(1, 2); n = k(n); n = m(); r = q(1, 2, 3, 4, 5, 6, 7, 8); return n; }'''
 TOP = os.path.join(os.path.dirname(os.path.abspath(__file__)), '..', '..')
 
 
@@ -117,9 +125,16 @@ class Code(unittest.TestCase):
             text = read('examples', folder, 'kernel.c0')
             self.assertEqual(cut.Cut(text).at, code.code_words(text))
 
-    def test_far_displacements_are_not_counted(self):
-        with self.assertRaises(code.FarDisplacement):
-            code.code_words('int[9000] a; ' + KERNEL)
+    def test_far_displacements(self):
+        # what is past 32,767 bytes takes two words more at each access: here the three of `n`
+        self.assertEqual(code.code_words('int[9000] a; ' + KERNEL), code.code_words(KERNEL) + 3 * 2)
+        # the program makes as many words of it
+        self.assertEqual((code.code_words(FAR), cut.Cut(FAR).at), (410, 410))
+
+    def test_a_program_may_have_a_dispatch_of_its_own(self):
+        made = cut.Cut('int dispatch() { return 1; } int main() { int x; x = dispatch(); x = trap(x); return x; }', True)
+        self.assertEqual(made.primitive_numbers(), {'trap': 0})
+        self.assertEqual([made.entry_of(name) for name in ('trap', 'dispatch')], [cut.PRIMITIVES, cut.START + 4 * made.starts['dispatch']])
 
     def test_stack(self):
         self.assertEqual(stack.check(read('examples', 'messages', 'kernel.c0'), 64), 'yes 15\nchain dispatch pick\n')

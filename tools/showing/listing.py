@@ -6,7 +6,6 @@ from running import program
 from running.guard import say
 from showing import made
 from oracle.assembler import assemble, line_numbers
-from oracle.c0.code import FarDisplacement
 from oracle.c0.cut import START, Cut
 from oracle.disassembler import instruction
 from oracle.sources import Source
@@ -30,11 +29,7 @@ class Listing:
         """The words of a source in C0; those of a program may have zeros behind them."""
         source = Source(name, text)
         self.put('%s: %s' % (name, kind))
-        try:
-            cut = Cut(text)
-        except FarDisplacement as far:
-            self.unfit.append('%s: %s, so its words stand without lines' % (name, far))
-            return self.plain(words)
+        cut = Cut(text, kind.startswith('the code of a program'))
         if kind.startswith('the code of a program') and not any(words[cut.at:]):
             words = words[:cut.at]
         odd = cut.unfit(words)

@@ -1,4 +1,5 @@
-"""Looking into users in C0, over the run of an example that the program made: the lines at which --break stops are the statements that --page steps through.
+"""Looking into users in C0, over the run of an example that the program made: the lines at which --break stops are the statements that --page steps through;
+and the words of sources in C0, which are all cut by their lines.
 `tools/tests/looking_by_program.py [--checked]`"""
 import os
 import re
@@ -6,9 +7,13 @@ import sys
 
 sys.dont_write_bytecode = True
 sys.path.insert(0, os.path.dirname(os.path.dirname(os.path.realpath(__file__))))
-from running import guard, rooms, try_main  # noqa: E402
+from explain import pages  # noqa: E402
+from running import guard, program, rooms, try_main  # noqa: E402
 from running.guard import say  # noqa: E402
-from showing import looking, made, wanted  # noqa: E402
+from showing import listing, looking, made, wanted  # noqa: E402
+from oracle import cases  # noqa: E402
+from oracle.c0.cut import Cut  # noqa: E402
+from oracle.tests.test_c0 import FAR  # noqa: E402
 from tests import page_against_program as against, page_parts as parts  # noqa: E402
 
 EXAMPLE, USER, LINE = 'services', 'user1.c0', 9
@@ -41,13 +46,36 @@ def reached(given, turns):
     return found
 
 
+def uncut(start, work):
+    """Of each kernel of code_cases, and of one more with far displacements, that is compiled: why its words are not cut by its lines."""
+    folder, found, count = os.path.join(pages.TOP, 'crates', 'code_cases', 'data'), [], 0
+    sources = [('FAR', FAR)] + [(file, cases.unescaped(text)) for file in sorted(os.listdir(folder)) for _, text in cases.of_file(os.path.join(folder, file))]
+    name, made_of = os.path.join(work, 'kernel'), os.path.join(work, 'kernel.obj')
+    for file, text in sources:
+        with open(name, 'w', encoding='latin-1') as out:
+            out.write(text)
+        if program.run_to([*start, 'compile', 'kernel', name, made_of], os.path.join(work, 'out'))[0] == 0:
+            count += 1
+            odd = Cut(text).unfit(listing.object_words(made_of))
+            found += ['%s: %s: %s' % (file, odd[1], text[:60])] if odd else []
+    return found if count > 100 else found + ['there are %d kernels alone' % count]
+
+
 def main(words):
-    if not parts.has_node():
-        say('node is missing, so the statements of users in C0 are not stepped through')
-        return 0
     options = try_main.Options()
     options.checked = '--checked' in words
     start = try_main.start_of(options)
+    with rooms.room('cvm-looking-') as work:
+        said = uncut(start, work) + own_statements(start)
+    say(said[:5])
+    return 1 if said else 0
+
+
+def own_statements(start):
+    """What differs between --break and the page over a user in C0, in sentences."""
+    if not parts.has_node():
+        say('node is missing, so the statements of users in C0 are not stepped through')
+        return []
     with rooms.room('cvm-looking-') as work:
         run = against.built(start, EXAMPLE, work)
         text, total = against.page_of(run)
@@ -63,8 +91,7 @@ def main(words):
     for number, (one, (turn, other)) in enumerate(zip(machine, told['on'])):
         if without(one) != without(other):
             said.append('stop %d: --break shows %s, and the page in turn %d %s' % (number, one, turn, other))
-    say(said[:5])
-    return 1 if said else 0
+    return said
 
 
 if __name__ == '__main__':
