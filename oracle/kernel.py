@@ -7,7 +7,7 @@ LOG = 4096
 
 class Kernel(Meaning):
     """A run of a kernel's unit over users, of at most so many pages each, and a console with input words. `notes` has, for each user, the rows of its
-    journal that the primitives make; `refusal` says why the last primitive answered false or -1, and is None where it didn't."""
+    journal that the primitives make, and is None where nobody wants them; `refusal` says why the last primitive answered false or -1, and is None where it didn't."""
 
     def __init__(self, unit, heap, stack, users, most, inputs):
         Meaning.__init__(self, unit, heap, stack, 10**9)
@@ -26,7 +26,8 @@ class Kernel(Meaning):
         return self.users[u - 1] if 1 <= u <= len(self.users) else None
 
     def note(self, u, row):
-        self.notes.setdefault(u, []).append(row)
+        if self.notes is not None:
+            self.notes.setdefault(u, []).append(row)
 
     def no_user(self, u):
         return 'there is no user %d' % u
@@ -100,7 +101,7 @@ class Kernel(Meaning):
             return self.bad(False, why)
         f, g = self.user(u), self.user(v)
         g.m[b // 4:b // 4 + k] = f.m[a // 4:a // 4 + k]
-        for i in range(k):
+        for i in range(k if self.notes is not None else 0):
             self.note(v, 'put %08x %08x' % (b + 4 * i, g.m[b // 4 + i]))
         return True
 

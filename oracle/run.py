@@ -47,7 +47,9 @@ class Call:
 
 
 class Run:
-    """A run, of which `turn` turns are complete. `lines` says which turn takes lines, and which: {turn: mask}. `end` is None, `halted` or `fault NAME`."""
+    """A run, of which `turn` turns are complete. `lines` says which turn takes lines, and which: {turn: mask}. `end` is None, `halted` or `fault NAME`.
+    Rows of journals are made where `noting` says so."""
+    noting = True
 
     def __init__(self, system, lines):
         self.kernel, self.lines = system.kernel(), lines
@@ -77,7 +79,7 @@ class Run:
         return self.users[self.current - 1].step()
 
     def dispatch(self, call):
-        self.kernel.notes = {}
+        self.kernel.notes = {} if self.noting else None
         try:
             n = self.kernel.call('dispatch', [signed(call.cause), signed(call.data), signed(call.user)])
         except Fault as fault:
@@ -153,6 +155,7 @@ def report_rows(run):
 def boot_rows(system, turns, lines):
     """What `cvm boot` prints."""
     run = Run(system, lines)
+    run.noting = False
     rows = [call.row() for call in run.run(turns)]
     return rows if run.fault or (run.end or '').startswith('fault') else rows + report_rows(run)
 
