@@ -38,6 +38,7 @@ class User:
 
     def __init__(self, name, text, words):
         self.source, self.kind, self.words, self.numbers, self.first_words = Source(name, text), name.rpartition('.')[2], words, None, None
+        self.span = None        # from which word to which its program stands
 
     def line(self, pc):
         """The line that the word at an address was made of; None where the address is none of its text's words, or its code isn't cut."""
@@ -48,6 +49,14 @@ class User:
         if self.numbers is None:
             self.numbers = line_numbers(self.source.text) if self.kind == 's' else self.lines_of_code()
         return self.numbers
+
+    def holds(self, memory):
+        """Whether a memory has the words of this user's program: of one in C0 those of its code."""
+        if self.span is None:
+            last = next((at for at in range(len(self.words), 0, -1) if self.words[at - 1]), 0)
+            self.span = (START // 4 if self.kind == 'c0' else 0, last)
+        first, last = self.span
+        return last > first and memory[first:last] == self.words[first:last]
 
     def lines_of_code(self):
         cut = self.cut()
@@ -177,6 +186,7 @@ class Replay:
         self.given, self.run = given, ReplayedRun(given)
         self.kernel, self.users = self.run.kernel, self.run.users
         self.programs = {}      # of users in C0: their meaning so far
+        self.origins = {}       # of users that were linked of no words: whose program they last had
         self.events = []
         self.recorder = Recorder(given.kernel, self.kernel, self.events.append)
 
@@ -242,7 +252,7 @@ class Replay:
 
     # ---- a user's step
     def before(self, user):
-        """What a step may change: pc, registers, hi, lo, and where it would store with the word that stands there."""
+        """What a step may change: pc, registers, hi, lo, and where it would store with the word that stands there; and whose source says what it does."""
         f = self.users[user - 1]
         word = f.m[f.pc // 4] if f.pc % 4 == 0 and f.pc // 4 < len(f.m) else None
         at = None
@@ -250,12 +260,22 @@ class Replay:
             offset = word & 0xffff
             at = f.r[word >> 21 & 31] + (offset - 0x10000 if offset >> 15 else offset) & M
         held = f.m[at // 4] if at is not None and at % 4 == 0 and at // 4 < len(f.m) else None
-        return f.pc, list(f.r), f.hi, f.lo, word, at, held
+        return f.pc, list(f.r), f.hi, f.lo, word, at, held, self.source_of(user)
+
+    def source_of(self, user):
+        """The user whose source says what a user does: itself; where it was linked of no words, the one whose program a kernel has copied there."""
+        own, memory = self.given.users[user - 1], self.users[user - 1].m
+        if own.words:
+            return own
+        last = self.origins.get(user)
+        if last is None or not last.holds(memory):
+            last = self.origins[user] = next((other for other in self.given.users if other.holds(memory)), None)
+        return last or own
 
     def of_step(self, user, before):
         """The event of a step that was made."""
-        pc, r, hi, lo, word, at, held = before
-        given, f, trap = self.given.users[user - 1], self.users[user - 1], self.run.trap
+        pc, r, hi, lo, word, at, held, given = before
+        f, trap = self.users[user - 1], self.run.trap
         # the kernel may have changed the registers since, where the step trapped: a step that traps changes the pc alone
         changes = [] if trap else [('r%d' % i, r[i], f.r[i]) for i in range(1, 32) if r[i] != f.r[i]]
         changes += [] if trap else [(name, old, new) for name, old, new in (('hi', hi, f.hi), ('lo', lo, f.lo)) if old != new]
@@ -267,7 +287,7 @@ class Replay:
         line = given.line(pc)
         text = written(given, line if given.kind == 's' else None, word)
         return [Event('step', self.turn - 1, user=user, pc=pc, word=word, file=given.source.name, line=line, text=text, changes=changes, taken=taken, trap=trap,
-                      by_source=given.kind == 'c0' and user not in self.run.changed)]
+                      by_source=user in self.run.programs and user not in self.run.changed)]
 
     # ---- users in C0
     def program(self, user):

@@ -55,6 +55,21 @@ def shown(given, *words, turns=100000):
     return out.getvalue().decode().split('\n')
 
 
+COPIES = '''int dispatch(int cause, int data, int user) {
+  bool ok;
+  if (cause == 0) { ok = vm_resize(2, 1); ok = vm_copy(1, 0, 2, 0, 1024); }
+  if (cause == 6) { ok = vm_resize(user, 0); }
+  return 2;
+}
+'''
+
+
+class Copies(unittest.TestCase):
+    def test_a_user_that_was_linked_of_no_words_has_the_lines_of_the_program_that_it_runs(self):
+        rows = shown(given_of(COPIES, [ASKS, '# a place'], turns=5), '--show', '1..4', '--user', '2')
+        self.assertEqual([row.split('  ')[3] for row in rows if ' user 2  ' in row], ['user1.s:1', 'user1.s:2', 'user2.s'])
+
+
 class Rows(unittest.TestCase):
     def test_steps_and_statements(self):
         rows = shown(given_of(FAULTY, [ASKS]), '--show', '3..5')
