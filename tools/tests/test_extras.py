@@ -42,6 +42,11 @@ class Chosen(unittest.TestCase):
         self.assertEqual(only.chosen(self.TEXT, ['user']), b'user 1 pages 1 pc 00000000\nreg 4 00000001\nuser 2 pages 1 pc 00000004\n')
         self.assertEqual(only.chosen(b'refused 12 5\n', ['con']), b'refused 12 5\n')
 
+    def test_the_console_as_a_text(self):
+        self.assertEqual(only.chosen(self.TEXT, ['text', 'end']), b'halted\nH<ffffffff><48454c4c>\n')
+        self.assertEqual(only.chosen(b'con 00000048\ncon 00000069\ncon 0000000a\n', ['text']), b'Hi\n')
+        self.assertEqual(only.chosen(b'halted\n', ['text']), b'')
+
     def test_bad_words(self):
         for word, part in (('', "'' is none"), ('cno', "did you mean 'con'?"), ('con,,turn', "'' is none"), ('user0', 'is none'), ('user65', 'is none')):
             with self.assertRaises(guard.Bad) as caught:
