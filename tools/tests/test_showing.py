@@ -66,7 +66,7 @@ COPIES = '''int dispatch(int cause, int data, int user) {
 
 class Copies(unittest.TestCase):
     def test_a_user_that_was_linked_of_no_words_has_the_lines_of_the_program_that_it_runs(self):
-        rows = shown(given_of(COPIES, [ASKS, '# a place'], turns=5), '--show', '1..4', '--user', '2')
+        rows = shown(given_of(COPIES, [ASKS, '# a place'], turns=5), '--show', '1..3', '--user', '2')
         self.assertEqual([row.split('  ')[3] for row in rows if ' user 2  ' in row], ['user1.s:1', 'user1.s:2', 'user2.s'])
 
 
