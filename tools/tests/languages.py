@@ -81,11 +81,14 @@ def read(name):
 
 
 def files(ending):
-    """All files of the repository with an ending, but for those that are made."""
+    """All files of the repository with an ending, but for those that are made, and of files with one content the first."""
     found = []
     for folder in ('examples', 'exercises', 'bench', 'crates'):
         found += glob.glob(os.path.join(pages.TOP, folder, '**', '*' + ending), recursive=True)
-    return sorted(name for name in found if os.sep + 'out' + os.sep not in name)
+    first = {}
+    for name in sorted(name for name in found if os.sep + 'out' + os.sep not in name):
+        first.setdefault(read(name), name)
+    return sorted(first.values())
 
 
 def case_parts(name):
