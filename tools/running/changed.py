@@ -26,14 +26,13 @@ def blocks(change):
 
 def changed(text, change):
     """The text after a change."""
+    lines = text.split('\n')
     for goes, comes in blocks(change):
-        old = '\n'.join(goes) + '\n'
-        count = ('\n' + text).count('\n' + old)
-        if count != 1:
-            raise BadChange("the lines from '%s' on stand %d times in the kernel, and are to stand once" % (goes[0].strip(), count))
-        at = ('\n' + text).index('\n' + old)
-        text = text[:at] + ''.join(line + '\n' for line in comes) + text[at + len(old):]
-    return text
+        places = [at for at in range(len(lines)) if lines[at:at + len(goes)] == goes]
+        if len(places) != 1:
+            raise BadChange("the lines from '%s' on stand %d times in the kernel, and are to stand once" % (goes[0].strip(), len(places)))
+        lines[places[0]:places[0] + len(goes)] = comes
+    return '\n'.join(lines)
 
 
 def put_changed(folder, kernel, room):
