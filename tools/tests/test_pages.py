@@ -40,7 +40,7 @@ class Pages(unittest.TestCase):
         names = [name for name in sorted(os.listdir(os.path.join(pages.TOP, 'examples'))) if os.path.isdir(os.path.join(pages.TOP, 'examples', name))]
         self.assertTrue(names)
         for name in names:
-            found = BOUND.search(stored('examples', name, 'README.md'))
+            found = BOUND.search(stored('examples', name, 'README.md').replace('\n', ' '))
             self.assertTrue(found, '%s names no bound' % name)
             stack, words, chain, again = found.groups()
             self.assertEqual(words, again, name)
