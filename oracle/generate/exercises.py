@@ -2,7 +2,7 @@
 
 usage: oracle/model write_exercises CASES STDOUT [PRINTED]   as write_examples
 
-The cases name the files of the solutions, as write_examples does those of the examples.
+The cases name the files of the solutions, as write_examples does those of the examples. Those of the small Unix are written by write_unix.
 """
 import os
 
@@ -55,7 +55,7 @@ class Exercises(Folders):
 
     def write(self):
         for name in sorted(os.listdir(EXERCISES)):
-            if os.path.isdir(os.path.join(EXERCISES, name)):
+            if os.path.isdir(os.path.join(EXERCISES, name)) and not name.startswith('unix'):
                 (self.exercise if names_of(os.path.join(EXERCISES, name, 'solution'), 's') else self.program_exercise)(name)
 
 
