@@ -7,7 +7,7 @@ from oracle.c0.tokens import NoTree
 MODULES = {'c0': 'oracle.c0.said', 'c0_checks': 'oracle.c0.checks', 'c0_stack': 'oracle.c0.stack', 'c0_words': 'oracle.c0.code',
            'systems': 'oracle.systems', 'boot': 'oracle.run', 'programs': 'oracle.programs', 'saved': 'oracle.saved',
            'fault': 'oracle.layer.fault', 'frames': 'oracle.layer.frames', 'paging': 'oracle.layer.paging', 'rom': 'oracle.layer.rom'}
-WRITERS = ('bounds', 'checks', 'examples', 'exercises', 'lines', 'programs', 'roms', 'rows', 'saved_runs', 'saves', 'systems', 'traces')
+WRITERS = ('bounds', 'checks', 'examples', 'exercises', 'lines', 'programs', 'roms', 'rows', 'saved_runs', 'saves', 'systems', 'traces', 'unix')
 MODULES.update({'write_' + name: 'oracle.generate.' + name for name in WRITERS})
 
 
