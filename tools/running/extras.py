@@ -13,7 +13,8 @@ HELP = '''  --expect FILE       prints of each folder only whether what it print
   --take NAME,NAME..  with --with: these files of each other folder, in place of kernel.c0
   --timer PERIOD:LINE raises a line every PERIOD steps, too; line 0 where none is given
   --clock             prints beside each row of a turn at which step of the machine the turn was complete
-  --only KIND,KIND..  prints the rows of these kinds alone, as con,global; the console's words as decimals and letters, too'''
+  --only KIND,KIND..  prints the rows of these kinds alone, as con,global; the console's words as decimals and letters, too;
+                      text among them prints these words as a text'''
 FLAGS = ('--within', '--clock')
 
 
