@@ -11,8 +11,8 @@ use Rattle.cvm_model.specs.Invariant.{HasUsers, IsSafe, RunsAreLawful}
 use Rattle.run_bounds.specs.Lines.{LinesTakenAreFew, RaisedLinesAreFew}
 use Rattle.run_bounds.specs.Steps.{BoundsAreSmall}
 use Rattle.kernel_linker.specs.Sources.{AcceptedAreOfImages}
-use Rattle.cvm_shell.specs.declared.exit_status.ExitStatus.{ExitStatus}
-use Rattle.cvm_shell.specs.declared.exit_status.ExitStatus.TheVariants.{Done}
+use Rattle.cvm_shell.specs.declared.exit_status.Status.{Status}
+use Rattle.cvm_shell.specs.declared.exit_status.Status.TheVariants.{Done}
 use Rattle.cvm_shell.specs.Boot.{booted, around, first_state, steps_before}
 use Rattle.kernel_theorems.specs.Text.{Means}
 use Rattle.kernel_theorems.specs.Lines.{by_lines}
@@ -62,7 +62,7 @@ ends y lines = record {
 }
 
 -- WHAT IT PRINTS, where it has halted
-module _ (x : Outside) (y : System) (r : Runs y) (s : State) (late raised turns steps : ℕ) (status : ExitStatus) (text : List ℕ)
+module _ (x : Outside) (y : System) (r : Runs y) (s : State) (late raised turns steps : ℕ) (status : Status) (text : List ℕ)
     (h : SystemShown x y s late raised turns steps 300 (HasUsers y) (Alternating y) status text) where
   abbrev Halts : Type 0
   Halts = (status ≡ Done) × (length h.stands.state.rows ≤ 7 + raised) × (text ≡ rows_text h.stands.state.rows ++ by_lines report_lines)

@@ -10,8 +10,8 @@ use Rattle.cvm_model.specs.Text.{rows_text}
 use Rattle.cvm_model.specs.Invariant.{HasUsers}
 use Rattle.run_bounds.specs.Steps.{steps_for}
 use Rattle.kernel_linker.specs.Accept.{ImageSystem}
-use Rattle.cvm_shell.specs.declared.exit_status.ExitStatus.{ExitStatus}
-use Rattle.cvm_shell.specs.declared.exit_status.ExitStatus.TheVariants.{Done, KernelFault, Memory}
+use Rattle.cvm_shell.specs.declared.exit_status.Status.{Status}
+use Rattle.cvm_shell.specs.declared.exit_status.Status.TheVariants.{Done, KernelFault, Memory}
 use Rattle.cvm_shell.specs.declared.boot.Session.{Session}
 use Rattle.cvm_shell.specs.Host.{Host}
 use Rattle.cvm_shell.specs.Boot.{booted, around, first_state, steps_before, IsHonest}
@@ -48,7 +48,7 @@ report_lines =
 
 -- WHAT A RUN SHOWS: the state where it stands is such; its status is no kernel's fault; and under a schedule of so many `line` rows, with 17 turns and as many
 -- more as these, and with the steps of the machine for them, it is done, has halted, and printed at most 7 rows and as many more, and then that report
-pub record AlternatingShown (x : Outside) (y : System) (s : State) (late raised turns steps : ℕ) (status : ExitStatus) (text : List ℕ) : Type 0 where
+pub record AlternatingShown (x : Outside) (y : System) (s : State) (late raised turns steps : ℕ) (status : Status) (text : List ℕ) : Type 0 where
   pub shown : SystemShown x y s late raised turns steps 300 (HasUsers y) (Alternating y) status text
   pub no_fault : status ≢ KernelFault
   pub halted : 17 + raised ≤ turns → steps_for y (17 + raised) (7 + raised) 300 0 + late ≤ steps
@@ -56,7 +56,7 @@ pub record AlternatingShown (x : Outside) (y : System) (s : State) (late raised 
 
 -- EACH BOOT of an image with the kernel's text and these users shows this, under every schedule
 abbrev pub AlternatingBoots : Type 0
-AlternatingBoots = (words : List (List ℕ)) (status : ExitStatus) (old new : Host) → Headlines (λ (o : Host). o) words status old new
+AlternatingBoots = (words : List (List ℕ)) (status : Status) (old new : Host) → Headlines (λ (o : Host). o) words status old new
     → (session : Session) (s : ImageSystem) (rows : Rows) (before : List (List ℕ)) → (h : IsHonest words session s rows before old new)
     → status ≢ Memory → session.view ≡ Boot → AsksSystem kernel_text (user_1 ∷ user_2 ∷ []) h.asked
     → (text : List ℕ) × (new.sink.text ≡ append_known old.sink.text text)

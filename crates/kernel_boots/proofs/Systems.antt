@@ -182,7 +182,7 @@ pub record Stopped (I : SystemProperty) (raised : ℕ) (c : Cvm) : Type 0 where
   pub rows : length c.rows ≡ length past
   pub few : lines_taken past ≤ raised
 
-pub stopped : {x : Surroundings} {y : System} {s : State} {late raised turns steps n : ℕ} {Fit : Core → Type 0} {I : SystemProperty} {status : ExitStatus} {text : List ℕ}
+pub stopped : {x : Surroundings} {y : System} {s : State} {late raised turns steps n : ℕ} {Fit : Core → Type 0} {I : SystemProperty} {status : Status} {text : List ℕ}
     → (h : SystemShown x y s late raised turns steps n Fit I status text) → HasHalted x y s turns steps status text h.stands → Stopped I raised h.stands.state
 stopped {x} {y} {s} {late} {raised} {turns} {steps} {n} {Fit} {I} {status} {text} h halted = by (turns_made x s turns steps) refl
   where
