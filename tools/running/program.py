@@ -62,8 +62,9 @@ def run_here(command, gets=(), puts=()):
     """Runs a command and copies its standard output to this process's. Gives its status and the last rows. It ends with this process.
 
     Where the copy can't be written, the status is 7, as the program's own is then. A pipe among the files that it gets or puts is not waited for.
+    A write past the limit of a file's size (`ulimit -f`) is an error that the program is told, and no signal: that one stays ignored, as it is here.
     """
-    program = subprocess.Popen(command, stdin=subprocess.DEVNULL, stdout=subprocess.PIPE, preexec_fn=parting.with_caller())
+    program = subprocess.Popen(command, stdin=subprocess.DEVNULL, stdout=subprocess.PIPE, preexec_fn=parting.with_caller(), restore_signals=False)
     try:
         pipes.wait_for_output(program, gets, puts)
         kept, failed = copied(program.stdout)
@@ -78,7 +79,8 @@ def run_here(command, gets=(), puts=()):
 def run_to(command, path, folder=None):
     """Runs a command in a folder; its standard output goes to a file. Gives its status and the last rows. It ends with this process."""
     with open(path, 'wb') as out:
-        status = told_status(subprocess.run(command, cwd=folder, stdin=subprocess.DEVNULL, stdout=out, preexec_fn=parting.with_caller()).returncode)
+        ran = subprocess.run(command, cwd=folder, stdin=subprocess.DEVNULL, stdout=out, preexec_fn=parting.with_caller(), restore_signals=False)
+        status = told_status(ran.returncode)
     with open(path, 'rb') as out:
         out.seek(0, os.SEEK_END)
         out.seek(max(0, out.tell() - MOST_OF_A_ROW))

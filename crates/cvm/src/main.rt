@@ -41,7 +41,7 @@ fn main(rt: HostRuntime) -> ExitCode {
     if shelf.is_output_the_disk() {
         return ExitCode::from(Status::Sink.code());
     }
-    let mut out = OutSink::with_room(rt, shelf.room_of_output());
+    let mut out = OutSink::new(rt);
     let mut disk = FileSectors::new(rt);
     let status = run(alloc, &words, &mut shelf, &mut out, &mut disk);
     ExitCode::from(status.code())

@@ -3,7 +3,6 @@ ghost use Rattle.std.specs.Prelude.{◌≡◌, ◌<◌, ◌≤◌, length, None}
 ghost use Rattle.cvm_outside.specs.Causes.{Rose};
 ghost use Rattle.cvm_outside.specs.Numbering.{until_fault};
 
-use crate::file_shelf::longest_file;
 use crate::{DiskFault, Sectors};
 use byteorder::{ByteOrder, LittleEndian};
 use std::fs::{File, OpenOptions, TryLockError};
@@ -23,12 +22,10 @@ const SECTOR_BYTES: usize = 4096;
 /// the file reads as zeros. The first `read` or `write` opens the file, makes it where there is
 /// none, and locks it against other disks until this one is dropped; if the file can't be opened, is
 /// no regular one, or another disk holds it, it is that call's fault, and the next call tries again.
-/// A sector that ends past what the process may write to a file (`ulimit -f`) can't be written.
 #[derive(Drop)]
 pub struct FileSectors {
     rt: HostRuntime,
     file: Option<File>,
-    longest: u64,
     faults: u64,
     calls: u64,
 }
@@ -41,7 +38,6 @@ impl FileSectors {
         FileSectors {
             rt,
             file: None,
-            longest: longest_file(),
             faults: 0,
             calls: 0,
         }
@@ -74,9 +70,6 @@ impl FileSectors {
         ensures faults { self.new.faults ≡ self.old.faults }
         ensures calls { self.new.calls ≡ self.old.calls }
     {
-        if (u64::from(i) + 1) * SECTOR_BYTES as u64 > self.longest {
-            return Err(io::Error::from(io::ErrorKind::FileTooLarge));
-        }
         let mut file = self.take_file()?;
         let result = write_sector(&mut file, i, from);
         self.file = Some(file);

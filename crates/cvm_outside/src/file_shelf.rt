@@ -6,7 +6,6 @@ ghost use Rattle.cvm_outside.specs.Told.{TOO_LONG};
 use crate::file_sectors::DISK;
 use crate::shelf::LONGEST_FILE;
 use crate::{Shelf, ShelfFault};
-use libc::types::rlimit;
 use std::alloc::Global;
 use std::fs::{Metadata, OpenFile};
 use std::io::{ErrorKind, Read, Write};
@@ -20,18 +19,13 @@ const BLOCK: usize = 4096;
 /// The name under which the system has a process's standard output.
 const OUTPUT: &str = "/dev/stdout";
 
-/// The number of the limit that `ulimit -f` sets, for getrlimit.
-const FILE_SIZE: i32 = 1;
-
 /// A shelf over the system's files. A name is a path. No file has two roles in one run, whatever
 /// names lead to it: that of the disk and standard output are neither got nor put, and one that was
-/// got isn't put. Such a call fails and changes nothing; so does a put of more bytes than the process
-/// may write to a file (`ulimit -f`).
+/// got isn't put. Such a call fails and changes nothing.
 #[derive(Drop)]
 pub struct FileShelf<R: Files> {
     rt: R,
     got: Vec<Identity>,
-    longest: u64,
     taken: u64,
     faults: u64,
 }
@@ -46,7 +40,6 @@ impl<R: Files + AllocGlobal + Drop> FileShelf<R> {
         FileShelf {
             rt,
             got,
-            longest: longest_file(),
             taken: 0,
             faults: 0,
         }
@@ -54,19 +47,6 @@ impl<R: Files + AllocGlobal + Drop> FileShelf<R> {
 }
 
 impl<R: Files + Drop> FileShelf<R> {
-    /// How many bytes standard output takes before the process has written as much to that file as it
-    /// may (`ulimit -f`): 2^64 - 1 where it is no regular file, or nothing is limited.
-    pub fn room_of_output(&self) -> u64 {
-        match fs::metadata(&self.rt, OUTPUT) {
-            Ok(about) if about.is_file() && self.longest < u64::MAX => {
-                let place = libc::lseek(1, 0, libc::SEEK_CUR);
-                self.longest
-                    .saturating_sub(about.len().max(u64::try_from(place).unwrap_or(0)))
-            }
-            _ => u64::MAX,
-        }
-    }
-
     /// Whether standard output is the file of the disk.
     pub fn is_output_the_disk(&self) -> bool {
         let output = identity_of(&self.rt, OUTPUT);
@@ -102,9 +82,6 @@ impl<R: Files + Drop> FileShelf<R> {
     fn write_file(&self, name: &str, bytes: &[u8]) -> io::Result<()> {
         if self.is_in_use(name) {
             return Err(io::Error::from(ErrorKind::ResourceBusy));
-        }
-        if bytes.len() as u64 > self.longest && is_limited(&self.rt, name) {
-            return Err(io::Error::from(ErrorKind::FileTooLarge));
         }
         let mut file = fs::create(&self.rt, name)?;
         file.write_all(bytes)
@@ -211,28 +188,6 @@ fn identity_of<R: Files>(rt: &R, name: &str) -> Option<Identity> {
     match fs::metadata(rt, name) {
         Ok(about) => which_file(&about),
         Err(_) => None,
-    }
-}
-
-// Whether the process may write to that file only so many bytes: to a regular one, and one that isn't there will be one.
-fn is_limited<R: Files>(rt: &R, name: &str) -> bool {
-    match fs::metadata(rt, name) {
-        Ok(about) => about.is_file(),
-        Err(_) => true,
-    }
-}
-
-/// How many bytes of a file the process may write, 2^64 - 1 where nothing is limited (`ulimit -f`).
-/// A write past them would end the process by a signal.
-pub(crate) fn longest_file() -> u64 {
-    let mut limit = rlimit {
-        rlim_cur: u64::MAX,
-        rlim_max: u64::MAX,
-    };
-    if libc::getrlimit(FILE_SIZE, &mut limit) == 0 {
-        limit.rlim_cur
-    } else {
-        u64::MAX
     }
 }
 

@@ -2,14 +2,12 @@
 ghost use Rattle.std.specs.Prelude.{◌≡◌, None};
 
 use crate::{Sink, SinkFault};
-use std::io;
 use std::io::Print;
 
 /// A sink over standard output.
 #[derive(Drop)]
 pub struct OutSink<P> {
     output: P,
-    room: u64,
     faults: u64,
 }
 
@@ -18,30 +16,7 @@ impl<P: Print + Drop> OutSink<P> {
     pub fn new(output: P) -> Self
         ensures { ⟦<OutSink<P> as Sink>⟧.faults result ≡ 0 }
     {
-        OutSink::with_room(output, u64::MAX)
-    }
-
-    /// A sink over `output` that takes at most `room` bytes, with no fault. A put past them fails and
-    /// writes nothing.
-    pub fn with_room(output: P, room: u64) -> Self
-        ensures { ⟦<OutSink<P> as Sink>⟧.faults result ≡ 0 }
-    {
-        OutSink {
-            output,
-            room,
-            faults: 0,
-        }
-    }
-
-    // Writes bytes that there is room for, else none.
-    fn write(&mut self, bytes: &[u8]) -> io::Result<()>
-        ensures { self.new.faults ≡ self.old.faults }
-    {
-        let Some(room) = self.room.checked_sub(bytes.len() as u64) else {
-            return Err(io::Error::from(io::ErrorKind::FileTooLarge));
-        };
-        self.room = room;
-        self.output.write_all(bytes)
+        OutSink { output, faults: 0 }
     }
 }
 
@@ -51,7 +26,7 @@ impl<P: Print + Drop> Sink for OutSink<P> {
     ghost faults = { λ s. s.faults };
 
     fn put(&mut self, bytes: &[u8]) -> Result<(), SinkFault> {
-        match self.write(bytes) {
+        match self.output.write_all(bytes) {
             Ok(()) => Ok(()),
             Err(_) => {
                 self.faults = self.faults.saturating_add(1);
@@ -65,8 +40,8 @@ impl<P: Print + Drop> Sink for OutSink<P> {
 mod tests {
     use super::*;
     use std::fmt::Display;
-    use std::fs;
     use std::test::Fail;
+    use std::{fs, io};
 
     const NAME: &str = "out_sink.test";
 
@@ -101,11 +76,6 @@ mod tests {
         sink.put(&[0, 255])?;
         assert!(rt; file_is(rt, b"turn 1\n\x00\xff")?);
         assert_eq!(rt; sink.faults, 0);
-        let mut narrow = OutSink::with_room(ToFile(rt), 3);
-        narrow.put(b"abc")?;
-        assert!(rt; narrow.put(b"d").is_err());
-        assert!(rt; file_is(rt, b"turn 1\n\x00\xffabc")?);
-        assert_eq!(rt; narrow.faults, 1);
         fs::remove_file(&rt, NAME)?;
         assert!(rt; sink.put(b"lost").is_err());
         assert_eq!(rt; sink.faults, 1);
