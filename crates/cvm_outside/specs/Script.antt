@@ -54,22 +54,31 @@ asked d = record d { calls = until_fault d.faults d.calls }
 
 -- what a call leaves that is done
 abbrev pub Does : Call → (old new : Outside) → Type 0
-Does (Printed told) old new = IfSome told (λ text. new.sink.text ≡ append_known old.sink.text text) × (new ≡ record old { sink = record old.sink { text = new.sink.text } })
+Does (Printed told) old new =
+    IfSome told (λ text. new.sink.text ≡ append_known old.sink.text text) × (new ≡ record old { sink = record old.sink { text = new.sink.text } })
 Does (Read sector) old new = new ≡ record old { disk = asked old.disk }
-Does (Wrote sector words) old new = new ≡ record old { disk = record (asked old.disk) { sectors = with_sector old.disk.sectors sector words } }
-Does (Got name) old new = ((n : List ℕ) → new.shelf.file n ≡ old.shelf.file n) × IfSome (old.shelf.file name) (λ bytes. new.shelf.taken ≡ min (length bytes) TOO_LONG)
+Does (Wrote sector words) old new =
+    new ≡ record old { disk = record (asked old.disk) { sectors = with_sector old.disk.sectors sector words } }
+Does (Got name) old new =
+    ((n : List ℕ) → new.shelf.file n ≡ old.shelf.file n) × IfSome (old.shelf.file name) (λ bytes. new.shelf.taken ≡ min (length bytes) TOO_LONG)
     × (new.shelf.faults ≡ old.shelf.faults) × (new ≡ record old { shelf = new.shelf })
-Does (Stored name bytes) old new = ((n : List ℕ) → n ≢ name → new.shelf.file n ≡ old.shelf.file n) × (new.shelf.file name ≡ retold (old.shelf.file name) bytes)
+Does (Stored name bytes) old new =
+    ((n : List ℕ) → n ≢ name → new.shelf.file n ≡ old.shelf.file n) × (new.shelf.file name ≡ retold (old.shelf.file name) bytes)
     × (new.shelf.faults ≡ old.shelf.faults) × (new ≡ record old { shelf = record old.shelf { file = new.shelf.file } })
 
 -- what one leaves that failed: a part of the text, a sector or a file that is torn; and its object counts a fault
 abbrev pub Fails : Call → (old new : Outside) → Type 0
-Fails (Printed told) old new = IfSome told (λ text. AppendsPart old.sink.text new.sink.text text) × Rises old.sink.faults new.sink.faults × (new ≡ record old { sink = new.sink })
-Fails (Read sector) old new = Rises old.disk.faults new.disk.faults × (new ≡ record old { disk = record (asked old.disk) { faults = new.disk.faults } })
-Fails (Wrote sector words) old new = Rises old.disk.faults new.disk.faults
+Fails (Printed told) old new =
+    IfSome told (λ text. AppendsPart old.sink.text new.sink.text text) × Rises old.sink.faults new.sink.faults × (new ≡ record old { sink = new.sink })
+Fails (Read sector) old new =
+    Rises old.disk.faults new.disk.faults × (new ≡ record old { disk = record (asked old.disk) { faults = new.disk.faults } })
+Fails (Wrote sector words) old new =
+    Rises old.disk.faults new.disk.faults
     × ((torn : List ℕ) × (new ≡ record old { disk = record (asked old.disk) { faults = new.disk.faults; sectors = with_sector old.disk.sectors sector torn } }))
-Fails (Got name) old new = ((n : List ℕ) → new.shelf.file n ≡ old.shelf.file n) × Rises old.shelf.faults new.shelf.faults × (new ≡ record old { shelf = new.shelf })
-Fails (Stored name bytes) old new = ((n : List ℕ) → n ≢ name → new.shelf.file n ≡ old.shelf.file n) × IsCutOff (old.shelf.file name) bytes (new.shelf.file name)
+Fails (Got name) old new =
+    ((n : List ℕ) → new.shelf.file n ≡ old.shelf.file n) × Rises old.shelf.faults new.shelf.faults × (new ≡ record old { shelf = new.shelf })
+Fails (Stored name bytes) old new =
+    ((n : List ℕ) → n ≢ name → new.shelf.file n ≡ old.shelf.file n) × IsCutOff (old.shelf.file name) bytes (new.shelf.file name)
     × Rises old.shelf.faults new.shelf.faults × (new ≡ record old { shelf = record new.shelf { taken = old.shelf.taken } })
 
 -- THE CALLS OF A SCRIPT ARE MADE, in order: all are done and nobody is blamed; or those before one are done and that one failed, whose object is blamed,
@@ -122,12 +131,15 @@ Prints told old new rows result = Puts rows (output told old) (output told new) 
 -- THE SCRIPT OF A FUNCTION over a disk, whatever stands beside it
 abbrev pub Asks : {D T : Type 0} → sectors_of.Ghosts D → (old new : D) → List Call → Result T DiskFault → Type 0
 Asks told old new script result = (shelf : Files) (sink : Output) →
-    Performs script (record { shelf = shelf; sink = sink; disk = drive told old }) (record { shelf = shelf; sink = sink; disk = drive told new }) (blame of_disk result)
+    Performs script (record { shelf = shelf; sink = sink; disk = drive told old }) (record { shelf = shelf; sink = sink; disk = drive told new })
+    (blame of_disk result)
 
 -- and over a sink and a disk, by whom its errors blame
-abbrev pub Makes : {O D T E : Type 0} → sink_of.Ghosts O → sectors_of.Ghosts D → (old new : O × D) → List Call → (E → Option Who) → Result T E → Type 0
+abbrev pub Makes : {O D T E : Type 0} → sink_of.Ghosts O → sectors_of.Ghosts D → (old new : O × D) → List Call → (E → Option Who) → Result T E →
+    Type 0
 Makes text told (o, d) (o', d') script of result = (shelf : Files) →
-    Performs script (record { shelf = shelf; sink = output text o; disk = drive told d }) (record { shelf = shelf; sink = output text o'; disk = drive told d' }) (blame of result)
+    Performs script (record { shelf = shelf; sink = output text o; disk = drive told d })
+    (record { shelf = shelf; sink = output text o'; disk = drive told d' }) (blame of result)
 
 -- the sectors once all that a script writes is written
 abbrev pub stored : List Call → List (List ℕ) → List (List ℕ)

@@ -9,7 +9,8 @@ use Rattle.cvm_outside.specs.Script.{Call, Who, TheDisk, who, Fails, Performs, R
 
 -- two scripts one after another; and one that breaks off before another
 abbrev pub Follow : Type 0
-Follow = (a b : List Call) (old mid new : Outside) (blamed : Option Who) → Performs a old mid None → Performs b mid new blamed → Performs (a ++ b) old new blamed
+Follow = (a b : List Call) (old mid new : Outside) (blamed : Option Who) →
+    Performs a old mid None → Performs b mid new blamed → Performs (a ++ b) old new blamed
 
 abbrev pub BreakOff : Type 0
 BreakOff = (a b : List Call) (old new : Outside) (whom : Who) → Performs a old new (Some whom) → Performs (a ++ b) old new (Some whom)
@@ -24,7 +25,8 @@ PrintedBy None old new text = new ≡ append_known old text
 PrintedBy (Some whom) old new text = AppendsPart old new text
 
 abbrev pub ScriptsTell : Type 0
-ScriptsTell = (a : List Call) (old new : Outside) (blamed : Option Who) → Performs a old new blamed → IfSome (spoken a) (PrintedBy blamed old.sink.text new.sink.text)
+ScriptsTell = (a : List Call) (old new : Outside) (blamed : Option Who) → Performs a old new blamed →
+    IfSome (spoken a) (PrintedBy blamed old.sink.text new.sink.text)
 
 -- so many calls of the disk were made: those of the script, or some of them where somebody is blamed, and at least one where the disk is
 abbrev pub MadeBy : Option Who → (made all : ℕ) → Type 0

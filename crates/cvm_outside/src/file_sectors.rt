@@ -238,7 +238,7 @@ mod tests {
 
     // A file that ends in the middle of a word reads as if zeros came after it.
     fn reads_zeros_past_the_end(rt: HostRuntime, test: &impl Abort) -> Result<(), Fail> {
-        fs::write(&rt, NAME, &[1; 4098])?;
+        fs::write(&rt, DISK, &[1; 4098])?;
         let mut disk = FileSectors::new(rt);
         assert_eq!(test; ends(&mut disk, 1), Ok((0x0101, 0, true)));
         assert_eq!(test; ends(&mut disk, 2), Ok((0, 0, true)));
