@@ -46,7 +46,7 @@ more_scripts f n (suc k) =
     ∙ ap (λ (l : List Call). scripts f n ++ l) (sym (scripts-suc (λ i. f (n + i)) k))
 
 -- scripts from a number on, and those behind them
-from_add : (f : ℕ → List Call) (t n k : ℕ) → scripts (λ i. f (t + i)) (n + k) ≡ scripts (λ i. f (t + i)) n ++ scripts (λ i. f (t + n + i)) k
+pub from_add : (f : ℕ → List Call) (t n k : ℕ) → scripts (λ i. f (t + i)) (n + k) ≡ scripts (λ i. f (t + i)) n ++ scripts (λ i. f (t + n + i)) k
 from_add f t n k =
     more_scripts (λ i. f (t + i)) n k
     ∙ ap (λ (l : List Call). scripts (λ i. f (t + i)) n ++ l) (scripts-same (λ i. f (t + (n + i))) (λ i. f (t + n + i)) k (λ i lt. let e : t + (n + i) ≡ t + n + i = omega arith in ap f e))

@@ -26,3 +26,4 @@ pub mod Runs
 pub mod StepScript
 pub mod RowScripts
 pub mod LoopScripts
+pub mod TurnScript

@@ -11,6 +11,7 @@ ghost use Rattle.boot_turns.specs.Advances.{LoopsAdvance};
 ghost use Rattle.boot_turns.specs.AnyTurns.{LoopsMakeTurns};
 ghost use Rattle.boot_turns.specs.Entries.{TracesGrow};
 ghost use Rattle.boot_turns.specs.JournalText.{RowsFollow};
+ghost use Rattle.boot_turns.specs.TurnScript.{StepsJoin, RowsComeLast};
 
 mod answers;
 pub mod completion;
@@ -82,4 +83,11 @@ pub fn loops_make_turns()
 /// A law: the rows of a journal stay as it grows, and the last steps have theirs at its end.
 pub fn journal_rows_follow()
     ensures { RowsFollow }
+{}
+
+/// A law: the script of steps is that of the first and then that of those behind them; and of a boot, where the last step alone adds a row, all transfers
+/// come before it.
+pub fn step_scripts_join()
+    ensures join { StepsJoin }
+    ensures last { RowsComeLast }
 {}
