@@ -1,5 +1,5 @@
 // A loaded run.
-ghost use Rattle.std.specs.Prelude.{◌≡◌, ◌≢◌, ◌∷◌, ◌+◌, ◌<◌, ◌≤◌, ◌^◌};
+ghost use Rattle.std.specs.Prelude.{◌≡◌, ◌≢◌, ◌∷◌, ◌+◌, ◌-◌, ◌<◌, ◌≤◌, ◌^◌};
 ghost use Rattle.std.specs.Prelude.{false, true, [], length, slice_index, IfOk, IsSome, OnErr, Err, Ok, Some, None};
 ghost use Rattle.std.specs.Result.{result_err};
 ghost use Rattle.cvm_outside.specs.Numbering.{tally};
@@ -8,6 +8,7 @@ ghost use Rattle.mips_machine.specs.Saved.{AreSaved};
 ghost use Rattle.cvm_model.specs.Cvm.{map_of};
 ghost use Rattle.layer_contract.specs.Boots.{boot_of, BootFollows};
 ghost use Rattle.boot_report.specs.Blames.{Blames};
+ghost use Rattle.boot_turns.specs.LoopScripts.{StepsCall};
 ghost use Rattle.boot_run.specs.LoadEnds.{LoadLeaves, pages_needed, rom_needed};
 ghost use Rattle.boot_run.specs.Loaded.{IsLoaded, LoadTorn, boot_load, rom_load};
 ghost use Rattle.boot_report.specs.Leaves.{Asks, OnlyViews, Puts};
@@ -216,6 +217,8 @@ impl<L: Layer + Drop> Run<L> {
         ensures calls { IsCalled self.old self.new (tally D.faults D.calls disk.old) (tally D.faults D.calls disk.new) }
         ensures untraced { self.old.tracer ≡ None → (self.new.tracer ≡ None) × (out.new ≡ out.old) }
         ensures no_sink { self.old.tracer ≡ None → result ≢ Err RunFault.Sink }
+        ensures script { StepsCall O.Sink D.Sectors (map_of (boot_of self.old.boot)) self.old.machine self.old.tracer
+            (out.old, disk.old) (out.new, disk.new) (budget.old - budget.new) result }
     {
         memory_is_whole();
         loops_advance();

@@ -1,7 +1,10 @@
-use Rattle.std.proofs.Common.{◌≡◌, ◌∙◌, ap, sym, refl}
+use Rattle.std.proofs.Common.{◌≡◌, ◌∙◌, ℕ, Ok, Err, ap, sym, refl}
 use Rattle.std.proofs.lemmas.Result.{err_from_is_err_and}
 use Rattle.boot_run.specs.Shown.{end_of_next}
 use Rattle.boot_run.specs.TurnParts.{count_on}
+use Rattle.boot_turns.specs.declared.answers.Turn.{Turn}
+use Rattle.boot_turns.specs.declared.completion.Begun.{Begun}
+use Rattle.boot_run.proofs.StepScripts.{turn_calls}
 use Rattle.boot_run.proofs.Making.{is_false, is_true, step_is, row_is, made_err, made}
 use Rattle.boot_run.proofs.run.Run.make_turn.Goals as goal
 
@@ -34,3 +37,20 @@ returns-clause-ends g c =
       ended = c.ended_by-self-inside.ensures ∙ ap end_of_next c.seen_next-next.ensures;
       is = row_is c.saturating_add-turn.result _ c.self.inside.current c.in_ok-skipped.begun c.seen_next-next.result _ on c.seen_next-next.ensures (is_true c.in_ok-skipped.begun.dispatched c.if-not-begun.false);
     })
+
+-- the calls of a turn are those of its steps
+pub returns-in_err-skipped-clause-script : goal.returns-in_err-skipped-clause-script
+returns-in_err-skipped-clause-script g c =
+    let h = err_from_is_err_and c.from_residual.result c.from_residual.ensures.1 in
+    rw (h.1, h.2) (turn_calls {R = ℕ × Begun} {T = ℕ × Turn} g.O.Sink g.D.Sectors c.args.self.now _ c.self.inside.places.map c.args.out.now c.complete.new.out c.args.disk.now c.complete.new.disk _ (Err c.in_err-skipped.field-0.0) (Err c.in_err-skipped.field-0.0) refl
+    c.self.view_is c.self.invariant.2.map c.in_err-skipped.ensures.script)
+
+pub returns-then-not-begun-clause-script : goal.returns-then-not-begun-clause-script
+returns-then-not-begun-clause-script g c =
+    turn_calls {R = ℕ × Begun} {T = ℕ × Turn} g.O.Sink g.D.Sectors c.args.self.now _ c.self.inside.places.map c.args.out.now c.complete.new.out c.args.disk.now c.complete.new.disk _ (Ok (c.in_ok-skipped.skipped, c.in_ok-skipped.begun)) _ refl
+    c.self.view_is c.self.invariant.2.map c.in_ok-skipped.ensures.script
+
+pub returns-clause-script : goal.returns-clause-script
+returns-clause-script g c =
+    turn_calls {R = ℕ × Begun} {T = ℕ × Turn} g.O.Sink g.D.Sectors c.args.self.now _ c.self.inside.places.map c.args.out.now c.complete.new.out c.args.disk.now c.complete.new.disk _ (Ok (c.in_ok-skipped.skipped, c.in_ok-skipped.begun)) _ refl
+    c.self.view_is c.self.invariant.2.map c.in_ok-skipped.ensures.script
