@@ -1,4 +1,4 @@
-use Rattle.std.proofs.Common.{[], ◌∷◌, ◌∙◌, ap, map}
+use Rattle.std.proofs.Common.{ℕ, List, [], ◌∷◌, ◌∙◌, ap, map}
 use Rattle.mips_table.specs.Encoding.{encoding}
 use Rattle.trap_entry.specs.Code.{exit_with_code}
 use Rattle.real_layer.proofs.Laying.{lays_more, on_ok}
@@ -6,7 +6,7 @@ use Rattle.real_layer.proofs.routines.Routines.put_exits.Goals as goal
 
 pub returns : goal.returns
 returns c =
-    let words = λ n. map encoding (exit_with_code n) in
+    let words : ℕ → List ℕ = λ n. map encoding (exit_with_code n) in
     let s0 = c.in_ok-put.ensures (exit_with_code 1) (c.words.ensures ∙ c.exit_with.ensures ∙ ap words c.power.ensures) in
     let s1 = c.in_ok-put-2.ensures (exit_with_code 2) (c.words-2.ensures ∙ c.exit_with-2.ensures ∙ ap words c.power-2.ensures) in
     let s2 = c.in_ok-put-3.ensures (exit_with_code 3) (c.words-3.ensures ∙ c.exit_with-3.ensures ∙ ap words c.power-3.ensures) in
