@@ -1,6 +1,6 @@
 -- From the texts to each boot.
 use Rattle.std.specs.Fmt.{digits}
-use Rattle.std.proofs.Common.{◌≡◌, ℕ, List, [], ◌∷◌, ◌++◌, length, refl, ap, ◌∙◌, arith}
+use Rattle.std.proofs.Common.{◌≡◌, ℕ, List, [], ◌∷◌, ◌++◌, length, refl, sym, ap, ◌∙◌, subst, arith}
 use Rattle.mips_table.specs.Device.{Outside}
 use Rattle.mips_table.specs.Machine.{State}
 use Rattle.mips_table.specs.Flat.{Flat}
@@ -17,15 +17,16 @@ use Rattle.cvm_shell.specs.declared.exit_status.Status.{Status}
 use Rattle.cvm_shell.specs.Boot.{booted, around, first_state, steps_before}
 use Rattle.cvm_shell.specs.Programs.{HasProgram, LinkedPrograms}
 use Rattle.kernel_theorems.specs.Text.{MeansProgram}
-use Rattle.program_systems.proofs.Compiled.{AreThere, are_there, asks_system}
+use Rattle.program_systems.specs.Counts.{ImagesIgnorePlaces}
+use Rattle.program_systems.proofs.Compiled.{AreThere, are_there, asks_system, image_is}
 use Rattle.mailing.specs.Text.{text as kernel_text}
 use Rattle.mailing.specs.Users.{ended}
 use Rattle.mailing.specs.Property.{sends, receives}
-use Rattle.mailing_boots.specs.Through.{ints, AreInts, CallsAndReturns}
+use Rattle.mailing_boots.specs.Through.{ints, AreInts, CallsAndReturns, IsCountedThrough}
 use Rattle.mailing_boots.specs.Boots.{report_of}
-use Rattle.mailing_boots.specs.Mailers.{zeros, asked_for, told_for, CanBeSent, sender, receiver, one_to_ten, MailersCall}
+use Rattle.mailing_boots.specs.Mailers.{zeros, asked_for, told_for, CanBeSent, sender, receiver, one_to_ten, MailersCall, MailersAreCounted}
 use Rattle.mailing_boots.specs.Texts.{sender_text, receiver_text}
-use Rattle.mailing_boots.specs.Compiled.{mail_lines, ProgramMailShown, AnyProgramsMail, NamedMailShown, CompiledMailBoots}
+use Rattle.mailing_boots.specs.Compiled.{mail_lines, ProgramMailShown, AnyCountedProgramsMail, NamedMailShown, CompiledMailBoots}
 
 -- a program of a text whose tree is known to call so
 calls_so : (text : List ℕ) (tree : CUnit) → MeansProgram text tree → (s : ImageSystem) (i : ℕ) (u : CUnit) → IsUnitAs User text u → HasProgram u s i → (n : ℕ) (arguments answers : List ℕ)
@@ -56,7 +57,7 @@ unfolding digits
 lines_are users = refl
 
 module _ (x : Outside) (y : System) (s : State) (late raised turns steps : ℕ) (status : Status) (text : List ℕ) (one two : CUnit) (one_is : IsUnitAs User sender_text one) (two_is : IsUnitAs User receiver_text two)
-    (h : ProgramMailShown x y s late raised turns steps one two 400 600 one_to_ten status text) where
+    (h : ProgramMailShown x y s late raised turns steps one two 144 174 one_to_ten status text) where
   shown : NamedMailShown x y s late raised turns steps status text
   shown = record {
     one = one;
@@ -73,16 +74,22 @@ module _ (x : Outside) (y : System) (s : State) (late raised turns steps : ℕ) 
     );
   }
 
-pub compiled_mail_boots : AcceptedAreOfImages → LinkedPrograms → MeansProgram sender_text sender → MeansProgram receiver_text receiver → MailersCall → AnyProgramsMail → CompiledMailBoots
-compiled_mail_boots images linked means_one means_two calls law words status old new headlines session s rows before h some view asks layer l =
+-- of another image with the same words
+counted_as : (a b : List ℕ) (answers : List ℕ) (n : ℕ) → a ≡ b → IsCountedThrough (first_flat b) answers n → IsCountedThrough (first_flat a) answers n
+counted_as a b answers n e is = subst (λ w. IsCountedThrough (first_flat w) answers n) (sym e) is
+
+pub compiled_mail_boots : AcceptedAreOfImages → LinkedPrograms → MeansProgram sender_text sender → MeansProgram receiver_text receiver → MailersCall → ImagesIgnorePlaces → MailersAreCounted → AnyCountedProgramsMail → CompiledMailBoots
+compiled_mail_boots images linked means_one means_two calls ignore counts law words status old new headlines session s rows before h some view asks layer l =
     let t : AreThere s sender_text receiver_text = are_there images linked layer sender_text receiver_text s l in
-    let (text, printed, shows) = law t.one t.two 400 600 one_to_ten
+    let (text, printed, shows) = law t.one t.two 400 600 one_to_ten 144 174
     (record {
       sender = calls_so sender_text sender means_one s 1 t.one t.one_is t.first 400 one_to_ten (zeros one_to_ten) calls.sends refl (zeros_are_ints one_to_ten);
       receiver = calls_so receiver_text receiver means_two s 2 t.two t.two_is t.second 600 (asked_for one_to_ten) (told_for one_to_ten) calls.receives refl (told_are_ints one_to_ten can_be_sent);
       small = can_be_sent;
       few = omega arith;
     })
+    (counted_as (image_words t.one) (image_words sender) (zeros one_to_ten) 144 (image_is ignore sender_text sender means_one t.one t.one_is) counts.sending)
+    (counted_as (image_words t.two) (image_words receiver) (told_for one_to_ten) 174 (image_is ignore receiver_text receiver means_two t.two t.two_is) counts.receiving)
     words status old new headlines session s rows before h some view
     (asks_system images kernel_text (image_words t.one ∷ image_words t.two ∷ []) words old.shelf.file session s rows h.asked t.users_are asks) in (
       text,

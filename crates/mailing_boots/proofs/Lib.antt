@@ -4,3 +4,4 @@ mod Mailers
 mod ProgramTexts
 mod Programs
 mod Compiled
+mod Counting

@@ -1,23 +1,34 @@
 -- What is known of any sender and receiver serves two programs, whose calls are known and come within the steps of their units.
-use Rattle.std.specs.Prelude.{map}
+use Rattle.std.specs.Prelude.{◌≢◌, map}
+use Rattle.std.specs.Io.KnownBytes.{append_known}
+use Rattle.schedule_file.specs.Rows.{Rows}
+use Rattle.mips_table.specs.Flat.{Flat}
+use Rattle.boot_turns.specs.declared.answers.View.TheVariants.{Boot}
+use Rattle.kernel_linker.specs.Accept.{ImageSystem}
+use Rattle.cvm_shell.specs.declared.exit_status.Status.TheVariants.{Memory}
+use Rattle.cvm_shell.specs.declared.boot.Session.{Session}
+use Rattle.cvm_shell.specs.Host.{Host}
+use Rattle.cvm_shell.specs.CommandEnds.{Headlines}
+use Rattle.kernel_boots.specs.Systems.{AsksSystem}
+use Rattle.program_systems.proofs.Programs.{fewer_turns}
+use Rattle.mailing.specs.Text.{text as kernel_text}
 use Rattle.std.proofs.Common.{◌≡◌, ℕ, suc, ◌+◌, ◌*◌, ◌≤◌, List, [], ◌∷◌, ◌++◌, length, refl, sym, ap, ap₂, ◌∙◌, subst, arith}
-use Rattle.std.proofs.lemmas.Nat.{mul-le}
 use Rattle.mips_table.specs.Device.{Outside}
 use Rattle.mips_table.specs.Machine.{State}
 use Rattle.c0_tree.specs.Tree.{CUnit}
-use Rattle.cvm_model.specs.Cvm.{System, first_flat, map_of, reset_steps, turn_steps, enter_steps, leave_steps, run_steps}
+use Rattle.cvm_model.specs.Cvm.{System, first_flat}
 use Rattle.cvm_model.specs.Text.{rows_text}
 use Rattle.run_bounds.specs.Steps.{steps_for}
 use Rattle.cvm_shell.specs.declared.exit_status.Status.{Status}
-use Rattle.cvm_shell.specs.Boot.{booted, around, first_state, steps_before}
+use Rattle.cvm_shell.specs.Boot.{booted, around, first_state, steps_before, IsHonest}
 use Rattle.user_c0.specs.Image.{image_words}
 use Rattle.user_c0.specs.Program.{steps_of as most_steps}
 use Rattle.mailing.specs.Users.{Leg, CallsInTurn, ended, steps_of}
 use Rattle.mailing.specs.Property.{Message, sends, receives, numbers, AreSmall, turns_for, dispatches_for}
-use Rattle.mailing_boots.specs.Through.{untrapped_in, ComesThrough, ProgramsComeThrough}
+use Rattle.mailing_boots.specs.Through.{untrapped_in, ComesThrough, ProgramsComeThrough, IsCountedThrough, CountsTellThrough}
 use Rattle.mailing_boots.specs.Boots.{report_of, MailShown, AnyUsersMail}
-use Rattle.mailing_boots.specs.Mailers.{zeros, asked_for, told_for, CanBeSent}
-use Rattle.mailing_boots.specs.Compiled.{turns_by, ProgramMailShown, AnyProgramsMail}
+use Rattle.mailing_boots.specs.Mailers.{zeros, asked_for, told_for, CanBeSent, AreMailers}
+use Rattle.mailing_boots.specs.Compiled.{turns_by, ProgramMailShown, AnyProgramsMail, AnyCountedProgramsMail}
 
 -- TWO USERS' CALLS are those of messages
 record AreOf (ns : List ℕ) (sending receiving : List Leg) : Type 0 where
@@ -89,15 +100,6 @@ are_small : (ms : List Message) → CanBeSent (numbers ms) → AreSmall ms
 are_small [] h = tt
 are_small (m ∷ ms) h = (h.0, h.1, are_small ms h.2)
 
--- MORE TURNS want more steps
-sums : (r d a b late steps : ℕ) → a ≤ b → r + b + d + late ≤ steps → r + a + d + late ≤ steps
-sums r d a b late steps le h = omega (arith, le, h)
-
-fewer_turns : (y : System) (j k d n p late steps : ℕ) → j ≤ k → steps_for y k d n p + late ≤ steps → steps_for y j d n p + late ≤ steps
-fewer_turns y j k d n p late steps le h =
-    sums (reset_steps (map_of y.boot)) (d * (enter_steps + leave_steps + run_steps (map_of y.boot) y.longest n p)) _ _ late steps
-    (mul-le j (turn_steps (map_of y.boot) y.longest) k (turn_steps (map_of y.boot) y.longest) le (omega arith)) h
-
 module _ (ns : List ℕ) (ms : List Message) (same : numbers ms ≡ ns) where
   count : length ms ≡ length ns
   count = sym (numbers_count ms) ∙ ap length same
@@ -109,8 +111,8 @@ module _ (ns : List ℕ) (ms : List Message) (same : numbers ms ≡ ns) where
       let c = count in
       omega (arith, a, b, c)
 
-  turns_are_few : (n k one two raised : ℕ) → untrapped_in (sends ms) one ≤ most_steps n → untrapped_in (receives ms) two ≤ most_steps k → turns_for ms one two + raised ≤ turns_by n k (length ns) + raised
-  turns_are_few n k one two raised few_one few_two =
+  turns_are_few : (p q one two raised : ℕ) → untrapped_in (sends ms) one ≤ p → untrapped_in (receives ms) two ≤ q → turns_for ms one two + raised ≤ turns_by p q (length ns) + raised
+  turns_are_few p q one two raised few_one few_two =
       let a = sends_count ms in
       let b = receives_count ms in
       let c = count in
@@ -118,10 +120,10 @@ module _ (ns : List ℕ) (ms : List Message) (same : numbers ms ≡ ns) where
       let e = steps_are (receives ms) two in
       omega (arith, a, b, c, d, e, few_one, few_two)
 
-module _ (x : Outside) (y : System) (s : State) (late raised turns steps : ℕ) (one two : CUnit) (n k : ℕ) (ns : List ℕ) (ms : List Message) (same : numbers ms ≡ ns) (a b : ℕ)
-    (few_a : untrapped_in (sends ms) a ≤ most_steps n) (few_b : untrapped_in (receives ms) b ≤ most_steps k) (status : Status) (text : List ℕ)
+module _ (x : Outside) (y : System) (s : State) (late raised turns steps : ℕ) (one two : CUnit) (p q : ℕ) (ns : List ℕ) (ms : List Message) (same : numbers ms ≡ ns) (a b : ℕ)
+    (few_a : untrapped_in (sends ms) a ≤ p) (few_b : untrapped_in (receives ms) b ≤ q) (status : Status) (text : List ℕ)
     (h : MailShown x y s late raised turns steps ms a b (first_flat (image_words one)) (first_flat (image_words two)) status text) where
-  shown : ProgramMailShown x y s late raised turns steps one two n k ns status text
+  shown : ProgramMailShown x y s late raised turns steps one two p q ns status text
   shown = record {
     messages = ms;
     numbers_are = same;
@@ -131,10 +133,10 @@ module _ (x : Outside) (y : System) (s : State) (late raised turns steps : ℕ) 
     few_receiving = few_b;
     shows = h;
     halted = λ enough long.
-        let le = turns_are_few ns ms same n k a b raised few_a few_b in
+        let le = turns_are_few ns ms same p q a b raised few_a few_b in
         let rows = dispatches_are ns ms same raised in
-        let then_long = subst (λ (d : ℕ). steps_for y (turns_by n k (length ns) + raised) d 200 0 + late ≤ steps) (sym rows) long in
-        let e = h.halted (omega (arith, le, enough)) (fewer_turns y (turns_for ms a b + raised) (turns_by n k (length ns) + raised) (dispatches_for ms + raised) 200 0 late steps le then_long) in
+        let then_long = subst (λ (d : ℕ). steps_for y (turns_by p q (length ns) + raised) d 200 0 + late ≤ steps) (sym rows) long in
+        let e = h.halted (omega (arith, le, enough)) (fewer_turns y (turns_for ms a b + raised) (turns_by p q (length ns) + raised) (dispatches_for ms + raised) 200 0 late steps le then_long) in
         let fit = e.2 in (
           e.0,
           e.1,
@@ -144,10 +146,18 @@ module _ (x : Outside) (y : System) (s : State) (late raised turns steps : ℕ) 
         );
   }
 
-pub any_programs_mail : ProgramsComeThrough → AnyUsersMail → AnyProgramsMail
-any_programs_mail through law one two n k ns m words status old new headlines session s rows before h some view system =
-    let c : ComesThrough (first_flat (image_words one)) (most_steps n) ns (zeros ns) = through one n ns (zeros ns) m.sender in
-    let d : ComesThrough (first_flat (image_words two)) (most_steps k) (asked_for ns) (told_for ns) = through two k (asked_for ns) (told_for ns) m.receiver in
+-- of two programs that come through, each with so many steps at most
+abbrev Shows : (one two : CUnit) (ns : List ℕ) (p q : ℕ) → Type 0
+Shows one two ns p q = (words : List (List ℕ)) (status : Status) (old new : Host) → Headlines (λ (o : Host). o) words status old new
+    → (session : Session) (s : ImageSystem) (rows : Rows) (before : List (List ℕ)) → (h : IsHonest words session s rows before old new)
+    → status ≢ Memory → session.view ≡ Boot → AsksSystem kernel_text (image_words one ∷ image_words two ∷ []) h.asked
+    → (text : List ℕ) × (new.sink.text ≡ append_known old.sink.text text)
+    × ProgramMailShown (around rows old) (booted s rows) (first_state session s rows before) (steps_before session.start (booted s rows)) (length rows.lines) session.turns session.steps one two p q ns status text
+
+by_legs : AnyUsersMail → (one two : CUnit) (n k : ℕ) (ns : List ℕ) (m : AreMailers one two n k ns) (p q : ℕ)
+    → (c : ComesThrough (first_flat (image_words one)) (most_steps n) ns (zeros ns)) → untrapped_in c.legs c.last ≤ p
+    → (d : ComesThrough (first_flat (image_words two)) (most_steps k) (asked_for ns) (told_for ns)) → untrapped_in d.legs d.last ≤ q → Shows one two ns p q
+by_legs law one two n k ns m p q c few_c d few_d words status old new headlines session s rows before h some view system =
     let z : AreOf ns c.legs d.legs = are_of ns c.legs d.legs c.arguments_are c.answers_are d.arguments_are d.answers_are in
     let long = count ns z.messages z.numbers_are in
     let few = m.few in
@@ -157,6 +167,25 @@ any_programs_mail through law one two n k ns m words status old new headlines se
     (are_small z.messages (subst CanBeSent (sym z.numbers_are) m.small)) (omega (arith, long, few)) words status old new headlines session s rows before h some view system in (
       text,
       printed,
-      shown (around rows old) (booted s rows) (first_state session s rows before) (steps_before session.start (booted s rows)) (length rows.lines) session.turns session.steps one two n k ns z.messages z.numbers_are
-          c.last d.last (subst (λ legs. untrapped_in legs c.last ≤ most_steps n) (sym z.sends_are) c.few) (subst (λ legs. untrapped_in legs d.last ≤ most_steps k) (sym z.receives_are) d.few) status text shows,
+      shown (around rows old) (booted s rows) (first_state session s rows before) (steps_before session.start (booted s rows)) (length rows.lines) session.turns session.steps one two p q ns z.messages z.numbers_are
+          c.last d.last (subst (λ legs. untrapped_in legs c.last ≤ p) (sym z.sends_are) few_c) (subst (λ legs. untrapped_in legs d.last ≤ q) (sym z.receives_are) few_d) status text shows,
     )
+
+pub any_programs_mail : ProgramsComeThrough → AnyUsersMail → AnyProgramsMail
+any_programs_mail through law one two n k ns m =
+    let c = through one n ns (zeros ns) m.sender in
+    let d = through two k (asked_for ns) (told_for ns) m.receiver in
+    by_legs law one two n k ns m (most_steps n) (most_steps k) c c.few d d.few
+
+-- AND COUNTED: each leg is as long as was counted
+counted_few : CountsTellThrough → (f : Flat) (most p : ℕ) (arguments answers : List ℕ) (c : ComesThrough f most arguments answers) → IsCountedThrough f answers p → untrapped_in c.legs c.last ≤ p
+counted_few tell f most p arguments answers c is =
+    let same : untrapped_in c.legs c.last ≡ p = tell f c.legs c.last p c.calls (subst (λ xs. IsCountedThrough f xs p) (sym c.answers_are) is) in
+    omega (arith, same)
+
+pub any_counted_programs_mail : ProgramsComeThrough → CountsTellThrough → AnyUsersMail → AnyCountedProgramsMail
+any_counted_programs_mail through tell law one two n k ns p q m first second =
+    let c : ComesThrough (first_flat (image_words one)) (most_steps n) ns (zeros ns) = through one n ns (zeros ns) m.sender in
+    let d : ComesThrough (first_flat (image_words two)) (most_steps k) (asked_for ns) (told_for ns) = through two k (asked_for ns) (told_for ns) m.receiver in
+    by_legs law one two n k ns m p q c (counted_few tell (first_flat (image_words one)) (most_steps n) p ns (zeros ns) c first)
+    d (counted_few tell (first_flat (image_words two)) (most_steps k) q (asked_for ns) (told_for ns) d second)

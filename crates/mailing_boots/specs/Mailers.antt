@@ -6,8 +6,10 @@ use Rattle.c0_tree.specs.declared.tree.BinaryOp.TheVariants.{Add, Lt, Ne}
 use Rattle.c0_tree.specs.Tree.{assign, call, loop, binary, code, CUnit}
 use Rattle.c0_tree.specs.Tree as tree
 use Rattle.c0_meaning.specs.UserProgram.{prog, done}
+use Rattle.cvm_model.specs.Cvm.{first_flat}
+use Rattle.user_c0.specs.Image.{image_words}
 use Rattle.worked_rows.specs.Kernels.{z, name, decl, local, number, block, function}
-use Rattle.mailing_boots.specs.Through.{ints, CallsAndReturns}
+use Rattle.mailing_boots.specs.Through.{ints, CallsAndReturns, IsCountedThrough}
 
 -- a sender's calls are answered by 0
 abbrev pub zeros : List ℕ → List ℕ
@@ -68,3 +70,8 @@ one_to_ten = 1 ∷ 2 ∷ 3 ∷ 4 ∷ 5 ∷ 6 ∷ 7 ∷ 8 ∷ 9 ∷ 10 ∷ []
 pub record MailersCall : Type 0 where
   pub sends : prog sender (ints (zeros one_to_ten)) 400 ≡ record { arguments = ints one_to_ten; ending = done }
   pub receives : prog receiver (ints (told_for one_to_ten)) 600 ≡ record { arguments = ints (asked_for one_to_ten); ending = done }
+
+-- A LAW: their images make 144 untrapped steps and 174, counted; the traps are 11 and 21
+pub record MailersAreCounted : Type 0 where
+  pub sending : IsCountedThrough (first_flat (image_words sender)) (zeros one_to_ten) 144
+  pub receiving : IsCountedThrough (first_flat (image_words receiver)) (told_for one_to_ten) 174

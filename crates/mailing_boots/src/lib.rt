@@ -2,10 +2,10 @@
 #![tactic(auto)]
 
 ghost use Rattle.mailing_boots.specs.Boots.{AnyUsersMail};
-ghost use Rattle.mailing_boots.specs.Compiled.{AnyProgramsMail, CompiledMailBoots};
-ghost use Rattle.mailing_boots.specs.Mailers.{MailersCall};
+ghost use Rattle.mailing_boots.specs.Compiled.{AnyCountedProgramsMail, AnyProgramsMail, CompiledMailBoots, MailStepsAreFew};
+ghost use Rattle.mailing_boots.specs.Mailers.{MailersAreCounted, MailersCall};
 ghost use Rattle.mailing_boots.specs.Texts.{TextsAreMailers};
-ghost use Rattle.mailing_boots.specs.Through.{ProgramsComeThrough};
+ghost use Rattle.mailing_boots.specs.Through.{CountsTellThrough, ProgramsComeThrough};
 
 use c0_meaning::program_laws::answers_ahead_dont_matter;
 use cvm_model::reasoning::runs_are_lawful;
@@ -14,7 +14,7 @@ use kernel_linker::laws::accepted_systems_are_of_their_images;
 use kernel_theorems::{program_texts_mean_trees, texts_mean_trees};
 use mailing::{mail_ends, mail_is_kept, text_is_tree};
 use mips_table::runs::turns_are_counted;
-use program_systems::{calls_come, ends_come};
+use program_systems::{calls_come, counts_tell, ends_come, images_ignore_places};
 use run_bounds::{bounds_are_small, lines_taken_are_few, raised_lines_are_few};
 use user_c0::users::{ints_are_told, users_go_on};
 
@@ -27,6 +27,13 @@ pub fn programs_come_through()
     ends_come();
     ints_are_told();
     answers_ahead_dont_matter();
+}
+
+/// A law: where a machine's steps are counted from answer to answer, it makes just these where it makes its calls in turn.
+pub fn counts_tell_through()
+    ensures { CountsTellThrough }
+{
+    counts_tell();
 }
 
 /// A law: each boot (`boot`, `rom` or `sample`, with no failed call) of an image with the kernel's text, a sender and a receiver, under every schedule, printed
@@ -55,9 +62,23 @@ pub fn any_programs_mail()
     any_users_mail();
 }
 
+/// A law: where the programs' steps are counted, with turns and steps by just these.
+pub fn any_counted_programs_mail()
+    ensures { AnyCountedProgramsMail }
+{
+    programs_come_through();
+    counts_tell_through();
+    any_users_mail();
+}
+
 /// A law: the two programs send the numbers from 1 to 10, and receive ten and have each printed.
 pub fn mailers_call()
     ensures { MailersCall }
+{}
+
+/// A law: their images make 144 and 174 untrapped steps.
+pub fn mailers_are_counted()
+    ensures { MailersAreCounted }
 {}
 
 /// A law: the texts are those of the trees.
@@ -66,7 +87,7 @@ pub fn texts_are_mailers()
 {}
 
 /// A law: so it is of each boot of an image that was linked of what `compile program` put of the two texts: the numbers from 1 to 10 are printed in order, and it
-/// halts with 604,033 turns more than the schedule has `line` rows.
+/// halts with 351 turns more than the schedule has `line` rows, which are those that it takes without them.
 pub fn compiled_mail_boots()
     ensures { CompiledMailBoots }
 {
@@ -75,5 +96,13 @@ pub fn compiled_mail_boots()
     program_texts_mean_trees();
     texts_are_mailers();
     mailers_call();
-    any_programs_mail();
+    images_ignore_places();
+    mailers_are_counted();
+    any_counted_programs_mail();
 }
+
+/// A law: with 32 pages for each user, 48 frames and no busy times the steps that `compiled_mail_boots` asks for are 145,891,215, and 526,097 more for each
+/// `line` row.
+pub fn steps_are_few()
+    ensures { MailStepsAreFew }
+{}

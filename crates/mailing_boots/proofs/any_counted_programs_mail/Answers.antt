@@ -1,0 +1,5 @@
+use Rattle.mailing_boots.proofs.Programs.{any_counted_programs_mail}
+use Rattle.mailing_boots.proofs.any_counted_programs_mail.Goals as goal
+
+pub returns : goal.returns
+returns c = any_counted_programs_mail c.programs_come_through.ensures c.counts_tell_through.ensures c.any_users_mail.ensures

@@ -1,0 +1,5 @@
+use Rattle.mailing_boots.proofs.Counting.{steps_are_few}
+use Rattle.mailing_boots.proofs.steps_are_few.Goals as goal
+
+pub returns : goal.returns
+returns c = steps_are_few
