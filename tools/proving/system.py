@@ -269,6 +269,9 @@ use Rattle.{name}.specs.Text.{{text as kernel_text}}
 use Rattle.{name}.specs.Boots.{{most_turns, most_dispatches, SystemBoots}}
 use Rattle.{name}.proofs.Property.{{invariant}}
 
+-- What is printed, letter by letter: `stopped` of kernel_boots/proofs/Systems says that the invariant holds of the state that has halted; of what `halts` gives,
+-- `text_is` is the report of that state, which computes where its machines are known.
+
 -- HOW LONG IT RUNS: `below` is that a state which is still running, with so many lines taken at most, stands before the last of its turns (k < most_turns
 -- lines), and `few` that its dispatches are few (length past ≤ most_dispatches lines). Each follows by `omega` from `turns_are` or `length_is` and your
 -- fields that bound steps and traps.
