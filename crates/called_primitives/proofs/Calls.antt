@@ -1,8 +1,8 @@
 -- Code that calls allowed primitives alone keeps what each of their calls keeps: of the cost so far, and of where the run stands.
-use Rattle.std.proofs.Common.{◌≡◌, ℕ, zero, suc, ◌+◌, ◌&&◌, List, [], ◌∷◌, Bool, true, false, nat_lt, refl, subst}
-use Rattle.std.specs.Prelude.{if◌then◌else◌, ℤ, Ok, Err, Option, Some, None, ok_or, slice_get}
+use Rattle.std.proofs.Common.{◌≡◌, ℕ, zero, suc, ◌+◌, ◌&&◌, List, [], ◌∷◌, Bool, true, false, nat_lt, refl, sym, subst}
+use Rattle.std.specs.Prelude.{◌==◌, if◌then◌else◌, ℤ, Ok, Err, Option, Some, None, ok_or, option_and_then, slice_get}
 use Rattle.std.specs.List.{list_all}
-use Rattle.std.proofs.lemmas.Bool.{and_parts, and_from}
+use Rattle.std.proofs.lemmas.Bool.{and_parts, and_from, eqb-true}
 use Rattle.layer_map.specs.declared.params.Params.{Params}
 use Rattle.c0_tree.specs.declared.primitive.Program.TheVariants.{Kernel}
 use Rattle.c0_tree.specs.declared.tree.Kind.{Kind}
@@ -16,12 +16,13 @@ use Rattle.c0_meaning.specs.Value.{Value, int, Values, empty, part}
 use Rattle.c0_meaning.specs.State.{State, stack_words}
 use Rattle.c0_meaning.specs.Operators.{StackOut, faulted, stuck}
 use Rattle.c0_meaning.specs.Evaluation.{Costed, costs, at_no_cost, truth, value_of, values_of, place_of}
-use Rattle.c0_meaning.specs.World.{Setting, Cost, units, total, plus, Configuration, beginning, with_state, after_call, call_cost}
+use Rattle.c0_meaning.specs.World.{Called, Setting, Cost, units, total, plus, Configuration, beginning, with_state, after_call, call_cost}
 use Rattle.c0_meaning.specs.Running.{Target, into, outward, Work, act_on, finish, again, leave, begin, Step, Go, Stop, push, then_go, store, deliver, enter, call_function, call_with, act}
-use Rattle.c0_meaning.specs.Execution.{Outcome, Done, Failed, NotYet, then_run, run, dispatch}
+use Rattle.c0_meaning.specs.Execution.{Outcome, then_run, run, dispatch}
 use Rattle.c0_meaning.specs.RunLaws.{cost_of, stands_at}
 use Rattle.cvm_model.specs.Kernel.{Core, Changes}
-use Rattle.cvm_model.specs.KernelMeaning.{Machines, machines_of, kernel_primitive, setting_of}
+use Rattle.cvm_model.specs.KernelMeaning.{Machines, machines_of, ints_of, called_by, kernel_primitive, setting_of, call_with as asked_with}
+use Rattle.cvm_model.specs.Primitives.{Call, primitive_number}
 use Rattle.called_primitives.specs.Calls.{call_may, statement_may, block_may, body_may, calls_only}
 
 abbrev pub Here : Type 0
@@ -164,3 +165,37 @@ module _ (may : ℕ → Bool) where
     pub dispatches_keep : (n : ℕ) (c : Core) (cause edata user : ℤ) → Q (beginning (record c.c0 { frames = [] }) (machines_of p c)) → KeptAt (dispatch setting n cause edata user c.c0 (machines_of p c))
     dispatches_keep n c cause edata user q =
         runs (suc n) n (units 0) (begin (first_number Kernel u) (part (int cause) (part (int edata) (part (int user) empty))) ∷ []) (beginning (record c.c0 { frames = [] }) (machines_of p c)) refl (kept.own 0) q
+
+-- A CALL OF A NUMBER is the primitive with this number, or none
+abbrev IsNumbered : ℕ → Option Call → Type 0
+IsNumbered n None = Unit {0}
+IsNumbered n (Some asked) = primitive_number asked ≡ n
+
+by_number : (n k : ℕ) (x y : Option Call) → (k ≡ n → IsNumbered n x) → IsNumbered n y → IsNumbered n (if n == k then x else y)
+by_number n k x y h g = by (n == k) refl
+  where
+    by : (b : Bool) → (n == k) ≡ b → IsNumbered n (if b then x else y)
+    by true e = h (sym (eqb-true n k e))
+    by false e = g
+
+numbered : (n : ℕ) (xs : List ℤ) → IsNumbered n (asked_with n xs)
+numbered n [] = by_number n 8 _ _ (λ e. e) (by_number n 9 _ _ (λ e. e) tt)
+numbered n (a ∷ []) = by_number n 2 _ _ (λ e. e) (by_number n 7 _ _ (λ e. e) tt)
+numbered n (a ∷ b ∷ []) = by_number n 0 _ _ (λ e. e) (by_number n 3 _ _ (λ e. e) (by_number n 4 _ _ (λ e. e) tt))
+numbered n (a ∷ b ∷ c ∷ []) = by_number n 1 _ _ (λ e. e) (by_number n 5 _ _ (λ e. e) tt)
+numbered n (a ∷ b ∷ c ∷ d ∷ []) = tt
+numbered n (a ∷ b ∷ c ∷ d ∷ f ∷ []) = by_number n 6 _ _ (λ e. e) tt
+numbered n (a ∷ b ∷ c ∷ d ∷ f ∷ g ∷ rest) = tt
+
+-- so what is so of each primitive that may be called, and of a call that is none, is so of each call of a number that may be called
+module _ (may : ℕ → Bool) (P : Called Machines Changes → Type 0) (m : Machines) (none : P (called_by m None)) (each : (asked : Call) → may (primitive_number asked) ≡ true → P (called_by m (Some asked))) where
+  by_call : (n : ℕ) (o : Option Call) → IsNumbered n o → may n ≡ true → P (called_by m o)
+  by_call n None h e = none
+  by_call n (Some asked) h e = each asked (subst (λ i. may i ≡ true) (sym h) e)
+
+  pub by_primitive : (n : ℕ) (args : Values) → may n ≡ true → P (kernel_primitive n args m)
+  by_primitive n args e = by (ints_of args)
+    where
+      by : (o : Option (List ℤ)) → P (called_by m (option_and_then (asked_with n) o))
+      by None = none
+      by (Some xs) = by_call n (asked_with n xs) (numbered n xs) e

@@ -1,7 +1,6 @@
 -- A unit that calls no primitive which touches a page touches none: each of its dispatches.
-use Rattle.std.proofs.Common.{◌≡◌, ◌≤◌, ℕ, ◌+◌, List, [], ◌∷◌, Bool, true, false, refl, sym, ap₂, ◌∙◌, subst, arith}
-use Rattle.std.specs.Prelude.{◌==◌, if◌then◌else◌, ℤ, pos, Option, Some, None, option_and_then}
-use Rattle.std.proofs.lemmas.Bool.{eqb-true}
+use Rattle.std.proofs.Common.{◌≡◌, ◌≤◌, ℕ, ◌+◌, List, [], ◌∷◌, Bool, true, false, refl, ap₂, arith}
+use Rattle.std.specs.Prelude.{if◌then◌else◌, pos}
 use Rattle.layer_map.specs.declared.params.Params.{Params}
 use Rattle.mips_table.specs.Arith.{signed}
 use Rattle.mips_table.specs.Machine.{Console}
@@ -11,14 +10,14 @@ use Rattle.c0_meaning.specs.Value.{Values}
 use Rattle.c0_meaning.specs.World.{Cost}
 use Rattle.c0_meaning.specs.Execution.{Outcome, Done, Failed, NotYet, dispatch}
 use Rattle.cvm_model.specs.Kernel.{Core, Changes}
-use Rattle.cvm_model.specs.KernelMeaning.{Machines, machines_of, ints_of, called_by, kernel_primitive, outcome_of, setting_of, kernel_meaning, call_with as asked_with}
+use Rattle.cvm_model.specs.KernelMeaning.{Machines, machines_of, kernel_primitive, outcome_of, setting_of, kernel_meaning}
 use Rattle.cvm_model.specs.Primitives.{Call, VmGet, VmSet, VmSize, VmResize, VmWord, VmPut, VmCopy, ConPut, ConGet, ConLeft, primitive_number, Given, is_good, prim}
 use Rattle.cvm_model.specs.Cvm.{System, dispatch_of}
 use Rattle.cvm_model.specs.Invariant.{Dispatch}
 use Rattle.cvm_model.specs.Systems.{UsePages}
 use Rattle.called_primitives.specs.Calls.{calls_only}
 use Rattle.called_primitives.specs.Kernels.{needs_no_page, TouchesNoPage, PagelessTouchNone}
-use Rattle.called_primitives.proofs.Calls.{Here, AreKept, KeptAt, dispatches_keep}
+use Rattle.called_primitives.proofs.Calls.{Here, AreKept, KeptAt, dispatches_keep, by_primitive}
 
 either_given : (b : Bool) (g h : Given) → g.pages ≡ 0 → h.pages ≡ 0 → (if b then g else h).pages ≡ 0
 either_given true g h a b = a
@@ -36,40 +35,8 @@ pageless_call most (ConPut w) users o e = refl
 pageless_call most ConGet users o e = refl
 pageless_call most ConLeft users o e = refl
 
--- the call of a number that is one of these
-abbrev Pageless : Option Call → Type 0
-Pageless None = Unit {0}
-Pageless (Some asked) = needs_no_page (primitive_number asked) ≡ true
-
-tested : (b : Bool) (x y : Option Call) → (b ≡ true → Pageless x) → Pageless y → Pageless (if b then x else y)
-tested true x y h g = h refl
-tested false x y h g = g
-
-isnt : (n k : ℕ) → needs_no_page n ≡ true → needs_no_page k ≡ false → (n == k) ≡ true → ⊥
-isnt n k e t h =
-    let same : n ≡ k = eqb-true n k h in
-    let z : true ≡ false = sym (subst (λ i. needs_no_page i ≡ true) same e) ∙ t in
-    absurd (cc)
-
-pageless_with : (n : ℕ) (xs : List ℤ) → needs_no_page n ≡ true → Pageless (asked_with n xs)
-pageless_with n [] e = tested (n == 8) _ _ (λ h. refl) (tested (n == 9) _ _ (λ h. refl) tt)
-pageless_with n (a ∷ []) e = tested (n == 2) _ _ (λ h. refl) (tested (n == 7) _ _ (λ h. refl) tt)
-pageless_with n (a ∷ b ∷ []) e = tested (n == 0) _ _ (λ h. refl) (tested (n == 3) _ _ (λ h. absurd (isnt n 3 e refl h)) (tested (n == 4) _ _ (λ h. absurd (isnt n 4 e refl h)) tt))
-pageless_with n (a ∷ b ∷ c ∷ []) e = tested (n == 1) _ _ (λ h. refl) (tested (n == 5) _ _ (λ h. absurd (isnt n 5 e refl h)) tt)
-pageless_with n (a ∷ b ∷ c ∷ d ∷ []) e = tt
-pageless_with n (a ∷ b ∷ c ∷ d ∷ f ∷ []) e = tested (n == 6) _ _ (λ h. absurd (isnt n 6 e refl h)) tt
-pageless_with n (a ∷ b ∷ c ∷ d ∷ f ∷ g ∷ rest) e = tt
-
-pageless_by : (m : Machines) (o : Option Call) → Pageless o → (called_by m o).pages ≡ 0
-pageless_by m None h = refl
-pageless_by m (Some asked) h = pageless_call m.most asked m.users m.console h
-
 pageless_primitive : (n : ℕ) (args : Values) (m : Machines) → needs_no_page n ≡ true → (kernel_primitive n args m).pages ≡ 0
-pageless_primitive n args m e = by (ints_of args)
-  where
-    by : (o : Option (List ℤ)) → (called_by m (option_and_then (asked_with n) o)).pages ≡ 0
-    by None = refl
-    by (Some xs) = pageless_by m (asked_with n xs) (pageless_with n xs e)
+pageless_primitive n args m e = by_primitive needs_no_page (λ called. called.pages ≡ 0) m refl (λ asked may. pageless_call m.most asked m.users m.console may) n args e
 
 abbrev NoPages : Cost → Type 0
 NoPages k = k.pages ≡ 0

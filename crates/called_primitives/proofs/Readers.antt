@@ -1,8 +1,8 @@
 -- A unit that calls no primitive which changes a machine makes no change: each of its dispatches.
-use Rattle.std.proofs.Common.{◌≡◌, ℕ, ◌&&◌, List, [], ◌∷◌, ◌++◌, Bool, true, false, refl, sym, ap, ◌∙◌, subst}
-use Rattle.std.specs.Prelude.{◌==◌, if◌then◌else◌, ℤ, Option, Some, None, option_and_then}
+use Rattle.std.proofs.Common.{◌≡◌, ℕ, ◌&&◌, List, [], ◌∷◌, ◌++◌, Bool, true, false, refl, sym, ap, ◌∙◌}
+use Rattle.std.specs.Prelude.{◌==◌, if◌then◌else◌, ℤ}
 use Rattle.std.specs.List.{list_all}
-use Rattle.std.proofs.lemmas.Bool.{and_parts, and_from, eqb-true}
+use Rattle.std.proofs.lemmas.Bool.{and_parts, and_from}
 use Rattle.std.proofs.lemmas.List.{append-nil, append_assoc}
 use Rattle.std.proofs.lemmas.List.Folds.{list_all-append}
 use Rattle.layer_map.specs.declared.params.Params.{Params}
@@ -13,12 +13,12 @@ use Rattle.c0_meaning.specs.Value.{Values}
 use Rattle.c0_meaning.specs.World.{Called, Cost, entries_of, journal}
 use Rattle.c0_meaning.specs.Execution.{Outcome, Done, Failed, NotYet, dispatch}
 use Rattle.cvm_model.specs.Kernel.{Core, JournalEntry, Changes}
-use Rattle.cvm_model.specs.KernelMeaning.{Machines, machines_of, ints_of, called_by, kernel_primitive, outcome_of, setting_of, call_with as asked_with}
+use Rattle.cvm_model.specs.KernelMeaning.{Machines, machines_of, kernel_primitive, outcome_of, setting_of}
 use Rattle.cvm_model.specs.Primitives.{Call, VmGet, VmSet, VmSize, VmResize, VmWord, VmPut, VmCopy, ConPut, ConGet, ConLeft, primitive_number, Given, is_good, prim}
 use Rattle.cvm_model.specs.Journal.{changes_of}
 use Rattle.called_primitives.specs.Calls.{calls_only}
 use Rattle.called_primitives.specs.Kernels.{only_reads, ReadersChangeNone}
-use Rattle.called_primitives.proofs.Calls.{Here, AreKept, KeptAt, dispatches_keep}
+use Rattle.called_primitives.proofs.Calls.{Here, AreKept, KeptAt, dispatches_keep, by_primitive}
 
 -- A CALL THAT CHANGES NOTHING
 abbrev is_none : List JournalEntry → Bool
@@ -48,31 +48,6 @@ quiet_call most (ConPut w) users o e = (refl, refl)
 quiet_call most ConGet users o e = (refl, refl)
 quiet_call most ConLeft users o e = (refl, refl)
 
--- the call of a number that is none of those that change
-abbrev Reads : Option Call → Type 0
-Reads None = Unit {0}
-Reads (Some asked) = only_reads (primitive_number asked) ≡ true
-
-tested : (b : Bool) (x y : Option Call) → (b ≡ true → Reads x) → Reads y → Reads (if b then x else y)
-tested true x y h g = h refl
-tested false x y h g = g
-
--- a number that only reads is none of those that don't
-isnt : (n k : ℕ) → only_reads n ≡ true → only_reads k ≡ false → (n == k) ≡ true → ⊥
-isnt n k e t h =
-    let same : n ≡ k = eqb-true n k h in
-    let z : true ≡ false = sym (subst (λ i. only_reads i ≡ true) same e) ∙ t in
-    absurd (cc)
-
-reads_with : (n : ℕ) (xs : List ℤ) → only_reads n ≡ true → Reads (asked_with n xs)
-reads_with n [] e = tested (n == 8) _ _ (λ h. refl) (tested (n == 9) _ _ (λ h. refl) tt)
-reads_with n (a ∷ []) e = tested (n == 2) _ _ (λ h. refl) (tested (n == 7) _ _ (λ h. refl) tt)
-reads_with n (a ∷ b ∷ []) e = tested (n == 0) _ _ (λ h. refl) (tested (n == 3) _ _ (λ h. absurd (isnt n 3 e refl h)) (tested (n == 4) _ _ (λ h. refl) tt))
-reads_with n (a ∷ b ∷ c ∷ []) e = tested (n == 1) _ _ (λ h. absurd (isnt n 1 e refl h)) (tested (n == 5) _ _ (λ h. absurd (isnt n 5 e refl h)) tt)
-reads_with n (a ∷ b ∷ c ∷ d ∷ []) e = tt
-reads_with n (a ∷ b ∷ c ∷ d ∷ f ∷ []) e = tested (n == 6) _ _ (λ h. absurd (isnt n 6 e refl h)) tt
-reads_with n (a ∷ b ∷ c ∷ d ∷ f ∷ g ∷ rest) e = tt
-
 -- what it comes to
 record QuietCalled (m : Machines) (r : Called Machines Changes) : Type 0 where
   quiet : list_all is_quiet r.entries ≡ true
@@ -82,16 +57,9 @@ quiet_entries : (xs : List JournalEntry) → xs ≡ [] → (is_none xs && true) 
 quiet_entries [] e = refl
 quiet_entries (x ∷ xs) e = absurd (cc)
 
-quiet_by : (m : Machines) (o : Option Call) → Reads o → QuietCalled m (called_by m o)
-quiet_by m None h = record { quiet = refl; same = refl }
-quiet_by m (Some asked) h = let q = quiet_call m.most asked m.users m.console h in record { quiet = quiet_entries _ q.0; same = q.1 }
-
 quiet_primitive : (n : ℕ) (args : Values) (m : Machines) → only_reads n ≡ true → QuietCalled m (kernel_primitive n args m)
-quiet_primitive n args m e = by (ints_of args)
-  where
-    by : (o : Option (List ℤ)) → QuietCalled m (called_by m (option_and_then (asked_with n) o))
-    by None = quiet_by m None tt
-    by (Some xs) = quiet_by m (asked_with n xs) (reads_with n xs e)
+quiet_primitive n args m e = by_primitive only_reads (QuietCalled m) m (record { quiet = refl; same = refl })
+    (λ asked may. let q = quiet_call m.most asked m.users m.console may in record { quiet = quiet_entries _ q.0; same = q.1 }) n args e
 
 -- the entries of calls, with one call more
 entries_more : (calls : List (List Changes)) (xs : List Changes) → entries_of (calls ++ xs ∷ []) ≡ entries_of calls ++ xs

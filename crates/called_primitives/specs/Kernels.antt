@@ -20,9 +20,25 @@ pub record ChangesNoMachine (e : KernelMeaning) : Type 0 where
   pub alone : (u : ℕ) → LeavesAlone e u
   pub same : (n : ℕ) (c : Core) (cause edata user : ℤ) → (e.dispatch n c cause edata user).after.users ≡ c.users
 
--- the primitives that change no machine, by their numbers: all but vm_set, vm_resize, vm_put and vm_copy
+-- the numbers of primitives that change a machine or touch its pages, as `primitive_number` has them
+abbrev pub VM_SET : ℕ
+VM_SET = 1
+
+abbrev pub VM_RESIZE : ℕ
+VM_RESIZE = 3
+
+abbrev pub VM_WORD : ℕ
+VM_WORD = 4
+
+abbrev pub VM_PUT : ℕ
+VM_PUT = 5
+
+abbrev pub VM_COPY : ℕ
+VM_COPY = 6
+
+-- the primitives that change no machine: all but these four
 abbrev pub only_reads : ℕ → Bool
-only_reads n = not (n == 1 || n == 3 || n == 5 || n == 6)
+only_reads n = not (n == VM_SET || n == VM_RESIZE || n == VM_PUT || n == VM_COPY)
 
 -- A LAW: a unit that calls these alone is such a kernel
 abbrev pub ReadersChangeNone : Type 0
@@ -32,9 +48,9 @@ ReadersChangeNone = (u : CUnit) (p : Params) → IsTrue (calls_only only_reads u
 abbrev pub TouchesNoPage : KernelMeaning → Type 0
 TouchesNoPage e = (n : ℕ) (c : Core) (cause edata user : ℤ) → (e.dispatch n c cause edata user).pages ≡ 0
 
--- the primitives that touch no page: all but vm_resize, vm_word, vm_put and vm_copy
+-- the primitives that touch no page: all but these four
 abbrev pub needs_no_page : ℕ → Bool
-needs_no_page n = not (n == 3 || n == 4 || n == 5 || n == 6)
+needs_no_page n = not (n == VM_RESIZE || n == VM_WORD || n == VM_PUT || n == VM_COPY)
 
 -- A LAW: a unit that calls these alone is such a kernel, whatever loops it has; so in a bound on steps its dispatches count no page
 pub record PagelessTouchNone : Type 0 where
