@@ -161,7 +161,9 @@ class Reader:
 
     def since(self, first):
         """The text from a token to the one before this."""
-        start, last = self.part[first][0], self.part[self.at - 1]
+        if first >= len(self.part):
+            return ''
+        start, last = self.part[first][0], self.part[min(self.at, len(self.part)) - 1]
         return places.readable(self.source.data[start:last[0] + len(last[1].encode())])
 
     def binary(self, level):

@@ -43,7 +43,7 @@ class Habits(unittest.TestCase):
 
     def test_any_place_and_any_bytes_do(self):
         data = bytes(range(256)) + b' /* x " \' asm { } 0x 12ab'
-        for key in (10, 11, 12, 13, 20, 22, 25, 31):
+        for key in (10, 11, 12, 13, 20, 21, 22, 23, 24, 25, 26, 30, 31):
             for at in range(0, len(data) + 2, 3):
                 for is_program in (False, True):
                     c_habits.habit(key, data, at, at + 2, is_program)
