@@ -68,14 +68,15 @@ class Beside:
         self.run = Run(SpiedSystem(self.unit, images, read(FOLDER, 'params'), letters), Ticks())
         self.run.noting = False
         self.table = self.unit.places['table']
+        struct = self.table[0][1]
+        self.size, self.fields = self.unit.words(struct), {field: self.unit.field(struct, field)[1] for field in ('state', 'channel', 'killed', 'status')}
         while not (self.of(3, 'state') == 2 and self.of(3, 'channel') == 2):
             self.run.go()
         self.start, self.images = self.run.state(), images
 
     def of(self, user, field):
         """A field of a process's place."""
-        struct = self.table[0][1]
-        return self.run.kernel.globals[self.table[1] + user * self.unit.words(struct) + self.unit.field(struct, field)[1]]
+        return self.run.kernel.globals[self.table[1] + user * self.size + self.fields[field]]
 
     def state(self):
         return {user: (self.of(user, 'state'), self.of(user, 'killed')) for user in range(FIRST, LAST + 1)}
@@ -89,27 +90,29 @@ class Beside:
             run.users[user - 1].m = list(words) + [0] * (-len(words) % 1024)
         files = {user: list(run.users[user - 1].m) for user in range(10, len(run.users) + 1)}
         run.lines.typed = range(run.turn + 1, run.turn + 1 + len(SESSION))
-        until = run.turn + turns
+        until, before = run.turn + turns, self.state()
         while run.turn < until and run.end is None:
-            before, caller = self.state(), run.current
+            caller = run.current
             run.kernel.touched = frozenset()
             call = run.go()
             if call:
-                self.look(call, before, caller)
+                after = self.state()
+                self.look(call, before, after, caller)
+                before = after
         if run.end != 'halted':
             raise Broken('after %d turns the shell has not come to its end' % turns)
         if self.of(3, 'status') != 0 or run.kernel.taken < len(run.kernel.inputs):
             raise Broken('the shell ended with %d, and %d letters were read' % (self.of(3, 'status'), run.kernel.taken))
         return ''.join(chr(word) if word < 127 else '?' for word in run.kernel.log), files
 
-    def look(self, call, before, caller):
+    def look(self, call, before, after, caller):
         """What a call of the kernel may have changed: who called, places that were free, and processes that were killed."""
         run = self.run
         if call.fault:
             raise Broken('the kernel met the fault %s in turn %d' % (call.fault, call.turn))
         if call.next == 0:
             return
-        may = {caller} | {user for user, (state, killed) in before.items() if state == 0 or killed} | {user for user in before if self.of(user, 'killed')}
+        may = {caller} | {user for user in before if before[user][0] == 0 or before[user][1] or after[user][1]}
         if not run.kernel.touched <= may:
             raise Broken('in turn %d user %d calls, and the users %s are changed' % (call.turn, caller, sorted(run.kernel.touched - may)))
         if call.next not in range(1, LAST + 1):
