@@ -1,0 +1,261 @@
+-- Why a status is what it is.
+use Rattle.std.specs.Prelude.{Option, Some, None, codes}
+use Rattle.std.specs.Io.KnownBytes.{append_known}
+use Rattle.std.proofs.Common.{◌≡◌, ◌⊎◌, inl, inr, ℕ, zero, suc, ◌<◌, Bool, true, false, List, [], length, refl, sym, ap, ◌∙◌, subst}
+use Rattle.cvm_outside.specs.Told.{TOO_LONG}
+use Rattle.cvm_model.specs.Cvm.{Status, Running, Halted, Faulted}
+use Rattle.boot_turns.specs.declared.answers.View.TheVariants.{Boot, Trace}
+use Rattle.kernel_linker.specs.Accept.{ImageSystem}
+use Rattle.schedule_file.specs.Rows.{Rows}
+use Rattle.cvm_shell.specs.declared.exit_status.ExitStatus.{ExitStatus}
+use Rattle.cvm_shell.specs.declared.exit_status.ExitStatus.TheVariants.{Done, Words, Refused, KernelFault, StepLimit, Disk, Sink}
+use Rattle.cvm_shell.specs.declared.boot.Session.{Session}
+use Rattle.cvm_shell.specs.Command.{Command, IsCommand, IsNoCommand, save, resume, save_session}
+use Rattle.cvm_shell.specs.Refusal.{Refusal, small_disk, no_such_user, too_long, refusal_status, refusal_text}
+use Rattle.cvm_shell.specs.Plan.{Plan, bad_words, refuses, boots}
+use Rattle.cvm_outside.specs.ScriptLaws.{ScriptsBlame}
+use Rattle.cvm_outside.specs.Outside.{Outside, Drive}
+use Rattle.cvm_outside.specs.Script.{Call, Who, TheSink, TheDisk, TheShelf, Performs, done as all_done, breaks, goes_on, Rises, faults_of}
+use Rattle.run_scripts.specs.Runs.{sectors_needed}
+use Rattle.run_scripts.specs.Steps.{says}
+use Rattle.run_scripts.specs.Whole.{status_of, power_status}
+use Rattle.run_scripts.specs.Commands.{Does, done, no_file, no_memory, GetsFor, all, up_to, Wants, behind, within, wants, PlanAsks, SessionAsks, no_user, small, over_told, over_untold, SomeSaveAsks, as_boot, is_saved, SeesUser, load_of, files_of, gets, answered}
+use Rattle.run_scripts.specs.Headline.{NoneFailed}
+use Rattle.run_scripts.specs.Causes.{Counts, NeedsMore, CausedBy, StatusesAreCaused, WordsAreRefused}
+use Rattle.run_scripts.proofs.Joins.{got_keeps}
+use Rattle.run_scripts.proofs.Outcomes.{IsOfFile, Outcome, is_none, is_refused, is_booted, is_saved as saves_so, is_resumed, is_put, is_told, outcome}
+
+-- ONE PRINT blames the sink alone, and prints its text
+nothing_blames : (old new : Outside) (b : Option Who) → Performs [] old new b → b ≡ None
+nothing_blames old new b (all_done _) = refl
+
+nothing_changes : (old new : Outside) → Performs [] old new None → new ≡ old
+nothing_changes old new (all_done _) = refl
+
+pub says_blames : (text : List ℕ) (old new : Outside) (b : Option Who) → Performs (says text) old new b → (b ≡ None) ⊎ (b ≡ Some TheSink)
+says_blames text old new b (breaks c rest _ _ f) = inr refl
+says_blames text old new b (goes_on c rest _ mid _ _ d p) = inl (nothing_blames mid new b p)
+
+pub says_printed : (text : List ℕ) (old new : Outside) → Performs (says text) old new None → new.sink.text ≡ append_known old.sink.text text
+says_printed text old new (goes_on c rest _ mid _ _ d p) = ap (λ (o : Outside). o.sink.text) (nothing_changes mid new p) ∙ d.0
+
+-- the status of a run where no call fails
+abbrev IsRunStatus : ExitStatus → Type 0
+IsRunStatus st = (st ≡ Done) ⊎ ((st ≡ KernelFault) ⊎ (st ≡ StepLimit))
+
+-- WHAT IS DUE, and why
+pub data Due (p : Plan) (at : Outside) (script : List Call) (due : ExitStatus) : Type 0 where
+  by_words : p ≡ bad_words → due ≡ Words → script ≡ says (codes "bad words\n") → Due p at script due
+  by_refusal : (r : Refusal) → IsOfFile r → p ≡ refuses r → due ≡ refusal_status r → script ≡ says (refusal_text r) → Due p at script due
+  by_user : (session : Session) (s : ImageSystem) (rows : Rows) (u : ℕ) → p ≡ boots session s rows → session.view ≡ Trace u → (SeesUser session.view (length s.users) → ⊥) → due ≡ Refused →
+      script ≡ says (refusal_text (no_such_user u (length s.users))) → Due p at script due
+  by_disk : NeedsMore p at.disk.size → due ≡ Disk → Due p at script due
+  by_run : (due ≡ Done) ⊎ ((due ≡ KernelFault) ⊎ (due ≡ StepLimit)) → Due p at script due
+
+of_status : (b : Bool) (st : Status) → IsRunStatus (status_of b st)
+of_status true Running = inl refl
+of_status true Halted = inl refl
+of_status true (Faulted f) = inr (inl refl)
+of_status false Running = inr (inr refl)
+of_status false Halted = inr (inr refl)
+of_status false (Faulted f) = inr (inr refl)
+
+of_power : (b : Bool) (o : Option ℕ) → IsRunStatus (power_status b o)
+of_power true None = inl refl
+of_power false None = inr (inr refl)
+of_power true (Some zero) = inl refl
+of_power false (Some zero) = inr (inr refl)
+of_power true (Some (suc n)) = inr (inl refl)
+of_power false (Some (suc n)) = inr (inr refl)
+
+same_due : (a b : ExitStatus) → a ≡ b → IsRunStatus b → IsRunStatus a
+same_due a b e h = subst IsRunStatus (sym e) h
+
+-- of a session
+session_due : (p : Plan) (session : Session) (s : ImageSystem) (rows : Rows) (at : Outside) (Told : List (List ℕ) → List Call → ExitStatus → Type 0) (Some_ : List Call → ExitStatus → Type 0) →
+    ((u : ℕ) → session.view ≡ Trace u → p ≡ boots session s rows) → (at.disk.size < sectors_needed session s rows → NeedsMore p at.disk.size) →
+    ((ss : List (List ℕ)) (a : List Call) (st : ExitStatus) → Told ss a st → IsRunStatus st) → ((a : List Call) (st : ExitStatus) → Some_ a st → IsRunStatus st) →
+    (script : List Call) (due : ExitStatus) → SessionAsks session s rows at Told Some_ script due → Due p at script due
+session_due p session s rows at T S user less t m script due (no_user u v n) = by_user session s rows u (user u v) v n refl refl
+session_due p session s rows at T S user less t m script due (small v n) = by_disk (less n) refl
+session_due p session s rows at T S user less t m script due (over_told ss _ _ v n q a) = by_run (t ss script due a)
+session_due p session s rows at T S user less t m script due (over_untold _ _ v n q a) = by_run (m script due a)
+
+some_save : (name : List ℕ) (size : ℕ) (load script : List Call) (due : ExitStatus) → SomeSaveAsks name size load script due → IsRunStatus due
+some_save name size load script due (as_boot _ _ w) = w.3
+some_save name size load script due (is_saved more bytes a) = inl refl
+
+no_refusal : (r : Refusal) → bad_words ≡ refuses r → ⊥
+no_refusal r e = cc
+
+no_view : (u : ℕ) → Boot ≡ Trace u → ⊥
+no_view u e = cc
+
+pub due_of : (words : List (List ℕ)) (p : Plan) (at : Outside) (script : List Call) (due : ExitStatus) → Outcome words p → PlanAsks p at script due → Due p at script due
+due_of words p at script due (is_none n) a = by_words refl a.1 a.0
+due_of words p at script due (is_refused c is r f) a = by_refusal r f refl a.1 a.0
+due_of words p at script due (is_booted c is l session s rows) a =
+    session_due p session s rows at _ _ (λ u v. refl) (λ n. n) (λ ss x st w. same_due st _ w.status_is (of_status _ _)) (λ x st w. w.3) script due a
+due_of words p at script due (saves_so c is s rows) a =
+    session_due p (save_session c) s rows at _ _ (λ u v. absurd (no_view u v)) (λ n. n) (λ ss x st w. same_due st _ w.status_is (of_status _ _))
+    (λ x st w. some_save c.file at.disk.size (load_of (save_session c) s rows) x st w) script due a
+due_of words p at script due (is_resumed c is s rows machine) a =
+    session_due p (save_session c) s rows at _ _ (λ u v. absurd (no_view u v)) (λ n. n) (λ ss x st w. same_due st _ w.status_is (of_power _ _)) (λ x st w. w.3) script due a
+due_of words p at script due (is_put c is name bytes e) a = by_run (inl a.1)
+due_of words p at script due (is_told c is text) a = by_run (inl a.1)
+
+-- COUNTS of what was got and done
+module _ (blame : ScriptsBlame) where
+  counts_both : (got script : List Call) (old mid new : Outside) (b : Option Who) → Performs got old mid None → Performs script mid new b → Counts b old new
+  counts_both got script old mid new b p q w =
+      let g = blame got old mid None p w in
+      let h = blame script mid new b q w in
+      let e : faults_of w mid ≡ faults_of w old = g.same (λ x. cc) in
+      record { rose = λ i. subst (λ (n : ℕ). Rises n (faults_of w new)) e (h.rose i); same = λ ne. h.same ne ∙ e }
+
+  pub not_blamed : (old new : Outside) (b : Option Who) → NoneFailed old new → Counts b old new → b ≡ None
+  not_blamed old new None f h = refl
+  not_blamed old new (Some w) f h = absurd (f w ((h w).rose refl).rose)
+
+  pub of_done : (words : List (List ℕ)) (old new : Outside) (status : ExitStatus) (h : Does words old new status) → Counts h.blamed old new
+  of_done words old new status h = counts_both h.got h.script old h.mid new h.blamed h.files h.performs
+
+  pub of_no_file : (names : List (List ℕ)) (old new : Outside) → Performs (gets names) old new (Some TheShelf) → Counts (Some TheShelf) old new
+  of_no_file names old new p w = blame (gets names) old new (Some TheShelf) p w
+
+  of_wants : (names : List (List ℕ)) (old new : Outside) → Wants names old new → Counts None old new
+  of_wants names old new (behind made rest e p t) w = blame (gets made) old new None p w
+  of_wants names old new (within made rest name mid e p (wants f c t s)) w =
+      let g = blame (gets made) old mid None p w in
+      let h : faults_of w mid ≡ faults_of w old = g.same (λ x. cc) in
+      record { rose = λ x. absurd (cc); same = λ ne. same w ∙ h }
+    where
+      same : (w : Who) → faults_of w new ≡ faults_of w mid
+      same TheSink = ap (λ (o : Outside). o.sink.faults) s
+      same TheDisk = ap (λ (o : Outside). o.disk.faults) s
+      same TheShelf = c
+
+  -- what is left of the outside by the gets
+  pub mid_disk : (words : List (List ℕ)) (old new : Outside) (status : ExitStatus) (h : Does words old new status) → (h.mid.disk ≡ old.disk) × (h.mid.sink ≡ old.sink)
+  mid_disk words old new status h = by h.plan refl (outcome words old.shelf.file h.plan h.is_plan.comes)
+    where
+      kept : (c : Command) → IsCommand words c → (h.mid.disk ≡ old.disk) × (h.mid.sink ≡ old.sink)
+      kept c is = let k = got_keeps _ _ _ _ _ old h.mid (h.gets.0 c is) h.files in (k.disk, k.sink)
+
+      none : h.plan ≡ bad_words → (h.mid.disk ≡ old.disk) × (h.mid.sink ≡ old.sink)
+      none e =
+          let f : h.mid ≡ old = nothing_changes old h.mid (subst (λ (s : List Call). Performs s old h.mid None) (h.gets.1 e) h.files) in
+          (ap (λ (o : Outside). o.disk) f, ap (λ (o : Outside). o.sink) f)
+
+      by : (p : Plan) → h.plan ≡ p → Outcome words p → (h.mid.disk ≡ old.disk) × (h.mid.sink ≡ old.sink)
+      by p e (is_none n) = none e
+      by p e (is_refused c is r f) = kept c is
+      by p e (is_booted c is l session s rows) = kept c is
+      by p e (saves_so c is s rows) = kept (save c) is
+      by p e (is_resumed c is s rows machine) = kept (resume c) is
+      by p e (is_put c is name bytes x) = kept c is
+      by p e (is_told c is text) = kept c is
+
+  long_taken : (file : List ℕ → Option (List ℕ)) (names : List (List ℕ)) (taken : ℕ) (p : Plan) (got : List Call) → p ≡ refuses too_long → GetsFor file names taken p got → taken ≡ TOO_LONG
+  long_taken file names taken p got e (all _ n t) = absurd (n e)
+  long_taken file names taken p got e (up_to before after name f s l t) = t
+
+  -- STATUSES
+  pub statuses_are_caused : StatusesAreCaused
+  statuses_are_caused words old new status (done _ h) = by h.blamed h.status_is (of_done words old new status h)
+    where
+      o : Outcome words h.plan
+      o = outcome words old.shelf.file h.plan h.is_plan.comes
+
+      of_plan : (p : Plan) → h.plan ≡ p → Outcome words p → h.plan ≡ refuses too_long → new.shelf.taken ≡ TOO_LONG
+      of_plan p e (is_refused c is r f) i = long_taken _ _ _ _ _ i (h.gets.0 c is)
+      of_plan p e (is_none n) i = absurd (no_refusal too_long (sym e ∙ i))
+      of_plan p e (is_booted c is l session s rows) i = long_taken _ _ _ _ _ i (h.gets.0 c is)
+      of_plan p e (saves_so c is s rows) i = long_taken _ _ _ _ _ i (h.gets.0 (save c) is)
+      of_plan p e (is_resumed c is s rows machine) i = long_taken _ _ _ _ _ i (h.gets.0 (resume c) is)
+      of_plan p e (is_put c is name bytes x) i = long_taken _ _ _ _ _ i (h.gets.0 c is)
+      of_plan p e (is_told c is text) i = long_taken _ _ _ _ _ i (h.gets.0 c is)
+
+      refusal_free : (r : Refusal) → IsOfFile r → h.plan ≡ refuses r → Counts None old new → CausedBy (refusal_status r) words old new
+      refusal_free too_long f e k = inr (k, of_plan h.plan refl o e)
+      refusal_free (small_disk need have) f e k = absurd f
+      refusal_free (no_such_user u n) f e k = absurd f
+      refusal_free other f e k = k
+
+      free : Due h.plan h.mid h.script h.due → Counts None old new → CausedBy h.due words old new
+      free (by_words e d s) k = subst (λ (st : ExitStatus). CausedBy st words old new) (sym d) k
+      free (by_refusal r f e d s) k = subst (λ (st : ExitStatus). CausedBy st words old new) (sym d) (refusal_free r f e k)
+      free (by_user session s rows u e v n d x) k = subst (λ (st : ExitStatus). CausedBy st words old new) (sym d) k
+      free (by_disk n d) k = subst (λ (st : ExitStatus). CausedBy st words old new) (sym d)
+          (inr (k, record { plan = h.plan; is_plan = h.is_plan; more = subst (λ (x : Drive). NeedsMore h.plan x.size) (mid_disk words old new status h).0 n }))
+      free (by_run (inl d)) k = subst (λ (st : ExitStatus). CausedBy st words old new) (sym d) k
+      free (by_run (inr (inl d))) k = subst (λ (st : ExitStatus). CausedBy st words old new) (sym d) k
+      free (by_run (inr (inr d))) k = subst (λ (st : ExitStatus). CausedBy st words old new) (sym d) k
+
+      by : (b : Option Who) → status ≡ answered h.due b → Counts b old new → CausedBy status words old new
+      by None e k = subst (λ (st : ExitStatus). CausedBy st words old new) (sym e) (free (due_of words h.plan h.mid h.script h.due o h.asks) k)
+      by (Some TheSink) e k = subst (λ (st : ExitStatus). CausedBy st words old new) (sym e) k
+      by (Some TheDisk) e k = subst (λ (st : ExitStatus). CausedBy st words old new) (sym e) (inl k)
+      by (Some TheShelf) e k = subst (λ (st : ExitStatus). CausedBy st words old new) (sym e) (inl k)
+  statuses_are_caused words old new status (no_file c is g t) = inl (of_no_file (files_of c) old new g)
+  statuses_are_caused words old new status (no_memory c is w) = of_wants (files_of c) old new w
+
+  -- THE STATUS of words, files and disks
+  pub done_due : (words : List (List ℕ)) (old new : Outside) (status : ExitStatus) (h : Does words old new status) → Due h.plan h.mid h.script h.due
+  done_due words old new status h = due_of words h.plan h.mid h.script h.due (outcome words old.shelf.file h.plan h.is_plan.comes) h.asks
+
+  pub words_are_refused : WordsAreRefused
+  words_are_refused words old new status (done _ h) = record { only = λ e. only h.blamed (sym h.status_is ∙ e); so = λ n. so (outcome words old.shelf.file h.plan h.is_plan.comes) n }
+    where
+      never : (r : Refusal) → IsOfFile r → refusal_status r ≡ Words → ⊥
+      never too_long f e = cc
+      never (small_disk need have) f e = cc
+      never other f e = cc
+
+      no_command : (p : Plan) → Outcome words p → p ≡ bad_words → IsNoCommand words
+      no_command p (is_none n) e = n
+      no_command p (is_refused c is r f) e = absurd (cc)
+      no_command p (is_booted c is l session s rows) e = absurd (cc)
+      no_command p (saves_so c is s rows) e = absurd (cc)
+      no_command p (is_resumed c is s rows machine) e = absurd (cc)
+      no_command p (is_put c is name bytes x) e = absurd (cc)
+      no_command p (is_told c is text) e = absurd (cc)
+
+      by : Due h.plan h.mid h.script h.due → h.due ≡ Words → IsNoCommand words
+      by (by_words e d s) w = no_command h.plan (outcome words old.shelf.file h.plan h.is_plan.comes) e
+      by (by_refusal r f e d s) w = absurd (never r f (sym d ∙ w))
+      by (by_user session s rows u e v n d x) w = absurd (let z : Refused ≡ Words = sym d ∙ w in cc)
+      by (by_disk n d) w = absurd (let z : Disk ≡ Words = sym d ∙ w in cc)
+      by (by_run (inl d)) w = absurd (let z : Done ≡ Words = sym d ∙ w in cc)
+      by (by_run (inr (inl d))) w = absurd (let z : KernelFault ≡ Words = sym d ∙ w in cc)
+      by (by_run (inr (inr d))) w = absurd (let z : StepLimit ≡ Words = sym d ∙ w in cc)
+
+      only : (b : Option Who) → answered h.due b ≡ Words → IsNoCommand words
+      only None e = by (done_due words old new status h) e
+      only (Some TheSink) e = absurd (cc)
+      only (Some TheDisk) e = absurd (cc)
+      only (Some TheShelf) e = absurd (cc)
+
+      said : h.script ≡ says (codes "bad words\n") → h.due ≡ Words → (status ≡ Words) ⊎ (status ≡ Sink)
+      said s d = ends h.blamed h.status_is (says_blames (codes "bad words\n") h.mid new h.blamed (subst (λ (a : List Call). Performs a h.mid new h.blamed) s h.performs))
+        where
+          ends : (b : Option Who) → status ≡ answered h.due b → (b ≡ None) ⊎ (b ≡ Some TheSink) → (status ≡ Words) ⊎ (status ≡ Sink)
+          ends b e (inl n) = inl (e ∙ ap (answered h.due) n ∙ d)
+          ends b e (inr n) = inr (e ∙ ap (answered h.due) n)
+
+      so : Outcome words h.plan → IsNoCommand words → (status ≡ Words) ⊎ (status ≡ Sink)
+      so o n = of_due (done_due words old new status h)
+        where
+          none : (p : Plan) → Outcome words p → p ≡ bad_words
+          none p (is_none m) = refl
+          none p (is_refused c is r f) = absurd (n c is)
+          none p (is_booted c is l session s rows) = absurd (n c is)
+          none p (saves_so c is s rows) = absurd (n (save c) is)
+          none p (is_resumed c is s rows machine) = absurd (n (resume c) is)
+          none p (is_put c is name bytes x) = absurd (n c is)
+          none p (is_told c is text) = absurd (n c is)
+
+          of_due : Due h.plan h.mid h.script h.due → (status ≡ Words) ⊎ (status ≡ Sink)
+          of_due d = let a = subst (λ (p : Plan). PlanAsks p h.mid h.script h.due) (none h.plan o) h.asks in said a.0 a.1
+  words_are_refused words old new status (no_file c is g t) = record { only = λ e. absurd (cc); so = λ n. absurd (n c is) }
+  words_are_refused words old new status (no_memory c is w) = record { only = λ e. absurd (cc); so = λ n. absurd (n c is) }

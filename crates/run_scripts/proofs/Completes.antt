@@ -1,0 +1,52 @@
+-- That the machine goes on, and with enough steps a run is done.
+use Rattle.std.proofs.Common.{◌≡◌, ◌⊎◌, inl, inr, ℕ, ◌≤◌, Bool, true, refl, ap, ◌∙◌, arith}
+use Rattle.mips_table.specs.Turns.{TurnLaws, IsEnd, is_end}
+use Rattle.cvm_model.specs.Cvm.{Status, Running, Halted, Faulted}
+use Rattle.cvm_shell.specs.declared.exit_status.ExitStatus.{ExitStatus}
+use Rattle.cvm_shell.specs.declared.exit_status.ExitStatus.TheVariants.{Done, KernelFault}
+use Rattle.run_scripts.specs.Runs.{Run, Past, run_of, has_ended, steps_made, cvm_at}
+use Rattle.run_scripts.specs.Whole.{run_status, status_of}
+use Rattle.run_scripts.specs.Headline.{Headlines, ItGoesOn, RunsComplete}
+use Rattle.run_scripts.proofs.Keys.{RunLaws}
+
+pub it_goes_on : RunLaws → ItGoesOn
+it_goes_on law words session s rows before old a =
+    let w = law.start words _ session s rows before old a in
+    let m = law.machines s.unit _ _ _ w.late _ w.starts in
+    let less = w.within in
+    λ k c is. let h = m.goes_on k c is in let le = h.2 in (h.0, h.1, omega (arith, le, less))
+
+-- a run that came to its end is done, or its kernel faulted
+ended_status : (st : Status) → (status_of true st ≡ Done) ⊎ (status_of true st ≡ KernelFault)
+ended_status Running = inl refl
+ended_status Halted = inl refl
+ended_status (Faulted f) = inr refl
+
+-- the first end is found within steps that are enough
+ended_within : TurnLaws → (r : Run) (t : ℕ) → IsEnd r.around r.first r.turns t → t ≤ r.steps → has_ended r ≡ true
+ended_within count r t e le =
+    let at : steps_made r ≡ t = count.ends r.around r.first r.turns r.steps t e le in
+    ap (is_end r.around r.first r.turns) at ∙ e.here
+
+pub run_done : TurnLaws → (r : Run) (p : Past) (t : ℕ) → IsEnd r.around r.first r.turns t → t ≤ r.steps → (run_status r p ≡ Done) ⊎ (run_status r p ≡ KernelFault)
+run_done count r p t e le =
+    let at : run_status r p ≡ status_of true (cvm_at r p (steps_made r)).status = ap (λ (b : Bool). status_of b (cvm_at r p (steps_made r)).status) (ended_within count r t e le) in
+    by (ended_status (cvm_at r p (steps_made r)).status) at
+  where
+    by : (status_of true (cvm_at r p (steps_made r)).status ≡ Done) ⊎ (status_of true (cvm_at r p (steps_made r)).status ≡ KernelFault) →
+        run_status r p ≡ status_of true (cvm_at r p (steps_made r)).status → (run_status r p ≡ Done) ⊎ (run_status r p ≡ KernelFault)
+    by (inl d) at = inl (at ∙ d)
+    by (inr d) at = inr (at ∙ d)
+
+pub runs_complete : Headlines → ItGoesOn → TurnLaws → RunsComplete
+runs_complete heads goes count words session s rows before old new status a f ends m enough =
+    let r : Run = run_of session s rows old.disk.size before in
+    let h = heads words session s rows before old new status a f ends m in
+    let t = goes words session s rows before old a r.turns enough.last enough.defined in
+    let le = t.2 in
+    let less = enough.enough in
+    by (run_done count r h.past t.0 t.1 (omega (arith, le, less))) h.status_is
+  where
+    by : {x : ExitStatus} → (x ≡ Done) ⊎ (x ≡ KernelFault) → status ≡ x → (status ≡ Done) ⊎ (status ≡ KernelFault)
+    by (inl d) e = inl (e ∙ d)
+    by (inr d) e = inr (e ∙ d)

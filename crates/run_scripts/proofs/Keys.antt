@@ -1,0 +1,91 @@
+-- The keys, of each run that words ask for.
+use Rattle.std.specs.Prelude.{Some}
+use Rattle.std.proofs.Common.{ℕ, List, [], length, take, sym, ap, ◌∙◌, arith}
+use Rattle.std.proofs.Math.Seq.{take-append_seam}
+use Rattle.schedule_file.specs.Rows.{Rows}
+use Rattle.mips_table.specs.Turns.{TurnLaws}
+use Rattle.c0_tree.specs.Tree.{CUnit}
+use Rattle.c0_meaning.specs.TypedState.{IsTypedState}
+use Rattle.cvm_model.specs.Cvm.{UnitsDontMatter}
+use Rattle.boot_turns.specs.Entries.{TracesGrow}
+use Rattle.boot_turns.specs.JournalText.{RowsFollow}
+use Rattle.boot_turns.specs.RunMachines.{MachinesRun}
+use Rattle.kernel_linker.specs.Accept.{ImageSystem}
+use Rattle.cvm_shell.specs.declared.boot.Session.{Session}
+use Rattle.cvm_shell.specs.Plan.{Plan}
+use Rattle.cvm_outside.specs.Outside.{Outside}
+use Rattle.run_scripts.specs.Runs.{Run, booted, pages_loaded, run_of, sectors_needed, steps_made, turns_at, cvm_at, lines_met}
+use Rattle.run_scripts.specs.Commands.{load_of}
+use Rattle.run_scripts.specs.Headline.{Asked, text_at}
+use Rattle.run_scripts.specs.Keys.{RunsStart, PastsExist, PastsAgree, TextsGrow, ScriptsTellTheText, ScriptsStoreTheSectors, LoadsStoreTheStart, SectorsBehindStay, EndsAreOver}
+use Rattle.run_scripts.proofs.Pasts.{Known, past_of, turns_up_to}
+use Rattle.run_scripts.proofs.Tells.{quiet_load, step_tells}
+use Rattle.run_scripts.proofs.Reports.{run_tells}
+use Rattle.run_scripts.proofs.StartSectors.{load_makes}
+use Rattle.run_scripts.proofs.StoredRuns.{run_leaves}
+
+pub pasts_agree : UnitsDontMatter → TurnLaws → PastsAgree
+pasts_agree one count r p o laws is other t le =
+    let few = turns_up_to count r t (steps_made r) le in
+    one r.system (lines_met r) (turns_at r t) (cvm_at r p t) (cvm_at r o t) laws (is.turns (turns_at r t) few) (other.turns (turns_at r t) few)
+
+-- what the laws say of runs
+pub record RunLaws : Type 0 where
+  pub start : RunsStart
+  pub machines : (u : CUnit) → MachinesRun (IsTypedState u)
+  pub traces : (u : CUnit) → TracesGrow (IsTypedState u)
+  pub count : TurnLaws
+  pub rows : RowsFollow
+
+module _ (law : RunLaws) where
+  pub known : (words : List (List ℕ)) (plan : Plan) (session : Session) (s : ImageSystem) (rows : Rows) (before : List (List ℕ)) (old : Outside) → Asked words plan session s rows before old →
+      Known (run_of session s rows old.disk.size before)
+  known words plan session s rows before old a =
+      let w = law.start words plan session s rows before old a in
+      record {
+        late = w.late;
+        held = sectors_needed session s rows;
+        machines = law.machines s.unit _ _ _ w.late _ w.starts;
+        traces = λ u some most. law.traces s.unit _ _ _ w.late _ u w.starts some most;
+        core = w.starts.boots.fits.core;
+        user = a.user;
+        count = law.count;
+        rows = law.rows;
+      }
+
+  pub pasts_exist : PastsExist
+  pasts_exist words plan session s rows before old a = past_of (run_of session s rows old.disk.size before) (known words plan session s rows before old a)
+
+  pub ends_are_over : EndsAreOver
+  ends_are_over words plan session s rows before old a p is e =
+      let r : Run = run_of session s rows old.disk.size before in
+      ((known words plan session s rows before old a).machines.ends r.turns r.steps (cvm_at r p (steps_made r)) (is.turns (turns_at r (steps_made r)) (omega arith)) e).over
+
+  pub sectors_behind_stay : SectorsBehindStay
+  sectors_behind_stay words plan session s rows before old a t le =
+      let w = law.start words plan session s rows before old a in
+      let m = law.machines s.unit _ _ _ w.late _ w.starts in
+      λ q few. m.beyond t q few ∙ w.beyond q few
+
+  pub texts_grow : TextsGrow
+  texts_grow words plan session s rows before old a p is t lt =
+      let r : Run = run_of session s rows old.disk.size before in
+      let h = step_tells r (known words plan session s rows before old a) p is t lt in
+      ap (take (length (text_at r p t))) h.is ∙ take-append_seam (text_at r p t) h.text
+
+  pub scripts_tell_the_text : ScriptsTellTheText
+  scripts_tell_the_text words plan session s rows before old a p is =
+      let r : Run = run_of session s rows old.disk.size before in
+      let h = run_tells r (known words plan session s rows before old a) p is (load_of session s rows) (quiet_load (pages_loaded session.start (booted s rows)) (sectors_needed session s rows) []) in
+      h.told ∙ ap (λ (l : List ℕ). Some l) (sym h.is)
+
+  pub loads_store_the_start : LoadsStoreTheStart
+  loads_store_the_start words plan session s rows before old a =
+      let w = law.start words plan session s rows before old a in
+      let many = a.disk.many in
+      let enough = a.enough in
+      load_makes (booted s rows) w.starts.boots.fits.range.params.a_page session.start before (omega (arith, many, enough))
+
+  pub scripts_store_the_sectors : ScriptsStoreTheSectors
+  scripts_store_the_sectors words plan session s rows before old a p is =
+      run_leaves law.count (run_of session s rows old.disk.size before) (load_of session s rows) p before (loads_store_the_start words plan session s rows before old a)

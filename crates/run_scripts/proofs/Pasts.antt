@@ -1,0 +1,164 @@
+-- What the abstract machine says of a run: that there is such a state after each number of complete turns, and how rows and journals grow.
+use Rattle.std.specs.Prelude.{Option, Some, None, is_some, not, ◌||◌, ◌==◌, bit_or}
+use Rattle.std.proofs.Common.{◌≡◌, ℕ, zero, suc, ◌<◌, ◌≤◌, Bool, true, false, List, [], ◌++◌, length, refl, sym, ap, ◌∙◌, subst, arith, ⊎_elim, inl, inr, ◌⊎◌, append-nil, append_assoc}
+use Rattle.std.proofs.lemmas.Bool.{cases_lt}
+use Rattle.mips_table.specs.Device.{Outside}
+use Rattle.mips_table.specs.Machine.{State}
+use Rattle.mips_table.specs.Turns.{complete, is_end, end_within, TurnLaws}
+use Rattle.cvm_model.specs.Cvm.{System, Cvm, IsCvm, Status, Running, Halted, Faulted, Begin, Steps, Traps, Interrupts, begin, cvm, turn, turn_by, first_core, first_cvm, map_of}
+use Rattle.cvm_model.specs.Kernel.{JournalEntry}
+use Rattle.cvm_model.specs.Stands.{CoreFits}
+use Rattle.cvm_model.specs.declared.row.Row.{Row}
+use Rattle.boot_turns.specs.Entries.{TraceGrows, step_entries}
+use Rattle.boot_turns.specs.JournalText.{RowsFollow}
+use Rattle.boot_turns.specs.RunMachines.{RunMachines, RowsGrow}
+use Rattle.boot_turns.specs.Trace.{Shown}
+use Rattle.boot_turns.specs.declared.answers.View.{View}
+use Rattle.boot_turns.specs.declared.answers.View.TheVariants.{Boot, Trace}
+use Rattle.run_scripts.specs.Runs.{Run, Past, IsPast, IsShown, state_at, turns_at, steps_made, lines_met, cvm_at}
+use Rattle.run_scripts.specs.Commands.{SeesUser}
+
+-- what the laws say of a run from a start
+pub record Known (r : Run) : Type 0 where
+  pub late : ℕ
+  pub held : ℕ
+  pub machines : RunMachines r.around r.system r.first late held
+  pub traces : (u : ℕ) → 1 ≤ u → u ≤ length r.system.boot.users → TraceGrows r.around r.system r.first u
+  pub core : CoreFits (map_of r.system.boot) (first_core r.system)
+  pub user : SeesUser r.view (length r.system.boot.users)
+  pub count : TurnLaws
+  pub rows : RowsFollow
+
+-- BEFORE ITS END a run hasn't ended, and the machine is on
+module _ (count : TurnLaws) (x : Outside) (s : State) (k n : ℕ) where
+  pub not_ended : (t : ℕ) → t < end_within x s k n → is_end x s k t ≡ false
+  not_ended t lt = by (is_end x s k (end_within x s k n)) refl
+    where
+      by : (b : Bool) → is_end x s k (end_within x s k n) ≡ b → is_end x s k t ≡ false
+      by true e = (count.found x s k n e).first t lt
+      by false e = let h = count.none x s k n e in let last = h.0 in h.1 t (omega (arith, lt, last))
+
+  pub up_to : (t u : ℕ) → t ≤ u → complete x s t ≤ complete x s u
+  up_to t zero le = let e : t ≡ 0 = omega (arith, le) in subst (λ (i : ℕ). complete x s i ≤ complete x s 0) (sym e) (omega arith)
+  up_to t (suc u) le = ⊎_elim
+      (λ (lt : t < suc u). let a = up_to t u (omega (arith, lt)) in let b = count.grows x s u in omega (arith, a, b))
+      (λ (ge : suc u ≤ t). let e : t ≡ suc u = omega (arith, le, ge) in subst (λ (i : ℕ). complete x s i ≤ complete x s (suc u)) (sym e) (omega arith))
+      (cases_lt t (suc u))
+
+is_on : (a : Bool) (o : Option ℕ) → (a || not (not (is_some o))) ≡ false → o ≡ None
+is_on true o e = absurd (cc)
+is_on false None e = refl
+is_on false (Some v) e = absurd (cc)
+
+pub on_before : TurnLaws → (r : Run) (t : ℕ) → t < steps_made r → (state_at r t).off ≡ None
+on_before count r t lt = is_on (complete r.around r.first t == r.turns) (state_at r t).off (not_ended count r.around r.first r.turns r.steps t lt)
+
+pub turns_up_to : TurnLaws → (r : Run) (t u : ℕ) → t ≤ u → turns_at r t ≤ turns_at r u
+turns_up_to count r t u le = up_to count r.around r.first r.turns r.steps t u le
+
+-- AN ABSTRACT RUN that is defined is so for fewer turns
+earlier : (y : System) (lines : ℕ → ℕ) (units n : ℕ) (c : Cvm) → cvm y lines units n ≡ Some c → (k : ℕ) → k ≤ n → (b : Cvm) × (cvm y lines units k ≡ Some b)
+earlier y lines units zero c e k le = let z : k ≡ 0 = omega (arith, le) in (c, ap (cvm y lines units) z ∙ e)
+earlier y lines units (suc n) c e k le = ⊎_elim
+    (λ (lt : k < suc n). let h = before (cvm y lines units n) e in earlier y lines units n h.0 h.1 k (omega (arith, lt)))
+    (λ (ge : suc n ≤ k). let z : k ≡ suc n = omega (arith, le, ge) in (c, ap (cvm y lines units) z ∙ e))
+    (cases_lt k (suc n))
+  where
+    before : (o : Option Cvm) → turn y units n (lines n) o ≡ Some c → (b : Cvm) × (o ≡ Some b)
+    before None e = absurd (cc)
+    before (Some b) e = (b, refl)
+
+abbrev unwrap : Cvm → Option Cvm → Cvm
+unwrap d None = d
+unwrap d (Some c) = c
+
+module _ (r : Run) (d : Cvm) (is : IsCvm r.system (lines_met r) (turns_at r (steps_made r)) d) where
+  abbrev chosen : ℕ → Cvm
+  chosen k = unwrap d (cvm r.system (lines_met r) is.units k)
+
+  chosen_is : (k : ℕ) → k ≤ turns_at r (steps_made r) → IsCvm r.system (lines_met r) k (chosen k)
+  chosen_is k le =
+      let h = earlier r.system (lines_met r) is.units (turns_at r (steps_made r)) d is.is k le in
+      record { units = is.units; is = h.1 ∙ ap (λ (c : Cvm). Some c) (sym (ap (unwrap d) h.1)) }
+
+-- what is shown of a user, step by step
+shown_up_to : TurnLaws → (r : Run) (u : ℕ) → TraceGrows r.around r.system r.first u → (t : ℕ) → (j : List JournalEntry) × (t ≤ steps_made r → Shown r.around r.first r.system u t j)
+shown_up_to count r u g zero = ([], λ le. g.none)
+shown_up_to count r u g (suc t) = by (shown_up_to count r u g t) (cases_lt t (steps_made r))
+  where
+    by : (h : (j : List JournalEntry) × (t ≤ steps_made r → Shown r.around r.first r.system u t j)) → (t < steps_made r) ⊎ (steps_made r ≤ t) →
+        (j : List JournalEntry) × (suc t ≤ steps_made r → Shown r.around r.first r.system u (suc t) j)
+    by h (inl lt) =
+        let m = g.more t h.0 (on_before count r t lt) (h.1 (omega (arith, lt))) in
+        (h.0 ++ step_entries r.around r.first u t m.words, λ le. m.shown)
+    by h (inr ge) = ([], λ le. absurd (omega (arith, ge, le)))
+
+-- THERE IS A PAST
+pub past_of : (r : Run) → Known r → (p : Past) × IsPast r p
+past_of r k = by r.view refl k.user
+  where
+    by : (v : View) → r.view ≡ v → SeesUser v (length r.system.boot.users) → (p : Past) × IsPast r p
+    by Boot e see =
+        let d = k.machines.defined (steps_made r) in
+        (record { cvm = chosen r d.0 d.1; shown = λ t. [] }, record { turns = chosen_is r d.0 d.1; user = λ t le. subst (λ (v : View). IsShown v r t []) (sym e) tt })
+    by (Trace u) e see =
+        let d = k.machines.defined (steps_made r) in
+        let all = shown_up_to k.count r u (k.traces u see.0 see.1) in (
+          record { cvm = chosen r d.0 d.1; shown = λ t. (all t).0 },
+          record { turns = chosen_is r d.0 d.1; user = λ t le. subst (λ (v : View). IsShown v r t (all t).0) (sym e) ((all t).1 le) },
+        )
+
+-- THE ROWS of a further turn stand behind those before it
+module _ (r : Run) (k : Known r) where
+  abbrev lines : ℕ → ℕ
+  lines = lines_met r
+
+  one_more : (n : ℕ) (c after : Cvm) → IsCvm r.system lines n c → IsCvm r.system lines (suc n) after → (d : List Row) × (after.rows ≡ c.rows ++ d)
+  one_more n c after a b = by c.status refl
+    where
+      stays : IsCvm r.system lines (suc n) c → (d : List Row) × (after.rows ≡ c.rows ++ d)
+      stays h = ([], ap (λ (x : Cvm). x.rows) (k.machines.same (suc n) after c b h) ∙ sym (append-nil c.rows))
+
+      grown : (w : Begin) → RowsGrow n c after w → (d : List Row) × (after.rows ≡ c.rows ++ d)
+      grown (Steps at) h = ([], h ∙ sym (append-nil c.rows))
+      grown (Traps cause edata at) h = (_, h.rows)
+      grown (Interrupts cause edata at pending) h = (_, h.rows)
+
+      by : (st : Status) → c.status ≡ st → (d : List Row) × (after.rows ≡ c.rows ++ d)
+      by Running e = grown (begin n c.core (bit_or c.pending (lines n))) (k.machines.rows n c after a e b)
+      by Halted e = stays (record { units = a.units; is = ap (turn r.system a.units n (lines n)) a.is ∙ ap (turn_by r.system a.units n (lines n) c) e })
+      by (Faulted f) e = stays (record { units = a.units; is = ap (turn r.system a.units n (lines n)) a.is ∙ ap (turn_by r.system a.units n (lines n) c) e })
+
+  module _ (p : Past) (is : IsPast r p) where
+    rows_behind : (m n : ℕ) → m ≤ n → n ≤ turns_at r (steps_made r) → (d : List Row) × ((p.cvm n).rows ≡ (p.cvm m).rows ++ d)
+    rows_behind m zero le few = let e : m ≡ 0 = omega (arith, le) in ([], sym (append-nil (p.cvm 0).rows) ∙ ap (λ (i : ℕ). (p.cvm i).rows ++ []) (sym e))
+    rows_behind m (suc n) le few = ⊎_elim
+        (λ (lt : m < suc n).
+        let h = rows_behind m n (omega (arith, lt)) (omega (arith, few)) in
+        let g = one_more n (p.cvm n) (p.cvm (suc n)) (is.turns n (omega (arith, few))) (is.turns (suc n) few) in
+        (h.0 ++ g.0, g.1 ∙ ap (λ (l : List Row). l ++ g.0) h.1 ∙ append_assoc (p.cvm m).rows h.0 g.0))
+        (λ (ge : suc n ≤ m). let e : m ≡ suc n = omega (arith, le, ge) in ([], sym (append-nil (p.cvm (suc n)).rows) ∙ ap (λ (i : ℕ). (p.cvm i).rows ++ []) (sym e)))
+        (cases_lt m (suc n))
+
+    pub rows_grow : (t u : ℕ) → t ≤ u → u ≤ steps_made r → (d : List Row) × ((cvm_at r p u).rows ≡ (cvm_at r p t).rows ++ d)
+    rows_grow t u le few = rows_behind (turns_at r t) (turns_at r u) (turns_up_to k.count r t u le) (turns_up_to k.count r u (steps_made r) few)
+
+    -- and the entries of a user's journal
+    pub journal_grows : (u : ℕ) → 1 ≤ u → u ≤ length r.system.boot.users → r.view ≡ Trace u → (t : ℕ) → t < steps_made r → (e : List JournalEntry) × (p.shown (suc t) ≡ p.shown t ++ e)
+    journal_grows u some most v t lt =
+        let g = k.traces u some most in
+        let now : Shown r.around r.first r.system u t (p.shown t) = subst (λ (w : View). IsShown w r t (p.shown t)) v (is.user t (omega (arith, lt))) in
+        let then_ : Shown r.around r.first r.system u (suc t) (p.shown (suc t)) = subst (λ (w : View). IsShown w r (suc t) (p.shown (suc t))) v (is.user (suc t) (omega (arith, lt))) in
+        let m = g.more t (p.shown t) (on_before k.count r t lt) now in
+        (step_entries r.around r.first u t m.words, g.one (suc t) (p.shown (suc t)) (p.shown t ++ step_entries r.around r.first u t m.words) then_ m.shown)
+
+    pub journal_starts : (u : ℕ) → 1 ≤ u → u ≤ length r.system.boot.users → r.view ≡ Trace u → p.shown 0 ≡ []
+    journal_starts u some most v =
+        let g = k.traces u some most in
+        g.one 0 (p.shown 0) [] (subst (λ (w : View). IsShown w r 0 (p.shown 0)) v (is.user 0 (omega arith))) g.none
+
+    same_some : (a b : Cvm) → Some a ≡ Some b → a ≡ b
+    same_some a b e = cc
+
+    pub first_is : (c : Cvm) → IsCvm r.system lines 0 c → c ≡ first_cvm r.system
+    first_is c h = sym (same_some (first_cvm r.system) c h.is)

@@ -1,0 +1,109 @@
+-- Which calls a command makes.
+use Rattle.std.specs.Prelude.{Option, Some, None}
+use Rattle.std.proofs.Common.{◌≡◌, ℕ, List, [], ◌∷◌, ◌++◌, refl, ap, ◌∙◌, subst, append_assoc, append-nil}
+use Rattle.cvm_shell.specs.Command.{Command, IsCommand, save, resume}
+use Rattle.cvm_shell.specs.Plan.{Plan, bad_words}
+use Rattle.cvm_outside.specs.Outside.{Outside}
+use Rattle.cvm_outside.specs.Script.{Call, Who, TheShelf, Performs, done as all_done, breaks, goes_on, asks}
+use Rattle.run_scripts.specs.Commands.{done, no_file, no_memory, GetsFor, all, up_to, behind, within, files_of, gets}
+use Rattle.run_scripts.specs.Shapes.{PlansHaveShape, OthersStay, NothingIsLoaded, GetsComeFirst, file_put, puts_in}
+use Rattle.run_scripts.proofs.Calls.{shape_of, files_stay, disk_stays, quiet_plan}
+use Rattle.run_scripts.proofs.Joins.{got_keeps}
+use Rattle.run_scripts.proofs.Keeps.{gets_keep, wanted}
+use Rattle.run_scripts.proofs.OneCommand.{one_command}
+use Rattle.run_scripts.proofs.Outcomes.{Outcome, is_none, is_refused, is_booted, is_saved, is_resumed, is_put, is_told, outcome}
+
+pub plans_have_shape : PlansHaveShape
+plans_have_shape words file c p at script due is comes asks = let h = shape_of words c p at script due is (outcome words file p comes) asks in record { gets = h.gets; puts = h.puts }
+
+-- gets alone, also where one failed
+gets_put : (names : List (List ℕ)) → puts_in (gets names) ≡ []
+gets_put [] = refl
+gets_put (n ∷ names) = gets_put names
+
+gets_ask : (names : List (List ℕ)) → asks (gets names) ≡ 0
+gets_ask [] = refl
+gets_ask (n ∷ names) = gets_ask names
+
+gets_sink : (names : List (List ℕ)) (old new : Outside) (b : Option Who) → Performs (gets names) old new b → new.sink ≡ old.sink
+gets_sink [] old new b (all_done _) = refl
+gets_sink (n ∷ names) old new b (breaks c rest _ _ f) = ap (λ (o : Outside). o.sink) f.2
+gets_sink (n ∷ names) old new b (goes_on c rest _ mid _ _ d p) = gets_sink names mid new b p ∙ ap (λ (o : Outside). o.sink) d.3
+
+gets_files : (names : List (List ℕ)) (old new : Outside) (b : Option Who) → Performs (gets names) old new b → (n : List ℕ) → new.shelf.file n ≡ old.shelf.file n
+gets_files [] old new b (all_done _) n = refl
+gets_files (m ∷ names) old new b (breaks c rest _ _ f) n = f.0 n
+gets_files (m ∷ names) old new b (goes_on c rest _ mid _ _ d p) n = gets_files names mid new b p n ∙ d.0 n
+
+-- what words got, as gets of some names
+pub got_names : (file : List ℕ → Option (List ℕ)) (names : List (List ℕ)) (taken : ℕ) (p : Plan) (got : List Call) → GetsFor file names taken p got →
+    (made : List (List ℕ)) × (rest : List (List ℕ)) × (made ++ rest ≡ names) × (got ≡ gets made)
+got_names file names taken p got (all _ n t) = (names, [], append-nil names, refl)
+got_names file names taken p got (up_to before after name e s l t) = (before ++ name ∷ [], after, append_assoc before (name ∷ []) after ∙ e, refl)
+
+pub others_stay : OthersStay
+others_stay words c old new status is (done _ h) n ne =
+    let k = got_keeps _ _ _ _ _ old h.mid (h.gets.0 c is) h.files in
+    let s = shape_of words c h.plan h.mid h.script h.due is (outcome words old.shelf.file h.plan h.is_plan.comes) h.asks in
+    files_stay (file_put c) h.script h.mid new h.blamed s.puts h.performs n ne ∙ k.files n
+others_stay words c old new status is (no_file d k g t) n ne = gets_files (files_of d) old new _ g n
+others_stay words c old new status is (no_memory d k w) n ne = (wanted _ old new w).files n
+
+pub nothing_is_loaded : NothingIsLoaded
+nothing_is_loaded words old new status never (done _ h) = by h.plan refl (outcome words old.shelf.file h.plan h.is_plan.comes)
+  where
+    behind_ : h.mid.disk ≡ old.disk → new.disk ≡ old.disk
+    behind_ e = disk_stays h.script h.mid new h.blamed (quiet_plan words h.plan h.mid h.script h.due never (outcome words old.shelf.file h.plan h.is_plan.comes) h.asks) h.performs ∙ e
+
+    of : (c : Command) → IsCommand words c → new.disk ≡ old.disk
+    of c is = behind_ (got_keeps _ _ _ _ _ old h.mid (h.gets.0 c is) h.files).disk
+
+    none : h.plan ≡ bad_words → new.disk ≡ old.disk
+    none e =
+        let f : Performs [] old h.mid None = subst (λ (s : List Call). Performs s old h.mid None) (h.gets.1 e) h.files in
+        behind_ (disk_stays [] old h.mid None refl f)
+
+    by : (p : Plan) → h.plan ≡ p → Outcome words p → new.disk ≡ old.disk
+    by p e (is_none n) = none e
+    by p e (is_refused d k r f) = of d k
+    by p e (is_booted d k l session s rows) = of d k
+    by p e (is_saved d k s rows) = of (save d) k
+    by p e (is_resumed d k s rows machine) = of (resume d) k
+    by p e (is_put d k name bytes x) = of d k
+    by p e (is_told d k text) = of d k
+nothing_is_loaded words old new status never (no_file d k g t) = disk_stays (gets (files_of d)) old new _ (gets_ask (files_of d)) g
+nothing_is_loaded words old new status never (no_memory d k w) = (wanted _ old new w).disk
+
+pub gets_come_first : GetsComeFirst
+gets_come_first words c old new status is (done _ h) =
+    let w = got_names _ _ _ _ _ (h.gets.0 c is) in
+    let k = got_keeps _ _ _ _ _ old h.mid (h.gets.0 c is) h.files in
+    record {
+      made = w.0;
+      rest = w.1;
+      all = w.2;
+      mid = h.mid;
+      blamed = None;
+      performs = subst (λ (s : List Call). Performs s old h.mid None) w.3 h.files;
+      disk = k.disk;
+      sink = k.sink;
+      then_ = λ ne. refl;
+    }
+gets_come_first words c old new status is (no_file d k g t) =
+    record {
+      made = files_of d;
+      rest = [];
+      all = append-nil (files_of d) ∙ ap files_of (one_command words d c k is);
+      mid = new;
+      blamed = Some TheShelf;
+      performs = g;
+      disk = disk_stays (gets (files_of d)) old new (Some TheShelf) (gets_ask (files_of d)) g;
+      sink = gets_sink (files_of d) old new (Some TheShelf) g;
+      then_ = λ ne. absurd (ne refl);
+    }
+gets_come_first words c old new status is (no_memory d k (behind made rest e p t)) =
+    let u = gets_keep made old new p in
+    record { made = made; rest = rest; all = e ∙ ap files_of (one_command words d c k is); mid = new; blamed = None; performs = p; disk = u.disk; sink = u.sink; then_ = λ ne. refl }
+gets_come_first words c old new status is (no_memory d k (within made rest name mid e p g)) =
+    let u = gets_keep made old mid p in
+    record { made = made; rest = name ∷ rest; all = e ∙ ap files_of (one_command words d c k is); mid = mid; blamed = None; performs = p; disk = u.disk; sink = u.sink; then_ = λ ne. refl }

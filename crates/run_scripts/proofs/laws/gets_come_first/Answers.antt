@@ -1,0 +1,5 @@
+use Rattle.run_scripts.proofs.Shapes.{gets_come_first}
+use Rattle.run_scripts.proofs.laws.gets_come_first.Goals as goal
+
+pub returns : goal.returns
+returns c = gets_come_first

@@ -1,0 +1,5 @@
+use Rattle.run_scripts.proofs.Shapes.{nothing_is_loaded}
+use Rattle.run_scripts.proofs.laws.nothing_is_loaded.Goals as goal
+
+pub returns : goal.returns
+returns c = nothing_is_loaded

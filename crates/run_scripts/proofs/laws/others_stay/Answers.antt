@@ -1,0 +1,5 @@
+use Rattle.run_scripts.proofs.Shapes.{others_stay}
+use Rattle.run_scripts.proofs.laws.others_stay.Goals as goal
+
+pub returns : goal.returns
+returns c = others_stay

@@ -1,0 +1,11 @@
+use Rattle.run_scripts.proofs.Keys.{scripts_store_the_sectors}
+use Rattle.run_scripts.proofs.laws.scripts_store_the_sectors.Goals as goal
+
+pub returns : goal.returns
+returns c = scripts_store_the_sectors (record {
+  start = c.runs_start.ensures;
+  machines = c.machines_run.ensures;
+  traces = c.traces_grow.ensures;
+  count = c.turns_are_counted.ensures;
+  rows = c.journal_rows_follow.ensures;
+})

@@ -1,0 +1,11 @@
+pub mod Runs
+pub mod Steps
+pub mod Closing
+pub mod Whole
+pub mod Commands
+pub mod Headline
+pub mod Keys
+pub mod Causes
+pub mod Shapes
+pub mod Saving
+pub mod Checks

@@ -1,0 +1,277 @@
+// Laws of how commands end, each the contract of a function that does nothing.
+ghost use Rattle.run_scripts.specs.Headline.{Headlines, FilesAsk, ItGoesOn, MemoryKeeps, RunsComplete, EqualJournalsTellTheSame};
+ghost use Rattle.run_scripts.specs.Keys.{RunsStart, PastsExist, PastsAgree, TextsGrow, ScriptsTellTheText, ScriptsStoreTheSectors, LoadsStoreTheStart, SectorsBehindStay, EndsAreOver};
+ghost use Rattle.run_scripts.specs.Causes.{StatusesAreCaused, WordsAreRefused, FilesAreRefused, MissingUsersAreRefused, SmallDisksAreRefused, LongFilesAreRefused, StepsAreSpent, WorkCompletes};
+ghost use Rattle.run_scripts.specs.Shapes.{PlansHaveShape, OthersStay, NothingIsLoaded, GetsComeFirst};
+ghost use Rattle.run_scripts.specs.Saving.{SavesComplete, ResumesJoin};
+ghost use Rattle.run_scripts.specs.Checks.{StackOutIsNotMet};
+
+use boot_image::images_are_their_spellings;
+use boot_turns::{journal_rows_follow, machines_run, the_rom_starts, traces_grow};
+use c0_meaning::laws::units_are_typed_or_faulty;
+use c0_meaning::run_laws::zeros_have_the_words_of_their_types;
+use c0_types::laws::units_of_sources_are_checked;
+use c0_unit::laws::{trees_have_places, units_are_short, units_stand};
+use cvm_model::{units_are_kernels, units_dont_matter, units_stay_typed};
+use cvm_outside::script::{scripts_blame, scripts_store, scripts_tell};
+use kernel_linker::laws::{accepted_systems_are_of_their_images, spelled_images_fit};
+use layer_contract::the_loaded_machine_starts;
+use mips_table::runs::turns_are_counted;
+use real_layer::{the_image_is_linked, the_layer_is_lawful};
+use schedule_file::busy_times_are_within_the_longest;
+use unit_runs::laws::{units_calls_follow, units_run_over_layers};
+
+/// A law: what a command that asks for a run leaves, with no failed call, is what the abstract run says.
+pub fn headlines()
+    ensures { Headlines }
+{
+    scripts_blame();
+    scripts_tell();
+    scripts_store();
+    scripts_tell_the_text();
+    scripts_store_the_sectors();
+    sectors_behind_stay();
+    ends_are_over();
+}
+
+/// A law: an accepted image and a valid schedule ask for their run.
+pub fn files_ask()
+    ensures { FilesAsk }
+{}
+
+/// A law: the machine comes to the end of every turn of the abstract run.
+pub fn it_goes_on()
+    ensures { ItGoesOn }
+{
+    runs_start();
+    machines_run();
+    traces_grow();
+    turns_are_counted();
+    journal_rows_follow();
+}
+
+/// A law: where memory was wanted nothing was printed and nothing changed.
+pub fn memory_keeps()
+    ensures { MemoryKeeps }
+{}
+
+/// A law: with enough steps a run is done, or its kernel faulted.
+pub fn runs_complete()
+    ensures { RunsComplete }
+{
+    headlines();
+    it_goes_on();
+    turns_are_counted();
+}
+
+/// A law: two traces of a user that starts alike and has the same journal print the same.
+pub fn equal_journals_tell_the_same()
+    ensures { EqualJournalsTellTheSame }
+{}
+
+/// A law: each run that words ask for is one from a start, over a layer that meets its laws.
+pub fn runs_start()
+    ensures { RunsStart }
+{
+    units_are_typed_or_faulty();
+    zeros_have_the_words_of_their_types();
+    units_are_short();
+    trees_have_places();
+    units_stand();
+    units_are_kernels();
+    units_stay_typed();
+    units_run_over_layers();
+    units_calls_follow();
+    the_image_is_linked();
+    the_layer_is_lawful();
+    images_are_their_spellings();
+    spelled_images_fit();
+    accepted_systems_are_of_their_images();
+    units_of_sources_are_checked();
+    busy_times_are_within_the_longest();
+    the_loaded_machine_starts();
+    the_rom_starts();
+}
+
+/// A law: the abstract machine has a state for every turn that the machine completes.
+pub fn pasts_exist()
+    ensures { PastsExist }
+{
+    runs_start();
+    machines_run();
+    traces_grow();
+    turns_are_counted();
+    journal_rows_follow();
+}
+
+/// A law: and one only.
+pub fn pasts_agree()
+    ensures { PastsAgree }
+{
+    units_dont_matter();
+    turns_are_counted();
+}
+
+/// A law: the text of a run grows step by step.
+pub fn texts_grow()
+    ensures { TextsGrow }
+{
+    runs_start();
+    machines_run();
+    traces_grow();
+    turns_are_counted();
+    journal_rows_follow();
+}
+
+/// A law: a run's script tells its whole text.
+pub fn scripts_tell_the_text()
+    ensures { ScriptsTellTheText }
+{
+    runs_start();
+    machines_run();
+    traces_grow();
+    turns_are_counted();
+    journal_rows_follow();
+}
+
+/// A law: a run's script stores the sectors of its machine.
+pub fn scripts_store_the_sectors()
+    ensures { ScriptsStoreTheSectors }
+{
+    runs_start();
+    machines_run();
+    traces_grow();
+    turns_are_counted();
+    journal_rows_follow();
+}
+
+/// A law: a load stores the sectors of the start.
+pub fn loads_store_the_start()
+    ensures { LoadsStoreTheStart }
+{
+    runs_start();
+    machines_run();
+    traces_grow();
+    turns_are_counted();
+    journal_rows_follow();
+}
+
+/// A law: the sectors behind the run's are as before.
+pub fn sectors_behind_stay()
+    ensures { SectorsBehindStay }
+{
+    runs_start();
+    machines_run();
+    traces_grow();
+    turns_are_counted();
+    journal_rows_follow();
+}
+
+/// A law: where a run came to its end its turns are complete or the abstract run is over.
+pub fn ends_are_over()
+    ensures { EndsAreOver }
+{
+    runs_start();
+    machines_run();
+    traces_grow();
+    turns_are_counted();
+    journal_rows_follow();
+}
+
+/// A law: the counts of faults say why a status is what it is.
+pub fn statuses_are_caused()
+    ensures { StatusesAreCaused }
+{
+    scripts_blame();
+}
+
+/// A law: status 1 comes exactly where the words are no command.
+pub fn words_are_refused()
+    ensures { WordsAreRefused }
+{
+    scripts_blame();
+}
+
+/// A law: each refusal has its status and its row, and status 2 is one.
+pub fn files_are_refused()
+    ensures { FilesAreRefused }
+{
+    scripts_blame();
+}
+
+/// A law: the user of a trace that is none is refused.
+pub fn missing_users_are_refused()
+    ensures { MissingUsersAreRefused }
+{
+    scripts_blame();
+}
+
+/// A law: a disk that is too small is refused.
+pub fn small_disks_are_refused()
+    ensures { SmallDisksAreRefused }
+{
+    scripts_blame();
+}
+
+/// A law: a file is refused as too long where so many bytes of it were taken.
+pub fn long_files_are_refused()
+    ensures { LongFilesAreRefused }
+{
+    scripts_blame();
+}
+
+/// A law: a run that came to no end made all its steps.
+pub fn steps_are_spent()
+    ensures { StepsAreSpent }
+{
+    turns_are_counted();
+}
+
+/// A law: a command that loads nothing is done, with no failed call and nothing to refuse.
+pub fn work_completes()
+    ensures { WorkCompletes }
+{
+    scripts_blame();
+}
+
+/// A law: behind the gets no file is got, and at most the one is put that the words name.
+pub fn plans_have_shape()
+    ensures { PlansHaveShape }
+{}
+
+/// A law: no other file changes.
+pub fn others_stay()
+    ensures { OthersStay }
+{}
+
+/// A law: a command that loads no machine leaves the disk as it was.
+pub fn nothing_is_loaded()
+    ensures { NothingIsLoaded }
+{}
+
+/// A law: the files are got in the order of the words, before all else.
+pub fn gets_come_first()
+    ensures { GetsComeFirst }
+{}
+
+/// A law: with enough steps a save is done, or its kernel faulted.
+pub fn saves_complete()
+    ensures { SavesComplete }
+{
+    runs_start();
+    machines_run();
+    traces_grow();
+    turns_are_counted();
+    journal_rows_follow();
+    scripts_blame();
+}
+
+/// A law: a resume of a saved run performs what is left of its boot.
+pub fn resumes_join()
+    ensures { ResumesJoin }
+{}
+
+/// A law: no run of a system whose stack is enough stops for want of it.
+pub fn stack_out_is_not_met()
+    ensures { StackOutIsNotMet }
+{}
