@@ -1,10 +1,10 @@
 -- Which calls scripts make, and what stays where they make none of a kind.
 use Rattle.std.specs.Prelude.{Option, Some, None, if◌then◌else◌}
 use Rattle.std.proofs.Common.{◌≡◌, ◌≢◌, ℕ, Bool, true, false, List, [], ◌∷◌, ◌++◌, refl, sym, ap, ap₂, ◌∙◌, subst, arith}
-use Rattle.cvm_model.specs.Cvm.{Status, Running, Halted, Faulted}
+use Rattle.cvm_model.specs.Cvm.{Status as CvmStatus, Running, Halted, Faulted}
 use Rattle.kernel_linker.specs.Accept.{ImageSystem}
 use Rattle.schedule_file.specs.Rows.{Rows}
-use Rattle.cvm_shell.specs.declared.exit_status.ExitStatus.{ExitStatus}
+use Rattle.cvm_shell.specs.declared.exit_status.Status.{Status}
 use Rattle.cvm_shell.specs.declared.boot.Session.{Session}
 use Rattle.cvm_shell.specs.Command.{Command, IsCommand, save, resume, save_session}
 use Rattle.cvm_shell.specs.Plan.{Plan}
@@ -94,30 +94,30 @@ save_puts name r load p h = by (has_ended r) (cvm_at r p (steps_made r)).status
     front : Plain (load ++ steps_script r p 0 (steps_made r))
     front = plain_both load (steps_script r p 0 (steps_made r)) h (of_steps Plain plain plain_write r p 0 (steps_made r))
 
-    by : (b : Bool) (st : Status) → PutsOnly (Some name) (load ++ steps_script r p 0 (steps_made r) ++ (if b then leaving_script name r p st else []))
+    by : (b : Bool) (st : CvmStatus) → PutsOnly (Some name) (load ++ steps_script r p 0 (steps_made r) ++ (if b then leaving_script name r p st else []))
     by true Running = then_put (load ++ steps_script r p 0 (steps_made r)) name (saved_bytes r p) saved_row front
     by true Halted = plain_puts (Some name) _ (plain_both (load ++ steps_script r p 0 (steps_made r)) _ front (of_report Plain plain r.view r p (steps_made r)))
     by true (Faulted f) = plain_puts (Some name) _ (plain_both (load ++ steps_script r p 0 (steps_made r)) _ front (of_report Plain plain r.view r p (steps_made r)))
     by false st = plain_puts (Some name) _ (plain_both (load ++ steps_script r p 0 (steps_made r)) [] front (record { gets = refl; puts = refl }))
 
 -- what a session asks for
-session_puts : (name : Option (List ℕ)) (session : Session) (s : ImageSystem) (rows : Rows) (at : Outside) (Told : List (List ℕ) → List Call → ExitStatus → Type 0) (Some_ : List Call → ExitStatus → Type 0) →
-    ((ss : List (List ℕ)) (a : List Call) (st : ExitStatus) → Told ss a st → PutsOnly name a) → ((a : List Call) (st : ExitStatus) → Some_ a st → PutsOnly name a) →
-    (script : List Call) (due : ExitStatus) → SessionAsks session s rows at Told Some_ script due → PutsOnly name script
+session_puts : (name : Option (List ℕ)) (session : Session) (s : ImageSystem) (rows : Rows) (at : Outside) (Told : List (List ℕ) → List Call → Status → Type 0) (Some_ : List Call → Status → Type 0) →
+    ((ss : List (List ℕ)) (a : List Call) (st : Status) → Told ss a st → PutsOnly name a) → ((a : List Call) (st : Status) → Some_ a st → PutsOnly name a) →
+    (script : List Call) (due : Status) → SessionAsks session s rows at Told Some_ script due → PutsOnly name script
 session_puts name session s rows at T S t m script due (no_user u v n) = plain_puts name _ (record { gets = refl; puts = refl })
 session_puts name session s rows at T S t m script due (small v n) = plain_puts name _ (record { gets = refl; puts = refl })
 session_puts name session s rows at T S t m script due (over_told ss _ _ v n q a) = t ss script due a
 session_puts name session s rows at T S t m script due (over_untold _ _ v n q a) = m script due a
 
-some_puts : (name : Option (List ℕ)) (size : ℕ) (load script : List Call) (due : ExitStatus) → Plain load → SomeRunAsks size load script due → PutsOnly name script
+some_puts : (name : Option (List ℕ)) (size : ℕ) (load script : List Call) (due : Status) → Plain load → SomeRunAsks size load script due → PutsOnly name script
 some_puts name size load script due h w = same_puts name script (load ++ w.0) w.2 (plain_puts name (load ++ w.0) (plain_both load w.0 h (plain_some size w.0 w.1)))
 
-some_save_puts : (name : List ℕ) (size : ℕ) (load script : List Call) (due : ExitStatus) → Plain load → SomeSaveAsks name size load script due → PutsOnly (Some name) script
+some_save_puts : (name : List ℕ) (size : ℕ) (load script : List Call) (due : Status) → Plain load → SomeSaveAsks name size load script due → PutsOnly (Some name) script
 some_save_puts name size load script due h (as_boot _ _ w) = some_puts (Some name) size load script due h w
 some_save_puts name size load script due h (is_saved more bytes a) = then_put (load ++ more) name bytes saved_row (plain_both load more h (plain_some size more a))
 
 -- PLANS
-pub shape_of : (words : List (List ℕ)) (c : Command) (p : Plan) (at : Outside) (script : List Call) (due : ExitStatus) → IsCommand words c → Outcome words p → PlanAsks p at script due →
+pub shape_of : (words : List (List ℕ)) (c : Command) (p : Plan) (at : Outside) (script : List Call) (due : Status) → IsCommand words c → Outcome words p → PlanAsks p at script due →
     PutsOnly (file_put c) script
 shape_of words c p at script due is (is_none n) a = same_puts (file_put c) script _ a.0 (plain_puts (file_put c) _ (record { gets = refl; puts = refl }))
 shape_of words c p at script due is (is_refused d k r f) a = same_puts (file_put c) script _ a.0 (plain_puts (file_put c) _ (record { gets = refl; puts = refl }))
@@ -174,7 +174,7 @@ disk_stays a old new b h (goes_on (Wrote q ws) rest _ mid _ _ d p) = absurd (ome
 disk_stays a old new b h (goes_on (Got m) rest _ mid _ _ d p) = disk_stays rest mid new b h p ∙ ap (λ (o : Outside). o.disk) d.3
 disk_stays a old new b h (goes_on (Stored m bs) rest _ mid _ _ d p) = disk_stays rest mid new b h p ∙ ap (λ (o : Outside). o.disk) d.3
 
-pub quiet_plan : (words : List (List ℕ)) (p : Plan) (at : Outside) (script : List Call) (due : ExitStatus) → ((c : Command) → IsCommand words c → Loads c → ⊥) → Outcome words p → PlanAsks p at script due →
+pub quiet_plan : (words : List (List ℕ)) (p : Plan) (at : Outside) (script : List Call) (due : Status) → ((c : Command) → IsCommand words c → Loads c → ⊥) → Outcome words p → PlanAsks p at script due →
     asks script ≡ 0
 quiet_plan words p at script due never (is_none n) a = ap asks a.0
 quiet_plan words p at script due never (is_refused d k r f) a = ap asks a.0

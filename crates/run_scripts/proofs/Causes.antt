@@ -3,12 +3,12 @@ use Rattle.std.specs.Prelude.{Option, Some, None, codes}
 use Rattle.std.specs.Io.KnownBytes.{append_known}
 use Rattle.std.proofs.Common.{◌≡◌, ◌⊎◌, inl, inr, ℕ, zero, suc, ◌<◌, Bool, true, false, List, [], length, refl, sym, ap, ◌∙◌, subst}
 use Rattle.cvm_outside.specs.Told.{TOO_LONG}
-use Rattle.cvm_model.specs.Cvm.{Status, Running, Halted, Faulted}
+use Rattle.cvm_model.specs.Cvm.{Status as CvmStatus, Running, Halted, Faulted}
 use Rattle.boot_turns.specs.declared.answers.View.TheVariants.{Boot, Trace}
 use Rattle.kernel_linker.specs.Accept.{ImageSystem}
 use Rattle.schedule_file.specs.Rows.{Rows}
-use Rattle.cvm_shell.specs.declared.exit_status.ExitStatus.{ExitStatus}
-use Rattle.cvm_shell.specs.declared.exit_status.ExitStatus.TheVariants.{Done, Words, Refused, KernelFault, StepLimit, Disk, Sink}
+use Rattle.cvm_shell.specs.declared.exit_status.Status.{Status}
+use Rattle.cvm_shell.specs.declared.exit_status.Status.TheVariants.{Done, Words, Refused, KernelFault, StepLimit, Disk, Sink}
 use Rattle.cvm_shell.specs.declared.boot.Session.{Session}
 use Rattle.cvm_shell.specs.Command.{Command, IsCommand, IsNoCommand, save, resume, save_session}
 use Rattle.cvm_shell.specs.Refusal.{Refusal, small_disk, no_such_user, too_long, refusal_status, refusal_text}
@@ -40,11 +40,11 @@ pub says_printed : (text : List ℕ) (old new : Outside) → Performs (says text
 says_printed text old new (goes_on c rest _ mid _ _ d p) = ap (λ (o : Outside). o.sink.text) (nothing_changes mid new p) ∙ d.0
 
 -- the status of a run where no call fails
-abbrev IsRunStatus : ExitStatus → Type 0
+abbrev IsRunStatus : Status → Type 0
 IsRunStatus st = (st ≡ Done) ⊎ ((st ≡ KernelFault) ⊎ (st ≡ StepLimit))
 
 -- WHAT IS DUE, and why
-pub data Due (p : Plan) (at : Outside) (script : List Call) (due : ExitStatus) : Type 0 where
+pub data Due (p : Plan) (at : Outside) (script : List Call) (due : Status) : Type 0 where
   by_words : p ≡ bad_words → due ≡ Words → script ≡ says (codes "bad words\n") → Due p at script due
   by_refusal : (r : Refusal) → IsOfFile r → p ≡ refuses r → due ≡ refusal_status r → script ≡ says (refusal_text r) → Due p at script due
   by_user : (session : Session) (s : ImageSystem) (rows : Rows) (u : ℕ) → p ≡ boots session s rows → session.view ≡ Trace u → (SeesUser session.view (length s.users) → ⊥) → due ≡ Refused →
@@ -52,7 +52,7 @@ pub data Due (p : Plan) (at : Outside) (script : List Call) (due : ExitStatus) :
   by_disk : NeedsMore p at.disk.size → due ≡ Disk → Due p at script due
   by_run : (due ≡ Done) ⊎ ((due ≡ KernelFault) ⊎ (due ≡ StepLimit)) → Due p at script due
 
-of_status : (b : Bool) (st : Status) → IsRunStatus (status_of b st)
+of_status : (b : Bool) (st : CvmStatus) → IsRunStatus (status_of b st)
 of_status true Running = inl refl
 of_status true Halted = inl refl
 of_status true (Faulted f) = inr (inl refl)
@@ -68,20 +68,20 @@ of_power false (Some zero) = inr (inr refl)
 of_power true (Some (suc n)) = inr (inl refl)
 of_power false (Some (suc n)) = inr (inr refl)
 
-same_due : (a b : ExitStatus) → a ≡ b → IsRunStatus b → IsRunStatus a
+same_due : (a b : Status) → a ≡ b → IsRunStatus b → IsRunStatus a
 same_due a b e h = subst IsRunStatus (sym e) h
 
 -- of a session
-session_due : (p : Plan) (session : Session) (s : ImageSystem) (rows : Rows) (at : Outside) (Told : List (List ℕ) → List Call → ExitStatus → Type 0) (Some_ : List Call → ExitStatus → Type 0) →
+session_due : (p : Plan) (session : Session) (s : ImageSystem) (rows : Rows) (at : Outside) (Told : List (List ℕ) → List Call → Status → Type 0) (Some_ : List Call → Status → Type 0) →
     ((u : ℕ) → session.view ≡ Trace u → p ≡ boots session s rows) → (at.disk.size < sectors_needed session s rows → NeedsMore p at.disk.size) →
-    ((ss : List (List ℕ)) (a : List Call) (st : ExitStatus) → Told ss a st → IsRunStatus st) → ((a : List Call) (st : ExitStatus) → Some_ a st → IsRunStatus st) →
-    (script : List Call) (due : ExitStatus) → SessionAsks session s rows at Told Some_ script due → Due p at script due
+    ((ss : List (List ℕ)) (a : List Call) (st : Status) → Told ss a st → IsRunStatus st) → ((a : List Call) (st : Status) → Some_ a st → IsRunStatus st) →
+    (script : List Call) (due : Status) → SessionAsks session s rows at Told Some_ script due → Due p at script due
 session_due p session s rows at T S user less t m script due (no_user u v n) = by_user session s rows u (user u v) v n refl refl
 session_due p session s rows at T S user less t m script due (small v n) = by_disk (less n) refl
 session_due p session s rows at T S user less t m script due (over_told ss _ _ v n q a) = by_run (t ss script due a)
 session_due p session s rows at T S user less t m script due (over_untold _ _ v n q a) = by_run (m script due a)
 
-some_save : (name : List ℕ) (size : ℕ) (load script : List Call) (due : ExitStatus) → SomeSaveAsks name size load script due → IsRunStatus due
+some_save : (name : List ℕ) (size : ℕ) (load script : List Call) (due : Status) → SomeSaveAsks name size load script due → IsRunStatus due
 some_save name size load script due (as_boot _ _ w) = w.3
 some_save name size load script due (is_saved more bytes a) = inl refl
 
@@ -91,7 +91,7 @@ no_refusal r e = cc
 no_view : (u : ℕ) → Boot ≡ Trace u → ⊥
 no_view u e = cc
 
-pub due_of : (words : List (List ℕ)) (p : Plan) (at : Outside) (script : List Call) (due : ExitStatus) → Outcome words p → PlanAsks p at script due → Due p at script due
+pub due_of : (words : List (List ℕ)) (p : Plan) (at : Outside) (script : List Call) (due : Status) → Outcome words p → PlanAsks p at script due → Due p at script due
 due_of words p at script due (is_none n) a = by_words refl a.1 a.0
 due_of words p at script due (is_refused c is r f) a = by_refusal r f refl a.1 a.0
 due_of words p at script due (is_booted c is l session s rows) a =
@@ -117,7 +117,7 @@ module _ (blame : ScriptsBlame) where
   not_blamed old new None f h = refl
   not_blamed old new (Some w) f h = absurd (f w ((h w).rose refl).rose)
 
-  pub of_done : (words : List (List ℕ)) (old new : Outside) (status : ExitStatus) (h : Does words old new status) → Counts h.blamed old new
+  pub of_done : (words : List (List ℕ)) (old new : Outside) (status : Status) (h : Does words old new status) → Counts h.blamed old new
   of_done words old new status h = counts_both h.got h.script old h.mid new h.blamed h.files h.performs
 
   pub of_no_file : (names : List (List ℕ)) (old new : Outside) → Performs (gets names) old new (Some TheShelf) → Counts (Some TheShelf) old new
@@ -136,7 +136,7 @@ module _ (blame : ScriptsBlame) where
       same TheShelf = c
 
   -- what is left of the outside by the gets
-  pub mid_disk : (words : List (List ℕ)) (old new : Outside) (status : ExitStatus) (h : Does words old new status) → (h.mid.disk ≡ old.disk) × (h.mid.sink ≡ old.sink)
+  pub mid_disk : (words : List (List ℕ)) (old new : Outside) (status : Status) (h : Does words old new status) → (h.mid.disk ≡ old.disk) × (h.mid.sink ≡ old.sink)
   mid_disk words old new status h = by h.plan refl (outcome words old.shelf.file h.plan h.is_plan.comes)
     where
       kept : (c : Command) → IsCommand words c → (h.mid.disk ≡ old.disk) × (h.mid.sink ≡ old.sink)
@@ -183,25 +183,25 @@ module _ (blame : ScriptsBlame) where
       refusal_free other f e k = k
 
       free : Due h.plan h.mid h.script h.due → Counts None old new → CausedBy h.due words old new
-      free (by_words e d s) k = subst (λ (st : ExitStatus). CausedBy st words old new) (sym d) k
-      free (by_refusal r f e d s) k = subst (λ (st : ExitStatus). CausedBy st words old new) (sym d) (refusal_free r f e k)
-      free (by_user session s rows u e v n d x) k = subst (λ (st : ExitStatus). CausedBy st words old new) (sym d) k
-      free (by_disk n d) k = subst (λ (st : ExitStatus). CausedBy st words old new) (sym d)
+      free (by_words e d s) k = subst (λ (st : Status). CausedBy st words old new) (sym d) k
+      free (by_refusal r f e d s) k = subst (λ (st : Status). CausedBy st words old new) (sym d) (refusal_free r f e k)
+      free (by_user session s rows u e v n d x) k = subst (λ (st : Status). CausedBy st words old new) (sym d) k
+      free (by_disk n d) k = subst (λ (st : Status). CausedBy st words old new) (sym d)
           (inr (k, record { plan = h.plan; is_plan = h.is_plan; more = subst (λ (x : Drive). NeedsMore h.plan x.size) (mid_disk words old new status h).0 n }))
-      free (by_run (inl d)) k = subst (λ (st : ExitStatus). CausedBy st words old new) (sym d) k
-      free (by_run (inr (inl d))) k = subst (λ (st : ExitStatus). CausedBy st words old new) (sym d) k
-      free (by_run (inr (inr d))) k = subst (λ (st : ExitStatus). CausedBy st words old new) (sym d) k
+      free (by_run (inl d)) k = subst (λ (st : Status). CausedBy st words old new) (sym d) k
+      free (by_run (inr (inl d))) k = subst (λ (st : Status). CausedBy st words old new) (sym d) k
+      free (by_run (inr (inr d))) k = subst (λ (st : Status). CausedBy st words old new) (sym d) k
 
       by : (b : Option Who) → status ≡ answered h.due b → Counts b old new → CausedBy status words old new
-      by None e k = subst (λ (st : ExitStatus). CausedBy st words old new) (sym e) (free (due_of words h.plan h.mid h.script h.due o h.asks) k)
-      by (Some TheSink) e k = subst (λ (st : ExitStatus). CausedBy st words old new) (sym e) k
-      by (Some TheDisk) e k = subst (λ (st : ExitStatus). CausedBy st words old new) (sym e) (inl k)
-      by (Some TheShelf) e k = subst (λ (st : ExitStatus). CausedBy st words old new) (sym e) (inl k)
+      by None e k = subst (λ (st : Status). CausedBy st words old new) (sym e) (free (due_of words h.plan h.mid h.script h.due o h.asks) k)
+      by (Some TheSink) e k = subst (λ (st : Status). CausedBy st words old new) (sym e) k
+      by (Some TheDisk) e k = subst (λ (st : Status). CausedBy st words old new) (sym e) (inl k)
+      by (Some TheShelf) e k = subst (λ (st : Status). CausedBy st words old new) (sym e) (inl k)
   statuses_are_caused words old new status (no_file c is g t) = inl (of_no_file (files_of c) old new g)
   statuses_are_caused words old new status (no_memory c is w) = of_wants (files_of c) old new w
 
   -- THE STATUS of words, files and disks
-  pub done_due : (words : List (List ℕ)) (old new : Outside) (status : ExitStatus) (h : Does words old new status) → Due h.plan h.mid h.script h.due
+  pub done_due : (words : List (List ℕ)) (old new : Outside) (status : Status) (h : Does words old new status) → Due h.plan h.mid h.script h.due
   done_due words old new status h = due_of words h.plan h.mid h.script h.due (outcome words old.shelf.file h.plan h.is_plan.comes) h.asks
 
   pub words_are_refused : WordsAreRefused

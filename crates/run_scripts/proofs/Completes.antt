@@ -1,9 +1,9 @@
 -- That the machine goes on, and with enough steps a run is done.
 use Rattle.std.proofs.Common.{◌≡◌, ◌⊎◌, inl, inr, ℕ, ◌≤◌, Bool, true, refl, ap, ◌∙◌, arith}
 use Rattle.mips_table.specs.Turns.{TurnLaws, IsEnd, is_end}
-use Rattle.cvm_model.specs.Cvm.{Status, Running, Halted, Faulted}
-use Rattle.cvm_shell.specs.declared.exit_status.ExitStatus.{ExitStatus}
-use Rattle.cvm_shell.specs.declared.exit_status.ExitStatus.TheVariants.{Done, KernelFault}
+use Rattle.cvm_model.specs.Cvm.{Status as CvmStatus, Running, Halted, Faulted}
+use Rattle.cvm_shell.specs.declared.exit_status.Status.{Status}
+use Rattle.cvm_shell.specs.declared.exit_status.Status.TheVariants.{Done, KernelFault}
 use Rattle.run_scripts.specs.Runs.{Run, Past, run_of, has_ended, steps_made, cvm_at}
 use Rattle.run_scripts.specs.Whole.{run_status, status_of}
 use Rattle.run_scripts.specs.Headline.{Headlines, ItGoesOn, RunsComplete}
@@ -17,7 +17,7 @@ it_goes_on law words session s rows before old a =
     λ k c is. let h = m.goes_on k c is in let le = h.2 in (h.0, h.1, omega (arith, le, less))
 
 -- a run that came to its end is done, or its kernel faulted
-ended_status : (st : Status) → (status_of true st ≡ Done) ⊎ (status_of true st ≡ KernelFault)
+ended_status : (st : CvmStatus) → (status_of true st ≡ Done) ⊎ (status_of true st ≡ KernelFault)
 ended_status Running = inl refl
 ended_status Halted = inl refl
 ended_status (Faulted f) = inr refl
@@ -47,6 +47,6 @@ runs_complete heads goes count words session s rows before old new status a f en
     let less = enough.enough in
     by (run_done count r h.past t.0 t.1 (omega (arith, le, less))) h.status_is
   where
-    by : {x : ExitStatus} → (x ≡ Done) ⊎ (x ≡ KernelFault) → status ≡ x → (status ≡ Done) ⊎ (status ≡ KernelFault)
+    by : {x : Status} → (x ≡ Done) ⊎ (x ≡ KernelFault) → status ≡ x → (status ≡ Done) ⊎ (status ≡ KernelFault)
     by (inl d) e = inl (e ∙ d)
     by (inr d) e = inr (e ∙ d)

@@ -6,7 +6,7 @@ use Rattle.cvm_outside.specs.Causes.{Rose}
 use Rattle.kernel_linker.specs.Accept.{ImageSystem}
 use Rattle.schedule_file.specs.Rows.{Rows}
 use Rattle.cvm_shell.specs.declared.boot.Session.{Session}
-use Rattle.cvm_shell.specs.declared.exit_status.ExitStatus.{ExitStatus}
+use Rattle.cvm_shell.specs.declared.exit_status.Status.{Status}
 use Rattle.cvm_shell.specs.Plan.{Plan, boots}
 use Rattle.cvm_outside.specs.Script.{Call, Who, Performs, faults_of, spoken, stored}
 use Rattle.cvm_outside.specs.Outside.{Outside, Drive, Output}
@@ -20,7 +20,7 @@ abbrev unwrap : List (List ℕ) → Option (List (List ℕ)) → List (List ℕ)
 unwrap d None = d
 unwrap d (Some x) = x
 
-run_asks : (words : List (List ℕ)) (session : Session) (s : ImageSystem) (rows : Rows) (before : List (List ℕ)) (old mid : Outside) (script : List Call) (due : ExitStatus) →
+run_asks : (words : List (List ℕ)) (session : Session) (s : ImageSystem) (rows : Rows) (before : List (List ℕ)) (old mid : Outside) (script : List Call) (due : Status) →
     Asked words (boots session s rows) session s rows before old → mid.disk ≡ old.disk →
     SessionAsks session s rows mid (λ ss. RunAsks (run_of session s rows mid.disk.size ss) (load_of session s rows)) (SomeRunAsks mid.disk.size (load_of session s rows)) script due →
     RunAsks (run_of session s rows old.disk.size before) (load_of session s rows) script due
@@ -43,7 +43,7 @@ none None n = refl
 none (Some w) n = absurd (n w refl)
 
 pub headlines_from : ScriptsBlame → ScriptsTell → ScriptsStore → ScriptsTellTheText → ScriptsStoreTheSectors → SectorsBehindStay → EndsAreOver →
-    (words : List (List ℕ)) (session : Session) (s : ImageSystem) (rows : Rows) (before : List (List ℕ)) (old new : Outside) (status : ExitStatus) →
+    (words : List (List ℕ)) (session : Session) (s : ImageSystem) (rows : Rows) (before : List (List ℕ)) (old new : Outside) (status : Status) →
     Asked words (boots session s rows) session s rows before old → NoneFailed old new → (h : Does words old new status) → h.mid.disk ≡ old.disk → h.mid.sink ≡ old.sink →
     Headline (run_of session s rows old.disk.size before) (sectors_needed session s rows) before old new status
 headlines_from blame tell store tells stores behind over words session s rows before old new status a f h k l =

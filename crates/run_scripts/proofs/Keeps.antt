@@ -1,10 +1,10 @@
 -- What gets keep.
 use Rattle.std.proofs.Common.{◌≡◌, ◌⊎◌, inl, inr, ℕ, zero, suc, List, [], ◌∷◌, Option, Some, None, Bool, true, false, refl, ap, ◌∙◌}
-use Rattle.cvm_shell.specs.declared.exit_status.ExitStatus.{ExitStatus}
-use Rattle.cvm_shell.specs.declared.exit_status.ExitStatus.TheVariants.{Done, KernelFault, StepLimit, Memory}
+use Rattle.cvm_shell.specs.declared.exit_status.Status.{Status}
+use Rattle.cvm_shell.specs.declared.exit_status.Status.TheVariants.{Done, KernelFault, StepLimit, Memory}
 use Rattle.cvm_outside.specs.Script.{Call, Who, TheSink, TheDisk, TheShelf, done as all_done, goes_on, Performs}
 use Rattle.cvm_outside.specs.Outside.{Outside}
-use Rattle.cvm_model.specs.Cvm.{Status, Running, Halted, Faulted}
+use Rattle.cvm_model.specs.Cvm.{Status as CvmStatus, Running, Halted, Faulted}
 use Rattle.cvm_shell.specs.Plan.{Plan, bad_words, refuses, puts, boots, saves, resumes, prints as tells}
 use Rattle.kernel_linker.specs.Accept.{ImageSystem}
 use Rattle.schedule_file.specs.Rows.{Rows}
@@ -45,7 +45,7 @@ status_is (no_such_user u n) e = cc
 run_due : (r : Run) (load : List Call) (p : Past) → Memory ≡ run_status r p → ⊥
 run_due r load p e = by (has_ended r) (cvm_at r p (steps_made r)).status e
   where
-    by : (b : Bool) (s : Status) → Memory ≡ status_of b s → ⊥
+    by : (b : Bool) (s : CvmStatus) → Memory ≡ status_of b s → ⊥
     by true Running e = cc
     by true Halted e = cc
     by true (Faulted f) e = cc
@@ -53,7 +53,7 @@ run_due r load p e = by (has_ended r) (cvm_at r p (steps_made r)).status e
     by false Halted e = cc
     by false (Faulted f) e = cc
 
-never : (due : ExitStatus) (blamed : Option Who) → (Memory ≡ due → ⊥) → Memory ≡ answered due blamed → ⊥
+never : (due : Status) (blamed : Option Who) → (Memory ≡ due → ⊥) → Memory ≡ answered due blamed → ⊥
 never due None n e = n e
 never due (Some TheSink) n e = cc
 never due (Some TheDisk) n e = cc
@@ -67,7 +67,7 @@ power_due false (Some zero) e = cc
 power_due true (Some (suc n)) e = cc
 power_due false (Some (suc n)) e = cc
 
-some_due : (size : ℕ) (load script : List Call) (due : ExitStatus) → SomeRunAsks size load script due → Memory ≡ due → ⊥
+some_due : (size : ℕ) (load script : List Call) (due : Status) → SomeRunAsks size load script due → Memory ≡ due → ⊥
 some_due size load script due t e = by t.3
   where
     by : (due ≡ Done) ⊎ ((due ≡ KernelFault) ⊎ (due ≡ StepLimit)) → ⊥
@@ -75,19 +75,19 @@ some_due size load script due t e = by t.3
     by (inr (inl f)) = cc
     by (inr (inr f)) = cc
 
-save_due : (name : List ℕ) (size : ℕ) (load script : List Call) (due : ExitStatus) → SomeSaveAsks name size load script due → Memory ≡ due → ⊥
+save_due : (name : List ℕ) (size : ℕ) (load script : List Call) (due : Status) → SomeSaveAsks name size load script due → Memory ≡ due → ⊥
 save_due name size load script due (as_boot _ _ t) e = some_due size load script due t e
 save_due name size load script due (is_saved more bytes a) e = cc
 
-session_due : (session : Session) (s : ImageSystem) (rows : Rows) (old : Outside) (Told : List (List ℕ) → List Call → ExitStatus → Type 0) (Some_ : List Call → ExitStatus → Type 0) →
-    ((ss : List (List ℕ)) (sc : List Call) (st : ExitStatus) → Told ss sc st → Memory ≡ st → ⊥) → ((sc : List Call) (st : ExitStatus) → Some_ sc st → Memory ≡ st → ⊥) →
-    (script : List Call) (due : ExitStatus) → SessionAsks session s rows old Told Some_ script due → Memory ≡ due → ⊥
+session_due : (session : Session) (s : ImageSystem) (rows : Rows) (old : Outside) (Told : List (List ℕ) → List Call → Status → Type 0) (Some_ : List Call → Status → Type 0) →
+    ((ss : List (List ℕ)) (sc : List Call) (st : Status) → Told ss sc st → Memory ≡ st → ⊥) → ((sc : List Call) (st : Status) → Some_ sc st → Memory ≡ st → ⊥) →
+    (script : List Call) (due : Status) → SessionAsks session s rows old Told Some_ script due → Memory ≡ due → ⊥
 session_due session s rows old T S t m script due (no_user u v n) e = cc
 session_due session s rows old T S t m script due (small v n) e = cc
 session_due session s rows old T S t m script due (over_told ss _ _ v n q a) e = t ss script due a e
 session_due session s rows old T S t m script due (over_untold _ _ v n q a) e = m script due a e
 
-due_is : (p : Plan) (old : Outside) (script : List Call) (due : ExitStatus) → PlanAsks p old script due → Memory ≡ due → ⊥
+due_is : (p : Plan) (old : Outside) (script : List Call) (due : Status) → PlanAsks p old script due → Memory ≡ due → ⊥
 due_is bad_words old script due a e = let f = a.1 in cc
 due_is (refuses r) old script due a e = status_is r (e ∙ a.1)
 due_is (puts name bytes) old script due a e = let f = a.1 in cc

@@ -26,3 +26,4 @@ pub mod Refusals
 pub mod Completes
 pub mod Saves
 pub mod Asking
+pub mod Isolates

@@ -3,8 +3,8 @@ use Rattle.std.specs.Prelude.{Option, Some, None}
 use Rattle.std.specs.Io.KnownBytes.{append_known}
 use Rattle.std.proofs.Common.{◌≡◌, ◌≢◌, ◌⊎◌, inl, inr, ℕ, ◌<◌, List, length, refl, sym, ap, ◌∙◌, subst, arith}
 use Rattle.boot_turns.specs.declared.answers.View.TheVariants.{Trace}
-use Rattle.cvm_shell.specs.declared.exit_status.ExitStatus.{ExitStatus}
-use Rattle.cvm_shell.specs.declared.exit_status.ExitStatus.TheVariants.{Done, Refused, KernelFault, StepLimit, Disk, Shelf, Sink, Memory}
+use Rattle.cvm_shell.specs.declared.exit_status.Status.{Status}
+use Rattle.cvm_shell.specs.declared.exit_status.Status.TheVariants.{Done, Refused, KernelFault, StepLimit, Disk, Shelf, Sink, Memory}
 use Rattle.cvm_shell.specs.Command.{Command}
 use Rattle.cvm_shell.specs.Refusal.{Refusal, small_disk, no_such_user, too_long, refusal_status, refusal_text}
 use Rattle.cvm_shell.specs.Plan.{Plan, bad_words, refuses, puts, boots, saves, resumes, prints as tells, PlanComesTo, AllTold}
@@ -24,21 +24,21 @@ same_view u v e = cc
 
 module _ (blame : ScriptsBlame) where
   -- nobody is blamed where no object counted a fault
-  pub none_blamed : (words : List (List ℕ)) (old new : Outside) (status : ExitStatus) (h : Does words old new status) → NoneFailed old new → h.blamed ≡ None
+  pub none_blamed : (words : List (List ℕ)) (old new : Outside) (status : Status) (h : Does words old new status) → NoneFailed old new → h.blamed ≡ None
   none_blamed words old new status h f = not_blamed blame old new h.blamed f (of_done blame words old new status h)
 
   -- a row that is all that is printed
-  row_printed : (words : List (List ℕ)) (old new : Outside) (status : ExitStatus) (h : Does words old new status) (text : List ℕ) → h.script ≡ says text → h.blamed ≡ None →
+  row_printed : (words : List (List ℕ)) (old new : Outside) (status : Status) (h : Does words old new status) (text : List ℕ) → h.script ≡ says text → h.blamed ≡ None →
       PrintedBy None old.sink.text new.sink.text text
   row_printed words old new status h text s n =
       says_printed text h.mid new (subst (λ (b : Option Who). Performs (says text) h.mid new b) n (subst (λ (a : List Call). Performs a h.mid new h.blamed) s h.performs))
       ∙ ap (λ (o : Output). append_known o.text text) (mid_disk blame words old new status h).1
 
-  pub status_due : (words : List (List ℕ)) (old new : Outside) (status : ExitStatus) (h : Does words old new status) → h.blamed ≡ None → status ≡ h.due
+  pub status_due : (words : List (List ℕ)) (old new : Outside) (status : Status) (h : Does words old new status) → h.blamed ≡ None → status ≡ h.due
   status_due words old new status h n = h.status_is ∙ ap (answered h.due) n
 
   -- the plan is the one that words and files come to
-  pub plan_asks : (words : List (List ℕ)) (old new : Outside) (status : ExitStatus) (h : Does words old new status) (p : Plan) → AllTold words old.shelf.file → PlanComesTo words old.shelf.file p →
+  pub plan_asks : (words : List (List ℕ)) (old new : Outside) (status : Status) (h : Does words old new status) (p : Plan) → AllTold words old.shelf.file → PlanComesTo words old.shelf.file p →
       PlanAsks p h.mid h.script h.due
   plan_asks words old new status h p told comes = subst (λ (q : Plan). PlanAsks q h.mid h.script h.due) (sym (h.is_plan.only told p comes)) h.asks
 
@@ -92,7 +92,7 @@ module _ (blame : ScriptsBlame) where
   pub missing_users_are_refused : MissingUsersAreRefused
   missing_users_are_refused words old new status r told w f (done _ h) m = by h.script h.due refl refl (plan_asks words old new status h (boots w.session w.system w.rows) told w.is_plan)
     where
-      by : (script : List Call) (due : ExitStatus) → h.script ≡ script → h.due ≡ due → PlanAsks (boots w.session w.system w.rows) h.mid script due →
+      by : (script : List Call) (due : Status) → h.script ≡ script → h.due ≡ due → PlanAsks (boots w.session w.system w.rows) h.mid script due →
           (status ≡ Refused) × PrintedBy None old.sink.text new.sink.text (refusal_text r)
       by script due s d (no_user u v x) =
           let n = none_blamed words old new status h f in
@@ -110,7 +110,7 @@ module _ (blame : ScriptsBlame) where
       less : h.mid.disk.size < sectors_needed session s rows
       less = subst (λ (d : Drive). d.size < sectors_needed session s rows) (sym (mid_disk blame words old new status h).0) few
 
-      ends : (Told : List (List ℕ) → List Call → ExitStatus → Type 0) (Some_ : List Call → ExitStatus → Type 0) (script : List Call) (due : ExitStatus) → h.script ≡ script → h.due ≡ due →
+      ends : (Told : List (List ℕ) → List Call → Status → Type 0) (Some_ : List Call → Status → Type 0) (script : List Call) (due : Status) → h.script ≡ script → h.due ≡ due →
           SessionAsks session s rows h.mid Told Some_ script due →
           (status ≡ Disk) × PrintedBy None old.sink.text new.sink.text (refusal_text (small_disk (sectors_needed session s rows) old.disk.size))
       ends T S script due e d (no_user u v x) = absurd (x sees)
@@ -141,7 +141,7 @@ module _ (blame : ScriptsBlame) where
       refused : h.plan ≡ refuses too_long → (status ≡ Shelf) ⊎ (status ≡ Sink)
       refused e =
           let a = subst (λ (p : Plan). PlanAsks p h.mid h.script h.due) e h.asks in
-          ends h.blamed (h.status_is ∙ ap (λ (d : ExitStatus). answered d h.blamed) a.1)
+          ends h.blamed (h.status_is ∙ ap (λ (d : Status). answered d h.blamed) a.1)
           (says_blames (refusal_text too_long) h.mid new h.blamed (subst (λ (x : List Call). Performs x h.mid new h.blamed) a.0 h.performs))
 
       by : (p : Plan) → h.plan ≡ p → (got : List Call) → GetsFor old.shelf.file (files_of c) new.shelf.taken p got → (status ≡ Shelf) ⊎ (status ≡ Sink)

@@ -3,8 +3,8 @@ use Rattle.std.specs.Prelude.{Some, None}
 use Rattle.std.proofs.Common.{◌≡◌, ◌⊎◌, inl, inr, ℕ, ◌<◌, List, refl, sym, ap, ◌∙◌, subst, arith}
 use Rattle.kernel_linker.specs.Accept.{ImageSystem}
 use Rattle.schedule_file.specs.Rows.{Rows}
-use Rattle.cvm_shell.specs.declared.exit_status.ExitStatus.{ExitStatus}
-use Rattle.cvm_shell.specs.declared.exit_status.ExitStatus.TheVariants.{Done, KernelFault}
+use Rattle.cvm_shell.specs.declared.exit_status.Status.{Status}
+use Rattle.cvm_shell.specs.declared.exit_status.Status.TheVariants.{Done, KernelFault}
 use Rattle.cvm_shell.specs.declared.boot.Session.{Session}
 use Rattle.cvm_shell.specs.Command.{save_session}
 use Rattle.cvm_shell.specs.Plan.{Plan, saves}
@@ -28,7 +28,7 @@ none_told a e = cc
 
 -- where words ask for a session its user is there, the disk is large enough, and its sectors are told
 pub told_asks : (words : List (List ℕ)) (plan : Plan) (session : Session) (s : ImageSystem) (rows : Rows) (before : List (List ℕ)) (old mid : Outside)
-    (Told : ℕ → List (List ℕ) → List Call → ExitStatus → Type 0) (Some_ : List Call → ExitStatus → Type 0) (script : List Call) (due : ExitStatus) →
+    (Told : ℕ → List (List ℕ) → List Call → Status → Type 0) (Some_ : List Call → Status → Type 0) (script : List Call) (due : Status) →
     Asked words plan session s rows before old → mid.disk ≡ old.disk → SessionAsks session s rows mid (Told mid.disk.size) Some_ script due → Told old.disk.size before script due
 told_asks words plan session s rows before old mid T S script due a k (no_user u v n) = absurd (n a.user)
 told_asks words plan session s rows before old mid T S script due a k (small v n) =
@@ -54,7 +54,7 @@ saves_complete blame law words c s rows before old new status is a f (done _ h) 
     let less = enough.enough in
     by (run_done law.count r t.past g.0 g.1 (omega (arith, le, late, less))) (status_due blame words old new status h (none_blamed blame words old new status h f) ∙ t.status_is)
   where
-    by : {x : ExitStatus} → (x ≡ Done) ⊎ (x ≡ KernelFault) → status ≡ x → (status ≡ Done) ⊎ (status ≡ KernelFault)
+    by : {x : Status} → (x ≡ Done) ⊎ (x ≡ KernelFault) → status ≡ x → (status ≡ Done) ⊎ (status ≡ KernelFault)
     by (inl d) e = inl (e ∙ d)
     by (inr d) e = inr (e ∙ d)
 saves_complete blame law words c s rows before old new status is a f (no_file d k g t) m enough = absurd (no_file_failed blame d old new f g)

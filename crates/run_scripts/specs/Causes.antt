@@ -5,8 +5,8 @@ use Rattle.schedule_file.specs.Rows.{Rows}
 use Rattle.boot_turns.specs.declared.answers.View.TheVariants.{Trace}
 use Rattle.kernel_linker.specs.Accept.{ImageSystem}
 use Rattle.cvm_shell.specs.declared.boot.Session.{Session}
-use Rattle.cvm_shell.specs.declared.exit_status.ExitStatus.{ExitStatus}
-use Rattle.cvm_shell.specs.declared.exit_status.ExitStatus.TheVariants.{Done, Words, Refused, Disk, Shelf, Sink, Memory}
+use Rattle.cvm_shell.specs.declared.exit_status.Status.{Status}
+use Rattle.cvm_shell.specs.declared.exit_status.Status.TheVariants.{Done, Words, Refused, Disk, Shelf, Sink, Memory}
 use Rattle.cvm_shell.specs.Command.{Command, IsCommand, IsNoCommand}
 use Rattle.cvm_shell.specs.Refusal.{Refusal, small_disk, no_such_user, refusal_status, refusal_text}
 use Rattle.cvm_shell.specs.Plan.{Plan, refuses, puts, boots, saves, resumes, prints as tells, PlanComesTo, AllTold, IsPlan}
@@ -34,22 +34,22 @@ pub record IsTooSmall (words : List (List ℕ)) (old : Outside) : Type 0 where
   pub more : NeedsMore plan old.disk.size
 
 -- BY THE STATUS: an object failed and counted it, or the disk is too small, or a file is too long; else no count changed
-abbrev pub CausedBy : ExitStatus → List (List ℕ) → (old new : Outside) → Type 0
+abbrev pub CausedBy : Status → List (List ℕ) → (old new : Outside) → Type 0
 CausedBy Disk words old new = Counts (Some TheDisk) old new ⊎ (Counts None old new × IsTooSmall words old)
 CausedBy Shelf words old new = Counts (Some TheShelf) old new ⊎ (Counts None old new × (new.shelf.taken ≡ TOO_LONG))
 CausedBy Sink words old new = Counts (Some TheSink) old new
 CausedBy other words old new = Counts None old new
 
 abbrev pub StatusesAreCaused : Type 0
-StatusesAreCaused = (words : List (List ℕ)) (old new : Outside) (status : ExitStatus) → Ends words old new status → CausedBy status words old new
+StatusesAreCaused = (words : List (List ℕ)) (old new : Outside) (status : Status) → Ends words old new status → CausedBy status words old new
 
 -- STATUS 1 exactly where the words are no command, unless their row can't be printed
-pub record WordsExactly (words : List (List ℕ)) (status : ExitStatus) : Type 0 where
+pub record WordsExactly (words : List (List ℕ)) (status : Status) : Type 0 where
   pub only : status ≡ Words → IsNoCommand words
   pub so : IsNoCommand words → (status ≡ Words) ⊎ (status ≡ Sink)
 
 abbrev pub WordsAreRefused : Type 0
-WordsAreRefused = (words : List (List ℕ)) (old new : Outside) (status : ExitStatus) → Ends words old new status → WordsExactly words status
+WordsAreRefused = (words : List (List ℕ)) (old new : Outside) (status : Status) → Ends words old new status → WordsExactly words status
 
 -- the user of a trace is none of the image's, and that is what is refused
 pub record HasNoUser (words : List (List ℕ)) (old : Outside) (r : Refusal) : Type 0 where
@@ -63,30 +63,30 @@ pub record HasNoUser (words : List (List ℕ)) (old : Outside) (r : Refusal) : T
   pub is : r ≡ no_such_user user (length system.users)
 
 -- A REFUSAL of a file is answered with its own status and row, where no call fails and memory is there; and status 2 is one, or a user that there is none of
-pub record RefusedExactly (words : List (List ℕ)) (old new : Outside) (status : ExitStatus) : Type 0 where
+pub record RefusedExactly (words : List (List ℕ)) (old new : Outside) (status : Status) : Type 0 where
   pub so : (r : Refusal) → PlanComesTo words old.shelf.file (refuses r) → NoneFailed old new → status ≢ Memory →
       (status ≡ refusal_status r) × PrintedBy None old.sink.text new.sink.text (refusal_text r)
   pub only : status ≡ Refused → (r : Refusal) × (PlanComesTo words old.shelf.file (refuses r) ⊎ HasNoUser words old r)
       × PrintedBy None old.sink.text new.sink.text (refusal_text r)
 
 abbrev pub FilesAreRefused : Type 0
-FilesAreRefused = (words : List (List ℕ)) (old new : Outside) (status : ExitStatus) → AllTold words old.shelf.file → Ends words old new status →
+FilesAreRefused = (words : List (List ℕ)) (old new : Outside) (status : Status) → AllTold words old.shelf.file → Ends words old new status →
     RefusedExactly words old new status
 
 -- A USER THAT THERE IS NONE OF is refused, and then a disk that is too small, where no call fails and memory is there
 abbrev pub MissingUsersAreRefused : Type 0
-MissingUsersAreRefused = (words : List (List ℕ)) (old new : Outside) (status : ExitStatus) (r : Refusal) → AllTold words old.shelf.file → HasNoUser words old r →
+MissingUsersAreRefused = (words : List (List ℕ)) (old new : Outside) (status : Status) (r : Refusal) → AllTold words old.shelf.file → HasNoUser words old r →
     NoneFailed old new → Ends words old new status → status ≢ Memory → (status ≡ Refused) × PrintedBy None old.sink.text new.sink.text (refusal_text r)
 
 abbrev pub SmallDisksAreRefused : Type 0
-SmallDisksAreRefused = (words : List (List ℕ)) (plan : Plan) (session : Session) (s : ImageSystem) (rows : Rows) (old new : Outside) (status : ExitStatus) →
+SmallDisksAreRefused = (words : List (List ℕ)) (plan : Plan) (session : Session) (s : ImageSystem) (rows : Rows) (old new : Outside) (status : Status) →
     AllTold words old.shelf.file → PlanComesTo words old.shelf.file plan → IsOf session s rows plan → SeesUser session.view (length s.users) →
     old.disk.size < sectors_needed session s rows → NoneFailed old new → Ends words old new status → status ≢ Memory →
     (status ≡ Disk) × PrintedBy None old.sink.text new.sink.text (refusal_text (small_disk (sectors_needed session s rows) old.disk.size))
 
 -- A FILE IS REFUSED AS TOO LONG where 67,108,865 bytes of it were taken, unless the row can't be printed
 abbrev pub LongFilesAreRefused : Type 0
-LongFilesAreRefused = (words : List (List ℕ)) (c : Command) (old new : Outside) (status : ExitStatus) → IsCommand words c → files_of c ≢ [] →
+LongFilesAreRefused = (words : List (List ℕ)) (c : Command) (old new : Outside) (status : Status) → IsCommand words c → files_of c ≢ [] →
     Ends words old new status → new.shelf.taken ≡ TOO_LONG → (status ≡ Shelf) ⊎ (status ≡ Sink)
 
 -- STATUS 4: a run that didn't come to its end made all its steps
@@ -101,5 +101,5 @@ IsWork other = ⊥
 
 -- COMPLETENESS of the other commands: with nothing to refuse and no failed call they are done
 abbrev pub WorkCompletes : Type 0
-WorkCompletes = (words : List (List ℕ)) (old new : Outside) (status : ExitStatus) (p : Plan) → AllTold words old.shelf.file → PlanComesTo words old.shelf.file p →
+WorkCompletes = (words : List (List ℕ)) (old new : Outside) (status : Status) (p : Plan) → AllTold words old.shelf.file → PlanComesTo words old.shelf.file p →
     IsWork p → NoneFailed old new → Ends words old new status → status ≢ Memory → status ≡ Done

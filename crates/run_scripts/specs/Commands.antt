@@ -10,8 +10,8 @@ use Rattle.cvm_model.specs.Cvm.{Running}
 use Rattle.boot_turns.specs.declared.answers.View.{View}
 use Rattle.boot_turns.specs.declared.answers.View.TheVariants.{Boot, Trace}
 use Rattle.kernel_linker.specs.Accept.{ImageSystem}
-use Rattle.cvm_shell.specs.declared.exit_status.ExitStatus.{ExitStatus}
-use Rattle.cvm_shell.specs.declared.exit_status.ExitStatus.TheVariants.{Done, Words, Refused, KernelFault, StepLimit, Disk, Shelf, Sink, Memory}
+use Rattle.cvm_shell.specs.declared.exit_status.Status.{Status}
+use Rattle.cvm_shell.specs.declared.exit_status.Status.TheVariants.{Done, Words, Refused, KernelFault, StepLimit, Disk, Shelf, Sink, Memory}
 use Rattle.cvm_shell.specs.declared.boot.Session.{Session}
 use Rattle.cvm_shell.specs.Command.{Command, IsCommand, boot, trace, save, resume, compile_user, compile_kernel, compile_program, link, migrate, sample, check}
 use Rattle.cvm_shell.specs.Refusal.{small_disk, no_such_user, too_long, refusal_text, refusal_status}
@@ -30,14 +30,14 @@ abbrev pub load_of : Session → ImageSystem → Rows → List Call
 load_of session s rows = load_script (pages_loaded session.start (booted s rows)) (sectors_needed session s rows)
 
 -- WHAT A RUN IS TO DO: its script, and its status where no call fails, by what the abstract machine says of it
-pub record RunAsks (r : Run) (load : List Call) (script : List Call) (status : ExitStatus) : Type 0 where
+pub record RunAsks (r : Run) (load : List Call) (script : List Call) (status : Status) : Type 0 where
   pub past : Past
   pub is_past : IsPast r past
   pub script_is : script ≡ run_script r load past
   pub status_is : status ≡ run_status r past
 
 -- what a save is to do
-pub record SaveAsks (name : List ℕ) (r : Run) (load : List Call) (script : List Call) (status : ExitStatus) : Type 0 where
+pub record SaveAsks (name : List ℕ) (r : Run) (load : List Call) (script : List Call) (status : Status) : Type 0 where
   pub past : Past
   pub is_past : IsPast r past
   pub script_is : script ≡ save_script name r load past
@@ -59,7 +59,7 @@ ReportAsks size r report = AreReads size report × (power_status (has_ended r) (
 
 -- WHAT A RESUME IS TO DO, whatever its file holds: the machine's own transfers; of the text nothing is said
 pub record ResumeAsks (session : Session) (s : ImageSystem) (rows : Rows) (words : List ℕ) (size : ℕ) (sectors : List (List ℕ)) (script : List Call)
-    (status : ExitStatus) : Type 0 where
+    (status : Status) : Type 0 where
   pub run : Run
   pub goes_on : GoesOn session s rows words size sectors run
   pub report : List Call
@@ -68,12 +68,12 @@ pub record ResumeAsks (session : Session) (s : ImageSystem) (rows : Rows) (words
   pub status_is : status ≡ power_status (has_ended run) (state_at run (steps_made run)).off
 
 -- over a disk that tells no sectors: the load, and then some calls of a run
-abbrev pub SomeRunAsks : (size : ℕ) → (load : List Call) → List Call → ExitStatus → Type 0
+abbrev pub SomeRunAsks : (size : ℕ) → (load : List Call) → List Call → Status → Type 0
 SomeRunAsks size load script status = (more : List Call) × AreOfRun size more × (script ≡ load ++ more) × (status ≡ Done ⊎ (status ≡ KernelFault ⊎ status ≡ StepLimit))
 
 -- and of a save one file and the row at the end, where it is done
-pub data SomeSaveAsks (name : List ℕ) (size : ℕ) (load : List Call) : List Call → ExitStatus → Type 0 where
-  as_boot : (script : List Call) (status : ExitStatus) → SomeRunAsks size load script status → SomeSaveAsks name size load script status
+pub data SomeSaveAsks (name : List ℕ) (size : ℕ) (load : List Call) : List Call → Status → Type 0 where
+  as_boot : (script : List Call) (status : Status) → SomeRunAsks size load script status → SomeSaveAsks name size load script status
   is_saved : (more : List Call) (bytes : List ℕ) → AreOfRun size more →
       SomeSaveAsks name size load (load ++ more ++ (Stored name bytes ∷ Printed (Some saved_row) ∷ [])) Done
 
@@ -83,20 +83,20 @@ SeesUser Boot users = ⊤
 SeesUser (Trace u) users = (1 ≤ u) × (u ≤ users)
 
 -- WHAT A SESSION IS TO DO: refuse a user that there is none of, or a disk that is too small; or the run, over sectors that are told or not
-pub data SessionAsks (session : Session) (s : ImageSystem) (rows : Rows) (old : Outside) (Told : List (List ℕ) → List Call → ExitStatus → Type 0)
-    (Some_ : List Call → ExitStatus → Type 0) : List Call → ExitStatus → Type 0 where
+pub data SessionAsks (session : Session) (s : ImageSystem) (rows : Rows) (old : Outside) (Told : List (List ℕ) → List Call → Status → Type 0)
+    (Some_ : List Call → Status → Type 0) : List Call → Status → Type 0 where
   no_user : (u : ℕ) → session.view ≡ Trace u → (SeesUser session.view (length s.users) → ⊥) →
       SessionAsks session s rows old Told Some_ (says (refusal_text (no_such_user u (length s.users)))) Refused
   small : SeesUser session.view (length s.users) → old.disk.size < sectors_needed session s rows →
       SessionAsks session s rows old Told Some_ (says (refusal_text (small_disk (sectors_needed session s rows) old.disk.size))) Disk
-  over_told : (sectors : List (List ℕ)) (script : List Call) (status : ExitStatus) → SeesUser session.view (length s.users) →
+  over_told : (sectors : List (List ℕ)) (script : List Call) (status : Status) → SeesUser session.view (length s.users) →
       sectors_needed session s rows ≤ old.disk.size → old.disk.sectors ≡ Some sectors → Told sectors script status →
       SessionAsks session s rows old Told Some_ script status
-  over_untold : (script : List Call) (status : ExitStatus) → SeesUser session.view (length s.users) → sectors_needed session s rows ≤ old.disk.size →
+  over_untold : (script : List Call) (status : Status) → SeesUser session.view (length s.users) → sectors_needed session s rows ≤ old.disk.size →
       old.disk.sectors ≡ None → Some_ script status → SessionAsks session s rows old Told Some_ script status
 
 -- WHAT A PLAN IS TO DO behind the gets: its script, and its status where no call fails
-abbrev pub PlanAsks : Plan → Outside → List Call → ExitStatus → Type 0
+abbrev pub PlanAsks : Plan → Outside → List Call → Status → Type 0
 PlanAsks bad_words old script status = (script ≡ says (codes "bad words\n")) × (status ≡ Words)
 PlanAsks (refuses r) old script status = (script ≡ says (refusal_text r)) × (status ≡ refusal_status r)
 PlanAsks (puts name bytes) old script status = (script ≡ Stored name bytes ∷ []) × (status ≡ Done)
@@ -150,7 +150,7 @@ CommandGets words file taken p script =
     ((c : Command) → IsCommand words c → GetsFor file (files_of c) taken p script) × (p ≡ bad_words → script ≡ [])
 
 -- by whose call an answer goes: the status that was due, or that of the object that failed
-abbrev pub answered : ExitStatus → Option Who → ExitStatus
+abbrev pub answered : Status → Option Who → Status
 answered due None = due
 answered due (Some TheSink) = Sink
 answered due (Some TheDisk) = Disk
@@ -172,7 +172,7 @@ pub record SavedRun (session : Session) (s : ImageSystem) (rows : Rows) (words :
   pub left_is : left ≡ (state_at r made).device.sectors
 
 -- THE SAME RESUME goes on as every run that was saved so: it performs the rest of that boot's script, with its texts and its status
-abbrev pub Joins : Plan → (old new : Outside) → Option Who → ExitStatus → Type 0
+abbrev pub Joins : Plan → (old new : Outside) → Option Who → Status → Type 0
 Joins (resumes session s rows words) old new blamed due =
     (left : List (List ℕ)) (r : Run) (past : Past) (made : ℕ) → sectors_needed session s rows ≤ old.disk.size → old.disk.sectors ≡ Some left →
     SavedRun session s rows words old.disk.size left r past made → Performs (rest_script r past made) old new blamed × (due ≡ run_status r past)
@@ -189,7 +189,7 @@ pub data Wants (names : List (List ℕ)) (old new : Outside) : Type 0 where
       Wants names old new
 
 -- WHAT WAS DONE: the gets and the plan's script were performed, up to a call that failed
-pub record Does (words : List (List ℕ)) (old new : Outside) (status : ExitStatus) : Type 0 where
+pub record Does (words : List (List ℕ)) (old new : Outside) (status : Status) : Type 0 where
   pub plan : Plan
   pub is_plan : IsPlan (AllTold words old.shelf.file) (PlanComesTo words old.shelf.file) plan
   pub got : List Call
@@ -197,7 +197,7 @@ pub record Does (words : List (List ℕ)) (old new : Outside) (status : ExitStat
   pub mid : Outside
   pub files : Performs got old mid None
   pub script : List Call
-  pub due : ExitStatus
+  pub due : Status
   pub asks : PlanAsks plan mid script due
   pub blamed : Option Who
   pub performs : Performs script mid new blamed
@@ -205,8 +205,8 @@ pub record Does (words : List (List ℕ)) (old new : Outside) (status : ExitStat
   pub status_is : status ≡ answered due blamed
 
 -- HOW A COMMAND ENDS: so; or a file could not be got; or memory was wanted before a file was put, a text printed, or the disk called
-pub data Ends (words : List (List ℕ)) (old new : Outside) : ExitStatus → Type 0 where
-  done : (status : ExitStatus) → Does words old new status → Ends words old new status
+pub data Ends (words : List (List ℕ)) (old new : Outside) : Status → Type 0 where
+  done : (status : Status) → Does words old new status → Ends words old new status
   no_file : (c : Command) → IsCommand words c → Performs (gets (files_of c)) old new (Some TheShelf) → new.shelf.taken ≢ TOO_LONG → Ends words old new Shelf
   no_memory : (c : Command) → IsCommand words c → Wants (files_of c) old new → Ends words old new Memory
 

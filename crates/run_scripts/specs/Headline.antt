@@ -17,8 +17,8 @@ use Rattle.boot_turns.specs.GoesOn.{GoesOnWithin}
 use Rattle.boot_turns.specs.declared.answers.View.{View}
 use Rattle.boot_turns.specs.declared.answers.View.TheVariants.{Boot, Trace}
 use Rattle.kernel_linker.specs.Accept.{ImageSystem}
-use Rattle.cvm_shell.specs.declared.exit_status.ExitStatus.{ExitStatus}
-use Rattle.cvm_shell.specs.declared.exit_status.ExitStatus.TheVariants.{Done, KernelFault, Memory}
+use Rattle.cvm_shell.specs.declared.exit_status.Status.{Status}
+use Rattle.cvm_shell.specs.declared.exit_status.Status.TheVariants.{Done, KernelFault, Memory}
 use Rattle.cvm_shell.specs.declared.boot.Session.{Session}
 use Rattle.cvm_shell.specs.Command.{Boot as BootWords, IsBoot, boot_session}
 use Rattle.cvm_shell.specs.Plan.{Plan, boots, saves, resumes, PlanComesTo, AllTold, Accepts}
@@ -95,7 +95,7 @@ abbrev pub IsOver : Run → Past → Type 0
 IsOver r p = has_ended r ≡ true → (turns_at r (steps_made r) ≡ r.turns) ⊎ ((cvm_at r p (steps_made r)).status ≢ Running)
 
 -- THE HEADLINE: sectors, status and text, and that an end is one of the abstract run
-pub record Headline (r : Run) (held : ℕ) (before : List (List ℕ)) (old new : Outside) (status : ExitStatus) : Type 0 where
+pub record Headline (r : Run) (held : ℕ) (before : List (List ℕ)) (old new : Outside) (status : Status) : Type 0 where
   pub past : Past
   pub is_past : IsPast r past
   pub machine : Sectors r held before (steps_made r) new.disk.sectors
@@ -104,7 +104,7 @@ pub record Headline (r : Run) (held : ℕ) (before : List (List ℕ)) (old new :
   pub over : IsOver r past
 
 abbrev pub Headlines : Type 0
-Headlines = (words : List (List ℕ)) (session : Session) (s : ImageSystem) (rows : Rows) (before : List (List ℕ)) (old new : Outside) (status : ExitStatus) →
+Headlines = (words : List (List ℕ)) (session : Session) (s : ImageSystem) (rows : Rows) (before : List (List ℕ)) (old new : Outside) (status : Status) →
     Asked words (boots session s rows) session s rows before old → NoneFailed old new → Ends words old new status → status ≢ Memory →
     Headline (run_of session s rows old.disk.size before) (sectors_needed session s rows) before old new status
 
@@ -130,7 +130,7 @@ pub record HasSteps (r : Run) (more : ℕ) : Type 0 where
   pub enough : last.bound + more ≤ r.steps
 
 abbrev pub RunsComplete : Type 0
-RunsComplete = (words : List (List ℕ)) (session : Session) (s : ImageSystem) (rows : Rows) (before : List (List ℕ)) (old new : Outside) (status : ExitStatus) →
+RunsComplete = (words : List (List ℕ)) (session : Session) (s : ImageSystem) (rows : Rows) (before : List (List ℕ)) (old new : Outside) (status : Status) →
     Asked words (boots session s rows) session s rows before old → NoneFailed old new → Ends words old new status → status ≢ Memory →
     HasSteps (run_of session s rows old.disk.size before) (steps_before session.start (booted s rows)) → (status ≡ Done) ⊎ (status ≡ KernelFault)
 
@@ -143,6 +143,11 @@ pub record Isolated (r : Run) (p : Past) (u : ℕ) : Type 0 where
   pub within : cvm r.system (lines_met r) units turns ≡ Some (p.cvm turns)
   pub journal_is : p.shown (steps_made r) ≡ journal r.system (lines_met r) units u turns
   pub replayed : replay (first_of r.system u) (p.shown (steps_made r)) ≡ Some (user_of (p.cvm turns).core.users u)
+
+abbrev pub TracesIsolate : Type 0
+TracesIsolate = (words : List (List ℕ)) (session : Session) (s : ImageSystem) (rows : Rows) (before : List (List ℕ)) (old : Outside) (u : ℕ) (p : Past) →
+    Asked words (boots session s rows) session s rows before old → let r : Run = run_of session s rows old.disk.size before in
+    r.view ≡ Trace u → IsPast r p → has_ended r ≡ true → Isolated r p u
 
 -- two runs whose user starts alike and has the same journal, and that ended alike, print the same of it
 abbrev pub EqualJournalsTellTheSame : Type 0

@@ -1,7 +1,7 @@
 -- WHICH CALLS a command makes, as laws: its gets in their order and then no further one, at most one put, of the file that its words name, and no call of the
 -- disk where it loads nothing.
 use Rattle.std.specs.Prelude.{◌≡◌, ◌≢◌, ℕ, ⊤, List, [], ◌∷◌, ◌++◌, Option, Some, None}
-use Rattle.cvm_shell.specs.declared.exit_status.ExitStatus.{ExitStatus}
+use Rattle.cvm_shell.specs.declared.exit_status.Status.{Status}
 use Rattle.cvm_shell.specs.Command.{Command, IsCommand, boot, trace, save, resume, compile_user, compile_kernel, compile_program, link, migrate, sample}
 use Rattle.cvm_shell.specs.Plan.{Plan, PlanComesTo}
 use Rattle.cvm_outside.specs.Script.{Call, Got, Stored, Who, Performs}
@@ -49,17 +49,17 @@ pub record Shape (c : Command) (script : List Call) : Type 0 where
   pub puts : NamedBy (file_put c) (puts_in script)
 
 abbrev pub PlansHaveShape : Type 0
-PlansHaveShape = (words : List (List ℕ)) (file : List ℕ → Option (List ℕ)) (c : Command) (p : Plan) (at : Outside) (script : List Call) (due : ExitStatus) →
+PlansHaveShape = (words : List (List ℕ)) (file : List ℕ → Option (List ℕ)) (c : Command) (p : Plan) (at : Outside) (script : List Call) (due : Status) →
     IsCommand words c → PlanComesTo words file p → PlanAsks p at script due → Shape c script
 
 -- the files but the one that is named are as before
 abbrev pub OthersStay : Type 0
-OthersStay = (words : List (List ℕ)) (c : Command) (old new : Outside) (status : ExitStatus) → IsCommand words c → Ends words old new status →
+OthersStay = (words : List (List ℕ)) (c : Command) (old new : Outside) (status : Status) → IsCommand words c → Ends words old new status →
     (name : List ℕ) → file_put c ≢ Some name → new.shelf.file name ≡ old.shelf.file name
 
 -- the disk is as before, where a command loads no machine, and where the words are none
 abbrev pub NothingIsLoaded : Type 0
-NothingIsLoaded = (words : List (List ℕ)) (old new : Outside) (status : ExitStatus) → ((c : Command) → IsCommand words c → Loads c → ⊥) →
+NothingIsLoaded = (words : List (List ℕ)) (old new : Outside) (status : Status) → ((c : Command) → IsCommand words c → Loads c → ⊥) →
     Ends words old new status → new.disk ≡ old.disk
 
 -- THE GETS come first, in the order of the words: whatever is done or fails behind them, those that were made begin their list
@@ -75,5 +75,5 @@ pub record GotInOrder (c : Command) (old new : Outside) : Type 0 where
   pub then_ : new ≢ mid → blamed ≡ None
 
 abbrev pub GetsComeFirst : Type 0
-GetsComeFirst = (words : List (List ℕ)) (c : Command) (old new : Outside) (status : ExitStatus) → IsCommand words c → Ends words old new status →
+GetsComeFirst = (words : List (List ℕ)) (c : Command) (old new : Outside) (status : Status) → IsCommand words c → Ends words old new status →
     GotInOrder c old new

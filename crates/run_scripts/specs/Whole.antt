@@ -3,9 +3,9 @@ use Rattle.std.specs.Prelude.{ℕ, suc, ◌-◌, ◌<◌, ⊤, if◌then◌else�
 use Rattle.std.specs.List.{flat_map}
 use Rattle.cvm_words.specs.Bytes.{word}
 use Rattle.mips_machine.specs.Saved.{saved}
-use Rattle.cvm_model.specs.Cvm.{Status, Running, Faulted}
-use Rattle.cvm_shell.specs.declared.exit_status.ExitStatus.{ExitStatus}
-use Rattle.cvm_shell.specs.declared.exit_status.ExitStatus.TheVariants.{Done, KernelFault, StepLimit}
+use Rattle.cvm_model.specs.Cvm.{Status as CvmStatus, Running, Faulted}
+use Rattle.cvm_shell.specs.declared.exit_status.Status.{Status}
+use Rattle.cvm_shell.specs.declared.exit_status.Status.TheVariants.{Done, KernelFault, StepLimit}
 use Rattle.cvm_outside.specs.Script.{Call, Printed, Read, Wrote, Stored, scripts}
 use Rattle.run_scripts.specs.Runs.{Run, Past, state_at, turns_at, steps_made, has_ended, cvm_at}
 use Rattle.run_scripts.specs.Steps.{due, steps_script}
@@ -20,11 +20,11 @@ abbrev pub run_script : Run → (load : List Call) → Past → List Call
 run_script r load p = load ++ opening_script r.view r.system ++ rest_script r p 0
 
 -- its status, where no call fails
-abbrev pub status_of : (ended : Bool) → Status → ExitStatus
+abbrev pub status_of : (ended : Bool) → CvmStatus → Status
 status_of ended (Faulted f) = if ended then KernelFault else StepLimit
 status_of ended other = if ended then Done else StepLimit
 
-abbrev pub run_status : Run → Past → ExitStatus
+abbrev pub run_status : Run → Past → Status
 run_status r p = status_of (has_ended r) (cvm_at r p (steps_made r)).status
 
 -- the words of the machine that a run left, with its complete turns and its current user; and the bytes of its file
@@ -38,7 +38,7 @@ abbrev pub saved_row : List ℕ
 saved_row = codes "saved\n"
 
 -- a run that goes on is saved: one file is put, and one row is printed; else the end is the boot's
-abbrev pub leaving_script : (name : List ℕ) → Run → Past → Status → List Call
+abbrev pub leaving_script : (name : List ℕ) → Run → Past → CvmStatus → List Call
 leaving_script name r p Running = Stored name (saved_bytes r p) ∷ Printed (Some saved_row) ∷ []
 leaving_script name r p other = closing_script r p
 
@@ -52,7 +52,7 @@ abbrev pub untold_steps : Run → List Call
 untold_steps r = scripts (λ t. due r t ++ Printed None ∷ []) (steps_made r)
 
 -- its status goes by the power word of the machine
-abbrev pub power_status : (ended : Bool) → Option ℕ → ExitStatus
+abbrev pub power_status : (ended : Bool) → Option ℕ → Status
 power_status ended (Some (suc power)) = if ended then KernelFault else StepLimit
 power_status ended other = if ended then Done else StepLimit
 

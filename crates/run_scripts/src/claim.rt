@@ -3,7 +3,7 @@ ghost use Rattle.cvm_shell.specs.Command.{texts};
 ghost use Rattle.run_scripts.specs.Commands.{Ends, seen};
 
 use cvm_outside::{Sectors, Shelf, Sink};
-use cvm_shell::ExitStatus;
+use cvm_shell::Status;
 use std::alloc::Global;
 
 /// Runs commands.
@@ -16,7 +16,7 @@ pub trait Shell {
         shelf: &mut S,
         out: &mut O,
         disk: &mut D,
-    ) -> ExitStatus
+    ) -> Status
         ensures ends { Ends (texts words.now.items) (seen S.Shelf O.Sink D.Sectors shelf.old out.old disk.old)
             (seen S.Shelf O.Sink D.Sectors shelf.new out.new disk.new) result };
 }

@@ -1,5 +1,5 @@
 // Laws of how commands end, each the contract of a function that does nothing.
-ghost use Rattle.run_scripts.specs.Headline.{Headlines, FilesAsk, ItGoesOn, MemoryKeeps, RunsComplete, EqualJournalsTellTheSame};
+ghost use Rattle.run_scripts.specs.Headline.{Headlines, FilesAsk, ItGoesOn, MemoryKeeps, RunsComplete, TracesIsolate, EqualJournalsTellTheSame};
 ghost use Rattle.run_scripts.specs.Keys.{RunsStart, PastsExist, PastsAgree, TextsGrow, ScriptsTellTheText, ScriptsStoreTheSectors, LoadsStoreTheStart, SectorsBehindStay, EndsAreOver};
 ghost use Rattle.run_scripts.specs.Causes.{StatusesAreCaused, WordsAreRefused, FilesAreRefused, MissingUsersAreRefused, SmallDisksAreRefused, LongFilesAreRefused, StepsAreSpent, WorkCompletes};
 ghost use Rattle.run_scripts.specs.Shapes.{PlansHaveShape, OthersStay, NothingIsLoaded, GetsComeFirst};
@@ -12,7 +12,9 @@ use c0_meaning::laws::units_are_typed_or_faulty;
 use c0_meaning::run_laws::zeros_have_the_words_of_their_types;
 use c0_types::laws::units_of_sources_are_checked;
 use c0_unit::laws::{trees_have_places, units_are_short, units_stand};
-use cvm_model::{units_are_kernels, units_dont_matter, units_stay_typed};
+use cvm_model::{
+    units_are_kernels, units_dont_matter, units_replay, units_stay_typed, users_are_isolated,
+};
 use cvm_outside::script::{scripts_blame, scripts_store, scripts_tell};
 use kernel_linker::laws::{accepted_systems_are_of_their_images, spelled_images_fit};
 use layer_contract::the_loaded_machine_starts;
@@ -62,6 +64,19 @@ pub fn runs_complete()
     headlines();
     it_goes_on();
     turns_are_counted();
+}
+
+/// A law: what a trace that came to its end shows of a user is its journal, which its machine replays.
+pub fn traces_isolate()
+    ensures { TracesIsolate }
+{
+    runs_start();
+    machines_run();
+    traces_grow();
+    turns_are_counted();
+    journal_rows_follow();
+    users_are_isolated();
+    units_replay();
 }
 
 /// A law: two traces of a user that starts alike and has the same journal print the same.
