@@ -56,4 +56,5 @@ def wait_for_output(program, gets, puts):
         if way and named[way]:
             program.kill()
             program.wait()
+            program.stdout.close()
             raise Bad('a file could not be had: nobody %s the pipe %s' % ({'read': 'writes to', 'write': 'reads from'}[way], ' or '.join("'%s'" % name for name in named[way])), 6)
