@@ -29,7 +29,7 @@ TURNS = 100000
 SAVED = 30000       # the turns after which it is saved
 # The words that a command of this system puts are at most so many bytes.
 ROOMS = {'img': 1600000, 'o': 400000, 'f': 2400000}
-SHORT = ('echo hello world', 'echo one two three | count', 'crash', 'spin &', 'sleeper 2', 'kill 8', 'pingpong')
+SHORT = ('echo hello world', 'echo one two three | count', 'sleeper 2', 'crash', 'spin &', 'echo again', 'kill 9', 'pingpong')
 TIMERS = (1500, 2000, 2500, 3000, 4000, 5000, 7000, 10000, 15000, 25000)
 BESIDE = ('spin &', 'crash &', 'sleeper &', 'echo still here', 'echo 1 2 3 | sum')
 HOSTILE = 4         # systems of three users of random words each
