@@ -1,8 +1,8 @@
 """Files in two roles, and pipes whose other end nobody has: sentences before a run, and none where each file has one role."""
 import os
-import subprocess
 import sys
 import tempfile
+import threading
 import time
 import unittest
 from unittest import mock
@@ -82,10 +82,11 @@ class Pipes(Room):
 
     def test_somebody_has_it(self):
         os.mkfifo('pipe')
-        writer = subprocess.Popen([sys.executable, '-c', 'import time; time.sleep(0.5); open("pipe", "w").close()'])
+        writer = threading.Thread(target=lambda: open('pipe', 'w').close())
+        writer.start()
         with mock.patch.object(program, 'write', lambda part: None):
             self.assertEqual(program.run_here([sys.executable, '-c', OPENS, 'pipe', 'r'], ['pipe'], []), (0, ['opened']))
-        writer.wait()
+        writer.join()
 
     def test_what_is_read_has_an_end(self):
         os.mkfifo('pipe')
