@@ -15,7 +15,8 @@ from oracle.assembler import assemble
 from oracle.c0.tree import Parser
 from oracle.generate.examples import Examples
 from oracle.generate.exercises import EXERCISES, expects
-from oracle.generate.writing import EXAMPLES, STEPS, BrokenRule, lines_of, main_of, read
+from oracle.generate.writing import EXAMPLES, STEPS, BrokenRule, lines_of, main_of, read, spelled
+from oracle.words import of_bytes
 
 NOTE = '''The example unix: its session, two traces, a boot from a ROM, a run that is saved and gone on with, a shorter session under ten timers, and users of
 random words beside the shell. Written by oracle/generate/unix.py.
@@ -33,6 +34,8 @@ SHORT = ('echo hello world', 'echo one two three | count', 'sleeper 2', 'crash',
 TIMERS = (1500, 2000, 2500, 3000, 4000, 5000, 7000, 10000, 15000, 25000)
 BESIDE = ('spin &', 'crash &', 'sleeper &', 'echo still here', 'echo 1 2 3 | sum')
 HOSTILE = 4         # systems of three users of random words each
+# The code of a program, a page at most, which begins at word START of its image.
+CODE, START = 'part u%d 65536 4096', 16384
 # Users by their programs' names, as the kernel has them.
 PROGRAMS = dict(init=10, sh=11, echo=12, count=13, sum=14, spin=15, crash=16, forkbomb=17, sleeper=18, pingpong=19, grow=20)
 
@@ -67,6 +70,23 @@ def images(text):
     return [found[0]] + [[] for _ in range(PLACES - 1)] + found[PLACES:]
 
 
+def parts_of(path):
+    """The bytes of files that were printed, by the case and the words of the part."""
+    found, case = {}, None
+    with open(path, encoding='utf-8') as file:
+        for block in ('\n' + file.read()).split('\n== ')[1:]:
+            head, _, text = block.partition('\n')
+            case = head if head.startswith('case ') else case
+            if head.startswith('part '):
+                found[case, head] = bytes_of(text.rstrip('\n'))
+    return found
+
+
+def bytes_of(text):
+    """The bytes that are spelled so."""
+    return b''.join(bytes([int(piece[2:], 16)]) if piece.startswith('\\x') else piece.encode() for piece in re.findall(r'\\x[0-9a-f]{2}|[^\\]', text))
+
+
 class Unix(Examples):
     note = NOTE
 
@@ -76,6 +96,7 @@ class Unix(Examples):
         self.tree, self.runs = Parser(self.kernel), {}
         first = self.had(CASE, 0)
         self.users = images(first[1]) if first else None
+        self.had_parts = parts_of(printed) if printed else {}
 
     def begin_unix(self, case, other={}, given='examples/unix', users=None):
         """A case over the files of the example or of an exercise, of which some users are others: texts of words."""
@@ -94,12 +115,19 @@ class Unix(Examples):
             self.raw('zeros ' + name, str(ROOMS.get(name, 200000)))
         self.run('compile kernel k o')
         for number, name in enumerate(users, 1):
-            kind = 'user' if number in other or name.endswith('.s') else 'program'
+            kind = 'user' if other.get(number, name).startswith('.word') or number not in other and name.endswith('.s') else 'program'
             self.run('compile %s a%d u%d' % (kind, number, number))
         self.run('link o p img ' + ' '.join(made))
 
-    def system(self, given, other={}):
-        users = [assemble(other[number]) if number in other else words for number, words in enumerate(self.users, 1)]
+    def words_of(self, number, text, case):
+        """The words of another user: of a program in C0 its code as it was printed, in an image that is laid out as that of any program of so many pages."""
+        if text.startswith('.word'):
+            return assemble(text)
+        code = of_bytes(self.had_parts['case ' + case, CODE % number])
+        return self.users[number - 1][:START] + code + self.users[number - 1][START + len(code):]
+
+    def system(self, given, other={}, case=None):
+        users = [self.words_of(number, other[number], case) if number in other else words for number, words in enumerate(self.users, 1)]
         return running.System(self.tree, users, self.par, given)
 
     def text(self, case, given, turns=TURNS, traced=0, other={}):
@@ -109,11 +137,8 @@ class Unix(Examples):
         seen = self.had(case, at)
         if not seen or self.users is None:
             return '(not printed)'
-        return self.modeled_text(given, lines_of(self.had(case, 1)[1] if traced else seen[1]), turns, traced, other)
-
-    def modeled_text(self, given, taken, turns, traced, other):
-        lines = {int(turn): int(mask, 16) for turn, mask in taken}
-        return running.text(self.system(given, other), turns, lines, traced)
+        taken = lines_of(self.had(case, 1)[1] if traced else seen[1])
+        return running.text(self.system(given, other, case), turns, {int(turn): int(mask, 16) for turn, mask in taken}, traced)
 
     def session(self):
         """The session of the folder."""
@@ -152,15 +177,25 @@ class Unix(Examples):
             self.run('boot img s %d %d' % (TURNS * 10, STEPS), text)
 
     def hostiles(self):
-        """Users of random words, in place of three programs."""
+        """Users of random words, and random programs, in place of three programs."""
         for number in range(HOSTILE):
-            case = '%s with users of random words, %d' % (CASE, number)
-            numbers = [PROGRAMS[name] for name in ('spin', 'crash', 'sleeper')]
-            other = {user: hostile.text_of(hostile.words(random.Random(3 * number + n))) for n, user in enumerate(numbers)}
-            given = schedule(BESIDE, 4000, until=600000)
-            self.begin_unix(case, other)
-            self.part('file s', given)
-            self.run('boot img s %d %d' % (TURNS, STEPS), self.text(case, given, TURNS, 0, other))
+            self.hostile('users of random words, %d' % number, lambda n: hostile.text_of(hostile.words(random.Random(3 * number + n))))
+        library = read('unix', 'library.c0')
+        for number in range(HOSTILE // 2):
+            self.hostile('random programs, %d' % number, lambda n: hostile.program(random.Random(1000 + 3 * number + n), library))
+
+    def hostile(self, what, made):
+        """A session beside three users that were made."""
+        case, given = '%s with %s' % (CASE, what), schedule(BESIDE, 4000, until=600000)
+        other = {PROGRAMS[name]: made(n) for n, name in enumerate(('spin', 'crash', 'sleeper'))}
+        self.begin_unix(case, other)
+        for number, text in other.items():
+            if not text.startswith('.word'):
+                self.part(CODE % number)
+                seen = self.had_parts.get(('case ' + case, CODE % number))
+                self.told.append('(not printed)' if seen is None else spelled(seen))
+        self.part('file s', given)
+        self.run('boot img s %d %d' % (TURNS, STEPS), self.text(case, given, TURNS, 0, other))
 
     def exercise(self, name):
         """The solution of an exercise, as a boot of one turn and to its end."""
