@@ -10,9 +10,12 @@ use Rattle.cvm_shell.specs.Command.{Command, IsCommand, save, resume, save_sessi
 use Rattle.cvm_shell.specs.Plan.{Plan}
 use Rattle.cvm_outside.specs.Outside.{Outside}
 use Rattle.cvm_outside.specs.Script.{Call, Printed, Read, Wrote, Got, Stored, Who, Performs, done, breaks, goes_on, asks}
-use Rattle.run_scripts.specs.Runs.{Run, Past, run_of, pages_loaded, booted, steps_made, has_ended, cvm_at, sectors_needed}
-use Rattle.run_scripts.specs.Steps.{steps_script}
-use Rattle.run_scripts.specs.Whole.{AreReads, AreOfRun, leaving_script, save_script, saved_bytes, saved_row, untold_steps}
+use Rattle.boot_turns.specs.Runs.{Run, Past, steps_made, has_ended, cvm_at}
+use Rattle.cvm_shell.specs.Boot.{booted, sectors_needed}
+use Rattle.boot_turns.specs.StepScript.{steps_script}
+use Rattle.cvm_shell.specs.Saves.{saved_row}
+use Rattle.run_scripts.specs.Runs.{run_of, pages_loaded}
+use Rattle.run_scripts.specs.Whole.{AreReads, AreOfRun, leaving_script, save_script, saved_bytes, untold_steps}
 use Rattle.run_scripts.specs.Commands.{PlanAsks, SessionAsks, no_user, small, over_told, over_untold, SomeRunAsks, SomeSaveAsks, as_boot, is_saved, load_of}
 use Rattle.run_scripts.specs.Shapes.{Loads, file_put, gets_in, puts_in, NamedBy}
 use Rattle.run_scripts.proofs.MadeOf.{Closed, of_load, of_report, of_run, of_steps, of_untold}

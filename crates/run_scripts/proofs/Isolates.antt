@@ -12,9 +12,10 @@ use Rattle.cvm_model.specs.KernelMeaning.{UnitsReplay}
 use Rattle.cvm_model.specs.Primitives.{user_of}
 use Rattle.boot_turns.specs.Trace.{Shown, entries_so_far}
 use Rattle.boot_turns.specs.declared.answers.View.{View}
-use Rattle.run_scripts.specs.Runs.{Run, IsShown, run_of, lines_met, steps_made, turns_at}
-use Rattle.run_scripts.specs.Closing.{first_of}
-use Rattle.run_scripts.specs.Commands.{SeesUser}
+use Rattle.boot_turns.specs.Runs.{Run, IsShown, lines_met, steps_made, turns_at}
+use Rattle.boot_turns.specs.TurnEnds.{first_of}
+use Rattle.boot_run.specs.RunEnds.{SeesUser}
+use Rattle.run_scripts.specs.Runs.{run_of}
 use Rattle.run_scripts.specs.Headline.{TracesIsolate}
 use Rattle.run_scripts.proofs.Keys.{RunLaws, known}
 use Rattle.run_scripts.proofs.Pasts.{Known, not_ended}

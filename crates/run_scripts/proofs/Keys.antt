@@ -14,7 +14,9 @@ use Rattle.kernel_linker.specs.Accept.{ImageSystem}
 use Rattle.cvm_shell.specs.declared.boot.Session.{Session}
 use Rattle.cvm_shell.specs.Plan.{Plan}
 use Rattle.cvm_outside.specs.Outside.{Outside}
-use Rattle.run_scripts.specs.Runs.{Run, booted, pages_loaded, run_of, sectors_needed, steps_made, turns_at, cvm_at, lines_met}
+use Rattle.boot_turns.specs.Runs.{Run, steps_made, turns_at, cvm_at, lines_met}
+use Rattle.cvm_shell.specs.Boot.{booted, sectors_needed}
+use Rattle.run_scripts.specs.Runs.{pages_loaded, run_of}
 use Rattle.run_scripts.specs.Commands.{load_of}
 use Rattle.run_scripts.specs.Headline.{Asked, text_at}
 use Rattle.run_scripts.specs.Keys.{RunsStart, PastsExist, PastsAgree, TextsGrow, ScriptsTellTheText, ScriptsStoreTheSectors, LoadsStoreTheStart, SectorsBehindStay, EndsAreOver}
@@ -82,7 +84,7 @@ module _ (law : RunLaws) where
   pub loads_store_the_start : LoadsStoreTheStart
   loads_store_the_start words plan session s rows before old a =
       let w = law.start words plan session s rows before old a in
-      let many = a.disk.many in
+      let many = a.disk.size in
       let enough = a.enough in
       load_makes (booted s rows) w.starts.boots.fits.range.params.a_page session.start before (omega (arith, many, enough))
 

@@ -1,12 +1,11 @@
 -- What the scripts of runs are made of: prints, reads and writes of sectors, so that what is so of these, and of one script behind another, is so of them.
 use Rattle.std.specs.Prelude.{Option, Some, None, ◌==◌, if◌then◌else◌}
-use Rattle.std.specs.List.{range_with_len}
-use Rattle.std.proofs.Common.{ℕ, zero, suc, ◌+◌, ◌-◌, ◌/◌, ◌%◌, Bool, true, false, List, [], ◌∷◌, ◌++◌, map, length, drop, sym, subst}
+use Rattle.std.proofs.Common.{ℕ, zero, suc, ◌+◌, ◌-◌, ◌/◌, ◌%◌, Bool, true, false, List, [], ◌∷◌, ◌++◌, length, drop, sym, subst}
 use Rattle.layer_map.specs.Map.{Map}
-use Rattle.mips_table.specs.Device.{Pending, Idle, Reading, Writing}
+use Rattle.mips_table.specs.Device.{Outside, Pending, Idle, Reading, Writing}
 use Rattle.mips_table.specs.Flat.{Flat}
 use Rattle.mips_table.specs.Machine.{State}
-use Rattle.mips_machine.specs.Steps.{before_count}
+use Rattle.mips_machine.specs.Steps.{before_count, due, due_if}
 use Rattle.page_model.specs.Paging.{Pages}
 use Rattle.cvm_model.specs.Cvm.{System, Cvm, Status, Running, Halted, Faulted, map_of}
 use Rattle.cvm_model.specs.Kernel.{JournalEntry, Put}
@@ -16,9 +15,12 @@ use Rattle.boot_turns.specs.declared.answers.View.{View}
 use Rattle.boot_turns.specs.declared.answers.View.TheVariants.{Boot, Trace}
 use Rattle.cvm_outside.specs.Script.{Call, Printed, Read, Wrote, scripts}
 use Rattle.cvm_outside.proofs.Putting.{scripts-none, scripts-suc}
-use Rattle.run_scripts.specs.Runs.{Run, Past, state_at, steps_made, has_ended, cvm_at}
-use Rattle.run_scripts.specs.Steps.{prints, says, load_script, transfer, due, page_reads, page_of, copies_at, entry_reads, row_behind, entry_script, rows_script, step_script, steps_script}
-use Rattle.run_scripts.specs.Closing.{opening_script, page_script, cpu_text, user_script, boot_report, trace_report, report_by, closing_script}
+use Rattle.boot_turns.specs.Runs.{Run, Past, state_at, steps_made, has_ended, cvm_at}
+use Rattle.boot_turns.specs.StepScript.{prints, page_reads, page_of, copies_at, entry_reads, row_behind, entry_script, rows_script, step_script, steps_script}
+use Rattle.boot_run.specs.LoadScript.{load_script, page_script as load_page}
+use Rattle.boot_run.specs.Loading.{words_of_page}
+use Rattle.sector_disk.specs.Ports.{transfer_script}
+use Rattle.run_scripts.specs.Closing.{opening_script, page_script, cpu_text, user_script, boot_report, trace_report, report_by, closing_script, says}
 use Rattle.run_scripts.specs.Whole.{rest_script, run_script, untold_steps}
 
 -- it holds of no call, of one script behind another where it does of both, of a print and of a read
@@ -86,25 +88,30 @@ module _ (P : List Call → Type 0) (c : Closed P) where
 
   -- and of a write
   module _ (write : (q : ℕ) (words : List ℕ) → P (Wrote q words ∷ [])) where
-    of_transfer : (p : Pending) (buffer : List ℕ) → P (transfer p buffer)
+    of_transfer : (p : Pending) (buffer : List ℕ) → P (transfer_script p buffer)
     of_transfer Idle buffer = c.none
     of_transfer (Reading zero q) buffer = c.read q
     of_transfer (Reading (suc n) q) buffer = c.none
     of_transfer (Writing zero q) buffer = write q buffer
     of_transfer (Writing (suc n) q) buffer = c.none
 
-    of_due : (r : Run) (t : ℕ) → P (due r t)
-    of_due r t = of_transfer (before_count r.around (state_at r t)).pending (before_count r.around (state_at r t)).buffer
+    of_due : (x : Outside) (s : State) → P (due x s)
+    unfolding due
+    of_due x s = by s.off
+      where
+        by : (o : Option ℕ) → P (due_if x s o)
+        by None = of_transfer (before_count x s).pending (before_count x s).buffer
+        by (Some word) = c.none
 
     pub of_steps : (r : Run) (p : Past) (t n : ℕ) → P (steps_script r p t n)
-    of_steps r p t n = of_scripts (λ i. step_script r p (t + i)) n (λ i. c.both (due r (t + i)) (rows_script r.view r p (t + i)) (of_due r (t + i)) (of_rows r.view r p (t + i)))
+    of_steps r p t n = of_scripts (λ i. step_script r p (t + i)) n (λ i. c.both (due r.around (state_at r (t + i))) (rows_script r.view r p (t + i)) (of_due r.around (state_at r (t + i))) (of_rows r.view r p (t + i)))
 
     pub of_untold : (r : Run) → P (untold_steps r)
-    of_untold r = of_scripts (λ t. due r t ++ Printed None ∷ []) (steps_made r) (λ t. c.both (due r t) (Printed None ∷ []) (of_due r t) (c.print None))
+    of_untold r = of_scripts (λ t. due r.around (state_at r t) ++ Printed None ∷ []) (steps_made r)
+        (λ t. c.both (due r.around (state_at r t)) (Printed None ∷ []) (of_due r.around (state_at r t)) (c.print None))
 
     pub of_load : (pages : Pages) (held : ℕ) → P (load_script pages held)
-    of_load pages held = of_scripts (λ q. if pages.live q then Wrote q (map (pages.word q) (range_with_len 0 1024)) ∷ [] else []) held
-        (λ q. of_if (pages.live q) (Wrote q (map (pages.word q) (range_with_len 0 1024)) ∷ []) (write q _))
+    of_load pages held = of_scripts (load_page pages) held (λ q. of_if (pages.live q) (Wrote q (words_of_page pages q) ∷ []) (write q _))
 
     pub of_rest : (r : Run) (p : Past) (t : ℕ) → P (rest_script r p t)
     of_rest r p t = c.both (steps_script r p t (steps_made r - t)) (if has_ended r then closing_script r p else []) (of_steps r p t (steps_made r - t))

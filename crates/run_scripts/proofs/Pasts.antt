@@ -15,8 +15,8 @@ use Rattle.boot_turns.specs.RunMachines.{RunMachines, RowsGrow}
 use Rattle.boot_turns.specs.Trace.{Shown}
 use Rattle.boot_turns.specs.declared.answers.View.{View}
 use Rattle.boot_turns.specs.declared.answers.View.TheVariants.{Boot, Trace}
-use Rattle.run_scripts.specs.Runs.{Run, Past, IsPast, IsShown, state_at, turns_at, steps_made, lines_met, cvm_at}
-use Rattle.run_scripts.specs.Commands.{SeesUser}
+use Rattle.boot_turns.specs.Runs.{Run, Past, IsPast, IsShown, state_at, turns_at, steps_made, lines_met, cvm_at}
+use Rattle.boot_run.specs.RunEnds.{SeesUser}
 
 -- what the laws say of a run from a start
 pub record Known (r : Run) : Type 0 where

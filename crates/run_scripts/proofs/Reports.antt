@@ -12,15 +12,15 @@ use Rattle.cvm_model.specs.Kernel.{JournalEntry, parts_of}
 use Rattle.cvm_model.specs.Primitives.{no_flat, pages_of, user_of}
 use Rattle.cvm_model.specs.Stands.{UserFits}
 use Rattle.cvm_model.specs.Text.{rows_text, fault_name, globals_text, log_text, memory_text, hex_row, user_text, users_text, report_text, closing_text, start_row, journal_rows, open_journal_rows, trace_end}
-use Rattle.boot_turns.specs.TurnEnds.{RestsAfter}
+use Rattle.boot_turns.specs.TurnEnds.{RestsAfter, first_of}
 use Rattle.boot_turns.specs.declared.answers.View.{View}
 use Rattle.boot_turns.specs.declared.answers.View.TheVariants.{Boot, Trace}
 use Rattle.cvm_outside.specs.Script.{Call, scripts}
-use Rattle.run_scripts.specs.Runs.{Run, Past, IsPast, state_at, turns_at, steps_made, has_ended, lines_met, cvm_at}
-use Rattle.run_scripts.specs.Steps.{says, page_reads, page_of, steps_script}
-use Rattle.run_scripts.specs.Closing.{first_of, opening_script, page_script, cpu_text, user_script, boot_report, last_steps, trace_report, report_by, closing_script}
+use Rattle.boot_turns.specs.Runs.{Run, Past, IsPast, state_at, turns_at, steps_made, has_ended, lines_met, cvm_at}
+use Rattle.boot_turns.specs.StepScript.{page_reads, page_of, steps_script}
+use Rattle.boot_run.specs.RunEnds.{SeesUser}
+use Rattle.run_scripts.specs.Closing.{opening_script, page_script, cpu_text, user_script, boot_report, last_steps, trace_report, report_by, closing_script, says}
 use Rattle.run_scripts.specs.Whole.{rest_script, run_script}
-use Rattle.run_scripts.specs.Commands.{SeesUser}
 use Rattle.run_scripts.specs.Headline.{text_by, text_at, ended_text, whole_text}
 use Rattle.run_scripts.proofs.Pasts.{Known, first_is}
 use Rattle.run_scripts.proofs.Tells.{Tells, tells_none, tells_both, tells_scripts, says_tells, silent, quiet_reads, steps_tell, opening_tells}

@@ -7,8 +7,8 @@ use Rattle.cvm_model.specs.Kernel.{JournalEntry}
 use Rattle.cvm_model.specs.Journal.{replay}
 use Rattle.cvm_model.specs.Primitives.{user_of}
 use Rattle.cvm_model.specs.Text.{trace_text}
-use Rattle.run_scripts.specs.Runs.{Run, Past, steps_made, has_ended, cvm_at}
-use Rattle.run_scripts.specs.Closing.{first_of}
+use Rattle.boot_turns.specs.Runs.{Run, Past, steps_made, has_ended, cvm_at}
+use Rattle.boot_turns.specs.TurnEnds.{first_of}
 use Rattle.run_scripts.specs.Headline.{Isolated, EqualJournalsTellTheSame, whole_text}
 
 whole : (r : Run) (p : Past) (u : ℕ) → r.view ≡ Trace u → has_ended r ≡ true →

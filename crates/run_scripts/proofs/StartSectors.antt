@@ -18,17 +18,15 @@ use Rattle.cvm_shell.specs.declared.boot.StartPoint.{StartPoint}
 use Rattle.cvm_shell.specs.declared.boot.StartPoint.TheVariants.{Loaded, Rom}
 use Rattle.cvm_outside.specs.Script.{Call, Wrote, scripts, stored}
 use Rattle.cvm_outside.proofs.Putting.{scripts-none, scripts-suc}
-use Rattle.run_scripts.specs.Runs.{held_of, pages_loaded, start_of}
-use Rattle.run_scripts.specs.Steps.{load_script}
+use Rattle.cvm_shell.specs.Boot.{held_of, start_of}
+use Rattle.boot_run.specs.LoadScript.{load_script, page_script}
+use Rattle.run_scripts.specs.Runs.{pages_loaded}
 use Rattle.run_scripts.proofs.Stores.{stored-append}
-
-abbrev page_script : Pages → ℕ → List Call
-page_script p q = if p.live q then Wrote q (map (p.word q) (range_with_len 0 1024)) ∷ [] else []
 
 page_stores : (p : Pages) (q : ℕ) (ss : List (List ℕ)) → stored (page_script p q) ss ≡ with_page p ss q
 page_stores p q ss = by (p.live q)
   where
-    by : (b : Bool) → stored (if b then Wrote q (map (p.word q) (range_with_len 0 1024)) ∷ [] else []) ss ≡ (if b then slice_set ss q (words_of_page p q) else ss)
+    by : (b : Bool) → stored (if b then Wrote q (words_of_page p q) ∷ [] else []) ss ≡ (if b then slice_set ss q (words_of_page p q) else ss)
     by true = refl
     by false = refl
 

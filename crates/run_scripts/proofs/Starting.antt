@@ -32,8 +32,9 @@ use Rattle.boot_run.proofs.Premises.{RowsFit}
 use Rattle.cvm_shell.specs.declared.boot.Session.{Session}
 use Rattle.cvm_shell.specs.declared.boot.StartPoint.{StartPoint}
 use Rattle.cvm_shell.specs.declared.boot.StartPoint.TheVariants.{Loaded, Rom}
-use Rattle.run_scripts.specs.Runs.{booted, held_of, run_of, sectors_needed, steps_before}
-use Rattle.run_scripts.specs.Headline.{IsDisk}
+use Rattle.cvm_shell.specs.Boot.{booted, held_of, sectors_needed, steps_before}
+use Rattle.boot_run.specs.SavedRuns.{IsDisk}
+use Rattle.run_scripts.specs.Runs.{run_of}
 use Rattle.run_scripts.specs.Keys.{IsStarted}
 use Rattle.run_scripts.proofs.FirstCores.{its_map}
 use Rattle.run_scripts.proofs.Following.{UnitLaws, IsWhole, range, same_map, site_laws, follows, words_are, long}
@@ -92,7 +93,7 @@ module _ (law : UnitLaws) (spelled : SpelledImagesFit) (of_images : AcceptedAreO
           words = words_are law s w;
           input = fit.words;
           core = subst (λ (m : Map). CoreFits m (first_core (booted s rows))) (same_map law s w) ((follows law s w).made.fits rows.inputs (longest rows) fit.few);
-          count = disk.many;
+          count = disk.size;
           pages = disk.each;
           enough = room;
         }
@@ -109,7 +110,7 @@ module _ (law : UnitLaws) (spelled : SpelledImagesFit) (of_images : AcceptedAreO
           sizes = sizes_of s.users;
           made_for = its_map s;
           boots = record {
-            happens = record { lines_are = refl; eight = fit.eight; end = fit.end; busy_are = refl; count_is = sym disk.many };
+            happens = record { lines_are = refl; eight = fit.eight; end = fit.end; busy_are = refl; count_is = sym disk.size };
             within = fit.within;
             fits = fits room;
             follows = follows law s w;

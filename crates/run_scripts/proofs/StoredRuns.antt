@@ -4,8 +4,9 @@ use Rattle.std.proofs.Common.{◌≡◌, ℕ, suc, ◌+◌, ◌-◌, ◌<◌, �
 use Rattle.mips_table.specs.Turns.{TurnLaws}
 use Rattle.cvm_outside.specs.Script.{Call, IsQuiet, stored}
 use Rattle.cvm_outside.proofs.Putting.{quiet_both}
-use Rattle.run_scripts.specs.Runs.{Run, Past, state_at, steps_made, has_ended}
-use Rattle.run_scripts.specs.Steps.{due, rows_script, step_script, steps_script}
+use Rattle.boot_turns.specs.Runs.{Run, Past, state_at, steps_made, has_ended}
+use Rattle.mips_machine.specs.Steps.{due}
+use Rattle.boot_turns.specs.StepScript.{rows_script, step_script, steps_script}
 use Rattle.run_scripts.specs.Closing.{opening_script, closing_script}
 use Rattle.run_scripts.specs.Whole.{rest_script, run_script}
 use Rattle.run_scripts.proofs.MadeOf.{Closed, of_if, of_opening, of_report, of_rows}
@@ -19,8 +20,8 @@ quiet = record { none = tt; both = quiet_both; print = λ text. tt; read = λ q.
 -- A STEP, steps, and what is left from a step on
 pub step_leaves : TurnLaws → (r : Run) (p : Past) (t : ℕ) → t < steps_made r → stored (step_script r p t) (state_at r t).device.sectors ≡ (state_at r (suc t)).device.sectors
 step_leaves count r p t lt =
-    stored-append (due r t) (rows_script r.view r p t) (state_at r t).device.sectors
-    ∙ quiet_stores (rows_script r.view r p t) (of_rows IsQuiet quiet r.view r p t) (stored (due r t) (state_at r t).device.sectors)
+    stored-append (due r.around (state_at r t)) (rows_script r.view r p t) (state_at r t).device.sectors
+    ∙ quiet_stores (rows_script r.view r p t) (of_rows IsQuiet quiet r.view r p t) (stored (due r.around (state_at r t)) (state_at r t).device.sectors)
     ∙ step_stores r t (on_before count r t lt)
 
 pub steps_leave : TurnLaws → (r : Run) (p : Past) (t n : ℕ) → t + n ≤ steps_made r → stored (steps_script r p t n) (state_at r t).device.sectors ≡ (state_at r (t + n)).device.sectors

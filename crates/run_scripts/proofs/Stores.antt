@@ -10,11 +10,11 @@ use Rattle.mips_table.specs.Decoding.{decoding}
 use Rattle.mips_table.specs.Processor.{Move, Ran, Loaded, Stored as Puts, Trapped, Privileged, is_aligned, move}
 use Rattle.mips_table.specs.Device.{Device, Outside, Pending, Idle, Reading, Writing, BUFFER, POWER, COMMAND, SECTOR, is_busy, is_buffer, begun, port_write, settled}
 use Rattle.mips_table.specs.Machine.{State, LOG, INPUT, Interrupt, interrupted, come_to, after_read, after_read_at, port_written, written, written_at, log_has_room, in_system, located, privileged, moved, fetch, fetched, access, coming, latched, if_on, step}
-use Rattle.mips_machine.specs.Steps.{before_count}
+use Rattle.mips_machine.specs.Steps.{before_count, due, due_if}
 use Rattle.cvm_outside.specs.Script.{Call, Printed, Read, Wrote, Got, Stored, IsQuiet, scripts, stored}
 use Rattle.cvm_outside.proofs.Putting.{scripts-none, scripts-suc, quiet_both}
-use Rattle.run_scripts.specs.Runs.{Run, state_at}
-use Rattle.run_scripts.specs.Steps.{transfer, due}
+use Rattle.boot_turns.specs.Runs.{Run, state_at}
+use Rattle.sector_disk.specs.Ports.{transfer_script}
 
 -- SCRIPTS one after another
 pub stored-append : (a b : List Call) (ss : List (List ℕ)) → stored (a ++ b) ss ≡ stored b (stored a ss)
@@ -138,17 +138,18 @@ coming_keeps x s = by s.reset (slice_index s.special SR == 1 && not (s.mask == 0
     by false false = moved_keeps x (fetched s) (move (access s) s.cpu (fetch s)) ∙ fetched_keeps s
 
 -- THE TRANSFER that is due
-transfer_stores : (p : Pending) (d : Device) (ss : List (List ℕ)) → d.sectors ≡ ss → stored (transfer p d.buffer) ss ≡ (settled p d).sectors
+transfer_stores : (p : Pending) (d : Device) (ss : List (List ℕ)) → d.sectors ≡ ss → stored (transfer_script p d.buffer) ss ≡ (settled p d).sectors
 transfer_stores Idle d ss e = sym e
 transfer_stores (Reading zero sector) d ss e = sym e
 transfer_stores (Reading (suc left) sector) d ss e = sym e
 transfer_stores (Writing zero sector) d ss e = ap (λ (l : List (List ℕ)). slice_set l sector d.buffer) (sym e)
 transfer_stores (Writing (suc left) sector) d ss e = sym e
 
-pub step_stores : (r : Run) (t : ℕ) → (state_at r t).off ≡ None → stored (due r t) (state_at r t).device.sectors ≡ (state_at r (suc t)).device.sectors
-unfolding step before_count
+pub step_stores : (r : Run) (t : ℕ) → (state_at r t).off ≡ None → stored (due r.around (state_at r t)) (state_at r t).device.sectors ≡ (state_at r (suc t)).device.sectors
+unfolding step before_count due
 step_stores r t on =
     let s : State = state_at r t in
     let d : Device = (come_to (coming r.around (latched r.around s))).device in
-    transfer_stores d.pending d s.device.sectors (coming_keeps r.around (latched r.around s))
+    ap (λ (o : Option ℕ). stored (due_if r.around s o) s.device.sectors) on
+    ∙ transfer_stores d.pending d s.device.sectors (coming_keeps r.around (latched r.around s))
     ∙ ap (λ (o : Option ℕ). (if_on r.around s o).device.sectors) (sym on)

@@ -1,13 +1,12 @@
 -- What scripts tell: the whole text of a run.
-use Rattle.std.specs.Prelude.{Some, ◌==◌, if◌then◌else◌}
-use Rattle.std.specs.List.{range_with_len}
-use Rattle.std.proofs.Common.{◌≡◌, ℕ, zero, suc, ◌+◌, ◌-◌, ◌/◌, ◌%◌, ◌<◌, ◌≤◌, Bool, true, false, List, [], ◌∷◌, ◌++◌, length, take, drop, get_or, map, refl, sym, ap, ◌∙◌, subst, arith, append-nil, append_assoc}
+use Rattle.std.specs.Prelude.{Option, Some, None, ◌==◌, if◌then◌else◌}
+use Rattle.std.proofs.Common.{◌≡◌, ℕ, zero, suc, ◌+◌, ◌-◌, ◌/◌, ◌%◌, ◌<◌, ◌≤◌, Bool, true, false, List, [], ◌∷◌, ◌++◌, length, take, drop, get_or, refl, sym, ap, ◌∙◌, subst, arith, append-nil, append_assoc}
 use Rattle.std.proofs.lemmas.List.{take_all, take_more, length-append}
 use Rattle.std.proofs.Math.Seq.{take-append_seam, drop-append_seam}
 use Rattle.layer_map.specs.Map.{Map}
-use Rattle.mips_table.specs.Device.{Pending, Idle, Reading, Writing}
+use Rattle.mips_table.specs.Device.{Outside, Pending, Idle, Reading, Writing}
 use Rattle.mips_table.specs.Machine.{State}
-use Rattle.mips_machine.specs.Steps.{before_count}
+use Rattle.mips_machine.specs.Steps.{before_count, due, due_if}
 use Rattle.cvm_model.specs.Cvm.{Cvm, map_of}
 use Rattle.cvm_model.specs.Kernel.{JournalEntry, Put}
 use Rattle.cvm_model.specs.Paged.{paged_of}
@@ -19,10 +18,14 @@ use Rattle.page_model.specs.Paging.{Pages}
 use Rattle.cvm_outside.specs.Script.{Call, Read, Wrote, scripts, spoken}
 use Rattle.cvm_outside.proofs.Putting.{scripts-none, scripts-suc}
 use Rattle.cvm_outside.proofs.Tell.{speaks_both}
-use Rattle.run_scripts.specs.Runs.{Run, Past, IsPast, state_at, steps_made, cvm_at}
-use Rattle.run_scripts.specs.Steps.{prints, says, load_script, transfer, due, page_reads, page_of, copies_at, entry_reads, row_behind, entry_script, rows_script, step_script, steps_script}
-use Rattle.run_scripts.specs.Closing.{first_of, opening_script}
-use Rattle.run_scripts.specs.Commands.{SeesUser}
+use Rattle.boot_turns.specs.Runs.{Run, Past, IsPast, state_at, steps_made, cvm_at}
+use Rattle.boot_turns.specs.StepScript.{prints, page_reads, page_of, copies_at, entry_reads, row_behind, entry_script, rows_script, step_script, steps_script}
+use Rattle.boot_run.specs.LoadScript.{load_script, page_script as load_page}
+use Rattle.boot_run.specs.Loading.{words_of_page}
+use Rattle.sector_disk.specs.Ports.{transfer_script}
+use Rattle.boot_turns.specs.TurnEnds.{first_of}
+use Rattle.boot_run.specs.RunEnds.{SeesUser}
+use Rattle.run_scripts.specs.Closing.{opening_script, says}
 use Rattle.run_scripts.specs.Headline.{text_by, text_at}
 use Rattle.run_scripts.proofs.Pasts.{Known, rows_grow, journal_grows, journal_starts, first_is}
 
@@ -59,12 +62,20 @@ prints_tells (b ∷ x) old new e = record { text = b ∷ x; told = ap (λ (l : L
 pub silent : (a : List Call) (old : List ℕ) → spoken a ≡ Some [] → Tells a old old
 silent a old e = record { text = []; told = e; is = sym (append-nil old) }
 
-quiet_transfer : (p : Pending) (buffer : List ℕ) → spoken (transfer p buffer) ≡ Some []
+quiet_transfer : (p : Pending) (buffer : List ℕ) → spoken (transfer_script p buffer) ≡ Some []
 quiet_transfer Idle buffer = refl
 quiet_transfer (Reading zero q) buffer = refl
 quiet_transfer (Reading (suc n) q) buffer = refl
 quiet_transfer (Writing zero q) buffer = refl
 quiet_transfer (Writing (suc n) q) buffer = refl
+
+quiet_due : (x : Outside) (s : State) → spoken (due x s) ≡ Some []
+unfolding due
+quiet_due x s = by s.off
+  where
+    by : (o : Option ℕ) → spoken (due_if x s o) ≡ Some []
+    by None = quiet_transfer (before_count x s).pending (before_count x s).buffer
+    by (Some word) = refl
 
 pub quiet_reads : (m : Map) (s : State) (q : ℕ) → spoken (page_reads m s q) ≡ Some []
 quiet_reads m s q = by ((paged_of m s).entry q / 2048 % 2 == 1)
@@ -78,9 +89,9 @@ quiet_entry m s u (Put address value ∷ rest) = quiet_reads m s (page_of m u (a
 quiet_entry m s u other = refl
 
 pub quiet_load : (p : Pages) (n : ℕ) (old : List ℕ) → Tells (load_script p n) old old
-quiet_load p n old = tells_scripts (λ q. if p.live q then Wrote q (map (p.word q) (range_with_len 0 1024)) ∷ [] else []) (λ i. old) n (λ q lt. silent _ old (by q (p.live q)))
+quiet_load p n old = tells_scripts (load_page p) (λ i. old) n (λ q lt. silent _ old (by q (p.live q)))
   where
-    by : (q : ℕ) (b : Bool) → spoken (if b then Wrote q (map (p.word q) (range_with_len 0 1024)) ∷ [] else []) ≡ Some []
+    by : (q : ℕ) (b : Bool) → spoken (if b then Wrote q (words_of_page p q) ∷ [] else []) ≡ Some []
     by q true = refl
     by q false = refl
 
@@ -150,8 +161,8 @@ module _ (r : Run) (k : Known r) (p : Past) (is : IsPast r p) where
   -- A STEP, and steps
   pub step_tells : (t : ℕ) → t < steps_made r → Tells (step_script r p t) (text_at r p t) (text_at r p (suc t))
   step_tells t lt =
-      tells_both (due r t) (rows_script r.view r p t) (text_at r p t) (text_at r p t) (text_at r p (suc t))
-      (silent (due r t) (text_at r p t) (quiet_transfer (before_count r.around (state_at r t)).pending (before_count r.around (state_at r t)).buffer)) (rows_tell t lt)
+      tells_both (due r.around (state_at r t)) (rows_script r.view r p t) (text_at r p t) (text_at r p t) (text_at r p (suc t))
+      (silent (due r.around (state_at r t)) (text_at r p t) (quiet_due r.around (state_at r t))) (rows_tell t lt)
 
   pub steps_tell : (t n : ℕ) → t + n ≤ steps_made r → Tells (steps_script r p t n) (text_at r p t) (text_at r p (t + n))
   steps_tell t n le =

@@ -4,9 +4,10 @@ use Rattle.cvm_shell.specs.Command.{Command, IsCommand, boot, trace, save, resum
 use Rattle.cvm_shell.specs.Plan.{Plan, bad_words, boots, PlanComesTo, no_command, boot_plan, trace_plan, save_plan, resume_plan, user_plan, kernel_plan, image_plan, link_plan, migrate_plan, sample_plan, check_plan}
 use Rattle.cvm_outside.specs.Script.{TheShelf}
 use Rattle.cvm_outside.specs.ScriptLaws.{ScriptsTell, ScriptsStore, ScriptsBlame}
+use Rattle.cvm_shell.specs.Boot.{sectors_needed}
 use Rattle.run_scripts.specs.Commands.{gets, files_of, done, no_file, no_memory}
 use Rattle.run_scripts.specs.Headline.{Headline, Headlines}
-use Rattle.run_scripts.specs.Runs.{run_of, sectors_needed}
+use Rattle.run_scripts.specs.Runs.{run_of}
 use Rattle.run_scripts.specs.Keys.{ScriptsTellTheText, ScriptsStoreTheSectors, SectorsBehindStay, EndsAreOver}
 use Rattle.run_scripts.proofs.Joins.{got_keeps}
 use Rattle.run_scripts.proofs.Heads.{headlines_from}

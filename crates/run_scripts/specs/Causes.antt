@@ -13,8 +13,10 @@ use Rattle.cvm_shell.specs.Plan.{Plan, refuses, puts, boots, saves, resumes, pri
 use Rattle.cvm_outside.specs.Script.{Who, TheSink, TheDisk, TheShelf}
 use Rattle.cvm_outside.specs.Outside.{Outside}
 use Rattle.cvm_outside.specs.ScriptLaws.{Blamed, PrintedBy}
-use Rattle.run_scripts.specs.Runs.{Run, steps_made, has_ended, sectors_needed}
-use Rattle.run_scripts.specs.Commands.{Ends, SeesUser, files_of}
+use Rattle.boot_turns.specs.Runs.{Run, steps_made, has_ended}
+use Rattle.cvm_shell.specs.Boot.{sectors_needed}
+use Rattle.boot_run.specs.RunEnds.{SeesUser}
+use Rattle.run_scripts.specs.Commands.{Ends, files_of}
 use Rattle.run_scripts.specs.Headline.{NoneFailed, IsOf}
 
 -- the count of this object rose, or of none where it is none; and the counts of all others are as before
@@ -75,8 +77,9 @@ FilesAreRefused = (words : List (List ℕ)) (old new : Outside) (status : Status
 
 -- A USER THAT THERE IS NONE OF is refused, and then a disk that is too small, where no call fails and memory is there
 abbrev pub MissingUsersAreRefused : Type 0
-MissingUsersAreRefused = (words : List (List ℕ)) (old new : Outside) (status : Status) (r : Refusal) → AllTold words old.shelf.file → HasNoUser words old r →
-    NoneFailed old new → Ends words old new status → status ≢ Memory → (status ≡ Refused) × PrintedBy None old.sink.text new.sink.text (refusal_text r)
+MissingUsersAreRefused = (words : List (List ℕ)) (old new : Outside) (status : Status) (r : Refusal) → AllTold words old.shelf.file →
+    HasNoUser words old r → NoneFailed old new → Ends words old new status → status ≢ Memory →
+    (status ≡ Refused) × PrintedBy None old.sink.text new.sink.text (refusal_text r)
 
 abbrev pub SmallDisksAreRefused : Type 0
 SmallDisksAreRefused = (words : List (List ℕ)) (plan : Plan) (session : Session) (s : ImageSystem) (rows : Rows) (old new : Outside) (status : Status) →
@@ -101,5 +104,5 @@ IsWork other = ⊥
 
 -- COMPLETENESS of the other commands: with nothing to refuse and no failed call they are done
 abbrev pub WorkCompletes : Type 0
-WorkCompletes = (words : List (List ℕ)) (old new : Outside) (status : Status) (p : Plan) → AllTold words old.shelf.file → PlanComesTo words old.shelf.file p →
-    IsWork p → NoneFailed old new → Ends words old new status → status ≢ Memory → status ≡ Done
+WorkCompletes = (words : List (List ℕ)) (old new : Outside) (status : Status) (p : Plan) → AllTold words old.shelf.file →
+    PlanComesTo words old.shelf.file p → IsWork p → NoneFailed old new → Ends words old new status → status ≢ Memory → status ≡ Done

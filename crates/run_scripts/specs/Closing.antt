@@ -1,21 +1,22 @@
 -- THE SCRIPTS before the first step and behind the last: the first row of a trace; the end and the report.
-use Rattle.std.specs.Prelude.{ℕ, ◌+◌, ◌*◌, List, [], ◌++◌, codes, decimal, drop, take, length}
+use Rattle.std.specs.Prelude.{ℕ, ◌+◌, ◌*◌, List, [], ◌∷◌, ◌++◌, Some, codes, decimal, drop, take, length}
 use Rattle.mips_table.specs.Machine.{State}
 use Rattle.mips_table.specs.Flat.{Flat}
 use Rattle.layer_map.specs.Map.{Map}
-use Rattle.cvm_model.specs.Cvm.{System, Cvm, Status, Faulted, map_of, first_core}
+use Rattle.cvm_model.specs.Cvm.{System, Cvm, Status, Faulted, map_of}
 use Rattle.cvm_model.specs.Kernel.{JournalEntry, parts_of}
 use Rattle.cvm_model.specs.Primitives.{user_of, pages_of}
 use Rattle.cvm_model.specs.Text.{end_text, fault_name, globals_text, log_text, memory_text, hex_row, regs_text, nonzero_row, start_row, journal_rows, open_journal_rows}
 use Rattle.boot_turns.specs.declared.answers.View.{View}
 use Rattle.boot_turns.specs.declared.answers.View.TheVariants.{Boot, Trace}
-use Rattle.cvm_outside.specs.Script.{Call, scripts}
-use Rattle.run_scripts.specs.Runs.{Run, Past, state_at, steps_made, cvm_at}
-use Rattle.run_scripts.specs.Steps.{says, page_reads, page_of}
+use Rattle.cvm_outside.specs.Script.{Call, Printed, scripts}
+use Rattle.boot_turns.specs.Runs.{Run, Past, state_at, steps_made, cvm_at}
+use Rattle.boot_turns.specs.StepScript.{page_reads, page_of}
+use Rattle.boot_turns.specs.TurnEnds.{first_of}
 
--- user u's machine at the start
-abbrev pub first_of : System → ℕ → Flat
-first_of y u = user_of (first_core y).users u
+-- a text is printed, by a call in any case
+abbrev pub says : List ℕ → List Call
+says text = Printed (Some text) ∷ []
 
 -- before the first step: of a trace the row of the user's size
 abbrev pub opening_script : View → System → List Call

@@ -7,8 +7,7 @@ use Rattle.mips_table.specs.Turns.{IsEnd}
 use Rattle.mips_table.specs.Fits.{IsPage}
 use Rattle.mips_machine.specs.Saved.{saved, CanBeSaved}
 use Rattle.cvm_model.specs.Cvm.{Running}
-use Rattle.boot_turns.specs.declared.answers.View.{View}
-use Rattle.boot_turns.specs.declared.answers.View.TheVariants.{Boot, Trace}
+use Rattle.boot_turns.specs.declared.answers.View.TheVariants.{Trace}
 use Rattle.kernel_linker.specs.Accept.{ImageSystem}
 use Rattle.cvm_shell.specs.declared.exit_status.Status.{Status}
 use Rattle.cvm_shell.specs.declared.exit_status.Status.TheVariants.{Done, Words, Refused, KernelFault, StepLimit, Disk, Shelf, Sink, Memory}
@@ -21,9 +20,14 @@ use Rattle.cvm_outside.specs.declared.shelf.Shelf as shelf_of
 use Rattle.cvm_outside.specs.declared.sink.Sink as sink_of
 use Rattle.cvm_outside.specs.declared.sectors.Sectors as sectors_of
 use Rattle.cvm_outside.specs.Outside.{Outside, files, output, drive}
-use Rattle.run_scripts.specs.Runs.{Run, Past, IsPast, state_at, turns_at, steps_made, has_ended, cvm_at, run_of, booted, sectors_needed, pages_loaded}
-use Rattle.run_scripts.specs.Steps.{load_script, says}
-use Rattle.run_scripts.specs.Whole.{run_script, run_status, rest_script, save_script, saved_row, untold_steps, power_status, AreReads, AreOfRun}
+use Rattle.boot_turns.specs.Runs.{Run, Past, IsPast, state_at, turns_at, steps_made, has_ended, cvm_at}
+use Rattle.cvm_shell.specs.Boot.{booted, sectors_needed}
+use Rattle.boot_run.specs.LoadScript.{load_script}
+use Rattle.boot_run.specs.RunEnds.{SeesUser}
+use Rattle.cvm_shell.specs.Saves.{saved_row}
+use Rattle.run_scripts.specs.Closing.{says}
+use Rattle.run_scripts.specs.Runs.{run_of, pages_loaded}
+use Rattle.run_scripts.specs.Whole.{run_script, run_status, rest_script, save_script, untold_steps, power_status, AreReads, AreOfRun}
 
 -- THE LOAD of a session
 abbrev pub load_of : Session → ImageSystem → Rows → List Call
@@ -69,18 +73,14 @@ pub record ResumeAsks (session : Session) (s : ImageSystem) (rows : Rows) (words
 
 -- over a disk that tells no sectors: the load, and then some calls of a run
 abbrev pub SomeRunAsks : (size : ℕ) → (load : List Call) → List Call → Status → Type 0
-SomeRunAsks size load script status = (more : List Call) × AreOfRun size more × (script ≡ load ++ more) × (status ≡ Done ⊎ (status ≡ KernelFault ⊎ status ≡ StepLimit))
+SomeRunAsks size load script status = (more : List Call) × AreOfRun size more × (script ≡ load ++ more)
+    × (status ≡ Done ⊎ (status ≡ KernelFault ⊎ status ≡ StepLimit))
 
 -- and of a save one file and the row at the end, where it is done
 pub data SomeSaveAsks (name : List ℕ) (size : ℕ) (load : List Call) : List Call → Status → Type 0 where
   as_boot : (script : List Call) (status : Status) → SomeRunAsks size load script status → SomeSaveAsks name size load script status
   is_saved : (more : List Call) (bytes : List ℕ) → AreOfRun size more →
       SomeSaveAsks name size load (load ++ more ++ (Stored name bytes ∷ Printed (Some saved_row) ∷ [])) Done
-
--- what is viewed is a boot, or a user that there is
-abbrev pub SeesUser : View → ℕ → Type 0
-SeesUser Boot users = ⊤
-SeesUser (Trace u) users = (1 ≤ u) × (u ≤ users)
 
 -- WHAT A SESSION IS TO DO: refuse a user that there is none of, or a disk that is too small; or the run, over sectors that are told or not
 pub data SessionAsks (session : Session) (s : ImageSystem) (rows : Rows) (old : Outside) (Told : List (List ℕ) → List Call → Status → Type 0)
@@ -184,7 +184,8 @@ pub data GetWants (old new : Outside) : Type 0 where
       new ≡ record old { shelf = new.shelf } → GetWants old new
 
 pub data Wants (names : List (List ℕ)) (old new : Outside) : Type 0 where
-  behind : (made rest : List (List ℕ)) → made ++ rest ≡ names → Performs (gets made) old new None → (names ≢ [] → new.shelf.taken ≢ TOO_LONG) → Wants names old new
+  behind : (made rest : List (List ℕ)) → made ++ rest ≡ names → Performs (gets made) old new None → (names ≢ [] → new.shelf.taken ≢ TOO_LONG) →
+      Wants names old new
   within : (made rest : List (List ℕ)) (name : List ℕ) (mid : Outside) → made ++ name ∷ rest ≡ names → Performs (gets made) old mid None → GetWants mid new →
       Wants names old new
 

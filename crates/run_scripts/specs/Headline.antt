@@ -7,7 +7,6 @@ use Rattle.schedule_file.specs.Rows.{Rows}
 use Rattle.schedule_file.specs.Schedule.{schedule_of}
 use Rattle.boot_image.specs.Reading.{answer as image_of}
 use Rattle.real_layer.specs.Image.{layer_image}
-use Rattle.mips_table.specs.Fits.{IsPage}
 use Rattle.cvm_model.specs.Cvm.{Cvm, IsCvm, Running, cvm}
 use Rattle.cvm_model.specs.Journal.{journal, replay}
 use Rattle.cvm_model.specs.Primitives.{user_of}
@@ -24,10 +23,14 @@ use Rattle.cvm_shell.specs.Command.{Boot as BootWords, IsBoot, boot_session}
 use Rattle.cvm_shell.specs.Plan.{Plan, boots, saves, resumes, PlanComesTo, AllTold, Accepts}
 use Rattle.cvm_outside.specs.Script.{Who, faults_of}
 use Rattle.cvm_outside.specs.Outside.{Outside}
-use Rattle.run_scripts.specs.Runs.{Run, Past, IsPast, state_at, turns_at, steps_made, has_ended, lines_met, cvm_at, run_of, booted, sectors_needed, steps_before}
-use Rattle.run_scripts.specs.Closing.{first_of}
+use Rattle.boot_turns.specs.Runs.{Run, Past, IsPast, state_at, turns_at, steps_made, has_ended, lines_met, cvm_at}
+use Rattle.cvm_shell.specs.Boot.{booted, sectors_needed, steps_before}
+use Rattle.boot_turns.specs.TurnEnds.{first_of}
+use Rattle.boot_run.specs.RunEnds.{SeesUser}
+use Rattle.boot_run.specs.SavedRuns.{IsDisk}
+use Rattle.run_scripts.specs.Runs.{run_of}
 use Rattle.run_scripts.specs.Whole.{run_status}
-use Rattle.run_scripts.specs.Commands.{SeesUser, Ends}
+use Rattle.run_scripts.specs.Commands.{Ends}
 
 -- THE TEXT after t steps: the rows of the complete turns; of a trace its first row and those of what is shown, but for a last row of steps
 abbrev pub text_by : View → Run → Past → ℕ → List ℕ
@@ -45,11 +48,6 @@ ended_text (Trace u) r p t = trace_text u (first_of r.system u) (p.shown t) (use
 -- THE WHOLE TEXT of a run
 abbrev pub whole_text : Run → Past → List ℕ
 whole_text r p = if has_ended r then ended_text r.view r p (steps_made r) else text_at r p (steps_made r)
-
--- so many sectors, of 1,024 words each
-pub record IsDisk (size : ℕ) (sectors : List (List ℕ)) : Type 0 where
-  pub many : length sectors ≡ size
-  pub each : All IsPage sectors
 
 -- what is told of a file is bytes
 abbrev pub IsByte : ℕ → Type 0
@@ -69,7 +67,8 @@ pub data IsOf (session : Session) (s : ImageSystem) (rows : Rows) : Plan → Typ
   resumed_so : (words : List ℕ) → IsOf session s rows (resumes session s rows words)
 
 -- WORDS AND FILES ASK for this session of this system under this schedule, over a disk with sectors enough, which has these
-pub record Asked (words : List (List ℕ)) (plan : Plan) (session : Session) (s : ImageSystem) (rows : Rows) (before : List (List ℕ)) (old : Outside) : Type 0 where
+pub record Asked (words : List (List ℕ)) (plan : Plan) (session : Session) (s : ImageSystem) (rows : Rows) (before : List (List ℕ)) (old : Outside) :
+    Type 0 where
   pub files : AllTold words old.shelf.file
   pub bytes : AreBytes old.shelf.file
   pub is_plan : PlanComesTo words old.shelf.file plan

@@ -10,7 +10,9 @@ use Rattle.cvm_shell.specs.declared.boot.Session.{Session}
 use Rattle.cvm_shell.specs.Plan.{Plan}
 use Rattle.cvm_outside.specs.Script.{Call, spoken, stored}
 use Rattle.cvm_outside.specs.Outside.{Outside}
-use Rattle.run_scripts.specs.Runs.{Run, Past, IsPast, state_at, steps_made, cvm_at, run_of, booted, sectors_needed, steps_before}
+use Rattle.boot_turns.specs.Runs.{Run, Past, IsPast, state_at, steps_made, cvm_at}
+use Rattle.cvm_shell.specs.Boot.{booted, sectors_needed, steps_before}
+use Rattle.run_scripts.specs.Runs.{run_of}
 use Rattle.run_scripts.specs.Whole.{run_script}
 use Rattle.run_scripts.specs.Commands.{load_of}
 use Rattle.run_scripts.specs.Headline.{Asked, IsOver, whole_text, text_at}
@@ -18,7 +20,8 @@ use Rattle.run_scripts.specs.Headline.{Asked, IsOver, whole_text, text_at}
 -- what is so of each run that words ask for
 abbrev pub OfRuns : (Run → (load : List Call) → (before : List (List ℕ)) → (held : ℕ) → Type 0) → Type 0
 OfRuns holds = (words : List (List ℕ)) (plan : Plan) (session : Session) (s : ImageSystem) (rows : Rows) (before : List (List ℕ)) (old : Outside) →
-    Asked words plan session s rows before old → holds (run_of session s rows old.disk.size before) (load_of session s rows) before (sectors_needed session s rows)
+    Asked words plan session s rows before old →
+    holds (run_of session s rows old.disk.size before) (load_of session s rows) before (sectors_needed session s rows)
 
 -- THE RUN IS ONE FROM A START, over a layer that meets its laws, which takes over within so many steps; and the sectors behind the run's are the disk's
 pub record IsStarted (s : ImageSystem) (r : Run) (held : ℕ) (before : List (List ℕ)) (more : ℕ) : Type 0 where
@@ -42,7 +45,8 @@ PastsAgree = (r : Run) (p o : Past) → MeaningLaws r.system.boot.meaning → Is
 
 -- the text grows step by step
 abbrev pub TextsGrow : Type 0
-TextsGrow = OfRuns (λ r load before held. (p : Past) → IsPast r p → (t : ℕ) → t < steps_made r → take (length (text_at r p t)) (text_at r p (suc t)) ≡ text_at r p t)
+TextsGrow = OfRuns (λ r load before held. (p : Past) → IsPast r p → (t : ℕ) → t < steps_made r →
+    take (length (text_at r p t)) (text_at r p (suc t)) ≡ text_at r p t)
 
 -- the script tells the whole text, and stores the machine's sectors
 abbrev pub ScriptsTellTheText : Type 0

@@ -1,5 +1,5 @@
 -- THE SCRIPTS OF WHOLE RUNS: a boot, a trace, a save; a resume of a saved run, and of any file.
-use Rattle.std.specs.Prelude.{ℕ, suc, ◌-◌, ◌<◌, ⊤, if◌then◌else◌, Bool, List, [], ◌∷◌, ◌++◌, Option, Some, None, codes}
+use Rattle.std.specs.Prelude.{ℕ, suc, ◌-◌, ◌<◌, ⊤, if◌then◌else◌, Bool, List, [], ◌∷◌, ◌++◌, Option, Some, None}
 use Rattle.std.specs.List.{flat_map}
 use Rattle.cvm_words.specs.Bytes.{word}
 use Rattle.mips_machine.specs.Saved.{saved}
@@ -7,8 +7,10 @@ use Rattle.cvm_model.specs.Cvm.{Status as CvmStatus, Running, Faulted}
 use Rattle.cvm_shell.specs.declared.exit_status.Status.{Status}
 use Rattle.cvm_shell.specs.declared.exit_status.Status.TheVariants.{Done, KernelFault, StepLimit}
 use Rattle.cvm_outside.specs.Script.{Call, Printed, Read, Wrote, Stored, scripts}
-use Rattle.run_scripts.specs.Runs.{Run, Past, state_at, turns_at, steps_made, has_ended, cvm_at}
-use Rattle.run_scripts.specs.Steps.{due, steps_script}
+use Rattle.boot_turns.specs.Runs.{Run, Past, state_at, turns_at, steps_made, has_ended, cvm_at}
+use Rattle.mips_machine.specs.Steps.{due}
+use Rattle.boot_turns.specs.StepScript.{steps_script}
+use Rattle.cvm_shell.specs.Saves.{saved_row}
 use Rattle.run_scripts.specs.Closing.{opening_script, closing_script}
 
 -- from step number t on: the steps that are left, and the end
@@ -34,9 +36,6 @@ saved_words r p = saved r.system.input (state_at r (steps_made r)) (turns_at r (
 abbrev pub saved_bytes : Run → Past → List ℕ
 saved_bytes r p = flat_map word (saved_words r p)
 
-abbrev pub saved_row : List ℕ
-saved_row = codes "saved\n"
-
 -- a run that goes on is saved: one file is put, and one row is printed; else the end is the boot's
 abbrev pub leaving_script : (name : List ℕ) → Run → Past → CvmStatus → List Call
 leaving_script name r p Running = Stored name (saved_bytes r p) ∷ Printed (Some saved_row) ∷ []
@@ -49,7 +48,7 @@ save_script name r load p =
 
 -- A RESUME of a machine of which nothing is known: its transfers, with texts that aren't told
 abbrev pub untold_steps : Run → List Call
-untold_steps r = scripts (λ t. due r t ++ Printed None ∷ []) (steps_made r)
+untold_steps r = scripts (λ t. due r.around (state_at r t) ++ Printed None ∷ []) (steps_made r)
 
 -- its status goes by the power word of the machine
 abbrev pub power_status : (ended : Bool) → Option ℕ → Status
