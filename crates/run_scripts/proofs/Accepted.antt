@@ -32,7 +32,7 @@ use Rattle.sample_maker.specs.Parts.{Parts as Sampled}
 use Rattle.sample_maker.specs.Sample.{sample_of, user_count, base_of}
 use Rattle.sample_maker.specs.Source.{pattern, filled, filled_byte}
 use Rattle.saved_file.specs.declared.fault.SaveFault.{SaveFault}
-use Rattle.saved_file.specs.declared.fault.SaveFault.TheVariants.{TooLarge as FileTooLarge}
+use Rattle.saved_file.specs.declared.fault.SaveFault.TheVariants.{SaveTooLarge as FileTooLarge}
 use Rattle.cvm_shell.specs.Refusal.{Refusal, bad_save}
 use Rattle.system_files.specs.declared.fault.FileFault.{FileFault}
 use Rattle.layer_map.specs.declared.params.Params.{Params}

@@ -19,7 +19,7 @@ use Rattle.schedule_file.specs.declared.fault.ScheduleFault.{ScheduleFault}
 use Rattle.sample_maker.specs.Parts.{Parts as Sampled}
 use Rattle.sample_maker.specs.Sample.{sample_of}
 use Rattle.saved_file.specs.declared.fault.SaveFault.{SaveFault}
-use Rattle.saved_file.specs.declared.fault.SaveFault.TheVariants.{TooLarge as FileTooLarge}
+use Rattle.saved_file.specs.declared.fault.SaveFault.TheVariants.{SaveTooLarge as FileTooLarge}
 use Rattle.saved_file.specs.Answer.{answer as machine_of}
 use Rattle.system_files.specs.declared.fault.FileFault.{FileFault}
 use Rattle.machine_save.specs.Room.{FILE_ROOM}
