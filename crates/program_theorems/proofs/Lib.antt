@@ -1,3 +1,4 @@
+mod Answering
 mod Ordinary
 mod SummingTexts
 mod Summings

@@ -1,3 +1,4 @@
 pub mod Answered
 pub mod SummingText
 pub mod Summing
+pub mod Kernels

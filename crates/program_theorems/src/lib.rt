@@ -5,6 +5,7 @@ ghost use Rattle.c0_tree.specs.declared.primitive.Program.TheVariants.{User};
 ghost use Rattle.kernel_theorems.specs.Text.{IsTextAs};
 ghost use Rattle.user_c0.specs.Summing.{summing};
 ghost use Rattle.program_theorems.specs.Answered.{BootedAreOrdinary, TracesAreAnswered};
+ghost use Rattle.program_theorems.specs.Kernels.{KernelsAnswer};
 ghost use Rattle.program_theorems.specs.Summing.{SumsAreTraced};
 ghost use Rattle.program_theorems.specs.SummingText.{text};
 
@@ -30,6 +31,14 @@ pub fn traces_are_answered()
 {
     booted_systems_are_ordinary();
     journals_are_answered();
+}
+
+/// A law: where each dispatch of a run answers a user, so where it sets register 2 of it alone, once at most, and only where this user calls, the user's journal is
+/// that of events; and so each trace of it is answered.
+pub fn kernels_answer()
+    ensures { KernelsAnswer }
+{
+    traces_are_answered();
 }
 
 /// A law: the text is that of the tree.

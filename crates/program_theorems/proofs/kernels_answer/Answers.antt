@@ -1,0 +1,13 @@
+use Rattle.std.proofs.Common.{◌∙◌}
+use Rattle.cvm_shell.specs.Boot.{booted}
+use Rattle.cvm_shell.specs.Isolation.{lines_met}
+use Rattle.program_theorems.proofs.Answering.{are_events}
+use Rattle.program_theorems.proofs.kernels_answer.Goals as goal
+
+pub returns : goal.returns
+returns c = record {
+  journals = λ y n u lines k answers. are_events y n u lines k answers;
+  traces = λ words session u s rows before old new status h a answers.
+      let events = are_events (booted s rows) a.units u (lines_met session s rows old before) a.turns answers in
+      c.traces_are_answered.ensures words session u s rows before old new status h a events.0 (a.entries_are ∙ events.1);
+}
