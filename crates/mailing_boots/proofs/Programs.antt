@@ -121,6 +121,7 @@ module _ (ns : List ℕ) (ms : List Message) (same : numbers ms ≡ ns) where
       omega (arith, a, b, c, d, e, few_one, few_two)
 
 module _ (x : Outside) (y : System) (s : State) (late raised turns steps : ℕ) (one two : CUnit) (p q : ℕ) (ns : List ℕ) (ms : List Message) (same : numbers ms ≡ ns) (a b : ℕ)
+    (calls_a : CallsInTurn (first_flat (image_words one)) (sends ms) a) (calls_b : CallsInTurn (first_flat (image_words two)) (receives ms) b)
     (few_a : untrapped_in (sends ms) a ≤ p) (few_b : untrapped_in (receives ms) b ≤ q) (status : Status) (text : List ℕ)
     (h : MailShown x y s late raised turns steps ms a b (first_flat (image_words one)) (first_flat (image_words two)) status text) where
   shown : ProgramMailShown x y s late raised turns steps one two p q ns status text
@@ -129,6 +130,8 @@ module _ (x : Outside) (y : System) (s : State) (late raised turns steps : ℕ) 
     numbers_are = same;
     sender_last = a;
     receiver_last = b;
+    sender_calls = calls_a;
+    receiver_calls = calls_b;
     few_sending = few_a;
     few_receiving = few_b;
     shows = h;
@@ -161,14 +164,16 @@ by_legs law one two n k ns m p q c few_c d few_d words status old new headlines 
     let z : AreOf ns c.legs d.legs = are_of ns c.legs d.legs c.arguments_are c.answers_are d.arguments_are d.answers_are in
     let long = count ns z.messages z.numbers_are in
     let few = m.few in
-    let (text, printed, shows) = law (image_words one) (image_words two) z.messages c.last d.last
-    (subst (λ legs. CallsInTurn (first_flat (image_words one)) legs c.last) (sym z.sends_are) c.calls)
-    (subst (λ legs. CallsInTurn (first_flat (image_words two)) legs d.last) (sym z.receives_are) d.calls)
+    let sending : CallsInTurn (first_flat (image_words one)) (sends z.messages) c.last =
+    subst (λ legs. CallsInTurn (first_flat (image_words one)) legs c.last) (sym z.sends_are) c.calls in
+    let receiving : CallsInTurn (first_flat (image_words two)) (receives z.messages) d.last =
+    subst (λ legs. CallsInTurn (first_flat (image_words two)) legs d.last) (sym z.receives_are) d.calls in
+    let (text, printed, shows) = law (image_words one) (image_words two) z.messages c.last d.last sending receiving
     (are_small z.messages (subst CanBeSent (sym z.numbers_are) m.small)) (omega (arith, long, few)) words status old new headlines session s rows before h some view system in (
       text,
       printed,
       shown (around rows old) (booted s rows) (first_state session s rows before) (steps_before session.start (booted s rows)) (length rows.lines) session.turns session.steps one two p q ns z.messages z.numbers_are
-          c.last d.last (subst (λ legs. untrapped_in legs c.last ≤ p) (sym z.sends_are) few_c) (subst (λ legs. untrapped_in legs d.last ≤ q) (sym z.receives_are) few_d) status text shows,
+          c.last d.last sending receiving (subst (λ legs. untrapped_in legs c.last ≤ p) (sym z.sends_are) few_c) (subst (λ legs. untrapped_in legs d.last ≤ q) (sym z.receives_are) few_d) status text shows,
     )
 
 pub any_programs_mail : ProgramsComeThrough → AnyUsersMail → AnyProgramsMail

@@ -25,7 +25,7 @@ use Rattle.kernel_boots.specs.Boots.{AsksSource}
 use Rattle.kernel_boots.specs.Systems.{AsksSystem}
 use Rattle.program_systems.specs.Boots.{IsLinkedOf}
 use Rattle.mailing.specs.Text.{text as kernel_text}
-use Rattle.mailing.specs.Users.{ended}
+use Rattle.mailing.specs.Users.{CallsInTurn, ended}
 use Rattle.mailing.specs.Property.{Message, sends, receives, numbers}
 use Rattle.mailing_boots.specs.Through.{untrapped_in, IsCountedThrough}
 use Rattle.mailing_boots.specs.Boots.{report_of, MailShown}
@@ -36,14 +36,16 @@ use Rattle.mailing_boots.specs.Texts.{sender_text, receiver_text}
 abbrev pub turns_by : (sending receiving messages : ℕ) → ℕ
 turns_by sending receiving messages = 3 + 3 * messages + sending + receiving
 
--- WHAT A RUN SHOWS of programs that send and receive these numbers with so many untrapped steps at most: they are messages, with some steps between; the run
--- shows what it shows of such users, so the status is no kernel's fault; and with as many turns as these steps, each trap, the schedule's `line` rows and one,
--- and the steps of the machine for them, it is done, has halted, and reports the numbers in order
+-- WHAT A RUN SHOWS of programs that send and receive these numbers with so many untrapped steps at most: they are messages, whose calls, with some steps
+-- between, are those of the programs' images; the run shows what it shows of such users, so the status is no kernel's fault; and with as many turns as
+-- these steps, each trap, the schedule's `line` rows and one, and the steps of the machine for them, it is done, has halted, and reports the numbers in order
 pub record ProgramMailShown (x : Outside) (y : System) (s : State) (late raised turns steps : ℕ) (one two : CUnit) (sending receiving : ℕ) (ns : List ℕ) (status : Status) (text : List ℕ) : Type 0 where
   pub messages : List Message
   pub numbers_are : numbers messages ≡ ns
   pub sender_last : ℕ
   pub receiver_last : ℕ
+  pub sender_calls : CallsInTurn (first_flat (image_words one)) (sends messages) sender_last
+  pub receiver_calls : CallsInTurn (first_flat (image_words two)) (receives messages) receiver_last
   pub few_sending : untrapped_in (sends messages) sender_last ≤ sending
   pub few_receiving : untrapped_in (receives messages) receiver_last ≤ receiving
   pub shows : MailShown x y s late raised turns steps messages sender_last receiver_last (first_flat (image_words one)) (first_flat (image_words two)) status text
