@@ -184,10 +184,10 @@ class Watcher:
 
     def step(self, user, pc):
         """A step of a user at a pc."""
-        given = self.replay.given.users[user - 1]
-        line = given.line(pc)
         for watch in self.watches:
             if watch.user == user:
+                given = self.replay.source_of(user)
+                line = given.line(pc)
                 self.tell(watch, given.source.where(line) if line else '%s %08x' % (given.source.name, pc), given.source.line_text(line) if line else '')
 
     def ignored(self, *told):
@@ -241,8 +241,8 @@ def breaking(replay, wanted, put):
     given, stops, of_users, beside = replay.given, {}, {}, {}
     names = {user.source.name: number for number, user in enumerate(given.users, 1)}
 
-    def tell(where, text, own=()):
-        put('turn %d  %s is reached: %s' % (replay.turn, where, text))
+    def tell(where, text, own=(), by=''):
+        put('turn %d  %s is reached%s: %s' % (replay.turn, where, by, text))
         for row in [*own, *state.rows(given, replay)]:
             put(row)
 
@@ -265,14 +265,26 @@ def breaking(replay, wanted, put):
         replay.kernel.seen = replay.recorder
         while replay.turn < turns and replay.end is None:
             user = replay.run.current
-            if user in of_users and not replay.run.pending | replay.run.lines.get(replay.turn, 0):
-                line = given.users[user - 1].begins().get(replay.users[user - 1].pc)
-                if line in of_users[user]:
-                    own = beside[user].rows(replay.run.answers[user]) if user in beside and user not in replay.run.changed else []
-                    tell(given.users[user - 1].source.where(line), given.users[user - 1].source.line_text(line), own)
+            number, line = to_stop_at(replay, user, of_users)
+            if line:
+                own = beside[user].rows(replay.run.answers[user]) if number == user and user in beside and user not in replay.run.changed else []
+                source = given.users[number - 1].source
+                tell(source.where(line), source.line_text(line), own, '' if number == user else ' by user %d' % user)
             replay.quietly(replay.turn + 1)
         replay.kernel.seen = None
     return to
+
+
+def to_stop_at(replay, user, of_users):
+    """The line that a user does next, where its source has it to be stopped at, and the number of the user whose source that is: its own, or the one whose
+    program a kernel has copied to it."""
+    if user and not replay.run.pending | replay.run.lines.get(replay.turn, 0):
+        for number, lines in of_users.items():
+            given = replay.given.users[number - 1]
+            line = given.begins().get(replay.users[user - 1].pc)
+            if line in lines and replay.source_of(user) is given:
+                return number, line
+    return 0, 0
 
 
 class Beside:

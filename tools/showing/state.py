@@ -24,9 +24,10 @@ def global_rows(kernel):
     return rows
 
 
-def user_rows(given, users):
+def user_rows(replay):
     rows = []
-    for number, (user, flat) in enumerate(zip(given.users, users), 1):
+    for number, flat in enumerate(replay.users, 1):
+        user = replay.source_of(number)
         line = user.line(flat.pc)
         registers = ', '.join('r%d = %d' % (i, signed(flat.r[i])) for i in range(1, 32) if flat.r[i]) or 'all registers 0'
         rows.append('  user %d: %d pages, pc %08x%s, %s' % (number, flat.pages(), flat.pc, ', ' + user.source.where(line) if line else '', registers))
@@ -34,4 +35,4 @@ def user_rows(given, users):
 
 
 def rows(given, replay):
-    return c0_rows(given.kernel, replay.kernel) + user_rows(given, replay.users)
+    return c0_rows(given.kernel, replay.kernel) + user_rows(replay)

@@ -69,6 +69,13 @@ class Copies(unittest.TestCase):
         rows = shown(given_of(COPIES, [ASKS, '# a place'], turns=5), '--show', '1..3', '--user', '2')
         self.assertEqual([row.split('  ')[3] for row in rows if ' user 2  ' in row], ['user1.s:1', 'user1.s:2', 'user2.s'])
 
+    def test_it_is_stopped_at_by_the_lines_of_that_program(self):
+        given = given_of(COPIES, [ASKS, '# a place'], turns=5)
+        rows = shown(given, '--break', 'user1.s:2', turns=4)
+        self.assertEqual([row for row in rows if 'reached' in row], ['turn 2  user1.s:2 is reached by user 2: loop: syscall 2   # asks'])
+        self.assertIn('  user 2: 1 pages, pc 00000004, user1.s:2, r1 = 5', rows)
+        self.assertEqual(' '.join(shown(given, '--watch', 'user2.r1', turns=4)[0].split()), 'turn 1 user1.s:1 user2.r1: 0 -> 5 ori r1, r0, 5')
+
 
 class Rows(unittest.TestCase):
     def test_steps_and_statements(self):
