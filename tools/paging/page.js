@@ -69,7 +69,8 @@ class Run {
       let goesOn = true;
       for (let at = 0; at < changes.length; at += 2) if (changes[at] === slot) goesOn = false;
       if (goesOn) this.alter(slot, pc + 4 >>> 0);
-      this.add(turn, STEP, { row, pc }, user, this.lineOf(user, pc), changes);
+      const file = this.origin(user, turn);
+      this.add(turn, STEP, { row, pc }, file, this.lineOf(file, pc), changes);
     }
     if (!call) return;
     for (const event of call[5]) this.add(turn, OWN, event, ...this.statement(event).slice(0, 2), NOTHING);
@@ -247,8 +248,15 @@ class Run {
   }
 
   // ---- lines
-  lineOf(user, pc) {
-    const [start, lines] = this.lines[user - 1];
+  /** The user whose source says what a user does in a turn: itself, or the one whose program a kernel has copied to it. */
+  origin(user, turn) {
+    let found = user;
+    for (const [from, number] of this.data.origins[user] || []) if (from <= turn) found = number;
+    return found;
+  }
+
+  lineOf(file, pc) {
+    const [start, lines] = this.lines[file - 1];
     return pc % 4 === 0 && pc >= start ? lines[(pc - start) / 4] || 0 : 0;
   }
 
@@ -317,7 +325,7 @@ class Run {
   /** What a user's step did, in words. */
   stepText(place) {
     const { row, pc } = this.events[place], [user, flags, , text] = row;
-    const line = this.atLines[place], source = this.source(user);
+    const line = this.atLines[place], file = this.files[place], source = this.source(file);
     const where = line ? source.name + ':' + line : source.name + ' ' + hex(pc);
     const what = flags & 2 ? ['taken'] : flags & 4 ? ['not taken'] : [];
     for (let at = this.begins[place]; at < this.begins[place + 1]; at++) {
@@ -326,7 +334,7 @@ class Run {
       what.push(this.slotName(slot) + ' = ' + this.slotValue(slot, this.to[at]) + ' (was ' + this.slotValue(slot, this.from[at]) + ')');
     }
     if (flags & 1) what.push('traps');
-    return 'user ' + user + '  ' + hex(pc) + '  ' + where + '  ' + [line ? this.lineText(user, line) : '', this.texts[text]].filter(Boolean).join('  ') + (what.length ? '  ' + what.join(', ') : '');
+    return 'user ' + user + '  ' + hex(pc) + '  ' + where + '  ' + [line ? this.lineText(file, line) : '', this.texts[text]].filter(Boolean).join('  ') + (what.length ? '  ' + what.join(', ') : '');
   }
 
   /** What an event of C0 did, in words; `old` is the value before a store, where it is known. */
@@ -673,9 +681,11 @@ class View {
     const kernelNow = run.place >= 0 && run.files[run.place] === 0 ? run.atLines[run.place] : 0;
     this.mark(this.get('kernel'), run.linesHere(0), kernelNow, 0);
     if (!user) return;
-    if (this.shownFile !== user) { this.layLines(list, user); this.shownFile = user; }
-    const here = run.linesHere(user), isOwn = run.place >= 0 && run.kinds[run.place] === OWN && run.files[run.place] === user, did = isOwn ? run.atLines[run.place] : [...here][0] || 0;
-    this.mark(list, here, did, run.lineOf(user, run.users[user - 1].r[PC]));
+    const file = run.origin(user, run.turn);
+    if (this.shownFile !== file) { this.layLines(list, file); this.shownFile = file; }
+    const ran = run.place >= 0 && run.data.turns[run.turn - run.first][0] === user, here = ran ? run.linesHere(file) : new Set();
+    const isOwn = run.place >= 0 && run.kinds[run.place] === OWN && run.files[run.place] === user, did = isOwn ? run.atLines[run.place] : [...here][0] || 0;
+    this.mark(list, here, did, run.lineOf(file, run.users[user - 1].r[PC]));
   }
 
   mark(list, ran, now, next) {

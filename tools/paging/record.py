@@ -47,7 +47,9 @@ class Record:
         self.texts, self.slots, self.types, self.statements = Table(''), Table(), Table(), Table()
         self.journals = {n: Journal(n, flat) for n, flat in enumerate(self.users, 1)}
         self.turns, self.called = [], None
+        self.numbers = {user.source.name: n for n, user in enumerate(given.users, 1)}
         self.skip(first)
+        self.origins = {n: [[first - 1, self.numbers[self.replay.source_of(n).source.name]]] for n in self.numbers.values()}
         self.start = self.state()
         self.before = {n: [journal.steps, journal.rows[-BEFORE:], len(journal.rows)] for n, journal in self.journals.items()}
         for journal in self.journals.values():
@@ -234,8 +236,15 @@ class Record:
             changes += [self.slot('r', event.user, PC), after]
         flags = (1 if event.trap else 0) | (0 if event.taken is None else 2 if event.taken else 4) | (8 if event.by_source else 0)
         # a line of a user in assembler is the instruction itself
-        is_line = event.line and self.given.users[event.user - 1].kind == 's'
+        is_line = event.line and self.given.users[self.origin(event) - 1].kind == 's'
         return [event.user, flags, changes, 0 if is_line else self.text(event.text)]
+
+    def origin(self, event):
+        """The number of the user whose source says what a step does: its own, or the one whose program a kernel has copied to it."""
+        number, noted = self.numbers[event.file], self.origins[event.user]
+        if noted[-1][1] != number:
+            noted.append([event.turn, number])
+        return number
 
     # ---- the kernel's calls
     def call(self, events, dispatch):
@@ -309,7 +318,8 @@ class Record:
         head = {'title': title, 'first': self.first, 'total': self.total, 'end': given.printed.end or 'cut off',
                 'kernel': {'name': utf8(given.kernel.name), 'text': utf8(given.kernel.text)}, 'users': users, 'start': self.start,
                 'globals': [[self.text(name), self.type(t), first] for name, (t, first) in self.unit.places.items()],
-                'before': self.before, 'journals': {n: rows for n, rows in self.told.items()}}
+                'before': self.before, 'journals': {n: rows for n, rows in self.told.items()},
+                'origins': {n: noted for n, noted in self.origins.items() if noted != [[self.first - 1, n]]}}
         head.update(types=self.types.rows, slots=self.slots.rows, statements=self.statements.rows, texts=self.texts.rows)
         text = json.dumps(head, separators=(',', ':'))[:-1] + ',"turns":[' + ','.join(self.turns) + ']}'
         return text.replace('<', '\\u003c')

@@ -46,6 +46,13 @@ int dispatch(int cause, int data, int user) {
   return next;
 }
 '''
+COPIES = '''int dispatch(int cause, int data, int user) {
+  bool ok;
+  if (cause == 0) { ok = vm_resize(2, 1); ok = vm_copy(1, 0, 2, 0, 1024); }
+  if (cause == 6) { ok = vm_resize(user, 0); }
+  return 2;
+}
+'''
 USERS = ['loop: addiu r2, r2, 1\nsw r2, 256(r0)\nmult r2, r2\nsyscall 3\nj loop\n', 'again: addiu r3, r3, -1\nsyscall 4\nbne r3, r0, again\n']
 STATES = '''
 const run = new page.Run(data), states = [], text = value => JSON.stringify(value);
@@ -126,6 +133,20 @@ console.log(JSON.stringify({ told, calls: run.calls().map(f => [f.name, [...f.va
         self.assertIn('turns', found['changed'])
         self.assertEqual(found['hash'], {'turn': '3', 'choice': 'g:a b', 'lines': '0:9,1:2'})
         self.assertEqual(found['letters'], ['A', 'AB', '', ''])
+
+    def test_a_process_has_the_source_of_the_program_that_was_copied_to_it(self):
+        script = '''
+const run = new page.Run(data), stops = new Set(['1:2']);
+run.go(-1);
+run.go(run.toStop(1, stops));
+const place = run.place;
+console.log(JSON.stringify([run.turn, run.stepText(place), [...run.linesHere(1)], [-1, 0, 1, 2].map(turn => run.origin(2, turn)), run.toStop(1, stops) === place]));
+'''
+        for window in ((None, 3), (2, 3)):
+            given, _ = given_of(5, COPIES, ['ori r1, r0, 5\nloop: syscall 2\nj loop\n', '# a place'])
+            turn, row, lines, origins, is_last = parts.node(script, parts.data_of(page_of(given, window)[0]))
+            self.assertEqual((turn, row, lines, is_last), (2, 'user 2  00000004  user1.s:2  loop: syscall 2  traps', [2], True))
+            self.assertEqual(origins, [2, 2, 1, 1])
 
     def test_other_data_is_found(self):
         """The comparison with the program's reports sees one wrong word, register, global or word of the console."""
