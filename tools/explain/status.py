@@ -276,9 +276,13 @@ def refusal(numbers, command, way):
     key, fields = numbers[0], numbers[1:]
     said = located(key, fields, command, way)
     with_fields = ' with %s' % ' '.join(map(str, fields)) if fields else ''
-    if key == 12 and any(line.startswith('cvm: ') for line in said):
+    is_told = any(line.startswith('cvm: ') for line in said)
+    if key == 12 and is_told:
         # the habit is named, and says more than what is said of any token
         return said + ['cvm: refusal 12%s, unexpected.' % with_fields]
+    if key == 22 and is_told:
+        # both types are named with what to write, and the remedy of any type is that of a condition
+        return said + ['cvm: refusal 22%s, wrong type.' % with_fields]
     return said + ['cvm: refusal %d%s, %s' % (key, with_fields, row_of(str(key)))]
 
 
