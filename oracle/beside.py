@@ -16,6 +16,7 @@ FILES = (15, 16, 17, 18, 19)
 SESSION = ('spin &', 'crash &', 'forkbomb &', 'sleeper &', 'pingpong &', 'echo still here')
 FIRST, LAST = 2, 9      # the places of processes
 PERIOD = 700            # turns from one tick to the next
+SEMAPHORES = 300        # the channels of semaphores, from this one on
 
 
 class Broken(Exception):
@@ -79,7 +80,7 @@ class Beside:
         return self.run.kernel.globals[self.table[1] + user * self.size + self.fields[field]]
 
     def state(self):
-        return {user: (self.of(user, 'state'), self.of(user, 'killed')) for user in range(FIRST, LAST + 1)}
+        return {user: tuple(self.of(user, field) for field in ('state', 'killed', 'channel')) for user in range(FIRST, LAST + 1)}
 
     def go(self, others, turns):
         """Runs the session with these words as files, so many turns at most. Gives what the console has; `Broken` where a promise is."""
@@ -106,13 +107,15 @@ class Beside:
         return ''.join(chr(word) if word < 127 else '?' for word in run.kernel.log), files
 
     def look(self, call, before, after, caller):
-        """What a call of the kernel may have changed: who called, places that were free, and processes that were killed."""
+        """What a call of the kernel may have changed: who called, places that were free, processes that were killed, and those whose semaphore is
+        no more."""
         run = self.run
         if call.fault:
             raise Broken('the kernel met the fault %s in turn %d' % (call.fault, call.turn))
         if call.next == 0:
             return
         may = {caller} | {user for user in before if before[user][0] == 0 or before[user][1] or after[user][1]}
+        may |= {user for user in before if before[user][2] >= SEMAPHORES and after[user][2] == 0}
         if not run.kernel.touched <= may:
             raise Broken('in turn %d user %d calls, and the users %s are changed' % (call.turn, caller, sorted(run.kernel.touched - may)))
         if call.next not in range(1, LAST + 1):

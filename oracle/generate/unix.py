@@ -18,8 +18,8 @@ from oracle.generate.exercises import EXERCISES, expects
 from oracle.generate.writing import EXAMPLES, STEPS, BrokenRule, lines_of, main_of, read, spelled
 from oracle.words import of_bytes
 
-NOTE = '''The example unix: its session, two traces, a boot from a ROM, a run that is saved and gone on with, a shorter session under ten timers, and users of
-random words beside the shell. Written by oracle/generate/unix.py.
+NOTE = '''The example unix: its session, two traces, a boot from a ROM, a run that is saved and gone on with, a shorter session under ten timers, users of
+random words beside the shell, semaphores of the same number, and a table that gets full. Written by oracle/generate/unix.py.
 
 The words of its compiled programs are the program's own, as a boot of one turn prints them, and so are the turns that take lines. All else is worked
 out apart.'''
@@ -34,6 +34,52 @@ SHORT = ('echo hello world', 'echo one two three | count', 'sleeper 2', 'crash',
 TIMERS = (1500, 2000, 2500, 3000, 4000, 5000, 7000, 10000, 15000, 25000)
 BESIDE = ('spin &', 'crash &', 'sleeper &', 'echo still here', 'echo 1 2 3 | sum')
 HOSTILE = 4         # systems of three users of random words each
+RACE = '''# In place of init: in each of two rounds its first child makes a semaphore of value 0, the second one waits for it and the
+# first one ends, in round 1 after it has raised it. Before the second one runs again init makes a semaphore of value 1, which gets
+# the same number. Its letter of a round is 'n' where the second one is told that it is none, and 'o' where it is told 0.
+round:  ori   r4, r0, 1         # fork
+        syscall
+        beq   r2, r0, maker
+        ori   r4, r0, 1
+        syscall
+        beq   r2, r0, waiter
+        addu  r17, r2, r0
+        ori   r4, r0, 6         # yield: it is made, and waited for
+        syscall
+        ori   r4, r0, 6         # the first child ends
+        syscall
+        ori   r4, r0, 46        # 32 * 1 + 14: a semaphore
+        syscall
+        sll   r4, r17, 5
+        ori   r4, r4, 3         # how has the second child ended?
+        syscall
+        ori   r28, r0, 1024
+        addiu r2, r2, 111       # 'o'
+        sw    r2, 0(r28)
+        ori   r4, r0, 4139      # 32 * (128 * 1 + 1) + 11: a letter to file 1
+        syscall
+        addiu r16, r16, 1
+        slti  r8, r16, 2
+        bne   r8, r0, round
+        addu  r4, r0, r0        # exit
+        syscall
+maker:  ori   r4, r0, 14        # 32 * 0 + 14: a semaphore
+        syscall
+        addu  r17, r2, r0
+        ori   r4, r0, 6         # yield: it is waited for
+        syscall
+        beq   r16, r0, ends
+        sll   r4, r17, 5
+        ori   r4, r4, 16        # up
+        syscall
+ends:   addu  r4, r0, r0
+        syscall
+waiter: sll   r4, r16, 5        # the number is that of the round
+        ori   r4, r4, 15        # down
+        syscall
+        sll   r4, r2, 5         # exit with the answer
+        syscall
+'''
 # The code of a program, a page at most, which begins at word START of its image.
 CODE, START = 'part u%d 65536 4096', 16384
 # Users by their programs' names, as the kernel has them.
@@ -51,6 +97,11 @@ def schedule(session, period, typed=(60000, 40000), until=1000000):
     lines = [(at, 0) for at in range(period, until, period)] + [(typed[0] + typed[1] * n, 1) for n in range(len(session))]
     rows = ['line %d %d' % line for line in sorted(lines, key=lambda line: line[0])]
     return '\n'.join(rows + ['input %d' % ord(letter) for line in session for letter in line + '\n']) + '\n'
+
+
+def is_program(text):
+    """Whether the text of a user is a program in C0."""
+    return 'int main()' in text
 
 
 def console(text):
@@ -115,13 +166,13 @@ class Unix(Examples):
             self.raw('zeros ' + name, str(ROOMS.get(name, 200000)))
         self.run('compile kernel k o')
         for number, name in enumerate(users, 1):
-            kind = 'user' if other.get(number, name).startswith('.word') or number not in other and name.endswith('.s') else 'program'
+            kind = 'program' if (is_program(other[number]) if number in other else name.endswith('.c0')) else 'user'
             self.run('compile %s a%d u%d' % (kind, number, number))
         self.run('link o p img ' + ' '.join(made))
 
     def words_of(self, number, text, case):
         """The words of another user: of a program in C0 its code as it was printed, in an image that is laid out as that of any program of so many pages."""
-        if text.startswith('.word'):
+        if not is_program(text):
             return assemble(text)
         code = of_bytes(self.had_parts['case ' + case, CODE % number])
         return self.users[number - 1][:START] + code + self.users[number - 1][START + len(code):]
@@ -190,12 +241,30 @@ class Unix(Examples):
         other = {PROGRAMS[name]: made(n) for n, name in enumerate(('spin', 'crash', 'sleeper'))}
         self.begin_unix(case, other)
         for number, text in other.items():
-            if not text.startswith('.word'):
+            if is_program(text):
                 self.part(CODE % number)
                 seen = self.had_parts.get(('case ' + case, CODE % number))
                 self.told.append('(not printed)' if seen is None else spelled(seen))
         self.part('file s', given)
         self.run('boot img s %d %d' % (TURNS, STEPS), self.text(case, given, TURNS, 0, other))
+
+    def race(self):
+        """A process that waits for a semaphore doesn't get one that has the same number by the time it asks again."""
+        case, other = CASE + ' with semaphores of the same number', {PROGRAMS['init']: RACE}
+        self.begin_unix(case, other)
+        self.part('file s')
+        text = self.text(case, '', TURNS, 0, other)
+        self.says(case, text, 'nn')
+        self.run('boot img s %d %d' % (TURNS, STEPS), text)
+
+    def full(self):
+        """Where there is no place for a process in the background the shell says so, and no pid."""
+        case, given = CASE + ' with a table that gets full', schedule(('sleeper 99 &',) * 6, 20000, until=400000)
+        self.begin_unix(case)
+        self.part('file s', given)
+        text = self.text(case, given)
+        self.says(case, text, ''.join('$ sleeper 99 &\n%s\n' % said for said in ('[4]', '[6]', '[8]', '[10]', '[12]', 'full')) + '$ \n')
+        self.run('boot img s %d %d' % (TURNS, STEPS), text)
 
     def exercise(self, name):
         """The solution of an exercise, as a boot of one turn and to its end."""
@@ -215,6 +284,8 @@ class Unix(Examples):
         self.session()
         self.timers()
         self.hostiles()
+        self.race()
+        self.full()
         for name in sorted(os.listdir(EXERCISES)):
             if name.startswith('unix'):
                 self.exercise(name)

@@ -4,9 +4,11 @@ import random
 import re
 import unittest
 
-from oracle import beside, hostile, programs
+from oracle import beside, hostile, programs, run as running
+from oracle.assembler import assemble
+from oracle.c0.tree import Parser
 from oracle.flat import Flat
-from oracle.generate.unix import FOLDER, PROGRAMS, console, images, names
+from oracle.generate.unix import FOLDER, PROGRAMS, RACE, console, images, names
 from oracle.run import read
 from oracle.words import M, signed
 
@@ -76,6 +78,18 @@ class Unix(unittest.TestCase):
             reading = [0x341c0800, 0x34040000 | 32 * 0 + 17, 0x0c, 0x34040000 | 32 * 7 + 15, 0x0c] * 3
             with self.assertRaisesRegex(beside.Broken, part):
                 system.go([reading] * len(beside.FILES), TURNS)
+
+    def test_a_semaphore_with_the_number_of_one_that_is_waited_for(self):
+        """Who waits for a semaphore when its maker ends is answered -1, and so is who was woken and has not asked again: two kernels that don't answer
+        both at once give them the third process's semaphore, which is seen."""
+        kernel = read(FOLDER, 'kernel.c0')
+        for old, new, said in (('', '', 'nn'),
+                               ('done = refuse(300 + n);', 'done = wake(300 + n);', 'oo'),
+                               ('(table[user].state == 1 || table[user].state == 2)', 'table[user].state == 2', 'no')):
+            self.assertIn(old, kernel)
+            users = [assemble(RACE) if user == PROGRAMS['init'] else words for user, words in enumerate(self.images, 1)]
+            system = running.System(Parser(kernel.replace(old, new, 1)), users, read(FOLDER, 'params'), '')
+            self.assertEqual(console(running.text(system, TURNS, {})), said)
 
     def test_the_console_of_the_session(self):
         with open(os.path.join(FOLDER, 'printed'), encoding='utf-8') as file:
