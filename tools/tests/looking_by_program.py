@@ -16,7 +16,7 @@ from oracle.c0.cut import Cut  # noqa: E402
 from oracle.tests.test_c0 import FAR  # noqa: E402
 from tests import page_against_program as against, page_parts as parts  # noqa: E402
 
-EXAMPLE, USER, LINE = 'services', 'user1.c0', 9
+EXAMPLE, USER, LINE = 'services', 'user1.c0', 8
 # Each statement of a user that the page steps to on a line, on and back, with the variables of its functions; and where a chosen line is stopped at.
 OWN = '''
 const run = new page.Run(data), told = { on: [], back: [], stops: [] }, here = () => [run.turn, run.calls().map(frame => [frame.name, [...frame.variables].map(pair => pair.join(' = ')).join(', ')])];
@@ -86,8 +86,8 @@ def own_statements(start):
         said.append('--break stops %d times at line %d, and the page %d times' % (len(machine), LINE, len(told['on'])))
     if told['on'] != told['back'] or told['on'] != told['stops']:
         said.append('the page steps on, back and to the chosen line to other places')
-    # the page shows the state behind a statement, and --break the one before it: all but what line 9 changes are the same
-    without = lambda frames: [[name, re.sub(r'\bd = -?\d+', 'd', variables)] for name, variables in frames]
+    # the page shows the state behind a statement, and --break the one before it: all but what line 8 changes are the same
+    without = lambda frames: [[name, re.sub(r'\bsum = -?\d+', 'sum', variables)] for name, variables in frames]
     for number, (one, (turn, other)) in enumerate(zip(machine, told['on'])):
         if without(one) != without(other):
             said.append('stop %d: --break shows %s, and the page in turn %d %s' % (number, one, turn, other))
