@@ -10,12 +10,12 @@ steady : (c : Call) (w : Who) (old mid : Outside) → Does c old mid → faults_
 steady (Printed t) TheSink old mid d = ap (λ (o : Outside). o.sink.faults) d.1
 steady (Printed t) TheDisk old mid d = ap (λ (o : Outside). o.disk.faults) d.1
 steady (Printed t) TheShelf old mid d = ap (λ (o : Outside). o.shelf.faults) d.1
-steady (Read q) TheSink old mid d = ap (λ (o : Outside). o.sink.faults) d
-steady (Read q) TheDisk old mid d = ap (λ (o : Outside). o.disk.faults) d
-steady (Read q) TheShelf old mid d = ap (λ (o : Outside). o.shelf.faults) d
-steady (Wrote q ws) TheSink old mid d = ap (λ (o : Outside). o.sink.faults) d
-steady (Wrote q ws) TheDisk old mid d = ap (λ (o : Outside). o.disk.faults) d
-steady (Wrote q ws) TheShelf old mid d = ap (λ (o : Outside). o.shelf.faults) d
+steady (Read q) TheSink old mid d = ap (λ (o : Outside). o.sink.faults) d.0
+steady (Read q) TheDisk old mid d = ap (λ (o : Outside). o.disk.faults) d.0
+steady (Read q) TheShelf old mid d = ap (λ (o : Outside). o.shelf.faults) d.0
+steady (Wrote q ws) TheSink old mid d = ap (λ (o : Outside). o.sink.faults) d.0
+steady (Wrote q ws) TheDisk old mid d = ap (λ (o : Outside). o.disk.faults) d.0
+steady (Wrote q ws) TheShelf old mid d = ap (λ (o : Outside). o.shelf.faults) d.0
 steady (Got n) TheSink old mid d = ap (λ (o : Outside). o.sink.faults) d.3
 steady (Got n) TheDisk old mid d = ap (λ (o : Outside). o.disk.faults) d.3
 steady (Got n) TheShelf old mid d = d.2
@@ -50,8 +50,8 @@ blame_one a old new blamed (goes_on c rest _ mid _ _ d p) w =
 
 more_stored : (c : Call) (rest : List Call) (old mid : Outside) → Does c old mid → option_map (stored rest) mid.disk.sectors ≡ option_map (stored (c ∷ rest)) old.disk.sectors
 more_stored (Printed t) rest old mid d = ap (λ (o : Outside). option_map (stored rest) o.disk.sectors) d.1
-more_stored (Read q) rest old mid d = ap (λ (o : Outside). option_map (stored rest) o.disk.sectors) d
-more_stored (Wrote q ws) rest old mid d = ap (λ (o : Outside). option_map (stored rest) o.disk.sectors) d ∙ by old.disk.sectors
+more_stored (Read q) rest old mid d = ap (λ (o : Outside). option_map (stored rest) o.disk.sectors) d.0
+more_stored (Wrote q ws) rest old mid d = ap (λ (o : Outside). option_map (stored rest) o.disk.sectors) d.0 ∙ by old.disk.sectors
   where
     by : (told : Option (List (List ℕ))) → option_map (stored rest) (with_sector told q ws) ≡ option_map (stored (Wrote q ws ∷ rest)) told
     by None = refl

@@ -61,29 +61,29 @@ performed told rows shelf disk old new (Some TheDisk) is p = absurd p.by
 performed told rows shelf disk old new (Some TheShelf) is p = absurd p.by
 
 -- one read of a disk
-pub read_once : {T : Type 0} (sector : ℕ) (shelf : Files) (sink : Output) (old new : Drive) (r : Result T DiskFault) → new.size ≡ old.size → new.sectors ≡ old.sectors → Counts old.faults new.faults r → new.calls ≡ until_fault old.faults old.calls →
+pub read_once : {T : Type 0} (sector : ℕ) (shelf : Files) (sink : Output) (old new : Drive) (r : Result T DiskFault) → sector < old.size → new.size ≡ old.size → new.sectors ≡ old.sectors → Counts old.faults new.faults r → new.calls ≡ until_fault old.faults old.calls →
     Performs (Read sector ∷ []) (record { shelf = shelf; sink = sink; disk = old }) (record { shelf = shelf; sink = sink; disk = new }) (blame of_disk r)
-read_once sector shelf sink old new (Ok v) size same count calls =
+read_once sector shelf sink old new (Ok v) within size same count calls =
     let at : Drive → Outside = λ d. record { shelf = shelf; sink = sink; disk = d } in
-    goes_on (Read sector) [] _ _ _ None (same_drive (at) old new size same count.same calls) (done _)
+    goes_on (Read sector) [] _ _ _ None (same_drive (at) old new size same count.same calls, within) (done _)
   where
     same_drive : (at : Drive → Outside) (old new : Drive) → new.size ≡ old.size → new.sectors ≡ old.sectors → new.faults ≡ old.faults → new.calls ≡ until_fault old.faults old.calls → at new ≡ at (asked old)
     same_drive at old new size same faults calls = rw (size, same, faults, calls) refl
-read_once sector shelf sink old new (Err e) size same count calls = breaks (Read sector) [] _ _ (record { later = count.later; rose = count.rose }, torn (λ d. record { shelf = shelf; sink = sink; disk = d }))
+read_once sector shelf sink old new (Err e) within size same count calls = breaks (Read sector) [] _ _ (record { later = count.later; rose = count.rose }, torn (λ d. record { shelf = shelf; sink = sink; disk = d }), within)
   where
     torn : (at : Drive → Outside) → at new ≡ at (record (asked old) { faults = new.faults })
     torn at = rw (size, same, calls) refl
 
 -- one write
-pub write_once : {T : Type 0} (sector : ℕ) (words : List ℕ) (shelf : Files) (sink : Output) (old new : Drive) (r : Result T DiskFault) → new.size ≡ old.size → OnOk r (new.sectors ≡ with_sector old.sectors sector words) →
+pub write_once : {T : Type 0} (sector : ℕ) (words : List ℕ) (shelf : Files) (sink : Output) (old new : Drive) (r : Result T DiskFault) → sector < old.size → new.size ≡ old.size → OnOk r (new.sectors ≡ with_sector old.sectors sector words) →
     OnErr r ((torn : List ℕ) × (new.sectors ≡ with_sector old.sectors sector torn)) → Counts old.faults new.faults r → new.calls ≡ until_fault old.faults old.calls →
     Performs (Wrote sector words ∷ []) (record { shelf = shelf; sink = sink; disk = old }) (record { shelf = shelf; sink = sink; disk = new }) (blame of_disk r)
-write_once sector words shelf sink old new (Ok v) size whole torn count calls = goes_on (Wrote sector words) [] _ _ _ None (all (λ d. record { shelf = shelf; sink = sink; disk = d }) new.faults count.same) (done _)
+write_once sector words shelf sink old new (Ok v) within size whole torn count calls = goes_on (Wrote sector words) [] _ _ _ None (all (λ d. record { shelf = shelf; sink = sink; disk = d }) new.faults count.same, within) (done _)
   where
     all : (at : Drive → Outside) (n : ℕ) → n ≡ old.faults → at (record new { faults = n }) ≡ at (record (asked old) { sectors = with_sector old.sectors sector words })
     all at n e = rw (size, whole, calls, e) refl
-write_once sector words shelf sink old new (Err e) size whole torn count calls =
-    breaks (Wrote sector words) [] _ _ (record { later = count.later; rose = count.rose }, (torn.0, part (λ d. record { shelf = shelf; sink = sink; disk = d })))
+write_once sector words shelf sink old new (Err e) within size whole torn count calls =
+    breaks (Wrote sector words) [] _ _ (record { later = count.later; rose = count.rose }, (torn.0, part (λ d. record { shelf = shelf; sink = sink; disk = d })), within)
   where
     part : (at : Drive → Outside) → at new ≡ at (record (asked old) { faults = new.faults; sectors = with_sector old.sectors sector torn.0 })
     part at = rw (size, torn.1, calls) refl
@@ -98,7 +98,7 @@ torn_sectors (Stored n bs) rest old new quiet f = ap (λ (o : Outside). o.disk.s
 
 more_quiet : (c : Call) (rest : List Call) (old mid : Outside) → IsQuiet (c ∷ rest) → Does c old mid → IsQuiet rest × (mid.disk.sectors ≡ old.disk.sectors)
 more_quiet (Printed t) rest old mid quiet d = (quiet, ap (λ (o : Outside). o.disk.sectors) d.1)
-more_quiet (Read q) rest old mid quiet d = (quiet, ap (λ (o : Outside). o.disk.sectors) d)
+more_quiet (Read q) rest old mid quiet d = (quiet, ap (λ (o : Outside). o.disk.sectors) d.0)
 more_quiet (Wrote q ws) rest old mid quiet d = absurd quiet
 more_quiet (Got n) rest old mid quiet d = (quiet, ap (λ (o : Outside). o.disk.sectors) d.3)
 more_quiet (Stored n bs) rest old mid quiet d = (quiet, ap (λ (o : Outside). o.disk.sectors) d.3)
@@ -117,8 +117,8 @@ torn_size (Stored n bs) old new f = ap (λ (o : Outside). o.disk.size) f.3
 
 done_size : (c : Call) (old mid : Outside) → Does c old mid → mid.disk.size ≡ old.disk.size
 done_size (Printed t) old mid d = ap (λ (o : Outside). o.disk.size) d.1
-done_size (Read q) old mid d = ap (λ (o : Outside). o.disk.size) d
-done_size (Wrote q ws) old mid d = ap (λ (o : Outside). o.disk.size) d
+done_size (Read q) old mid d = ap (λ (o : Outside). o.disk.size) d.0
+done_size (Wrote q ws) old mid d = ap (λ (o : Outside). o.disk.size) d.0
 done_size (Got n) old mid d = ap (λ (o : Outside). o.disk.size) d.3
 done_size (Stored n bs) old mid d = ap (λ (o : Outside). o.disk.size) d.3
 
@@ -149,7 +149,7 @@ unfolding scripts
 quiet_scripts f each zero = tt
 quiet_scripts f each (suc n) = quiet_both (scripts f n) (f n) (quiet_scripts f each n) (each n)
 
-scripts-add : (f : ℕ → List Call) (m n : ℕ) → scripts f (m + n) ≡ scripts f m ++ scripts (λ i. f (m + i)) n
+pub scripts-add : (f : ℕ → List Call) (m n : ℕ) → scripts f (m + n) ≡ scripts f m ++ scripts (λ i. f (m + i)) n
 scripts-add f m zero = let e : m + 0 ≡ m = omega arith in ap (scripts f) e ∙ sym (append-nil (scripts f m)) ∙ ap (λ (l : List Call). scripts f m ++ l) (sym (scripts-none (λ i. f (m + i))))
 scripts-add f m (suc n) =
     let e : m + suc n ≡ suc (m + n) = omega arith in

@@ -40,8 +40,8 @@ broken_text (Stored n bs) rest old new whom f = none old.sink.text new.sink.text
 more_text : (c : Call) (rest : List Call) (old mid new : Outside) (blamed : Option Who) → Does c old mid → IfSome (spoken rest) (PrintedBy blamed mid.sink.text new.sink.text) → IfSome (spoken (c ∷ rest)) (PrintedBy blamed old.sink.text new.sink.text)
 more_text (Printed None) rest old mid new blamed d h = tt
 more_text (Printed (Some text)) rest old mid new blamed d h = behind old.sink.text mid.sink.text new.sink.text text blamed (spoken rest) d.0 h
-more_text (Read q) rest old mid new blamed d h = from blamed old.sink.text mid.sink.text new.sink.text (spoken rest) (ap (λ (o : Outside). o.sink.text) d) h
-more_text (Wrote q ws) rest old mid new blamed d h = from blamed old.sink.text mid.sink.text new.sink.text (spoken rest) (ap (λ (o : Outside). o.sink.text) d) h
+more_text (Read q) rest old mid new blamed d h = from blamed old.sink.text mid.sink.text new.sink.text (spoken rest) (ap (λ (o : Outside). o.sink.text) d.0) h
+more_text (Wrote q ws) rest old mid new blamed d h = from blamed old.sink.text mid.sink.text new.sink.text (spoken rest) (ap (λ (o : Outside). o.sink.text) d.0) h
 more_text (Got n) rest old mid new blamed d h = from blamed old.sink.text mid.sink.text new.sink.text (spoken rest) (ap (λ (o : Outside). o.sink.text) d.3) h
 more_text (Stored n bs) rest old mid new blamed d h = from blamed old.sink.text mid.sink.text new.sink.text (spoken rest) (ap (λ (o : Outside). o.sink.text) d.3) h
 
@@ -81,8 +81,8 @@ same_count c rest old new blamed e k = record { made = k.made; calls = k.calls; 
 
 more_count : (c : Call) (rest : List Call) (old mid new : Outside) (blamed : Option Who) → Does c old mid → Counted rest mid new blamed → Counted (c ∷ rest) old new blamed
 more_count (Printed t) rest old mid new blamed d h = same_count (Printed t) rest old new blamed refl (silent rest old mid new blamed h (ap (λ (o : Outside). o.disk) d.1))
-more_count (Read q) rest old mid new blamed d h = as_counted (Read q ∷ rest) old new blamed (once rest old mid new blamed h (suc (asks rest)) refl (ap (λ (o : Outside). counts o.disk) d))
-more_count (Wrote q ws) rest old mid new blamed d h = as_counted (Wrote q ws ∷ rest) old new blamed (once rest old mid new blamed h (suc (asks rest)) refl (ap (λ (o : Outside). counts o.disk) d))
+more_count (Read q) rest old mid new blamed d h = as_counted (Read q ∷ rest) old new blamed (once rest old mid new blamed h (suc (asks rest)) refl (ap (λ (o : Outside). counts o.disk) d.0))
+more_count (Wrote q ws) rest old mid new blamed d h = as_counted (Wrote q ws ∷ rest) old new blamed (once rest old mid new blamed h (suc (asks rest)) refl (ap (λ (o : Outside). counts o.disk) d.0))
 more_count (Got n) rest old mid new blamed d h = same_count (Got n) rest old new blamed refl (silent rest old mid new blamed h (ap (λ (o : Outside). o.disk) d.3))
 more_count (Stored n bs) rest old mid new blamed d h = same_count (Stored n bs) rest old new blamed refl (silent rest old mid new blamed h (ap (λ (o : Outside). o.disk) d.3))
 

@@ -1,5 +1,5 @@
 -- SCRIPTS: the calls of the outside that a piece of work makes, in order, where it does what it is asked; and what is left where one of them failed.
-use Rattle.std.specs.Prelude.{◌≡◌, ◌≢◌, ℕ, zero, suc, ◌≤◌, min, length, List, [], ◌∷◌, ◌++◌, Option, Some, None, IfSome, Result, Ok, Err, slice_set}
+use Rattle.std.specs.Prelude.{◌≡◌, ◌≢◌, ℕ, zero, suc, ◌<◌, ◌≤◌, min, length, List, [], ◌∷◌, ◌++◌, Option, Some, None, IfSome, Result, Ok, Err, slice_set}
 use Rattle.std.specs.Option.{option_map}
 use Rattle.std.specs.Io.KnownBytes.{append_known}
 use Rattle.cvm_outside.specs.Causes.{Rose}
@@ -52,13 +52,13 @@ pub record Rises (before now : ℕ) : Type 0 where
 abbrev pub asked : Drive → Drive
 asked d = record d { calls = until_fault d.faults d.calls }
 
--- what a call leaves that is done
+-- what a call leaves that is done; the sector of one is among those that the disk has
 abbrev pub Does : Call → (old new : Outside) → Type 0
 Does (Printed told) old new =
     IfSome told (λ text. new.sink.text ≡ append_known old.sink.text text) × (new ≡ record old { sink = record old.sink { text = new.sink.text } })
-Does (Read sector) old new = new ≡ record old { disk = asked old.disk }
+Does (Read sector) old new = (new ≡ record old { disk = asked old.disk }) × (sector < old.disk.size)
 Does (Wrote sector words) old new =
-    new ≡ record old { disk = record (asked old.disk) { sectors = with_sector old.disk.sectors sector words } }
+    (new ≡ record old { disk = record (asked old.disk) { sectors = with_sector old.disk.sectors sector words } }) × (sector < old.disk.size)
 Does (Got name) old new =
     ((n : List ℕ) → new.shelf.file n ≡ old.shelf.file n) × IfSome (old.shelf.file name) (λ bytes. new.shelf.taken ≡ min (length bytes) TOO_LONG)
     × (new.shelf.faults ≡ old.shelf.faults) × (new ≡ record old { shelf = new.shelf })
@@ -72,9 +72,11 @@ Fails (Printed told) old new =
     IfSome told (λ text. AppendsPart old.sink.text new.sink.text text) × Rises old.sink.faults new.sink.faults × (new ≡ record old { sink = new.sink })
 Fails (Read sector) old new =
     Rises old.disk.faults new.disk.faults × (new ≡ record old { disk = record (asked old.disk) { faults = new.disk.faults } })
+    × (sector < old.disk.size)
 Fails (Wrote sector words) old new =
     Rises old.disk.faults new.disk.faults
     × ((torn : List ℕ) × (new ≡ record old { disk = record (asked old.disk) { faults = new.disk.faults; sectors = with_sector old.disk.sectors sector torn } }))
+    × (sector < old.disk.size)
 Fails (Got name) old new =
     ((n : List ℕ) → new.shelf.file n ≡ old.shelf.file n) × Rises old.shelf.faults new.shelf.faults × (new ≡ record old { shelf = new.shelf })
 Fails (Stored name bytes) old new =
