@@ -17,7 +17,7 @@ use crate::registers::{ARGUMENT, EXTERNAL, MODE, RETURN};
 use boot_report::journal_text::{put_row, set_row, size_row, steps_row, trap_row};
 use boot_report::{is_word_resident, read_user_word};
 use cvm_outside::{Sectors, Sink, SinkFault};
-use layer_map::{Map, PRIMITIVES};
+use layer_map::{EXITS, Map, PRIMITIVES};
 use mips_machine::Machine;
 
 /// What is noted of a primitive at its entry.
@@ -39,7 +39,7 @@ pub fn note_entry(machine: &Machine) -> Option<Entered>
         return None;
     }
     let pc = machine.pc();
-    if pc < PRIMITIVES || pc >= PRIMITIVES + 40 || pc % 4 != 0 {
+    if pc < PRIMITIVES || pc >= EXITS || pc % 4 != 0 {
         return None;
     }
     Some(Entered {

@@ -25,24 +25,24 @@ entry_code globals dispatch = Lui GLOBALS (globals / 2 ^ 16) ∷ behind_first gl
 
 -- The first part of the routine `new`: ANSWER has the object's words. The words used, with these, go to END, and where they exceed the heap the code goes
 -- on at its last two instructions.
-abbrev pub room_code : List Inst
-room_code = TEST_ROOM
+abbrev pub check_heap_room_code : List Inst
+check_heap_room_code = TEST_ROOM
 
 -- The second part: the words used are raised, and the heap's first address is read.
-abbrev pub raise_code : List Inst
-raise_code = BUMP_HEAP
+abbrev pub bump_heap_code : List Inst
+bump_heap_code = BUMP_HEAP
 
 -- The third part: the object's address goes to ANSWER and NEXT, and that of its end to END.
-abbrev pub bounds_code : List Inst
-bounds_code = FIND_OBJECT
+abbrev pub find_object_code : List Inst
+find_object_code = FIND_OBJECT
 
 -- The last part: a word after the other becomes 0, and the routine returns; or it returns with null.
-abbrev pub clear_code : List Inst
-clear_code = ZERO_OBJECT ++ NO_ROOM
+abbrev pub zero_object_code : List Inst
+zero_object_code = ZERO_OBJECT ++ NO_ROOM
 
 -- The routine `new`: ANSWER has the words of an object, one or more, and becomes the object's address, or 0 where there is no room.
 abbrev pub new_code : List Inst
-new_code = room_code ++ (raise_code ++ (bounds_code ++ clear_code))
+new_code = check_heap_room_code ++ (bump_heap_code ++ (find_object_code ++ zero_object_code))
 
 -- multiplication: ANSWER becomes the product of the first two arguments
 abbrev pub multiply_code : List Inst

@@ -47,7 +47,7 @@ pub record IsAsked (size : ℕ) (c : Contents) : Type 0 where
   pub least : 1 ≤ size
   pub most : size < 2 ^ 31
 
--- `new` changes no register above 5, and neither hi, lo nor a special register
+-- `new` changes no register behind END, and neither hi, lo nor a special register
 pub record NewKeeps (c c' : Contents) : Type 0 where
   pub regs : (r : ℕ) → END < r → c'.regs r ≡ c.regs r
   pub hi : c'.hi ≡ c.hi

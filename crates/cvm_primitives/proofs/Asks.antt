@@ -14,7 +14,7 @@ use Rattle.page_model.specs.Places.{Places}
 use Rattle.frame_table.specs.View.{Sited}
 use Rattle.cvm_primitives.specs.View.{UsersIn, WordGood, number, size_at}
 use Rattle.cvm_primitives.proofs.Between.{Quiet}
-use Rattle.cvm_primitives.specs.Code.{base_code, word_test_code, word_code}
+use Rattle.cvm_primitives.specs.Code.{base_code, check_address_code, check_word_arguments_code}
 use Rattle.cvm_primitives.proofs.Basics.{flag_of, put_other, small_is}
 
 -- a product's bound
@@ -49,7 +49,7 @@ module _ (w : World) (f : RoutineLaws w) where
     pub asked_from : (bad m : ℕ) (work : List Inst) (Q : Contents → Behind → Type 0) (c : Contents) (d : Behind) (u a : ℕ) → d.pending ≡ Idle → UsersIn p users per size v c → c.regs 20 ≡ u → c.regs 21 ≡ a → u < 2 ^ 32 → a < 2 ^ 32 → length work ≤ 30000
         → (WordGood users size u a → (c1 : Contents) (d1 : Behind) → Quiet c d c1 d1 → c1.regs 26 ≡ number per u a → From w work m c1 d1 Q)
         → ((WordGood users size u a → ⊥) → (c1 : Contents) (d1 : Behind) → Quiet c d c1 d1 → c1.regs 2 ≡ sum 0 (extended bad) → Q c1 d1)
-        → From w (word_code bad users per work) (3 + (8 + (3 + (3 + m) + 1 + 1) + 1)) c d Q
+        → From w (check_word_arguments_code bad users per work) (3 + (8 + (3 + (3 + m) + 1 + 1) + 1)) c d Q
     asked_from bad m work Q c d u a idle us ru ra su sa short does refuse =
         let few = us.few in let most = us.most in let words = f.small in let low = si.low in let first = si.first in let second = si.second in let third = si.third in
         let ku = small_is users (omega arith) in
@@ -59,7 +59,7 @@ module _ (w : World) (f : RoutineLaws w) where
         (λ z. let below : (u + 4294967295) % 2 ^ 32 < users = ⊎_elim (λ o. o.1) (λ o. absurd (z o.0)) (flag_of ((u + 4294967295) % 2 ^ 32) users) in
         let u0 : 0 < u = omega arith in let u1 : u ≤ users = omega arith in
         let sz = us.sizes u u0 u1 in let fit = us.fit u u0 u1 in
-        straight_then w f word_test_code _ (Gives 49280 ∷ Gives (256 * (u - 1)) ∷ Gives (4 * size_at u) ∷ Reads (size_at u) (size u) ∷ Gives (4096 * size u) ∷ Gives (flag (nat_lt a (4096 * size u))) ∷ Gives (a * 2 ^ 30 % 2 ^ 32) ∷ Gives (flag (nat_lt (a * 2 ^ 30 % 2 ^ 32) 1)) ∷ []) (3 + (3 + m) + 1 + 1) _ d Q refl idle
+        straight_then w f check_address_code _ (Gives 49280 ∷ Gives (256 * (u - 1)) ∷ Gives (4 * size_at u) ∷ Reads (size_at u) (size u) ∷ Gives (4096 * size u) ∷ Gives (flag (nat_lt a (4096 * size u))) ∷ Gives (a * 2 ^ 30 % 2 ^ 32) ∷ Gives (flag (nat_lt (a * 2 ^ 30 % 2 ^ 32) 1)) ∷ []) (3 + (3 + m) + 1 + 1) _ d Q refl idle
         (λ n. (refl, (omega arith, (omega arith, ((omega arith, omega arith, sz), (omega arith, (ap (λ z. flag (nat_lt z (4096 * size u))) ra, (ap (λ z. z * 2 ^ 30 % 2 ^ 32) ra, (refl, tt)))))))))
         (λ n. from_when w f 9 _ (3 + (3 + m) + 1) _ d Q (omega arith) idle
         (λ z. let inside : a < 4096 * size u = ⊎_elim (λ o. o.1) (λ o. absurd (z o.0)) (flag_of a (4096 * size u)) in

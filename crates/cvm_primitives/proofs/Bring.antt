@@ -16,7 +16,7 @@ use Rattle.frame_table.specs.View.{Sited}
 use Rattle.page_fault.specs.Asked.{PageAsked, PageDone, PageBlock, swap_steps, fault_steps, idle_steps}
 use Rattle.cvm_primitives.specs.View.{Held, FourOthers, Start}
 use Rattle.cvm_primitives.proofs.Between.{Keeps, Came, BothIn}
-use Rattle.cvm_primitives.specs.Code.{both_code}
+use Rattle.cvm_primitives.specs.Code.{page_in_both_code}
 use Rattle.cvm_primitives.proofs.Basics.{flag_of}
 
 -- two pages: q can be read, r is brought in to store, and q again: to store where it is r
@@ -150,7 +150,7 @@ module _ (w : World) (f : RoutineLaws w) (p : Places) (b : ℕ) (si : Sited p w)
 
   pub both_from : (u : Pages) (x y : ℕ) (c : Contents) (d : Behind) → Held p u g c d → c.regs 26 ≡ x → c.regs 27 ≡ y → x < 1024 * p.layout.pages → y < 1024 * p.layout.pages → u.live (x / 1024) ≡ true → u.live (y / 1024) ≡ true
       → Passes (view p c.memory d.sectors) (x / 1024) false
-      → x / 1024 ≡ X → y / 1024 ≡ Y → R c d → From w (both_code page.code) (2 + (n + (4 + n))) c d (BothIn p u g x y c)
+      → x / 1024 ≡ X → y / 1024 ≡ Y → R c d → From w (page_in_both_code page.code) (2 + (n + (4 + n))) c d (BothIn p u g x y c)
   both_from u x y c d h from to lx ly ax ay pass ex ey r =
       let pages = si.pages in
       from_then w f (Srl 16 27 10 ∷ Addiu 15 0 1 ∷ []) _ 2 (n + (4 + n)) c d (Asks1 u y c d) (BothIn p u g x y c)

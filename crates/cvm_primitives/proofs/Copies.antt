@@ -18,7 +18,7 @@ use Rattle.frame_table.specs.View.{Sited}
 use Rattle.page_fault.specs.Asked.{PageBlock}
 use Rattle.cvm_primitives.specs.View.{page_steps, Held, Marks, CopyGood, UsersIn, RangeGood, CopyArgs, number, size_at, start}
 use Rattle.cvm_primitives.proofs.Between.{Tests}
-use Rattle.cvm_primitives.specs.Code.{base_code, size_code, range_code, apart_code, copy_asked_code, copies_code, vm_copy_code}
+use Rattle.cvm_primitives.specs.Code.{base_code, size_code, check_range_code, apart_code, check_copy_arguments_code, copies_code, vm_copy_code}
 use Rattle.cvm_primitives.proofs.Basics.{flag_of, small_is, held_to}
 use Rattle.cvm_primitives.proofs.Piece.{copy_law, run_short}
 use Rattle.cvm_primitives.proofs.Asks.{product_below, Based, base_from}
@@ -37,7 +37,7 @@ module _ (w : World) (f : RoutineLaws w) (p : Places) (b : ℕ) (si : Sited p w)
   pub range_from : (m : ℕ) (inside : List Inst) (Q : Contents → Behind → Type 0) (c : Contents) (d : Behind) (u a n : ℕ) → d.pending ≡ Idle → UsersIn p users per size v c → c.regs 20 ≡ u → c.regs 21 ≡ a → c.regs 14 ≡ n → u < 2 ^ 32 → a < 2 ^ 32 → n < 2 ^ 32 → length inside ≤ 20000
       → (RangeGood users size u a n → (c1 : Contents) (d1 : Behind) → Tests c d c1 d1 → c1.regs 10 ≡ number per u a → From w inside m c1 d1 Q)
       → ((RangeGood users size u a n → ⊥) → (c1 : Contents) (d1 : Behind) → Tests c d c1 d1 → Q c1 d1)
-      → From w (range_code users per inside) (2 + (7 + (3 + (3 + (3 + (2 + m) + 1) + 1) + 1) + 1)) c d Q
+      → From w (check_range_code users per inside) (2 + (7 + (3 + (3 + (3 + (2 + m) + 1) + 1) + 1) + 1)) c d Q
   range_from m inside Q c d u a n idle us ru ra rn su sa sn short does refuse =
       let few = us.few in let most = us.most in let words = f.small in let low = si.low in let first = si.first in let second = si.second in let third = si.third in
       let ku = small_is users (omega arith) in
@@ -98,7 +98,7 @@ module _ (w : World) (f : RoutineLaws w) (p : Places) (b : ℕ) (si : Sited p w)
       → u < 2 ^ 32 → a < 2 ^ 32 → v' < 2 ^ 32 → b' < 2 ^ 32 → n < 2 ^ 32 → length inside ≤ 10000
       → (CopyArgs users size u a v' b' n → (c1 : Contents) (d1 : Behind) → Tests (with_reg (with_reg (with_reg c 2 0) 14 n) 26 (number per u a)) d c1 d1 → c1.regs 27 ≡ number per v' b' → From w inside m c1 d1 Q)
       → ((CopyArgs users size u a v' b' n → ⊥) → (c1 : Contents) (d1 : Behind) → c1.memory ≡ c.memory → c1.special ≡ c.special → c1.regs 28 ≡ c.regs 28 → c1.regs 29 ≡ c.regs 29 → c1.regs 30 ≡ c.regs 30 → c1.regs 31 ≡ c.regs 31 → c1.regs 2 ≡ 0 → d1 ≡ d → Q c1 d1)
-      → From w (copy_asked_code users per inside) (2 + (24 + (3 + (24 + (7 + (m + 1)))))) c d Q
+      → From w (check_copy_arguments_code users per inside) (2 + (24 + (3 + (24 + (7 + (m + 1)))))) c d Q
   copy_asked_from m inside Q c d u a v' b' n idle us ru ra rv rb rn su sa sv sb sn short does refuse =
       let few = us.few in let most = us.most in
       straight_then w f (Addiu 2 0 0 ∷ Addu 14 24 0 ∷ []) _ (Gives 0 ∷ Gives n ∷ []) (24 + (3 + (24 + (7 + (m + 1))))) c d Q refl idle (λ n'. (refl, (omega arith, tt)))

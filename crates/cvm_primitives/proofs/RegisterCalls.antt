@@ -17,7 +17,7 @@ use Rattle.layer_map.specs.Map.{block_at}
 use Rattle.c0_meaning.specs.Value.{bool}
 use Rattle.cvm_model.specs.Kernel.{Set, flat}
 use Rattle.cvm_model.specs.Primitives.{no_flat, Call, ConGet, ConLeft, Given, user_of, with_user, pages_of, register_of, with_register, is_within, is_good, unchanged, changed, refused, granted, prim}
-use Rattle.cvm_primitives.specs.RegisterCode.{user_code, register_code, place_code, asked_code, vm_get_code, vm_set_code, vm_size_code, con_put_code, con_get_code, con_left_code}
+use Rattle.cvm_primitives.specs.RegisterCode.{check_user_code, register_code, place_code, check_arguments_code, vm_get_code, vm_set_code, vm_size_code, con_put_code, con_get_code, con_left_code}
 use Rattle.cvm_primitives.specs.Blocks.{word_of, IsOneOf, BlocksHold, console_of, Entered, Left}
 use Rattle.cvm_primitives.specs.RegisterLaws.{get_call, set_call, size_call, put_call}
 use Rattle.cvm_primitives.proofs.RegisterForms.{CodeLaws, within, straightly, straightly_then, conditionally}
@@ -151,14 +151,14 @@ module _ (w : World) (f : CodeLaws w) (users : List Flat) (c : Contents) (d : Be
   module _ (Q : Contents → Behind → Type 0) (bad : ℕ) where
     -- the user is tested
     user_from : (m : ℕ) (work : List Inst) → length work ≤ 2000 → (is_within 1 (length users) (signed (c.regs 20)) ≡ true → nat_abs (signed (c.regs 20)) ≡ c.regs 20 → IsOneOf users (c.regs 20) → (c1 : Contents) → Quiet c c1 → c1.regs 20 ≡ c.regs 20 → c1.regs 2 ≡ sum 0 (extended bad) → c1.regs 8 ≡ c.regs 20 - 1 → From w work m c1 d Q)
-        → (is_within 1 (length users) (signed (c.regs 20)) ≡ false → (c1 : Contents) → Quiet c c1 → c1.regs 2 ≡ sum 0 (extended bad) → Q c1 d) → From w (user_code bad (length users) ++ when_code 9 work) (3 + (m + 1)) c d Q
+        → (is_within 1 (length users) (signed (c.regs 20)) ≡ false → (c1 : Contents) → Quiet c c1 → c1.regs 2 ≡ sum 0 (extended bad) → Q c1 d) → From w (check_user_code bad (length users) ++ when_code 9 work) (3 + (m + 1)) c d Q
     user_from m work short does refuse =
         let few = e.few in let su = e.regs 20 in
         let ku = small_is (length users) (omega arith) in
-        straightly_then w f (user_code bad (length users)) (when_code 9 work) (user_says bad (c.regs 20) (length users)) (m + 1) c d Q refl e.idle
+        straightly_then w f (check_user_code bad (length users)) (when_code 9 work) (user_says bad (c.regs 20) (length users)) (m + 1) c d Q refl e.idle
         (λ n. (refl, (refl, (ap (λ z. flag (nat_lt ((c.regs 20 + 4294967295) % 2 ^ 32) z)) ku, tt))))
-        (λ n. let q : Quiet c (sayings n (user_code bad (length users)) (user_says bad (c.regs 20) (length users)) c) =
-        record { memory = refl; regs = λ r le. f.stays low r (is_low r le) (user_code bad (length users)) (user_says bad (c.regs 20) (length users)) n c refl refl; hi = refl; lo = refl; special = refl } in
+        (λ n. let q : Quiet c (sayings n (check_user_code bad (length users)) (user_says bad (c.regs 20) (length users)) c) =
+        record { memory = refl; regs = λ r le. f.stays low r (is_low r le) (check_user_code bad (length users)) (user_says bad (c.regs 20) (length users)) n c refl refl; hi = refl; lo = refl; special = refl } in
         conditionally w f 9 work m _ d Q (omega arith) e.idle
         (λ z. let lt : (c.regs 20 + 4294967295) % 2 ^ 32 < length users = ⊎_elim (λ o. o.1) (λ o. absurd (z o.0)) (flag_of ((c.regs 20 + 4294967295) % 2 ^ 32) (length users)) in
         let i = word_in (length users) (c.regs 20) (omega arith) su lt in
@@ -171,7 +171,7 @@ module _ (w : World) (f : CodeLaws w) (users : List Flat) (c : Contents) (d : Be
     asked_from : (m : ℕ) (work : List Inst) → length work ≤ 1000 → (is_within 1 (length users) (signed (c.regs 20)) && is_within 1 32 (signed (c.regs 21)) ≡ true → nat_abs (signed (c.regs 20)) ≡ c.regs 20 → nat_abs (signed (c.regs 21)) ≡ c.regs 21 → IsOneOf users (c.regs 20) → 1 ≤ c.regs 21 → c.regs 21 ≤ 32
         → (c1 : Contents) → Quiet c c1 → c1.regs 11 ≡ 4 * word_of (c.regs 20) (c.regs 21) → From w work m c1 d Q)
         → (is_within 1 (length users) (signed (c.regs 20)) && is_within 1 32 (signed (c.regs 21)) ≡ false → (c1 : Contents) → Quiet c c1 → c1.regs 2 ≡ sum 0 (extended bad) → Q c1 d)
-        → From w (asked_code bad (length users) work) (3 + (2 + (6 + m + 1) + 1)) c d Q
+        → From w (check_arguments_code bad (length users) work) (3 + (2 + (6 + m + 1) + 1)) c d Q
     asked_from m work short does refuse =
         let few = e.few in let sr = e.regs 21 in
         user_from (2 + (6 + m + 1)) (register_code ++ when_code 9 (place_code ++ work)) (omega arith)

@@ -12,8 +12,8 @@ use Rattle.cvm_primitives.specs.declared.parts.TheConstants.{MINUS_ONE, FIND_SIZ
 use Rattle.cvm_primitives.specs.declared.registers.TheConstants.{IS_REGISTER, FIND_WORD, LOAD_WORD, STORE_WORD, PUT, GET, TELL_LEFT}
 
 -- the answer is the bad one first; T0 becomes the number in USER less 1, and T1 isn't 0 where it is a user's
-abbrev pub user_code : ℕ → ℕ → List Inst
-user_code bad users = Addiu ANSWER ZERO bad ∷ Addiu T0 USER (minus 1) ∷ Sltiu T1 T0 users ∷ []
+abbrev pub check_user_code : ℕ → ℕ → List Inst
+check_user_code bad users = Addiu ANSWER ZERO bad ∷ Addiu T0 USER (minus 1) ∷ Sltiu T1 T0 users ∷ []
 
 -- T1 isn't 0 where NUMBER is that of a register, or 32
 abbrev pub register_code : List Inst
@@ -24,24 +24,25 @@ abbrev pub place_code : List Inst
 place_code = FIND_WORD
 
 -- the work is done where both arguments are good
-abbrev pub asked_code : ℕ → ℕ → List Inst → List Inst
-asked_code bad users work = user_code bad users ++ when_code T1 (register_code ++ when_code T1 (place_code ++ work))
+abbrev pub check_arguments_code : ℕ → ℕ → List Inst → List Inst
+check_arguments_code bad users work = check_user_code bad users ++ when_code T1 (register_code ++ when_code T1 (place_code ++ work))
 
 -- its words
-abbrev pub asked_words : (bad users : ℕ) → List ℕ → List ℕ
-asked_words bad users work = map encoding (user_code bad users) ++ when_words T1 (map encoding register_code ++ when_words T1 (map encoding place_code ++ work))
+abbrev pub check_arguments_words : (bad users : ℕ) → List ℕ → List ℕ
+check_arguments_words bad users work =
+    map encoding (check_user_code bad users) ++ when_words T1 (map encoding register_code ++ when_words T1 (map encoding place_code ++ work))
 
 -- vm_get
 abbrev pub vm_get_code : ℕ → List Inst
-vm_get_code users = asked_code MINUS_ONE users LOAD_WORD
+vm_get_code users = check_arguments_code MINUS_ONE users LOAD_WORD
 
 -- vm_set
 abbrev pub vm_set_code : ℕ → List Inst
-vm_set_code users = asked_code 0 users STORE_WORD
+vm_set_code users = check_arguments_code 0 users STORE_WORD
 
 -- vm_size
 abbrev pub vm_size_code : ℕ → List Inst
-vm_size_code users = user_code MINUS_ONE users ++ when_code T1 (FIND_SIZE ++ LOAD_WORD)
+vm_size_code users = check_user_code MINUS_ONE users ++ when_code T1 (FIND_SIZE ++ LOAD_WORD)
 
 -- con_put: the port of the log tells its length, and a full log loses what is stored to it
 abbrev pub con_put_code : List Inst

@@ -1,7 +1,7 @@
 // The code of the primitives that use no page.
 ghost use Rattle.std.specs.Prelude.{◌≡◌, ◌<◌, ◌≤◌, ◌++◌, map as each, length};
 ghost use Rattle.mips_table.specs.Encoding.{encoding};
-ghost use Rattle.cvm_primitives.specs.RegisterCode.{user_code, register_code, place_code, asked_words, vm_get_code};
+ghost use Rattle.cvm_primitives.specs.RegisterCode.{check_user_code, register_code, place_code, check_arguments_words, vm_get_code};
 ghost use Rattle.cvm_primitives.specs.RegisterCode.{vm_set_code, vm_size_code, con_put_code, con_get_code, con_left_code};
 
 use crate::parts::{FIND_SIZE, MINUS_ONE};
@@ -14,10 +14,10 @@ use masm::{Block, block, code};
 use mips_table::Inst;
 
 /// ANSWER becomes what a bad call answers, as 16 bits; T1 isn't 0 where USER is a user's number, and T0 is that less 1.
-pub fn user_test(bad: u32, users: u32) -> Block<3>
+pub fn check_user(bad: u32, users: u32) -> Block<3>
     requires bad { bad < 65536 }
     requires users { users ≤ 64 }
-    ensures { result ≡ each encoding (user_code bad users) }
+    ensures { result ≡ each encoding (check_user_code bad users) }
 {
     block! {
         addiu ANSWER, ZERO, bad;
@@ -43,14 +43,14 @@ const FIND_WORD: [Inst; 6] = code! {
 };
 
 // The work is done where the user and the register are good.
-fn asked(bad: u32, users: u32, work: &Block<2>) -> Block<15>
+fn check_arguments(bad: u32, users: u32, work: &Block<2>) -> Block<15>
     requires bad { bad < 65536 }
     requires users { users ≤ 64 }
-    ensures { result ≡ asked_words bad users work.now }
+    ensures { result ≡ check_arguments_words bad users work.now }
 {
     let _fits = work.len();
     block! {
-        then user_test(bad, users);
+        then check_user(bad, users);
         when T1 {
             code IS_REGISTER;
             when T1 {
@@ -79,7 +79,7 @@ pub fn vm_get(map: &Map) -> Block<15>
     let work: Block<2> = block! {
         code LOAD_WORD;
     };
-    asked(MINUS_ONE, map.users(), &work)
+    check_arguments(MINUS_ONE, map.users(), &work)
 }
 
 /// `vm_set`: its arguments are USER, NUMBER and VALUE, the new one.
@@ -89,7 +89,7 @@ pub fn vm_set(map: &Map) -> Block<15>
     let work: Block<2> = block! {
         code STORE_WORD;
     };
-    asked(0, map.users(), &work)
+    check_arguments(0, map.users(), &work)
 }
 
 /// `vm_size`: its argument is USER.
@@ -101,7 +101,7 @@ pub fn vm_size(map: &Map) -> Block<8>
         code LOAD_WORD;
     };
     block! {
-        then user_test(MINUS_ONE, map.users());
+        then check_user(MINUS_ONE, map.users());
         when T1, work;
     }
 }

@@ -3,7 +3,7 @@
 ghost use Rattle.std.specs.Prelude.{◌≡◌};
 ghost use Rattle.layer_contract.specs.Layer.{entry_address, IsEntry};
 
-use layer_map::{ENTRY, EXITS, LEAVE, PRIMITIVES};
+use layer_map::{EXITS, LEAVE, PRIMITIVES, UNIT_ENTRY};
 
 /// Where the layer and the kernel's code meet.
 #[derive(Clone, Copy, Debug, PartialEq, Eq)]
@@ -26,7 +26,7 @@ impl Entry {
         ensures { result ≡ entry_address self }
     {
         match self {
-            Entry::Dispatch => ENTRY,
+            Entry::Dispatch => UNIT_ENTRY,
             Entry::Primitive(number) => PRIMITIVES + 4 * number,
             Entry::Fault(power) => EXITS + 4 * (power - 1),
             Entry::Leave => LEAVE,

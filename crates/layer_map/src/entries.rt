@@ -4,7 +4,7 @@ ghost use Rattle.std.specs.Prelude.{◌≡◌, ◌*◌};
 ghost use Rattle.layer_map.specs.Map.{layer_words, primitives_at, exits_at, leave_at};
 
 /// The address at which the layer enters a unit's code, which is its first.
-pub const ENTRY: u32 = 0x10000;
+pub const UNIT_ENTRY: u32 = 0x10000;
 
 /// The address at which the unit's code enters primitive 0. The other primitives follow by their numbers, to 9, a word each.
 pub const PRIMITIVES: u32 = 0x2000;
@@ -21,7 +21,7 @@ pub const ANSWER: u32 = 2;
 
 /// A law: the constants are the addresses of the words that the map's definitions name.
 pub fn entries_are_words()
-    ensures entry { ENTRY ≡ 4 * layer_words }
+    ensures entry { UNIT_ENTRY ≡ 4 * layer_words }
     ensures primitives { PRIMITIVES ≡ 4 * primitives_at }
     ensures exits { EXITS ≡ 4 * exits_at }
     ensures leave { LEAVE ≡ 4 * leave_at }

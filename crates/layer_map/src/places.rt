@@ -6,6 +6,9 @@ ghost use Rattle.layer_map.specs.Map.{block_at, current_at, hand_at, heap_used_a
 /// The words of the layer's part, which begins memory.
 pub const LAYER_WORDS: u32 = 16384;
 
+/// The words of a page, of a frame and of a sector.
+pub const PAGE_WORDS: u32 = 1024;
+
 /// The address of the current user, from 1.
 pub const CURRENT: u32 = 0x1000;
 

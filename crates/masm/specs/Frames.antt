@@ -4,6 +4,7 @@ use Rattle.mips_table.specs.declared.inst.Inst.{Inst}
 use Rattle.mips_table.specs.Device.{Idle, BUFFER, COMMAND}
 use Rattle.mips_table.specs.Code.{Contents, Behind, World}
 use Rattle.masm.specs.Laws.{From}
+use Rattle.masm.specs.declared.roles.TheConstants.{ORDER, VICTIM_AT, OUT_PAGE}
 
 -- the disk may be used, and is busy for b steps at most
 pub record HasDisk (w : World) (b : ℕ) : Type 0 where
@@ -20,15 +21,16 @@ pub record Besides (c0 : Contents) (d0 : Behind) (c : Contents) (d : Behind) : T
   pub input : d.input ≡ d0.input
   pub idle : d.pending ≡ Idle
 
--- sector s is frame g; memory, the other sectors, and registers above 5 are as before
+-- sector s is frame g; memory, the other sectors, and the registers behind ORDER are as before
 pub record SwappedOut (s g : ℕ) (c0 : Contents) (d0 : Behind) (c : Contents) (d : Behind) : Type 0 where
   pub sector : (i : ℕ) → i < 1024 → d.sectors s i ≡ c0.memory (1024 * g + i)
   pub sectors : (x i : ℕ) → x ≢ s → d.sectors x i ≡ d0.sectors x i
   pub memory : (x : ℕ) → x < BUFFER → c.memory x ≡ c0.memory x
-  pub regs : (x : ℕ) → 5 < x → c.regs x ≡ c0.regs x
+  pub regs : (x : ℕ) → ORDER < x → c.regs x ≡ c0.regs x
   pub commands : d.commands ≡ d0.commands + 1
   pub besides : Besides c0 d0 c d
 
--- the block writes the frame at the address in register 18 to the sector in register 21, within so many steps
+-- the block writes the frame at the address in VICTIM_AT to the sector in OUT_PAGE, within so many steps
 abbrev pub WritesFrames : World → List Inst → ℕ → Type 0
-WritesFrames w out steps = (s g : ℕ) (c : Contents) (d : Behind) → c.regs 21 ≡ s → c.regs 18 ≡ 4096 * g → 1024 * g + 1024 ≤ w.words → s < w.count → d.pending ≡ Idle → From w out steps c d (SwappedOut s g c d)
+WritesFrames w out steps = (s g : ℕ) (c : Contents) (d : Behind) → c.regs OUT_PAGE ≡ s → c.regs VICTIM_AT ≡ 4096 * g → 1024 * g + 1024 ≤ w.words → s < w.count →
+    d.pending ≡ Idle → From w out steps c d (SwappedOut s g c d)

@@ -10,6 +10,7 @@ use Rattle.mips_table.specs.Device.{Idle, COMMAND, SECTOR}
 use Rattle.mips_table.specs.Code.{Contents, reg, with_reg, Behind, World, Sound, Configuration, at_with, settle, commanded, effect_at, act, May, Reaches, CodeAt, Does}
 use Rattle.masm.specs.Says.{Says, Widens, Said, said, told, goes_on, straight, AllSaid, sayings, tellings}
 use Rattle.masm.specs.Blocks.{when_code, loop_code, when_words, loop_words}
+use Rattle.masm.specs.declared.registers.TheConstants.{RETURN}
 
 -- each instruction of the part stands in the whole
 abbrev pub IsPart : (part whole : ℕ → Option Inst) → Type 0
@@ -76,9 +77,9 @@ pub record LoopRuns (w : World) (test : List Inst) (r : ℕ) (body : List Inst) 
   pub turns : (n p q : ℕ) (c : Contents) (d : Behind) (c' : Contents) (d' : Behind) (c'' : Contents) (d'' : Behind) → CodeAt w n (loop_code test r body) → Reaches w p (at_with n c d) (at_with (n + length test) c' d') → d'.pending ≡ Idle → reg c'.regs r ≢ 0 → Reaches w q (at_with (n + length test + 1) c' d') (at_with (n + length test + 1 + length body) c'' d'') → d''.pending ≡ Idle → Reaches w (p + q + 2) (at_with n c d) (at_with n c'' d'')
   pub ends : (n p : ℕ) (c : Contents) (d : Behind) (c' : Contents) (d' : Behind) → CodeAt w n (loop_code test r body) → Reaches w p (at_with n c d) (at_with (n + length test) c' d') → d'.pending ≡ Idle → reg c'.regs r ≡ 0 → Reaches w (p + 1) (at_with n c d) (at_with (n + length (loop_code test r body)) c' d')
 
--- a routine: a body, and a jump to the address in register 31, which the body leaves there
+-- a routine: a body, and a jump to the return address, which the body leaves in its register
 abbrev pub ReturnRuns : World → List Inst → Type 0
-ReturnRuns w body = (n m to : ℕ) (c : Contents) (d : Behind) (c' : Contents) (d' : Behind) → CodeAt w n (body ++ Jr 31 ∷ []) → Reaches w m (at_with n c d) (at_with (n + length body) c' d') → reg c'.regs 31 ≡ 4 * to → d'.pending ≡ Idle → Reaches w (m + 1) (at_with n c d) (at_with to c' d')
+ReturnRuns w body = (n m to : ℕ) (c : Contents) (d : Behind) (c' : Contents) (d' : Behind) → CodeAt w n (body ++ Jr RETURN ∷ []) → Reaches w m (at_with n c d) (at_with (n + length body) c' d') → reg c'.regs RETURN ≡ 4 * to → d'.pending ≡ Idle → Reaches w (m + 1) (at_with n c d) (at_with to c' d')
 
 -- the block leads from this very state to one of Q, by its end, in so many steps at most
 abbrev pub From : World → List Inst → ℕ → Contents → Behind → (Contents → Behind → Type 0) → Type 0

@@ -6,6 +6,7 @@ use Rattle.mips_table.specs.Device.{Pending, Idle, Reading, Writing, COMMAND, SE
 use Rattle.mips_table.specs.Code.{Contents, Behind, World, effect_at, filled, buffer_of}
 use Rattle.masm.specs.Blocks.{loop_code}
 use Rattle.masm.specs.Laws.{From}
+use Rattle.masm.specs.declared.addresses.TheConstants.{READ_SECTOR, WRITE_SECTOR}
 use Rattle.masm.specs.declared.roles.TheConstants.{STATUS}
 use Rattle.masm.specs.declared.waiting.TheConstants.{READ_STATUS}
 
@@ -53,8 +54,8 @@ pub record MayCommand (w : World) (i : Inst) (v : ℕ) (c : Contents) (d : Behin
   pub idle : d.pending ≡ Idle
   pub sector : c.memory SECTOR < w.count
 
--- A command and the wait for it take the busy time of the command's number and five steps more: after a 1 the buffer holds the
--- sector, and after a 2 the sector holds the buffer.
+-- A command and the wait for it take the busy time of the command's number and five steps more: after a READ_SECTOR the
+-- buffer holds the sector, and after a WRITE_SECTOR the sector holds the buffer.
 pub record TransfersRun (w : World) : Type 0 where
-  pub read : (i : Inst) (c : Contents) (d : Behind) → MayCommand w i 1 c d → From w (i ∷ wait_code) (w.busy d.commands + 5) c d (λ c' d'. Waited (filled c.memory (d.sectors (c.memory SECTOR))) c c' × (d' ≡ record d { pending = Idle; commands = d.commands + 1 }))
-  pub write : (i : Inst) (c : Contents) (d : Behind) → MayCommand w i 2 c d → From w (i ∷ wait_code) (w.busy d.commands + 5) c d (λ c' d'. Waited c.memory c c' × (d' ≡ record d { pending = Idle; commands = d.commands + 1; sectors = λ k. if k == c.memory SECTOR then buffer_of c.memory else d.sectors k }))
+  pub read : (i : Inst) (c : Contents) (d : Behind) → MayCommand w i READ_SECTOR c d → From w (i ∷ wait_code) (w.busy d.commands + 5) c d (λ c' d'. Waited (filled c.memory (d.sectors (c.memory SECTOR))) c c' × (d' ≡ record d { pending = Idle; commands = d.commands + 1 }))
+  pub write : (i : Inst) (c : Contents) (d : Behind) → MayCommand w i WRITE_SECTOR c d → From w (i ∷ wait_code) (w.busy d.commands + 5) c d (λ c' d'. Waited c.memory c c' × (d' ≡ record d { pending = Idle; commands = d.commands + 1; sectors = λ k. if k == c.memory SECTOR then buffer_of c.memory else d.sectors k }))

@@ -71,7 +71,7 @@ pub fn a_loop_pays<T: Turns>()
     ensures { (w : World) → Sound w → LoopPays w T.State (T.before w) (T.tested w) (T.ends w) }
 {}
 
-/// A body that ends in a jump to register 31 returns.
+/// A body that ends in a jump to the return address returns.
 pub fn a_routine_returns()
     ensures { (w : World) → Sound w → (body : List Inst) → ReturnRuns w body }
 {}

@@ -7,6 +7,7 @@
 pub mod addresses;
 mod assembly;
 mod block;
+pub mod causes;
 pub mod copying;
 pub mod laws;
 pub mod registers;

@@ -1,6 +1,7 @@
 //! What the layer keeps in registers, by name.
 //!
-//! The temporaries of one block are T0 to T3. All others keep their meaning from block to block.
+//! T0 to T3 are temporaries: what one of them holds is for the next lines alone. Every other name means the same in all blocks; a number with
+//! two names has two meanings, at different times.
 
 /// Always 0.
 pub const ZERO: u32 = 0;
@@ -76,9 +77,3 @@ pub const ABSENT: u32 = 25;
 
 /// The address of a user's control block.
 pub const BLOCK: u32 = 31;
-
-/// Cause of an interrupt: translation refuses the pc.
-pub const FETCH_FAULT: u32 = 3;
-
-/// Cause of an interrupt: translation refuses the address of a load or a store.
-pub const DATA_FAULT: u32 = 8;

@@ -1,5 +1,7 @@
 -- What a page fault's handler does to entries, and the faults of one user step.
 use Rattle.std.specs.Prelude.{◌≡◌, ◌≢◌, ℕ, zero, suc, ◌/◌, ◌%◌, ◌<◌, ◌⊎◌, Bool, true, false}
+use Rattle.mips_table.specs.declared.special.TheConstants.{IS_VALID}
+use Rattle.layer_map.specs.declared.places.TheConstants.{PAGE_WORDS}
 use Rattle.page_model.specs.Paging.{Layout, IsFrame, Valid, Names, Paged, Passes, next_frame, private_entry}
 
 -- the first case: no frame is filled and no sector written, and no other entry changes; the entry was valid before
@@ -7,14 +9,14 @@ pub record InPlace (l : Layout) (q : ℕ) (store : Bool) (a b : Paged) : Type 0 
   pub was : Valid (a.entry q)
   pub passes : Passes b q store
   pub entries : (x : ℕ) → x < l.pages → x ≢ q → b.entry x ≡ a.entry x
-  pub frames : (f : ℕ) → IsFrame l f → (i : ℕ) → i < 1024 → b.frame f i ≡ a.frame f i
-  pub sectors : (x : ℕ) → x < l.pages → (i : ℕ) → i < 1024 → b.sector x i ≡ a.sector x i
+  pub frames : (f : ℕ) → IsFrame l f → (i : ℕ) → i < PAGE_WORDS → b.frame f i ≡ a.frame f i
+  pub sectors : (x : ℕ) → x < l.pages → (i : ℕ) → i < PAGE_WORDS → b.sector x i ≡ a.sector x i
   pub hand : b.hand ≡ a.hand
 
 -- the second: the page has the frame at the hand, by an entry that isn't protected; no other entry names that frame, and the hand moves on by one
 pub record ByFill (l : Layout) (q : ℕ) (a b : Paged) : Type 0 where
   pub entry : b.entry q ≡ private_entry a.hand
-  pub evicted : (x : ℕ) → x < l.pages → x ≢ q → Names (a.entry x) a.hand → b.entry x / 2048 % 2 ≡ 0
+  pub evicted : (x : ℕ) → x < l.pages → x ≢ q → Names (a.entry x) a.hand → b.entry x / IS_VALID % 2 ≡ 0
   pub entries : (x : ℕ) → x < l.pages → x ≢ q → (Names (a.entry x) a.hand → ⊥) → b.entry x ≡ a.entry x
   pub hand : b.hand ≡ next_frame l a.hand
 

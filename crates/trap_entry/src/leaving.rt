@@ -54,9 +54,9 @@ fn return_to_user(map: &Map) -> Code
     }
 }
 
-/// Code that is run at a fault of the kernel: its word, below 65,536, goes to the power port.
+/// Code that is run at a fault of the kernel: its word, below 32,768, goes to the power port. (The addiu would extend the sign of a greater one.)
 pub fn exit_with(power: u32) -> Code
-    requires { power < 65536 }
+    requires { power < 32768 }
     ensures { result ≡ each encoding (exit_with_code power) }
 {
     block! {
