@@ -5,6 +5,7 @@ ghost use Rattle.boot_turns.specs.declared.answers.RunFault.TheVariants.{Disk as
 
 use cvm_model::Row;
 use cvm_outside::{DiskFault, SinkFault};
+use thiserror::Error;
 
 /// What is printed of a run.
 #[derive(Clone, Copy, Debug, PartialEq, Eq)]
@@ -27,13 +28,16 @@ pub enum Turn {
 }
 
 /// Why a run doesn't go on.
-#[derive(Clone, Copy, Debug, PartialEq, Eq)]
+#[derive(Clone, Copy, Debug, PartialEq, Eq, Error)]
 pub enum RunFault {
     /// The budget of steps was spent, and the turn isn't complete.
+    #[error("the steps are spent, and the turn isn't complete")]
     StepLimit,
     /// The disk failed.
+    #[error("the disk failed")]
     Disk,
     /// The sink failed.
+    #[error("the sink failed")]
     Sink,
 }
 
