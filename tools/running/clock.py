@@ -64,15 +64,12 @@ def build_into(rt, folder):
 def start(say):
     """The words that start the clock's program, which is built where it is not kept."""
     what = "the clock's program over the same sources, with no proof: about a minute of a processor. It is kept until a source changes."
-    try:
-        rt, about = kept.toolchain()
-        name = fingerprint(about)
-        made = os.path.join(KEPT, name)
-        if not kept.is_whole(made):
-            kept.keep(KEPT, name, what, lambda new: build_into(rt, new), say)
-            sharing.open_to_readers(KEPT)
-    except kept.NoBuild as why:
-        raise Bad(str(why), 70) from None
+    rt, about = kept.toolchain()
+    name = fingerprint(about)
+    made = os.path.join(KEPT, name)
+    if not kept.is_whole(made):
+        kept.keep(KEPT, name, what, lambda new: build_into(rt, new), say)
+        sharing.open_to_readers(KEPT)
     return kept.start_of(made)
 
 

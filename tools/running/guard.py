@@ -1,4 +1,5 @@
 """Ends a tool with a sentence and a status, whatever happens, and never with a trace of a stack."""
+import os
 import re
 import signal
 import sys
@@ -10,6 +11,16 @@ class Bad(Exception):
     def __init__(self, why, status=64):
         Exception.__init__(self, why)
         self.status = status
+
+
+def text_of(name, fault=Bad):
+    """The text of a file of this clone, which is to be UTF-8."""
+    try:
+        with open(name, encoding='utf-8') as file:
+            return file.read()
+    except UnicodeDecodeError:
+        folder, base = os.path.split(os.path.abspath(name))
+        raise fault("'%s' is not UTF-8, and has to be: git -C '%s' checkout '%s' brings it back" % (name, folder, base)) from None
 
 
 def pasted(line):

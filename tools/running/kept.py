@@ -16,6 +16,7 @@ import tempfile
 import time
 
 from explain import pages
+from running import guard
 
 TOP = pages.TOP
 KEPT = os.path.join(TOP, 'out', 'tried')
@@ -26,24 +27,17 @@ SUMS = 'sums'
 WAIT = 120
 
 
-class NoBuild(Exception):
+class NoBuild(guard.Bad):
     """Why there is no program to run, in a sentence."""
 
-
-def rows_of_crates():
-    """The lines of crates.txt."""
-    name = os.path.join(TOP, 'crates.txt')
-    try:
-        with open(name, encoding='utf-8') as file:
-            return file.readlines()
-    except UnicodeDecodeError:
-        raise NoBuild("'%s' is not UTF-8, and has to be: git -C '%s' checkout crates.txt brings it back" % (name, TOP)) from None
+    def __init__(self, why):
+        guard.Bad.__init__(self, why, 70)
 
 
 def crates_below(name):
     """A crate and those that it stands on, by crates.txt."""
     below = {}
-    for line in rows_of_crates():
+    for line in guard.text_of(os.path.join(TOP, 'crates.txt'), NoBuild).split('\n'):
         head, colon, rest = line.partition('#')[0].partition(':')
         if colon:
             below[head.split()[0]] = rest.split()

@@ -190,8 +190,6 @@ def start_of(options):
     options.checked = True
     try:
         return kept.program(say)
-    except kept.NoBuild as why:
-        raise Bad(str(why), 70) from None
     finally:
         sharing.open_to_readers(kept.KEPT)
 

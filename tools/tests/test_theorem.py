@@ -3,6 +3,7 @@ import importlib.machinery
 import importlib.util
 import io
 import os
+import shutil
 import subprocess
 import sys
 import tempfile
@@ -23,9 +24,9 @@ def tool(name):
     return module
 
 
-def run(*words):
-    """Runs a tool. Gives its status and what it says on standard error."""
-    done = subprocess.run([sys.executable, *words], cwd=TOP, stdin=subprocess.DEVNULL, stdout=subprocess.PIPE, stderr=subprocess.PIPE, text=True)
+def run(*words, top=TOP):
+    """Runs a tool of this clone or another. Gives its status and what it says on standard error."""
+    done = subprocess.run([sys.executable, *words], cwd=top, stdin=subprocess.DEVNULL, stdout=subprocess.PIPE, stderr=subprocess.PIPE, text=True)
     return done.returncode, done.stderr
 
 
@@ -173,6 +174,20 @@ class Words(unittest.TestCase):
             status, said = run(*words)
             self.assertEqual(status, 64, words)
             self.assertNotIn('Traceback', said)
+
+    def test_crates_that_are_no_text(self):
+        with tempfile.TemporaryDirectory() as clone:
+            for name in ('tools', 'bench', 'release'):
+                shutil.copytree(os.path.join(TOP, name), os.path.join(clone, name), ignore=shutil.ignore_patterns('tests', '__pycache__'))
+            os.symlink(os.path.join(TOP, 'crates'), os.path.join(clone, 'crates'))
+            with open(os.path.join(clone, 'crates.txt'), 'wb') as file:
+                file.write(b'# caf\xe9\n')
+            with mock.patch.dict(os.environ, {'PATH': clone}):
+                os.symlink('/bin/true', os.path.join(clone, 'rt'))
+                for words, wanted in ((['tools/believed'], 64), (['tools/check_over', 'cvm_words'], 64), (['bench/typed'], 64), (['release/build'], 70)):
+                    status, said = run(*words, top=clone)
+                    self.assertEqual((status, said), (wanted, "%s: '%s/crates.txt' is not UTF-8, and has to be: git -C '%s' checkout 'crates.txt' brings it back\n"
+                                                      % (words[0].replace('tools/', ''), clone, clone)))
 
     def test_a_crate_that_is_nearly_named(self):
         self.assertIn("did you mean 'kernel_theorems'?", run('tools/check_over', 'kernel_theorem')[1])
