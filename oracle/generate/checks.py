@@ -131,6 +131,11 @@ class Checks(Writer):
         self.begin('a sink without room for the answer', 'room 20')
         self.placed_object(FIRST)
         self.run('check o 64', '', 7)
+        self.begin('a sink with room for two bytes', 'room 2')
+        for text in ('abc', 'ab', 'c'):
+            self.puts(text)
+        self.run('check o 64', '', 6)
+        self.run('check', '', 7)
 
     def no_objects(self):
         """What is no object, and what isn't opened."""

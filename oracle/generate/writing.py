@@ -150,6 +150,16 @@ class Writer:
 
     def begin(self, name, options=''):
         self.part('case ' + name, options)
+        room = re.search(r'^room (\d+)$', options, re.M)
+        self.room = int(room[1]) if room else 1 << 20
+
+    def puts(self, text):
+        """Puts a text into the sink of a case in which nothing else is printed: it takes all of it where that has room, else nothing."""
+        self.part('put ' + text)
+        fits = len(text) <= self.room
+        if fits:
+            self.room -= len(text)
+        self.told.extend([text + ' ..', 'taken'] if fits else ['failed'])
 
     def shows(self, name, data):
         self.part('show ' + name)

@@ -236,6 +236,8 @@ class World:
             return self.show(of, int(at), int(count))
         kinds = {'run': self.ran, 'journal': self.journal, 'sure': self.surely, 'show': self.show, 'object': self.object, 'as': self.same,
                  'sector': lambda number: self.sector(int(number)), 'each': lambda _: self.each(part)}
+        if kind == 'put':
+            raise LeftOut('bytes are put without a command')
         if kind not in kinds:
             raise LeftOut('turns are asked for one by one')
         return kinds[kind](name)

@@ -18,6 +18,7 @@
 // - `sure WORD ..` runs it over copies of the files that its words name, a sink and a disk where no call fails, and prints the status alone;
 // - `turns boot IMAGE SCHEDULE TURNS STEPS` loads the system of these words, asks it for its next turn as often as TURNS says, and prints each
 //   answer with how often it came in succession, how the run ended, its steps, and what was printed of it;
+// - `put TEXT` puts these bytes into the sink, and prints whether it took them all and what it took;
 // - `show NAME` gets a file and prints its bytes, `part NAME AT COUNT` so many of its bytes from a place on, `object NAME` reads it as an
 //   object and prints its source and how many words it has, and `sector N` prints the words of a sector that aren't 0.
 #![tactic(auto)]
@@ -32,7 +33,7 @@ mod sure;
 use altered::{Alteration, Altered};
 use boot_run::{Run, View};
 use case_file::{Case, cases};
-use cvm_outside::{MemSectors, MemShelf, MemSink, Sectors, Shelf};
+use cvm_outside::{MemSectors, MemShelf, MemSink, Sectors, Shelf, Sink};
 use cvm_shell::{plan, read_boot, run};
 use each::run_each;
 use journal::put_journal;
@@ -268,6 +269,13 @@ fn run_turns(
     put_shown(world, out)
 }
 
+// Puts bytes into the sink.
+fn put_into_sink(world: &mut World, out: &mut String, bytes: &[u8]) -> Result<(), AllocError> {
+    let whole = world.sink.put(bytes).is_ok();
+    put_shown(world, out)?;
+    out.push_str(if whole { "taken\n" } else { "failed\n" })
+}
+
 // Prints the bytes of a file.
 fn show_file(
     alloc: Global,
@@ -447,6 +455,7 @@ fn do_part(
         "journal" => run_journal(alloc, world, out, name)?,
         "sure" => run_sure(alloc, world, out, name)?,
         "turns" => run_turns(alloc, world, out, name)?,
+        "put" => put_into_sink(world, out, name.as_bytes())?,
         "show" => show_file(alloc, world, out, name)?,
         "part" => show_part(alloc, world, out, name)?,
         "object" => show_object(alloc, world, out, name)?,
