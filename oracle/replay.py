@@ -313,7 +313,7 @@ class Replay:
                 program.answered(answers[program.given])
             program.given += 1
         program.seen = recorder
-        frames = [(frame.function.name, [(n, v) for n, _, v in values.frame_values(program, frame)]) for frame in program.frames]
+        frames = [(frame.function.name, values.frame_scalars(program, frame)) for frame in program.frames]
         trap = program.to_trap()
         program.seen = None
         argument = program.trap[1][0] & M if trap == CALL else self.users[user - 1].r[4]
@@ -323,7 +323,8 @@ class Replay:
         return events + [self.of_trap(user, call, program, frames)]
 
     def of_trap(self, user, call, program, frames):
-        """The trap of a user in C0: its call of `trap`, its end, or its fault. `frames` are the functions that ran at its trap before, with their variables."""
+        """The trap of a user in C0: its call of `trap`, its end, or its fault. `frames` are the functions that ran at its trap before, with what of their variables
+        isn't 0."""
         source, node = self.given.users[user - 1].source, program.trap[0] if program.trap is not None else None
         line, text, why = source.line(node.span[0]) if node else None, source.part(node.span) if node else '', None
         if program.ending is not None:

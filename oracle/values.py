@@ -1,4 +1,5 @@
 """C0 values and places as texts: `7`, `true`, `null`, `-> queue[2]`, `{1, 0}`; and what stands behind a name as it is written."""
+import itertools
 import re
 
 MOST_PARTS = 12     # so many parts of an array or a struct are written out
@@ -76,6 +77,19 @@ def frame_values(meaning, frame):
     """The same of a frame's parameters and locals."""
     unit = meaning.unit
     return [(name, type_name(t), whole(unit, t, frame.words, at, meaning.objects)) for name, (t, at) in frame.variables.items()]
+
+
+def scalars(unit, t, words, at, name, objects=()):
+    """The scalars of a value that aren't 0, as far as `whole` writes them: of each its name as it is written, behind the whole's, and its text."""
+    if t[0] not in ('array', 'struct'):
+        return [(name, scalar(unit, t, words[at], objects))] if words[at] else []
+    return [found for part, inner, before in itertools.islice(parts(unit, t), MOST_PARTS) for found in scalars(unit, inner, words, at + before, name + part, objects)]
+
+
+def frame_scalars(meaning, frame):
+    """Those of a frame's parameters and locals."""
+    unit = meaning.unit
+    return [found for name, (t, at) in frame.variables.items() for found in scalars(unit, t, frame.words, at, name, meaning.objects)]
 
 
 def parts_said(unit, t):

@@ -12,6 +12,8 @@ const BY_SOURCE = 8;
 const CURRENT = -1, CONSOLE = -2, OBJECT = -3;
 const NOTHING = [];
 const INT = 0, BOOL = 1, POINTER = 2, ARRAY = 3;
+// so many parts of a function's array or struct are written out
+const MOST_PARTS = 12;
 
 const signed = word => word | 0;
 const hex = word => (word >>> 0).toString(16).padStart(8, '0');
@@ -400,19 +402,37 @@ class Run {
     return call[4] < 0 ? 'fault ' + this.texts[call[7]] : call[4] ? 'next is user ' + call[4] : 'next is 0: the run halts';
   }
 
-  /** The functions of the kernel, or of a user in C0, that run at this place, each with its variables as far as they are known. */
+  /** The functions of the kernel, or of a user in C0, that run at this place, each with its variables. */
   calls() {
     if (this.place < 0 || !this.isStatement(this.place)) return [];
-    const kind = this.kinds[this.place], frames = [];
-    if (kind === OWN) for (const [name, variables] of this.before(this.turn)) frames.push({ name: this.texts[name], variables: new Map(variables.map(([one, value]) => [this.texts[one], this.said(value)])) });
+    const kind = this.kinds[this.place], by = this.files[this.place], frames = [];
+    const enter = (name, held) => frames.push({ name, held: new Map(held.map(([one, value]) => [this.texts[one], this.said(value)])) });
+    if (kind === OWN) for (const frame of this.before(this.turn)) enter(...frame);
     for (let place = this.firstOf[this.turn - this.first]; place <= this.place; place++) {
       if (this.kinds[place] !== kind) continue;
       const event = this.events[place], store = event[0] === 2 ? event[7] : event;
-      if (event[0] === 3) frames.push({ name: this.texts[this.statement(event)[2]], variables: new Map(event[2].map(([name, value]) => [this.texts[name], this.said(value)])) });
+      if (event[0] === 3) enter(this.statement(event)[2], event[2]);
       else if (event[0] === 4 && place < this.place) frames.pop();
-      else if (store && store[0] === 5 && frames.length) frames[frames.length - 1].variables.set(this.texts[store[2]], this.said(store[3]));
+      else if (store && store[0] === 5 && frames.length) frames[frames.length - 1].held.set(this.texts[store[2]], this.said(store[3]));
     }
-    return frames;
+    return frames.map(({ name, held }) => ({ name: this.texts[name], variables: this.variables(by, name, held) }));
+  }
+
+  /** The variables of a function, with their values: 0 where nothing else is held. */
+  variables(by, name, held) {
+    return new Map(this.data.variables[by + ':' + name].map(([one, type]) => [this.texts[one], this.heldValue(type, this.texts[one], held)]));
+  }
+
+  /** The value of a variable or a part of one, of whose scalars some are held by their names. */
+  heldValue(type, name, held) {
+    const t = this.data.types[type];
+    if (t[0] <= POINTER) return held.has(name) ? held.get(name) : this.scalar(t[0], 0);
+    const count = t[0] === ARRAY ? t[2] : t[2].length, shown = [];
+    for (let at = 0; at < Math.min(count, MOST_PARTS); at++) {
+      if (t[0] === ARRAY) shown.push(this.heldValue(t[1], name + '[' + at + ']', held));
+      else shown.push(this.texts[t[2][at][0]] + ': ' + this.heldValue(t[2][at][1], name + '.' + this.texts[t[2][at][0]], held));
+    }
+    return '{' + shown.join(', ') + (count > MOST_PARTS ? ', ..' : '') + '}';
   }
 
   /** The lines of a source that ran in this turn up to here. */

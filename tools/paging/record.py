@@ -46,7 +46,7 @@ class Record:
         self.kernel, self.users, self.unit = self.replay.kernel, self.replay.users, self.replay.kernel.unit
         self.texts, self.slots, self.types, self.statements = Table(''), Table(), Table(), Table()
         self.journals = {n: Journal(n, flat) for n, flat in enumerate(self.users, 1)}
-        self.turns, self.called = [], None
+        self.turns, self.called, self.variables = [], None, {}
         self.numbers = {user.source.name: n for n, user in enumerate(given.users, 1)}
         self.skip(first)
         self.origins = {n: [[first - 1, self.numbers[self.replay.source_of(n).source.name]]] for n in self.numbers.values()}
@@ -82,14 +82,25 @@ class Record:
     def text(self, text):
         return self.texts.number(utf8(text))
 
-    def type(self, t):
-        """The number of a type."""
+    def type(self, t, unit=None):
+        """The number of a type, of the kernel or another unit."""
+        unit = unit or self.unit
         if t[0] in SCALARS:
             return self.types.number((SCALARS[t[0]], self.text(values.type_name(t))))
         if t[0] == 'array':
-            return self.types.number((3, self.type(t[1]), t[2], self.unit.words(t[1])))
-        fields = tuple((self.text(name[1:]), self.type(inner), before) for name, inner, before in values.parts(self.unit, t))
+            return self.types.number((3, self.type(t[1], unit), t[2], unit.words(t[1])))
+        fields = tuple((self.text(name[1:]), self.type(inner, unit), before) for name, inner, before in values.parts(unit, t))
         return self.types.number((4, self.text(values.type_name(t)), fields))
+
+    def function(self, by, name):
+        """The number of a function's name, of the kernel (0) or of a user in C0. Its variables and their types are noted: each is 0 where it is called, but
+        for its parameters."""
+        number = self.text(name)
+        key = '%d:%d' % (by, number)
+        if key not in self.variables:
+            unit = self.replay.programs[by].unit if by else self.unit
+            self.variables[key] = [[self.text(variable), self.type(t, unit)] for variable, (t, _) in unit.layout(unit.functions[name])[0].items()]
+        return number
 
     def scalars(self, t):
         """The scalar type of each word of a type."""
@@ -249,17 +260,17 @@ class Record:
     # ---- the kernel's calls
     def call(self, events, dispatch):
         """A call of the kernel: cause, data, user, the cause in words, who is next (-1 at a fault), the user's own statements, the kernel's, its fault, and
-        for a user in C0 the functions that ran before these statements, with their variables."""
+        for a user in C0 the functions that ran before these statements, with what of their variables isn't 0."""
         own = [self.event(event) for event in events if getattr(event, 'by', 0) or event.kind == 'trap']
         kernel = self.joined([event for event in events if event.kind not in ('step', 'dispatch', 'console', 'next', 'trap') and not getattr(event, 'by', 0)])
         next_event = events[-1]
         following = -1 if next_event.fault else next_event.next
         row = [dispatch.cause, dispatch.data, dispatch.user, self.text(dispatch.why), following, own, kernel, self.text(next_event.fault or '')]
         trap = next((event for event in events if event.kind == 'trap'), None)
-        return row + [[self.frame(*frame) for frame in trap.frames]] if trap else row
+        return row + [[self.frame(trap.user, *frame) for frame in trap.frames]] if trap else row
 
-    def frame(self, name, variables):
-        return [self.text(name), [[self.text(variable), self.answer(value)] for variable, value in variables]]
+    def frame(self, user, name, held):
+        return [self.function(user, name), [[self.text(variable), self.answer(value)] for variable, value in held]]
 
     def joined(self, events):
         """The kernel's events, where what a call or a primitive answered is stored by the same statement: the store stands within."""
@@ -298,7 +309,7 @@ class Record:
         return [2, self.statement(event), self.text(event.name), event.args, answer, why, getattr(event, 'changes', [])]
 
     def of_call(self, event):
-        return [3, self.statements.number((event.by, event.line, self.text(event.name))), [[self.text(name), self.answer(value)] for name, value in event.args]]
+        return [3, self.statements.number((event.by, event.line, self.function(event.by, event.name))), [[self.text(name), self.answer(value)] for name, value in event.args]]
 
     def of_returned(self, event):
         return [4, self.statement(event), self.text(event.name), self.answer(event.answer)]
@@ -320,7 +331,7 @@ class Record:
                 'globals': [[self.text(name), self.type(t), first] for name, (t, first) in self.unit.places.items()],
                 'before': self.before, 'journals': {n: rows for n, rows in self.told.items()},
                 'origins': {n: noted for n, noted in self.origins.items() if noted != [[self.first - 1, n]]}}
-        head.update(types=self.types.rows, slots=self.slots.rows, statements=self.statements.rows, texts=self.texts.rows)
+        head.update(types=self.types.rows, slots=self.slots.rows, statements=self.statements.rows, texts=self.texts.rows, variables=self.variables)
         text = json.dumps(head, separators=(',', ':'))[:-1] + ',"turns":[' + ','.join(self.turns) + ']}'
         return text.replace('<', '\\u003c')
 

@@ -16,7 +16,9 @@ from oracle.c0.cut import Cut  # noqa: E402
 from oracle.tests.test_c0 import FAR  # noqa: E402
 from tests import page_against_program as against, page_parts as parts  # noqa: E402
 
-EXAMPLE, USER, LINE = 'services', 'user1.c0', 8
+EXAMPLE, USER = 'services', 'user1.c0'
+# Lines of the user, with the variable that each changes: one of a function's loop, and the first one, before which no variable of the function is set.
+LINES = {7: 'd', 8: 'sum'}
 # Each statement of a user that the page steps to on a line, on and back, with the variables of its functions; and where a chosen line is stopped at.
 OWN = '''
 const run = new page.Run(data), told = { on: [], back: [], stops: [] }, here = () => [run.turn, run.calls().map(frame => [frame.name, [...frame.variables].map(pair => pair.join(' = ')).join(', ')])];
@@ -31,10 +33,10 @@ console.log(JSON.stringify(told));
 '''
 
 
-def reached(given, turns):
-    """Of each time that the line is reached, the functions with their variables."""
+def reached(given, turns, line):
+    """Of each time that a line is reached, the functions with their variables."""
     asked, rows = wanted.Wanted(), []
-    asked.take('--break', ['%s:%d' % (USER, LINE)])
+    asked.take('--break', ['%s:%d' % (USER, line)])
     looking.way_of(looking.Replay(given), asked, rows.append)(turns)
     found = []
     for row in rows:
@@ -79,18 +81,22 @@ def own_statements(start):
     with rooms.room('cvm-looking-') as work:
         run = against.built(start, EXAMPLE, work)
         text, total = against.page_of(run)
-        machine = reached(made.given(run, run.folder), total)
-    told = parts.node(OWN.replace('LINE', str(LINE)), parts.data_of(text))
+        given = made.given(run, run.folder)
+        return [why for line, name in LINES.items() for why in differences(line, name, reached(given, total, line), parts.node(OWN.replace('LINE', str(line)), parts.data_of(text)))]
+
+
+def differences(line, changed, machine, told):
+    """What differs at one line, which changes this variable."""
     said = []
     if len(machine) < 20 or len(machine) != len(told['on']):
-        said.append('--break stops %d times at line %d, and the page %d times' % (len(machine), LINE, len(told['on'])))
+        said.append('--break stops %d times at line %d, and the page %d times' % (len(machine), line, len(told['on'])))
     if told['on'] != told['back'] or told['on'] != told['stops']:
         said.append('the page steps on, back and to the chosen line to other places')
-    # the page shows the state behind a statement, and --break the one before it: all but what line 8 changes are the same
-    without = lambda frames: [[name, re.sub(r'\bsum = -?\d+', 'sum', variables)] for name, variables in frames]
+    # the page shows the state behind a statement, and --break the one before it: all but what the line changes are the same
+    without = lambda frames: [[name, re.sub(r'\b%s = -?\d+' % changed, changed, variables)] for name, variables in frames]
     for number, (one, (turn, other)) in enumerate(zip(machine, told['on'])):
         if without(one) != without(other):
-            said.append('stop %d: --break shows %s, and the page in turn %d %s' % (number, one, turn, other))
+            said.append('line %d, stop %d: --break shows %s, and the page in turn %d %s' % (line, number, one, turn, other))
     return said
 
 

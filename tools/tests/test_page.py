@@ -6,6 +6,7 @@ import unittest
 from explain import pages
 from paging import page, record
 from running import guard, rooms, try_main
+from showing import looking, wanted
 from tests import browsing, page_against_program as against, page_parts as parts
 from oracle import journals, values
 from oracle import run as running
@@ -52,6 +53,42 @@ COPIES = '''int dispatch(int cause, int data, int user) {
   if (cause == 6) { ok = vm_resize(user, 0); }
   return 2;
 }
+'''
+# A function whose variables are single words, a struct, an array and a pointer, some of them looked at before they are set.
+LOCALS = '''struct pair { int left; bool[2] right; };
+struct pair* kept;
+
+int pick(int user) {
+  int at; struct pair both; int[14] seen; bool done; struct pair* none;
+  seen[at] = user;
+  both.right[1] = true;
+  while (!done) {
+    at = at + 1;
+    seen[at] = seen[at - 1] + user;
+    done = at == 12;
+    none = kept;
+  }
+  both.left = seen[12];
+  kept = new struct pair;
+  return both.left;
+}
+
+int dispatch(int cause, int data, int user) {
+  int next; bool ok;
+  next = pick(user);
+  ok = vm_set(1, 7, next);
+  return 1;
+}
+'''
+# Of each statement of these lines the turn, the line, and the functions with their variables behind the statement before it.
+BEFORE_LINES = '''
+const run = new page.Run(data), told = [];
+for (let place = 1; place < run.turns.length; place++) {
+  if (!run.isStatement(place) || !LINES.includes(run.atLines[place])) continue;
+  run.go(place - 1);
+  told.push([run.turns[place], run.atLines[place], run.calls().map(frame => frame.name + ': ' + [...frame.variables].map(pair => pair.join(' = ')).join(', '))]);
+}
+console.log(JSON.stringify(told));
 '''
 USERS = ['loop: addiu r2, r2, 1\nsw r2, 256(r0)\nmult r2, r2\nsyscall 3\nj loop\n', 'again: addiu r3, r3, -1\nsyscall 4\nbne r3, r0, again\n']
 STATES = '''
@@ -133,6 +170,22 @@ console.log(JSON.stringify({ told, calls: run.calls().map(f => [f.name, [...f.va
         self.assertIn('turns', found['changed'])
         self.assertEqual(found['hash'], {'turn': '3', 'choice': 'g:a b', 'lines': '0:9,1:2'})
         self.assertEqual(found['letters'], ['A', 'AB', '', ''])
+
+    def test_variables_are_those_that_a_break_tells(self):
+        lines, asked, rows, stops = [6, 7, 8, 9, 10, 11, 12, 14, 15, 22], wanted.Wanted(), [], []
+        given, _ = given_of(12, LOCALS)
+        for line in lines:
+            asked.take('--break', ['kernel.c0:%d' % line])
+        looking.way_of(Replay(given), asked, rows.append)(12)
+        for row in rows:
+            at, frame = re.match(r'turn (\d+)  kernel.c0:(\d+)', row), re.match(r'  (\w+), at kernel.c0:\d+(: .*)', row)
+            if at:
+                stops.append([int(at[1]), int(at[2]), []])
+            elif frame:
+                stops[-1][2].append(frame[1] + frame[2])
+        self.assertEqual(parts.node(BEFORE_LINES.replace('LINES', str(lines)), parts.data_of(page_of(given)[0])), stops)
+        self.assertEqual(stops[0][2][1], 'pick: user = 0, at = 0, both = {left: 0, right: {false, false}}, seen = {0, 0, 0, 0, 0, 0, 0, 0, 0, 0, 0, 0, ..}, done = false, none = null')
+        self.assertTrue(any('both = {left: 0, right: {false, true}}, seen = {1, 2, 3, 0, ' in shown and 'none = -> struct pair #1' in shown for _, _, frames in stops for shown in frames))
 
     def test_a_process_has_the_source_of_the_program_that_was_copied_to_it(self):
         script = '''
