@@ -94,7 +94,7 @@ class Unix(unittest.TestCase):
     def test_the_console_of_the_session(self):
         with open(os.path.join(FOLDER, 'printed'), encoding='utf-8') as file:
             text = console(file.read())
-        page = read(FOLDER, '..', '..', 'docs', 'UNIX.md')
+        page = read(FOLDER, 'LECTURE.md')
         self.assertIn(''.join('    %s\n' % line for line in text.rstrip('\n').split('\n')).replace('    $ \n', '    $\n'), page.replace('    $ \n', '    $\n'))
 
     def test_programs_begin_with_the_library(self):

@@ -1,7 +1,7 @@
 """Listings and tables of constants, as pages show them, from the sources of the crates.
 
-A page has a line `<!-- tools/listings: code CRATE/src/FILE.rt NAME.. -->` or `<!-- tools/listings: names CRATE/src/FILE.rt -->`, and what follows it
-up to the line `<!-- tools/listings: end -->` is what this module makes of these files.
+A page has a line `<!-- tools/dev/listings: code CRATE/src/FILE.rt NAME.. -->` or `<!-- tools/dev/listings: names CRATE/src/FILE.rt -->`, and what follows it
+up to the line `<!-- tools/dev/listings: end -->` is what this module makes of these files.
 """
 import os
 import re
@@ -9,7 +9,7 @@ import re
 from explain import pages
 from running import guard
 
-MARK = re.compile(r'^<!-- tools/listings: (code|names) (\S+)((?: \w+)*) -->\n(.*?)^<!-- tools/listings: end -->$', re.S | re.M)
+MARK = re.compile(r'^<!-- tools/dev/listings: (code|names) (\S+)((?: \w+)*) -->\n(.*?)^<!-- tools/dev/listings: end -->$', re.S | re.M)
 LIST = r'(?:pub(?:\([\w ]+\))? )?const %s: \[Inst; \d+\] = code! \{$'
 BLOCK = r'(?:pub(?:\([\w ]+\))? )?fn %s(?:<[^>]*>)?\('
 NUMBER = re.compile(r'((?:^/// .*\n)+)^pub const (\w+): u32 = ([^;]+);$', re.M)
@@ -88,7 +88,7 @@ def made(page):
     """A page with each listing and table as the sources have it."""
     def again(found):
         kind, name, items, _ = found.groups()
-        return '<!-- tools/listings: %s %s%s -->\n%s<!-- tools/listings: end -->' % (kind, name, items, code(name, items.split()) if kind == 'code' else names(name))
+        return '<!-- tools/dev/listings: %s %s%s -->\n%s<!-- tools/dev/listings: end -->' % (kind, name, items, code(name, items.split()) if kind == 'code' else names(name))
     if not MARK.search(page):
         raise guard.Bad('the page shows no listing', 70)
     return MARK.sub(again, page)

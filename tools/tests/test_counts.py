@@ -76,10 +76,10 @@ class Counts(unittest.TestCase):
 
 
 class Believed(unittest.TestCase):
-    """tools/believed counts the laws that README speaks of."""
+    """tools/dev/believed counts the laws that README speaks of."""
 
     def setUp(self):
-        loader = importlib.machinery.SourceFileLoader('believed', os.path.join(pages.TOP, 'tools', 'believed'))
+        loader = importlib.machinery.SourceFileLoader('believed', os.path.join(pages.TOP, 'tools', 'dev', 'believed'))
         self.believed = importlib.util.module_from_spec(importlib.util.spec_from_loader('believed', loader))
         loader.exec_module(self.believed)
 

@@ -73,7 +73,7 @@ class Course(unittest.TestCase):
         self.assertEqual(tried, 4)
 
     def test_links_of_the_pages_lead_somewhere(self):
-        names = [os.path.join('docs', name) for name in ('TEACHING.md', 'FROM_C.md', 'FROM_SPIM.md', 'KERNELS.md', 'UNIX.md')] + ['README.md', 'editors/README.md']
+        names = [os.path.join('docs', name) for name in ('TEACHING.md', 'FROM_C.md', 'FROM_SPIM.md', 'KERNELS.md')] + ['examples/unix/LECTURE.md', 'README.md', 'editors/README.md']
         names += [os.path.join('examples', name, 'README.md') for name in os.listdir(os.path.join(pages.TOP, 'examples')) if os.path.isdir(os.path.join(pages.TOP, 'examples', name))]
         for name in names:
             page = text(os.path.join(pages.TOP, name))
@@ -83,7 +83,7 @@ class Course(unittest.TestCase):
                 self.assertTrue(os.path.exists(os.path.join(pages.TOP, link)), (name, link))
 
     def test_tables_have_as_many_cells_in_each_row(self):
-        for name in ('FROM_C.md', 'FROM_SPIM.md', 'TEACHING.md', 'UNIX.md'):
+        for name in ('FROM_C.md', 'FROM_SPIM.md', 'TEACHING.md', '../examples/unix/LECTURE.md'):
             tables = re.findall(r'(?:^\|.*\n)+', pages.page(name), re.MULTILINE)
             self.assertTrue(tables, name)
             for table in tables:

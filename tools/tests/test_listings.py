@@ -1,4 +1,4 @@
-"""The listings of docs/LAYER.md: what a page shows is what the sources have, and a page that differs is found out."""
+"""The listings of docs/listings/LAYER.md: what a page shows is what the sources have, and a page that differs is found out."""
 import os
 import unittest
 
@@ -44,12 +44,12 @@ class Listings(unittest.TestCase):
         self.assertIsNone(listings.item(SOURCE, 'four'))
 
     def test_the_page_shows_the_sources(self):
-        page = pages.page('LAYER.md')
+        page = pages.page('listings/LAYER.md')
         self.assertTrue(len(listings.MARK.findall(page)) > 10)
         self.assertEqual(listings.made(page), page)
 
     def test_another_instruction_is_found_out(self):
-        page = pages.page('LAYER.md')
+        page = pages.page('listings/LAYER.md')
         for shown, other in (('sw ZERO, 0(LIST);', 'sw LEFT, 0(LIST);'), ('| PAGE | 16 |', '| PAGE | 17 |')):
             self.assertEqual(page.count(shown), 1)
             self.assertEqual(listings.made(page.replace(shown, other)), page)
@@ -57,11 +57,11 @@ class Listings(unittest.TestCase):
     def test_a_name_that_is_gone(self):
         for words in ('code frame_table/src/evicting.rt gone', 'code no_crate/src/lib.rt gone', 'names frame_table/src/lib.rt'):
             with self.assertRaises(guard.Bad):
-                listings.made('<!-- tools/listings: %s -->\n<!-- tools/listings: end -->' % words)
+                listings.made('<!-- tools/dev/listings: %s -->\n<!-- tools/dev/listings: end -->' % words)
 
     def test_each_list_of_the_way_of_a_fault_is_shown(self):
         """No list that the handler, the block, the eviction or a swap names is left out."""
-        page = pages.page('LAYER.md')
+        page = pages.page('listings/LAYER.md')
         for name in ('trap_entry/src/handler.rt', 'trap_entry/src/leaving.rt', 'page_fault/src/block.rt', 'frame_table/src/evicting.rt', 'frame_table/src/page_table.rt', 'swap_layer/src/swap.rt'):
             with open(os.path.join(pages.TOP, 'crates', name), encoding='utf-8') as file:
                 text = file.read()

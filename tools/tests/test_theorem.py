@@ -169,8 +169,8 @@ class Theorem(unittest.TestCase):
 class Words(unittest.TestCase):
     def test_words_that_are_none(self):
         for words in (['tools/check_over'], ['tools/check_over', 'no_such_crate'], ['tools/check_over', '--holes', 'cvm'], ['tools/check_over', '--build'],
-                      ['tools/check_over', '--build', 'x', 'cvm', 'main'], ['tools/believed', 'x'],
-                      ['tools/believed', '--path'], ['tools/believed', '--check', 'x'], ['exercises/check', 'x']):
+                      ['tools/check_over', '--build', 'x', 'cvm', 'main'], ['tools/dev/believed', 'x'],
+                      ['tools/dev/believed', '--path'], ['tools/dev/believed', '--check', 'x'], ['exercises/check', 'x']):
             status, said = run(*words)
             self.assertEqual(status, 64, words)
             self.assertNotIn('Traceback', said)
