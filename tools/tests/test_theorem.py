@@ -184,10 +184,10 @@ class Words(unittest.TestCase):
                 file.write(b'# caf\xe9\n')
             with mock.patch.dict(os.environ, {'PATH': clone}):
                 os.symlink('/bin/true', os.path.join(clone, 'rt'))
-                for words, wanted in ((['tools/believed'], 64), (['tools/check_over', 'cvm_words'], 64), (['bench/typed'], 64), (['release/build'], 70)):
+                for words, wanted in ((['tools/dev/believed'], 64), (['tools/check_over', 'cvm_words'], 64), (['bench/typed'], 64), (['release/build'], 70)):
                     status, said = run(*words, top=clone)
                     self.assertEqual((status, said), (wanted, "%s: '%s/crates.txt' is not UTF-8, and has to be: git -C '%s' checkout 'crates.txt' brings it back\n"
-                                                      % (words[0].replace('tools/', ''), clone, clone)))
+                                                      % (words[0].replace('tools/', '').replace('dev/', ''), clone, clone)))
 
     def test_a_crate_that_is_nearly_named(self):
         self.assertIn("did you mean 'kernel_theorems'?", run('tools/check_over', 'kernel_theorem')[1])
