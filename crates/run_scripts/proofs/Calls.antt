@@ -15,7 +15,8 @@ use Rattle.cvm_shell.specs.Boot.{booted, sectors_needed}
 use Rattle.boot_turns.specs.StepScript.{steps_script}
 use Rattle.cvm_shell.specs.Saves.{saved_row}
 use Rattle.run_scripts.specs.Runs.{run_of, pages_loaded}
-use Rattle.run_scripts.specs.Whole.{AreReads, AreOfRun, leaving_script, save_script, saved_bytes, untold_steps}
+use Rattle.boot_run.specs.RunScript.{AreReads, AreOfRun, untold_steps}
+use Rattle.run_scripts.specs.Whole.{leaving_script, save_script, saved_bytes}
 use Rattle.run_scripts.specs.Commands.{PlanAsks, SessionAsks, no_user, small, over_told, over_untold, SomeRunAsks, SomeSaveAsks, as_boot, is_saved, load_of}
 use Rattle.run_scripts.specs.Shapes.{Loads, file_put, gets_in, puts_in, NamedBy}
 use Rattle.run_scripts.proofs.MadeOf.{Closed, of_load, of_report, of_run, of_steps, of_untold}

@@ -20,8 +20,8 @@ use Rattle.boot_turns.specs.StepScript.{prints, page_reads, page_of, copies_at, 
 use Rattle.boot_run.specs.LoadScript.{load_script, page_script as load_page}
 use Rattle.boot_run.specs.Loading.{words_of_page}
 use Rattle.sector_disk.specs.Ports.{transfer_script}
-use Rattle.run_scripts.specs.Closing.{opening_script, page_script, cpu_text, user_script, boot_report, trace_report, report_by, closing_script, says}
-use Rattle.run_scripts.specs.Whole.{rest_script, run_script, untold_steps}
+use Rattle.boot_run.specs.Closing.{opening_script, page_script, cpu_text, user_script, boot_report, trace_report, report_by, closing_script, says}
+use Rattle.boot_run.specs.RunScript.{rest_script, run_script, untold_steps}
 
 -- it holds of no call, of one script behind another where it does of both, of a print and of a read
 pub record Closed (P : List Call → Type 0) : Type 0 where

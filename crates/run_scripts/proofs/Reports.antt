@@ -19,8 +19,8 @@ use Rattle.cvm_outside.specs.Script.{Call, scripts}
 use Rattle.boot_turns.specs.Runs.{Run, Past, IsPast, state_at, turns_at, steps_made, has_ended, lines_met, cvm_at}
 use Rattle.boot_turns.specs.StepScript.{page_reads, page_of, steps_script}
 use Rattle.boot_run.specs.RunEnds.{SeesUser}
-use Rattle.run_scripts.specs.Closing.{opening_script, page_script, cpu_text, user_script, boot_report, last_steps, trace_report, report_by, closing_script, says}
-use Rattle.run_scripts.specs.Whole.{rest_script, run_script}
+use Rattle.boot_run.specs.Closing.{opening_script, page_script, cpu_text, user_script, boot_report, last_steps, trace_report, report_by, closing_script, says}
+use Rattle.boot_run.specs.RunScript.{rest_script, run_script}
 use Rattle.run_scripts.specs.Headline.{text_by, text_at, ended_text, whole_text}
 use Rattle.run_scripts.proofs.Pasts.{Known, first_is}
 use Rattle.run_scripts.proofs.Tells.{Tells, tells_none, tells_both, tells_scripts, says_tells, silent, quiet_reads, steps_tell, opening_tells}

@@ -7,8 +7,8 @@ use Rattle.cvm_outside.proofs.Putting.{quiet_both}
 use Rattle.boot_turns.specs.Runs.{Run, Past, state_at, steps_made, has_ended}
 use Rattle.mips_machine.specs.Steps.{due}
 use Rattle.boot_turns.specs.StepScript.{rows_script, step_script, steps_script}
-use Rattle.run_scripts.specs.Closing.{opening_script, closing_script}
-use Rattle.run_scripts.specs.Whole.{rest_script, run_script}
+use Rattle.boot_run.specs.Closing.{opening_script, closing_script}
+use Rattle.boot_run.specs.RunScript.{rest_script, run_script}
 use Rattle.run_scripts.proofs.MadeOf.{Closed, of_if, of_opening, of_report, of_rows}
 use Rattle.run_scripts.proofs.Pasts.{on_before}
 use Rattle.run_scripts.proofs.Stores.{stored-append, quiet_stores, stored_scripts, step_stores}

@@ -25,7 +25,7 @@ use Rattle.boot_run.specs.Loading.{words_of_page}
 use Rattle.sector_disk.specs.Ports.{transfer_script}
 use Rattle.boot_turns.specs.TurnEnds.{first_of}
 use Rattle.boot_run.specs.RunEnds.{SeesUser}
-use Rattle.run_scripts.specs.Closing.{opening_script, says}
+use Rattle.boot_run.specs.Closing.{opening_script, says}
 use Rattle.run_scripts.specs.Headline.{text_by, text_at}
 use Rattle.run_scripts.proofs.Pasts.{Known, rows_grow, journal_grows, journal_starts, first_is}
 

@@ -25,9 +25,10 @@ use Rattle.cvm_shell.specs.Boot.{booted, sectors_needed}
 use Rattle.boot_run.specs.LoadScript.{load_script}
 use Rattle.boot_run.specs.RunEnds.{SeesUser}
 use Rattle.cvm_shell.specs.Saves.{saved_row}
-use Rattle.run_scripts.specs.Closing.{says}
+use Rattle.boot_run.specs.Closing.{says}
 use Rattle.run_scripts.specs.Runs.{run_of, pages_loaded}
-use Rattle.run_scripts.specs.Whole.{run_script, run_status, rest_script, save_script, untold_steps, power_status, AreReads, AreOfRun}
+use Rattle.boot_run.specs.RunScript.{run_script, rest_script, untold_steps, AreReads, AreOfRun}
+use Rattle.run_scripts.specs.Whole.{run_status, save_script, power_status}
 
 -- THE LOAD of a session
 abbrev pub load_of : Session → ImageSystem → Rows → List Call

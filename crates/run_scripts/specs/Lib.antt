@@ -1,5 +1,4 @@
 pub mod Runs
-pub mod Closing
 pub mod Whole
 pub mod Commands
 pub mod Headline
