@@ -7,7 +7,7 @@ use Rattle.schedule_file.specs.declared.fault.ScheduleFault.{ScheduleFault}
 use Rattle.cvm_shell.specs.Command.{boot_session}
 use Rattle.cvm_shell.specs.Plan.{boots, accepted_plan, whole, boot_plan}
 use Rattle.boot_turns.specs.Runs.{lines_met, turns_at, steps_made, cvm_at}
-use Rattle.run_scripts.specs.Runs.{run_of}
+use Rattle.cvm_shell.specs.SessionRuns.{run_of}
 use Rattle.run_scripts.specs.Headline.{FilesAsk}
 use Rattle.run_scripts.specs.Checks.{StackOutIsNotMet}
 

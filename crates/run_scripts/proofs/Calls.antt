@@ -14,10 +14,10 @@ use Rattle.boot_turns.specs.Runs.{Run, Past, steps_made, has_ended, cvm_at}
 use Rattle.cvm_shell.specs.Boot.{booted, sectors_needed}
 use Rattle.boot_turns.specs.StepScript.{steps_script}
 use Rattle.cvm_shell.specs.Saves.{saved_row}
-use Rattle.run_scripts.specs.Runs.{run_of, pages_loaded}
+use Rattle.cvm_shell.specs.SessionRuns.{run_of, pages_loaded}
 use Rattle.boot_run.specs.RunScript.{AreReads, AreOfRun, untold_steps}
-use Rattle.run_scripts.specs.Whole.{leaving_script, save_script, saved_bytes}
-use Rattle.run_scripts.specs.Commands.{PlanAsks, SessionAsks, no_user, small, over_told, over_untold, SomeRunAsks, SomeSaveAsks, as_boot, is_saved, load_of}
+use Rattle.cvm_shell.specs.RunStatus.{leaving_script, save_script, saved_bytes}
+use Rattle.cvm_shell.specs.Ends.{PlanAsks, SessionAsks, no_user, small, over_told, over_untold, SomeRunAsks, SomeSaveAsks, as_boot, is_saved, load_of}
 use Rattle.run_scripts.specs.Shapes.{Loads, file_put, gets_in, puts_in, NamedBy}
 use Rattle.run_scripts.proofs.MadeOf.{Closed, of_load, of_report, of_run, of_steps, of_untold}
 use Rattle.run_scripts.proofs.OneCommand.{one_command}

@@ -19,8 +19,8 @@ use Rattle.cvm_outside.specs.Script.{Call, Who, TheSink, TheDisk, TheShelf, Perf
 use Rattle.cvm_shell.specs.Boot.{sectors_needed}
 use Rattle.boot_run.specs.RunEnds.{SeesUser}
 use Rattle.boot_run.specs.Closing.{says}
-use Rattle.run_scripts.specs.Whole.{status_of, power_status}
-use Rattle.run_scripts.specs.Commands.{Does, done, no_file, no_memory, GetsFor, all, up_to, Wants, behind, within, wants, PlanAsks, SessionAsks, no_user, small, over_told, over_untold, SomeSaveAsks, as_boot, is_saved, load_of, files_of, gets, answered}
+use Rattle.cvm_shell.specs.RunStatus.{status_of, power_status}
+use Rattle.cvm_shell.specs.Ends.{Does, done, no_file, no_memory, GetsFor, all, up_to, Wants, behind, within, wants, PlanAsks, SessionAsks, no_user, small, over_told, over_untold, SomeSaveAsks, as_boot, is_saved, load_of, files_of, gets, answered}
 use Rattle.run_scripts.specs.Headline.{NoneFailed}
 use Rattle.run_scripts.specs.Causes.{Counts, NeedsMore, CausedBy, StatusesAreCaused, WordsAreRefused}
 use Rattle.run_scripts.proofs.Joins.{got_keeps}

@@ -5,8 +5,8 @@ use Rattle.cvm_model.specs.Cvm.{Status as CvmStatus, Running, Halted, Faulted}
 use Rattle.cvm_shell.specs.declared.exit_status.Status.{Status}
 use Rattle.cvm_shell.specs.declared.exit_status.Status.TheVariants.{Done, KernelFault}
 use Rattle.boot_turns.specs.Runs.{Run, Past, has_ended, steps_made, cvm_at}
-use Rattle.run_scripts.specs.Runs.{run_of}
-use Rattle.run_scripts.specs.Whole.{run_status, status_of}
+use Rattle.cvm_shell.specs.SessionRuns.{run_of}
+use Rattle.cvm_shell.specs.RunStatus.{run_status, status_of}
 use Rattle.run_scripts.specs.Headline.{Headlines, ItGoesOn, RunsComplete}
 use Rattle.run_scripts.proofs.Keys.{RunLaws}
 

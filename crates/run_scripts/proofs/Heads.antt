@@ -13,8 +13,8 @@ use Rattle.cvm_outside.specs.Outside.{Outside, Drive, Output}
 use Rattle.cvm_outside.specs.ScriptLaws.{ScriptsTell, ScriptsStore, ScriptsBlame, PrintedBy}
 use Rattle.boot_turns.specs.Runs.{Run, steps_made, state_at}
 use Rattle.cvm_shell.specs.Boot.{sectors_needed}
-use Rattle.run_scripts.specs.Runs.{run_of}
-use Rattle.run_scripts.specs.Commands.{Does, RunAsks, SomeRunAsks, SessionAsks, PlanAsks, load_of, answered, no_user, small, over_told, over_untold}
+use Rattle.cvm_shell.specs.SessionRuns.{run_of}
+use Rattle.cvm_shell.specs.Ends.{Does, RunAsks, SomeRunAsks, SessionAsks, PlanAsks, load_of, answered, no_user, small, over_told, over_untold}
 use Rattle.run_scripts.specs.Headline.{Asked, NoneFailed, Headline, whole_text}
 use Rattle.run_scripts.specs.Keys.{ScriptsTellTheText, ScriptsStoreTheSectors, SectorsBehindStay, EndsAreOver}
 

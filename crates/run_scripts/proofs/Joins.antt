@@ -5,7 +5,7 @@ use Rattle.cvm_shell.specs.Plan.{Plan, resumes}
 use Rattle.cvm_outside.specs.Script.{Call, Performs}
 use Rattle.cvm_outside.specs.Outside.{Outside, Drive}
 use Rattle.cvm_shell.specs.Boot.{sectors_needed}
-use Rattle.run_scripts.specs.Commands.{GetsFor, all, up_to, SavedRun, Joins, answered, done, no_file, no_memory}
+use Rattle.cvm_shell.specs.Ends.{GetsFor, all, up_to, SavedRun, Joins, answered, done, no_file, no_memory}
 use Rattle.run_scripts.specs.Headline.{Untouched}
 use Rattle.run_scripts.specs.Saving.{ResumesJoin}
 use Rattle.run_scripts.proofs.Keeps.{gets_keep}

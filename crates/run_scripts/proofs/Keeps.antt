@@ -11,9 +11,9 @@ use Rattle.schedule_file.specs.Rows.{Rows}
 use Rattle.cvm_shell.specs.declared.boot.Session.{Session}
 use Rattle.cvm_shell.specs.Refusal.{Refusal, refusal_status, small_disk, too_long, bad_text, bad_source, bad_program, bad_object, bad_file, unlinked, unaccepted, bad_schedule, bad_save, no_such_user}
 use Rattle.boot_turns.specs.Runs.{Run, Past, state_at, has_ended, cvm_at, steps_made}
-use Rattle.run_scripts.specs.Runs.{run_of}
-use Rattle.run_scripts.specs.Whole.{run_status, status_of, power_status}
-use Rattle.run_scripts.specs.Commands.{Wants, gets, PlanAsks, load_of, SessionAsks, SomeRunAsks, SomeSaveAsks, no_user, small, over_told, over_untold, as_boot, is_saved, answered, done, no_memory, behind, within, wants}
+use Rattle.cvm_shell.specs.SessionRuns.{run_of}
+use Rattle.cvm_shell.specs.RunStatus.{run_status, status_of, power_status}
+use Rattle.cvm_shell.specs.Ends.{Wants, gets, PlanAsks, load_of, SessionAsks, SomeRunAsks, SomeSaveAsks, no_user, small, over_told, over_untold, as_boot, is_saved, answered, done, no_memory, behind, within, wants}
 use Rattle.run_scripts.specs.Headline.{Untouched, MemoryKeeps}
 
 -- gets that were made leave all but the shelf's count of bytes

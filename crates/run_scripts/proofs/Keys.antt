@@ -16,8 +16,8 @@ use Rattle.cvm_shell.specs.Plan.{Plan}
 use Rattle.cvm_outside.specs.Outside.{Outside}
 use Rattle.boot_turns.specs.Runs.{Run, steps_made, turns_at, cvm_at, lines_met}
 use Rattle.cvm_shell.specs.Boot.{booted, sectors_needed}
-use Rattle.run_scripts.specs.Runs.{pages_loaded, run_of}
-use Rattle.run_scripts.specs.Commands.{load_of}
+use Rattle.cvm_shell.specs.SessionRuns.{pages_loaded, run_of}
+use Rattle.cvm_shell.specs.Ends.{load_of}
 use Rattle.run_scripts.specs.Headline.{Asked, text_at}
 use Rattle.run_scripts.specs.Keys.{RunsStart, PastsExist, PastsAgree, TextsGrow, ScriptsTellTheText, ScriptsStoreTheSectors, LoadsStoreTheStart, SectorsBehindStay, EndsAreOver}
 use Rattle.run_scripts.proofs.Pasts.{Known, past_of, turns_up_to}

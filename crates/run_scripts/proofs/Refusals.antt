@@ -13,7 +13,7 @@ use Rattle.cvm_outside.specs.Outside.{Outside, Drive, Output}
 use Rattle.cvm_outside.specs.Script.{Call, Who, TheSink, TheDisk, TheShelf, Performs}
 use Rattle.cvm_shell.specs.Boot.{sectors_needed}
 use Rattle.boot_run.specs.Closing.{says}
-use Rattle.run_scripts.specs.Commands.{Does, done, no_file, no_memory, GetsFor, all, up_to, behind, within, wants, PlanAsks, SessionAsks, no_user, small, over_told, over_untold, files_of, gets, answered}
+use Rattle.cvm_shell.specs.Ends.{Does, done, no_file, no_memory, GetsFor, all, up_to, behind, within, wants, PlanAsks, SessionAsks, no_user, small, over_told, over_untold, files_of, gets, answered}
 use Rattle.run_scripts.specs.Headline.{NoneFailed, IsOf, booted_so, saved_so, resumed_so}
 use Rattle.run_scripts.specs.Causes.{FilesAreRefused, HasNoUser, MissingUsersAreRefused, SmallDisksAreRefused, LongFilesAreRefused, WorkCompletes, IsWork}
 use Rattle.run_scripts.proofs.OneCommand.{one_command}

@@ -13,8 +13,8 @@ use Rattle.cvm_outside.specs.Outside.{Outside, Drive}
 use Rattle.cvm_outside.specs.Script.{Call}
 use Rattle.boot_turns.specs.Runs.{Run}
 use Rattle.cvm_shell.specs.Boot.{sectors_needed}
-use Rattle.run_scripts.specs.Runs.{run_of}
-use Rattle.run_scripts.specs.Commands.{done, no_file, no_memory, SessionAsks, no_user, small, over_told, over_untold, SaveAsks, SomeSaveAsks, load_of}
+use Rattle.cvm_shell.specs.SessionRuns.{run_of}
+use Rattle.cvm_shell.specs.Ends.{done, no_file, no_memory, SessionAsks, no_user, small, over_told, over_untold, SaveAsks, SomeSaveAsks, load_of}
 use Rattle.run_scripts.specs.Headline.{Asked}
 use Rattle.run_scripts.specs.Saving.{SavesComplete}
 use Rattle.run_scripts.proofs.Causes.{mid_disk}

@@ -5,7 +5,7 @@ use Rattle.cvm_shell.specs.Command.{Command, IsCommand, save, resume}
 use Rattle.cvm_shell.specs.Plan.{Plan, bad_words}
 use Rattle.cvm_outside.specs.Outside.{Outside}
 use Rattle.cvm_outside.specs.Script.{Call, Who, TheShelf, Performs, done as all_done, breaks, goes_on, asks}
-use Rattle.run_scripts.specs.Commands.{done, no_file, no_memory, GetsFor, all, up_to, behind, within, files_of, gets}
+use Rattle.cvm_shell.specs.Ends.{done, no_file, no_memory, GetsFor, all, up_to, behind, within, files_of, gets}
 use Rattle.run_scripts.specs.Shapes.{PlansHaveShape, OthersStay, NothingIsLoaded, GetsComeFirst, file_put, puts_in}
 use Rattle.run_scripts.proofs.Calls.{shape_of, files_stay, disk_stays, quiet_plan}
 use Rattle.run_scripts.proofs.Joins.{got_keeps}

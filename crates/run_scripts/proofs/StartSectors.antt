@@ -20,7 +20,7 @@ use Rattle.cvm_outside.specs.Script.{Call, Wrote, scripts, stored}
 use Rattle.cvm_outside.proofs.Putting.{scripts-none, scripts-suc}
 use Rattle.cvm_shell.specs.Boot.{held_of, start_of}
 use Rattle.boot_run.specs.LoadScript.{load_script, page_script}
-use Rattle.run_scripts.specs.Runs.{pages_loaded}
+use Rattle.cvm_shell.specs.SessionRuns.{pages_loaded}
 use Rattle.run_scripts.proofs.Stores.{stored-append}
 
 page_stores : (p : Pages) (q : ℕ) (ss : List (List ℕ)) → stored (page_script p q) ss ≡ with_page p ss q

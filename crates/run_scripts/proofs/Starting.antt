@@ -34,7 +34,7 @@ use Rattle.cvm_shell.specs.declared.boot.StartPoint.{StartPoint}
 use Rattle.cvm_shell.specs.declared.boot.StartPoint.TheVariants.{Loaded, Rom}
 use Rattle.cvm_shell.specs.Boot.{booted, held_of, sectors_needed, steps_before}
 use Rattle.boot_run.specs.SavedRuns.{IsDisk}
-use Rattle.run_scripts.specs.Runs.{run_of}
+use Rattle.cvm_shell.specs.SessionRuns.{run_of}
 use Rattle.run_scripts.specs.Keys.{IsStarted}
 use Rattle.run_scripts.proofs.FirstCores.{its_map}
 use Rattle.run_scripts.proofs.Following.{UnitLaws, IsWhole, range, same_map, site_laws, follows, words_are, long}

@@ -5,9 +5,9 @@ use Rattle.cvm_shell.specs.Plan.{Plan, bad_words, boots, PlanComesTo, no_command
 use Rattle.cvm_outside.specs.Script.{TheShelf}
 use Rattle.cvm_outside.specs.ScriptLaws.{ScriptsTell, ScriptsStore, ScriptsBlame}
 use Rattle.cvm_shell.specs.Boot.{sectors_needed}
-use Rattle.run_scripts.specs.Commands.{gets, files_of, done, no_file, no_memory}
+use Rattle.cvm_shell.specs.Ends.{gets, files_of, done, no_file, no_memory}
 use Rattle.run_scripts.specs.Headline.{Headline, Headlines}
-use Rattle.run_scripts.specs.Runs.{run_of}
+use Rattle.cvm_shell.specs.SessionRuns.{run_of}
 use Rattle.run_scripts.specs.Keys.{ScriptsTellTheText, ScriptsStoreTheSectors, SectorsBehindStay, EndsAreOver}
 use Rattle.run_scripts.proofs.Joins.{got_keeps}
 use Rattle.run_scripts.proofs.Heads.{headlines_from}

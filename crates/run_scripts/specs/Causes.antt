@@ -16,7 +16,7 @@ use Rattle.cvm_outside.specs.ScriptLaws.{Blamed, PrintedBy}
 use Rattle.boot_turns.specs.Runs.{Run, steps_made, has_ended}
 use Rattle.cvm_shell.specs.Boot.{sectors_needed}
 use Rattle.boot_run.specs.RunEnds.{SeesUser}
-use Rattle.run_scripts.specs.Commands.{Ends, files_of}
+use Rattle.cvm_shell.specs.Ends.{Ends, files_of}
 use Rattle.run_scripts.specs.Headline.{NoneFailed, IsOf}
 
 -- the count of this object rose, or of none where it is none; and the counts of all others are as before

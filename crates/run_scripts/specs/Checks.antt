@@ -8,7 +8,7 @@ use Rattle.kernel_linker.specs.Accept.{ImageSystem}
 use Rattle.cvm_shell.specs.declared.boot.Session.{Session}
 use Rattle.boot_turns.specs.Runs.{Past, IsPast, steps_made, cvm_at}
 use Rattle.cvm_shell.specs.Boot.{booted}
-use Rattle.run_scripts.specs.Runs.{run_of}
+use Rattle.cvm_shell.specs.SessionRuns.{run_of}
 
 -- no run of the system stops for want of stack, whatever the schedule and the lines of its turns are
 abbrev pub NeverOut : ImageSystem → Type 0

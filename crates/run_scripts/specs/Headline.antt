@@ -28,9 +28,9 @@ use Rattle.cvm_shell.specs.Boot.{booted, sectors_needed, steps_before}
 use Rattle.boot_turns.specs.TurnEnds.{first_of}
 use Rattle.boot_run.specs.RunEnds.{SeesUser}
 use Rattle.boot_run.specs.SavedRuns.{IsDisk}
-use Rattle.run_scripts.specs.Runs.{run_of}
-use Rattle.run_scripts.specs.Whole.{run_status}
-use Rattle.run_scripts.specs.Commands.{Ends}
+use Rattle.cvm_shell.specs.SessionRuns.{run_of}
+use Rattle.cvm_shell.specs.RunStatus.{run_status}
+use Rattle.cvm_shell.specs.Ends.{Ends}
 
 -- THE TEXT after t steps: the rows of the complete turns; of a trace its first row and those of what is shown, but for a last row of steps
 abbrev pub text_by : View → Run → Past → ℕ → List ℕ

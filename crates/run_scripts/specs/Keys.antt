@@ -12,9 +12,9 @@ use Rattle.cvm_outside.specs.Script.{Call, spoken, stored}
 use Rattle.cvm_outside.specs.Outside.{Outside}
 use Rattle.boot_turns.specs.Runs.{Run, Past, IsPast, state_at, steps_made, cvm_at}
 use Rattle.cvm_shell.specs.Boot.{booted, sectors_needed, steps_before}
-use Rattle.run_scripts.specs.Runs.{run_of}
+use Rattle.cvm_shell.specs.SessionRuns.{run_of}
 use Rattle.boot_run.specs.RunScript.{run_script}
-use Rattle.run_scripts.specs.Commands.{load_of}
+use Rattle.cvm_shell.specs.Ends.{load_of}
 use Rattle.run_scripts.specs.Headline.{Asked, IsOver, whole_text, text_at}
 
 -- what is so of each run that words ask for

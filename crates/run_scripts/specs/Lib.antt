@@ -1,6 +1,3 @@
-pub mod Runs
-pub mod Whole
-pub mod Commands
 pub mod Headline
 pub mod Keys
 pub mod Causes

@@ -10,10 +10,10 @@ use Rattle.cvm_outside.specs.Script.{Who, Performs}
 use Rattle.cvm_outside.specs.Outside.{Outside}
 use Rattle.boot_turns.specs.Runs.{Run, Past}
 use Rattle.cvm_shell.specs.Boot.{booted, steps_before}
-use Rattle.run_scripts.specs.Runs.{run_of}
+use Rattle.cvm_shell.specs.SessionRuns.{run_of}
 use Rattle.boot_run.specs.RunScript.{rest_script}
-use Rattle.run_scripts.specs.Whole.{run_status}
-use Rattle.run_scripts.specs.Commands.{Ends, SavedRun, answered}
+use Rattle.cvm_shell.specs.RunStatus.{run_status}
+use Rattle.cvm_shell.specs.Ends.{Ends, SavedRun, answered}
 use Rattle.run_scripts.specs.Headline.{Asked, NoneFailed, HasSteps}
 
 -- SAVES COMPLETE where the steps are enough

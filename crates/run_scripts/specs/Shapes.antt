@@ -6,7 +6,7 @@ use Rattle.cvm_shell.specs.Command.{Command, IsCommand, boot, trace, save, resum
 use Rattle.cvm_shell.specs.Plan.{Plan, PlanComesTo}
 use Rattle.cvm_outside.specs.Script.{Call, Got, Stored, Who, Performs}
 use Rattle.cvm_outside.specs.Outside.{Outside}
-use Rattle.run_scripts.specs.Commands.{Ends, PlanAsks, files_of, gets}
+use Rattle.cvm_shell.specs.Ends.{Ends, PlanAsks, files_of, gets}
 
 -- the file that a command may put
 abbrev pub file_put : Command → Option (List ℕ)

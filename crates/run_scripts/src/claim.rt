@@ -1,6 +1,6 @@
 // The contract that `cvm_shell::run` is to have.
 ghost use Rattle.cvm_shell.specs.Command.{texts};
-ghost use Rattle.run_scripts.specs.Commands.{Ends, seen};
+ghost use Rattle.cvm_shell.specs.Ends.{Ends, seen};
 
 use cvm_outside::{Sectors, Shelf, Sink};
 use cvm_shell::Status;

@@ -26,9 +26,9 @@ use Rattle.boot_run.specs.LoadScript.{load_script}
 use Rattle.boot_run.specs.RunEnds.{SeesUser}
 use Rattle.cvm_shell.specs.Saves.{saved_row}
 use Rattle.boot_run.specs.Closing.{says}
-use Rattle.run_scripts.specs.Runs.{run_of, pages_loaded}
+use Rattle.cvm_shell.specs.SessionRuns.{run_of, pages_loaded}
 use Rattle.boot_run.specs.RunScript.{run_script, rest_script, untold_steps, AreReads, AreOfRun}
-use Rattle.run_scripts.specs.Whole.{run_status, save_script, power_status}
+use Rattle.cvm_shell.specs.RunStatus.{run_status, save_script, power_status}
 
 -- THE LOAD of a session
 abbrev pub load_of : Session → ImageSystem → Rows → List Call
