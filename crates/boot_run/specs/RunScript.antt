@@ -1,8 +1,8 @@
 -- THE SCRIPTS OF WHOLE RUNS: a boot or a trace, the rest of one, and the steps of a machine of which nothing is known.
-use Rattle.std.specs.Prelude.{ℕ, ◌-◌, ◌<◌, ⊤, if◌then◌else◌, List, [], ◌∷◌, ◌++◌, None}
+use Rattle.std.specs.Prelude.{ℕ, ◌-◌, ⊤, if◌then◌else◌, List, [], ◌∷◌, ◌++◌, None}
 use Rattle.mips_machine.specs.Saved.{saved}
 use Rattle.mips_machine.specs.Steps.{due}
-use Rattle.cvm_outside.specs.Script.{Call, Printed, Read, Wrote, scripts}
+use Rattle.cvm_outside.specs.Script.{Call, Printed, Read, scripts}
 use Rattle.boot_turns.specs.Runs.{Run, Past, state_at, turns_at, steps_made, has_ended, cvm_at}
 use Rattle.boot_turns.specs.StepScript.{steps_script}
 use Rattle.boot_run.specs.Closing.{opening_script, closing_script}
@@ -23,17 +23,9 @@ saved_words r p = saved r.system.input (state_at r (steps_made r)) (turns_at r (
 abbrev pub untold_steps : Run → List Call
 untold_steps r = scripts (λ t. due r.around (state_at r t) ++ Printed None ∷ []) (steps_made r)
 
--- calls that only read sectors below so many, and print
-abbrev pub AreReads : (size : ℕ) → List Call → Type 0
-AreReads size [] = ⊤
-AreReads size (Read q ∷ rest) = (q < size) × AreReads size rest
-AreReads size (Printed None ∷ rest) = AreReads size rest
-AreReads size (other ∷ rest) = ⊥
-
--- calls of a run over a disk that tells no sectors: it reads and writes sectors below so many, and prints
-abbrev pub AreOfRun : (size : ℕ) → List Call → Type 0
-AreOfRun size [] = ⊤
-AreOfRun size (Read q ∷ rest) = (q < size) × AreOfRun size rest
-AreOfRun size (Wrote q words ∷ rest) = (q < size) × AreOfRun size rest
-AreOfRun size (Printed None ∷ rest) = AreOfRun size rest
-AreOfRun size (other ∷ rest) = ⊥
+-- calls that only read sectors, and print texts that aren't told
+abbrev pub AreReads : List Call → Type 0
+AreReads [] = ⊤
+AreReads (Read sector ∷ rest) = AreReads rest
+AreReads (Printed None ∷ rest) = AreReads rest
+AreReads (other ∷ rest) = ⊥

@@ -20,6 +20,7 @@ use Rattle.cvm_outside.specs.declared.shelf.Shelf as shelf_of
 use Rattle.cvm_outside.specs.declared.sink.Sink as sink_of
 use Rattle.cvm_outside.specs.declared.sectors.Sectors as sectors_of
 use Rattle.cvm_outside.specs.Outside.{Outside, files, output, drive}
+use Rattle.boot_turns.specs.LoopScripts.{AreOfRun}
 use Rattle.boot_turns.specs.Runs.{Run, Past, IsPast, state_at, turns_at, steps_made, has_ended, cvm_at}
 use Rattle.cvm_shell.specs.Boot.{booted, sectors_needed}
 use Rattle.boot_run.specs.LoadScript.{load_script}
@@ -27,7 +28,7 @@ use Rattle.boot_run.specs.RunEnds.{SeesUser}
 use Rattle.cvm_shell.specs.Saves.{saved_row}
 use Rattle.boot_run.specs.Closing.{says}
 use Rattle.cvm_shell.specs.SessionRuns.{run_of, pages_loaded}
-use Rattle.boot_run.specs.RunScript.{run_script, rest_script, untold_steps, AreReads, AreOfRun}
+use Rattle.boot_run.specs.RunScript.{run_script, rest_script, untold_steps, AreReads}
 use Rattle.cvm_shell.specs.RunStatus.{run_status, save_script, power_status}
 
 -- THE LOAD of a session
@@ -59,8 +60,8 @@ pub record GoesOn (session : Session) (s : ImageSystem) (rows : Rows) (words : L
   pub is : r ≡ record (run_of session s rows size sectors) { first = machine; turns = session.turns - done; steps = session.steps - machine.time }
 
 -- what the report of a machine of which nothing is known reads: any pages
-abbrev pub ReportAsks : (size : ℕ) → Run → List Call → Type 0
-ReportAsks size r report = AreReads size report × (power_status (has_ended r) (state_at r (steps_made r)).off ≢ Done → report ≡ [])
+abbrev pub ReportAsks : Run → List Call → Type 0
+ReportAsks r report = AreReads report × (power_status (has_ended r) (state_at r (steps_made r)).off ≢ Done → report ≡ [])
 
 -- WHAT A RESUME IS TO DO, whatever its file holds: the machine's own transfers; of the text nothing is said
 pub record ResumeAsks (session : Session) (s : ImageSystem) (rows : Rows) (words : List ℕ) (size : ℕ) (sectors : List (List ℕ)) (script : List Call)
@@ -68,20 +69,20 @@ pub record ResumeAsks (session : Session) (s : ImageSystem) (rows : Rows) (words
   pub run : Run
   pub goes_on : GoesOn session s rows words size sectors run
   pub report : List Call
-  pub is_report : ReportAsks size run report
+  pub is_report : ReportAsks run report
   pub script_is : script ≡ untold_steps run ++ report
   pub status_is : status ≡ power_status (has_ended run) (state_at run (steps_made run)).off
 
 -- over a disk that tells no sectors: the load, and then some calls of a run
-abbrev pub SomeRunAsks : (size : ℕ) → (load : List Call) → List Call → Status → Type 0
-SomeRunAsks size load script status = (more : List Call) × AreOfRun size more × (script ≡ load ++ more)
+abbrev pub SomeRunAsks : (load : List Call) → List Call → Status → Type 0
+SomeRunAsks load script status = (more : List Call) × AreOfRun more × (script ≡ load ++ more)
     × (status ≡ Done ⊎ (status ≡ KernelFault ⊎ status ≡ StepLimit))
 
 -- and of a save one file and the row at the end, where it is done
-pub data SomeSaveAsks (name : List ℕ) (size : ℕ) (load : List Call) : List Call → Status → Type 0 where
-  as_boot : (script : List Call) (status : Status) → SomeRunAsks size load script status → SomeSaveAsks name size load script status
-  is_saved : (more : List Call) (bytes : List ℕ) → AreOfRun size more →
-      SomeSaveAsks name size load (load ++ more ++ (Stored name bytes ∷ Printed (Some saved_row) ∷ [])) Done
+pub data SomeSaveAsks (name : List ℕ) (load : List Call) : List Call → Status → Type 0 where
+  as_boot : (script : List Call) (status : Status) → SomeRunAsks load script status → SomeSaveAsks name load script status
+  is_saved : (more : List Call) (bytes : List ℕ) → AreOfRun more →
+      SomeSaveAsks name load (load ++ more ++ (Stored name bytes ∷ Printed (Some saved_row) ∷ [])) Done
 
 -- WHAT A SESSION IS TO DO: refuse a user that there is none of, or a disk that is too small; or the run, over sectors that are told or not
 pub data SessionAsks (session : Session) (s : ImageSystem) (rows : Rows) (old : Outside) (Told : List (List ℕ) → List Call → Status → Type 0)
@@ -104,12 +105,12 @@ PlanAsks (puts name bytes) old script status = (script ≡ Stored name bytes ∷
 PlanAsks (tells text) old script status = (script ≡ says text) × (status ≡ Done)
 PlanAsks (boots session s rows) old script status =
     SessionAsks session s rows old (λ sectors. RunAsks (run_of session s rows old.disk.size sectors) (load_of session s rows))
-    (SomeRunAsks old.disk.size (load_of session s rows)) script status
+    (SomeRunAsks (load_of session s rows)) script status
 PlanAsks (saves session s rows name) old script status =
     SessionAsks session s rows old (λ sectors. SaveAsks name (run_of session s rows old.disk.size sectors) (load_of session s rows))
-    (SomeSaveAsks name old.disk.size (load_of session s rows)) script status
+    (SomeSaveAsks name (load_of session s rows)) script status
 PlanAsks (resumes session s rows words) old script status =
-    SessionAsks session s rows old (ResumeAsks session s rows words old.disk.size) (SomeRunAsks old.disk.size []) script status
+    SessionAsks session s rows old (ResumeAsks session s rows words old.disk.size) (SomeRunAsks []) script status
 
 -- THE FILES that a command gets, in order
 abbrev pub files_of : Command → List (List ℕ)

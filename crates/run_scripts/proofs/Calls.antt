@@ -15,7 +15,8 @@ use Rattle.cvm_shell.specs.Boot.{booted, sectors_needed}
 use Rattle.boot_turns.specs.StepScript.{steps_script}
 use Rattle.cvm_shell.specs.Saves.{saved_row}
 use Rattle.cvm_shell.specs.SessionRuns.{run_of, pages_loaded}
-use Rattle.boot_run.specs.RunScript.{AreReads, AreOfRun, untold_steps}
+use Rattle.boot_turns.specs.LoopScripts.{AreOfRun}
+use Rattle.boot_run.specs.RunScript.{AreReads, untold_steps}
 use Rattle.cvm_shell.specs.RunStatus.{leaving_script, save_script, saved_bytes}
 use Rattle.cvm_shell.specs.Ends.{PlanAsks, SessionAsks, no_user, small, over_told, over_untold, SomeRunAsks, SomeSaveAsks, as_boot, is_saved, load_of}
 use Rattle.run_scripts.specs.Shapes.{Loads, file_put, gets_in, puts_in, NamedBy}
@@ -56,23 +57,23 @@ plain_write q ws = record { gets = refl; puts = refl }
 plain_load : (session : Session) (s : ImageSystem) (rows : Rows) → Plain (load_of session s rows)
 plain_load session s rows = of_load Plain plain plain_write (pages_loaded session.start (booted s rows)) (sectors_needed session s rows)
 
-plain_some : (size : ℕ) (a : List Call) → AreOfRun size a → Plain a
-plain_some size [] h = record { gets = refl; puts = refl }
-plain_some size (Read q ∷ a) h = let t = plain_some size a h.1 in record { gets = t.gets; puts = t.puts }
-plain_some size (Wrote q ws ∷ a) h = let t = plain_some size a h.1 in record { gets = t.gets; puts = t.puts }
-plain_some size (Printed None ∷ a) h = let t = plain_some size a h in record { gets = t.gets; puts = t.puts }
-plain_some size (Printed (Some x) ∷ a) h = absurd h
-plain_some size (Got n ∷ a) h = absurd h
-plain_some size (Stored n bs ∷ a) h = absurd h
+plain_some : (a : List Call) → AreOfRun a → Plain a
+plain_some [] h = record { gets = refl; puts = refl }
+plain_some (Read q ∷ a) h = let t = plain_some a h in record { gets = t.gets; puts = t.puts }
+plain_some (Wrote q ws ∷ a) h = let t = plain_some a h in record { gets = t.gets; puts = t.puts }
+plain_some (Printed None ∷ a) h = let t = plain_some a h in record { gets = t.gets; puts = t.puts }
+plain_some (Printed (Some x) ∷ a) h = absurd h
+plain_some (Got n ∷ a) h = absurd h
+plain_some (Stored n bs ∷ a) h = absurd h
 
-plain_reads : (size : ℕ) (a : List Call) → AreReads size a → Plain a
-plain_reads size [] h = record { gets = refl; puts = refl }
-plain_reads size (Read q ∷ a) h = let t = plain_reads size a h.1 in record { gets = t.gets; puts = t.puts }
-plain_reads size (Printed None ∷ a) h = let t = plain_reads size a h in record { gets = t.gets; puts = t.puts }
-plain_reads size (Wrote q ws ∷ a) h = absurd h
-plain_reads size (Printed (Some x) ∷ a) h = absurd h
-plain_reads size (Got n ∷ a) h = absurd h
-plain_reads size (Stored n bs ∷ a) h = absurd h
+plain_reads : (a : List Call) → AreReads a → Plain a
+plain_reads [] h = record { gets = refl; puts = refl }
+plain_reads (Read q ∷ a) h = let t = plain_reads a h in record { gets = t.gets; puts = t.puts }
+plain_reads (Printed None ∷ a) h = let t = plain_reads a h in record { gets = t.gets; puts = t.puts }
+plain_reads (Wrote q ws ∷ a) h = absurd h
+plain_reads (Printed (Some x) ∷ a) h = absurd h
+plain_reads (Got n ∷ a) h = absurd h
+plain_reads (Stored n bs ∷ a) h = absurd h
 
 -- it gets none, and puts nothing but this file, once
 pub record PutsOnly (name : Option (List ℕ)) (a : List Call) : Type 0 where
@@ -113,12 +114,12 @@ session_puts name session s rows at T S t m script due (small v n) = plain_puts 
 session_puts name session s rows at T S t m script due (over_told ss _ _ v n q a) = t ss script due a
 session_puts name session s rows at T S t m script due (over_untold _ _ v n q a) = m script due a
 
-some_puts : (name : Option (List ℕ)) (size : ℕ) (load script : List Call) (due : Status) → Plain load → SomeRunAsks size load script due → PutsOnly name script
-some_puts name size load script due h w = same_puts name script (load ++ w.0) w.2 (plain_puts name (load ++ w.0) (plain_both load w.0 h (plain_some size w.0 w.1)))
+some_puts : (name : Option (List ℕ)) (load script : List Call) (due : Status) → Plain load → SomeRunAsks load script due → PutsOnly name script
+some_puts name load script due h w = same_puts name script (load ++ w.0) w.2 (plain_puts name (load ++ w.0) (plain_both load w.0 h (plain_some w.0 w.1)))
 
-some_save_puts : (name : List ℕ) (size : ℕ) (load script : List Call) (due : Status) → Plain load → SomeSaveAsks name size load script due → PutsOnly (Some name) script
-some_save_puts name size load script due h (as_boot _ _ w) = some_puts (Some name) size load script due h w
-some_save_puts name size load script due h (is_saved more bytes a) = then_put (load ++ more) name bytes saved_row (plain_both load more h (plain_some size more a))
+some_save_puts : (name : List ℕ) (load script : List Call) (due : Status) → Plain load → SomeSaveAsks name load script due → PutsOnly (Some name) script
+some_save_puts name load script due h (as_boot _ _ w) = some_puts (Some name) load script due h w
+some_save_puts name load script due h (is_saved more bytes a) = then_put (load ++ more) name bytes saved_row (plain_both load more h (plain_some more a))
 
 -- PLANS
 pub shape_of : (words : List (List ℕ)) (c : Command) (p : Plan) (at : Outside) (script : List Call) (due : Status) → IsCommand words c → Outcome words p → PlanAsks p at script due →
@@ -128,18 +129,18 @@ shape_of words c p at script due is (is_refused d k r f) a = same_puts (file_put
 shape_of words c p at script due is (is_booted d k l session s rows) a =
     session_puts (file_put c) session s rows at _ _
     (λ ss x st w. same_puts (file_put c) x _ w.script_is (plain_puts (file_put c) _ (of_run Plain plain plain_write (run_of session s rows at.disk.size ss) (load_of session s rows) w.past (plain_load session s rows))))
-    (λ x st w. some_puts (file_put c) at.disk.size (load_of session s rows) x st (plain_load session s rows) w) script due a
+    (λ x st w. some_puts (file_put c) (load_of session s rows) x st (plain_load session s rows) w) script due a
 shape_of words c p at script due is (saved_so d k s rows) a =
     let e : file_put c ≡ Some d.file = ap file_put (one_command words c (save d) is k) in
     subst (λ (o : Option (List ℕ)). PutsOnly o script) (sym e)
     (session_puts (Some d.file) (save_session d) s rows at _ _
     (λ ss x st w. same_puts (Some d.file) x _ w.script_is
     (save_puts d.file (run_of (save_session d) s rows at.disk.size ss) (load_of (save_session d) s rows) w.past (plain_load (save_session d) s rows)))
-    (λ x st w. some_save_puts d.file at.disk.size (load_of (save_session d) s rows) x st (plain_load (save_session d) s rows) w) script due a)
+    (λ x st w. some_save_puts d.file (load_of (save_session d) s rows) x st (plain_load (save_session d) s rows) w) script due a)
 shape_of words c p at script due is (is_resumed d k s rows machine) a =
     session_puts (file_put c) (save_session d) s rows at _ _
-    (λ ss x st w. same_puts (file_put c) x _ w.script_is (plain_puts (file_put c) _ (plain_both (untold_steps w.run) w.report (of_untold Plain plain plain_write w.run) (plain_reads at.disk.size w.report w.is_report.0))))
-    (λ x st w. some_puts (file_put c) at.disk.size [] x st (record { gets = refl; puts = refl }) w) script due a
+    (λ ss x st w. same_puts (file_put c) x _ w.script_is (plain_puts (file_put c) _ (plain_both (untold_steps w.run) w.report (of_untold Plain plain plain_write w.run) (plain_reads w.report w.is_report.0))))
+    (λ x st w. some_puts (file_put c) [] x st (record { gets = refl; puts = refl }) w) script due a
 shape_of words c p at script due is (is_put d k name bytes e) a =
     same_puts (file_put c) script _ a.0 (record { gets = refl; puts = ap file_put (one_command words c d is k) ∙ e })
 shape_of words c p at script due is (is_told d k text) a = same_puts (file_put c) script _ a.0 (plain_puts (file_put c) _ (record { gets = refl; puts = refl }))

@@ -82,9 +82,9 @@ session_due p session s rows at T S user less t m script due (small v n) = by_di
 session_due p session s rows at T S user less t m script due (over_told ss _ _ v n q a) = by_run (t ss script due a)
 session_due p session s rows at T S user less t m script due (over_untold _ _ v n q a) = by_run (m script due a)
 
-some_save : (name : List ℕ) (size : ℕ) (load script : List Call) (due : Status) → SomeSaveAsks name size load script due → IsRunStatus due
-some_save name size load script due (as_boot _ _ w) = w.3
-some_save name size load script due (is_saved more bytes a) = inl refl
+some_save : (name : List ℕ) (load script : List Call) (due : Status) → SomeSaveAsks name load script due → IsRunStatus due
+some_save name load script due (as_boot _ _ w) = w.3
+some_save name load script due (is_saved more bytes a) = inl refl
 
 no_refusal : (r : Refusal) → bad_words ≡ refuses r → ⊥
 no_refusal r e = cc
@@ -99,7 +99,7 @@ due_of words p at script due (is_booted c is l session s rows) a =
     session_due p session s rows at _ _ (λ u v. refl) (λ n. n) (λ ss x st w. same_due st _ w.status_is (of_status _ _)) (λ x st w. w.3) script due a
 due_of words p at script due (saves_so c is s rows) a =
     session_due p (save_session c) s rows at _ _ (λ u v. absurd (no_view u v)) (λ n. n) (λ ss x st w. same_due st _ w.status_is (of_status _ _))
-    (λ x st w. some_save c.file at.disk.size (load_of (save_session c) s rows) x st w) script due a
+    (λ x st w. some_save c.file (load_of (save_session c) s rows) x st w) script due a
 due_of words p at script due (is_resumed c is s rows machine) a =
     session_due p (save_session c) s rows at _ _ (λ u v. absurd (no_view u v)) (λ n. n) (λ ss x st w. same_due st _ w.status_is (of_power _ _)) (λ x st w. w.3) script due a
 due_of words p at script due (is_put c is name bytes e) a = by_run (inl a.1)

@@ -24,7 +24,7 @@ unwrap d (Some x) = x
 
 run_asks : (words : List (List ℕ)) (session : Session) (s : ImageSystem) (rows : Rows) (before : List (List ℕ)) (old mid : Outside) (script : List Call) (due : Status) →
     Asked words (boots session s rows) session s rows before old → mid.disk ≡ old.disk →
-    SessionAsks session s rows mid (λ ss. RunAsks (run_of session s rows mid.disk.size ss) (load_of session s rows)) (SomeRunAsks mid.disk.size (load_of session s rows)) script due →
+    SessionAsks session s rows mid (λ ss. RunAsks (run_of session s rows mid.disk.size ss) (load_of session s rows)) (SomeRunAsks (load_of session s rows)) script due →
     RunAsks (run_of session s rows old.disk.size before) (load_of session s rows) script due
 run_asks words session s rows before old mid script due a k (no_user u v n) = absurd (n a.user)
 run_asks words session s rows before old mid script due a k (small v n) =

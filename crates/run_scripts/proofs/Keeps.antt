@@ -68,17 +68,17 @@ power_due false (Some zero) e = cc
 power_due true (Some (suc n)) e = cc
 power_due false (Some (suc n)) e = cc
 
-some_due : (size : ℕ) (load script : List Call) (due : Status) → SomeRunAsks size load script due → Memory ≡ due → ⊥
-some_due size load script due t e = by t.3
+some_due : (load script : List Call) (due : Status) → SomeRunAsks load script due → Memory ≡ due → ⊥
+some_due load script due t e = by t.3
   where
     by : (due ≡ Done) ⊎ ((due ≡ KernelFault) ⊎ (due ≡ StepLimit)) → ⊥
     by (inl f) = cc
     by (inr (inl f)) = cc
     by (inr (inr f)) = cc
 
-save_due : (name : List ℕ) (size : ℕ) (load script : List Call) (due : Status) → SomeSaveAsks name size load script due → Memory ≡ due → ⊥
-save_due name size load script due (as_boot _ _ t) e = some_due size load script due t e
-save_due name size load script due (is_saved more bytes a) e = cc
+save_due : (name : List ℕ) (load script : List Call) (due : Status) → SomeSaveAsks name load script due → Memory ≡ due → ⊥
+save_due name load script due (as_boot _ _ t) e = some_due load script due t e
+save_due name load script due (is_saved more bytes a) e = cc
 
 session_due : (session : Session) (s : ImageSystem) (rows : Rows) (old : Outside) (Told : List (List ℕ) → List Call → Status → Type 0) (Some_ : List Call → Status → Type 0) →
     ((ss : List (List ℕ)) (sc : List Call) (st : Status) → Told ss sc st → Memory ≡ st → ⊥) → ((sc : List Call) (st : Status) → Some_ sc st → Memory ≡ st → ⊥) →
@@ -94,12 +94,12 @@ due_is (refuses r) old script due a e = status_is r (e ∙ a.1)
 due_is (puts name bytes) old script due a e = let f = a.1 in cc
 due_is (tells text) old script due a e = let f = a.1 in cc
 due_is (boots session s rows) old script due a e =
-    session_due session s rows old _ _ (λ ss sc st t e. run_due (run_of session s rows old.disk.size ss) [] t.past (e ∙ t.status_is)) (λ sc st t e. some_due old.disk.size (load_of session s rows) sc st t e) script due a e
+    session_due session s rows old _ _ (λ ss sc st t e. run_due (run_of session s rows old.disk.size ss) [] t.past (e ∙ t.status_is)) (λ sc st t e. some_due (load_of session s rows) sc st t e) script due a e
 due_is (saves session s rows name) old script due a e =
-    session_due session s rows old _ _ (λ ss sc st t e. run_due (run_of session s rows old.disk.size ss) [] t.past (e ∙ t.status_is)) (λ sc st t e. save_due name old.disk.size (load_of session s rows) sc st t e) script due a e
+    session_due session s rows old _ _ (λ ss sc st t e. run_due (run_of session s rows old.disk.size ss) [] t.past (e ∙ t.status_is)) (λ sc st t e. save_due name (load_of session s rows) sc st t e) script due a e
 due_is (resumes session s rows words) old script due a e =
     session_due session s rows old _ _ (λ ss sc st t e. power_due (has_ended t.run) (state_at t.run (steps_made t.run)).off (e ∙ t.status_is))
-    (λ sc st t e. some_due old.disk.size [] sc st t e) script due a e
+    (λ sc st t e. some_due [] sc st t e) script due a e
 
 pub memory_keeps : MemoryKeeps
 memory_keeps words old new (done _ d) = absurd (never d.due d.blamed (due_is d.plan d.mid d.script d.due d.asks) d.status_is)

@@ -49,7 +49,7 @@ saves_complete blame law words c s rows before old new status is a f (done _ h) 
     let runs = law.machines s.unit _ _ _ w.late _ w.starts in
     let asks = plan_asks blame words old new status h (saves (save_session c) s rows c.file) a.files a.is_plan in
     let t = told_asks words _ (save_session c) s rows before old h.mid (λ size ss. SaveAsks c.file (run_of (save_session c) s rows size ss) (load_of (save_session c) s rows))
-    (SomeSaveAsks c.file h.mid.disk.size (load_of (save_session c) s rows)) h.script h.due a (mid_disk blame words old new status h).0 asks in
+    (SomeSaveAsks c.file (load_of (save_session c) s rows)) h.script h.due a (mid_disk blame words old new status h).0 asks in
     let g = runs.goes_on r.turns enough.last enough.defined in
     let le = g.2 in
     let late = w.within in
