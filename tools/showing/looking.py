@@ -37,35 +37,43 @@ def turns_made(given, turns):
 
 
 def look(run, folder, options):
-    """Shows what is asked of a run that was booted. Gives the status to end with: that of the boot, or 70 where the models and the program differ."""
+    """Shows what is asked of a run, which is booted up to the last turn that is asked for. Gives the status to end with: that of the boot, or 70 where the
+    models and the program differ."""
     wanted, quiet = options.looking, run.put
+    turns = asked_for(wanted, options.turns)
     run.put, run.says_spent = (lambda text: None), False
     try:
         # a name that is not there is told before the run is made
         way_of(Replay(made.given(run, folder, False)), wanted, run.put)
-        status = run.boot(options.turns, options.steps)
+        status = run.boot(turns, options.steps)
         run.put = quiet
         if status not in (0, 3, 4):
             return status
         given = made.given(run, folder)
-        shown = show(given, wanted, turns_made(given, options.turns))
+        shown = show(given, wanted, turns_made(given, turns), turns == options.turns)
     except Differs as differs:
         say('try: %s. The program is what is proved.' % differs)
         return 70
     unasked.say_why(run, folder, options, status)
     if not shown:
-        say('try: %s' % nothing_shown(given, wanted, turns_made(given, options.turns)))
+        say('try: %s' % nothing_shown(given, wanted, turns_made(given, turns)))
     return status
+
+
+def asked_for(wanted, turns):
+    """How many turns the program is to make: those behind the last one that is asked for it need not."""
+    return turns if wanted.turns in (None, 'last') else min(turns, wanted.turns[1] + 1)
 
 
 def nothing_shown(given, wanted, turns):
     if wanted.turns and wanted.turns != 'last' and wanted.turns[0] >= turns:
-        return 'nothing is shown: the run has turns 0 to %d alone.' % (turns - 1)
+        return 'nothing is shown: the run has turns 0 to %d alone%s.' % (turns - 1, '' if given.printed.end else ' that a row tells of')
     return 'nothing is shown: of what was asked nothing came in these turns.' if turns else 'nothing is shown: not one turn was complete.'
 
 
-def show(given, wanted, turns):
-    """Puts the rows. Gives how many there were."""
+def show(given, wanted, turns, to_end=True):
+    """Puts the rows, and how the run ended where they go to its end: one that stopped did so only where all turns were made, `to_end`. Gives how many rows
+    there were."""
     first, last = (max(0, turns - LAST), turns - 1) if wanted.turns == 'last' else wanted.turns or (0, turns - 1)
     replay, lines = Replay(given), Lines()
     way = way_of(replay, wanted, lines.put)
@@ -73,7 +81,7 @@ def show(given, wanted, turns):
         replay.quietly(min(first, turns))
         way(min(last + 1, turns))
         if replay.turn == turns and given.printed.end:
-            lines.count += end_rows(replay, lines.put)
+            lines.count += end_rows(replay, lines.put, to_end)
     finally:
         lines.flush()
     return lines.count
@@ -90,11 +98,11 @@ def users_said(users):
     return 'is 1 user' if len(users) == 1 else 'are %d users' % len(users)
 
 
-def end_rows(replay, put):
-    """How the run ended, where the rows go to its end."""
+def end_rows(replay, put, to_end):
+    """How the run ended, where the rows go to its end. The report is compared also of a run that was made no further."""
     if replay.end is None or replay.end == 'halted':
         replay.check_report()
-    if replay.end != 'halted' and not replay.run.fault:
+    if replay.end != 'halted' and not replay.run.fault and (replay.end or to_end):
         put(replay.end or 'stopped')
         return 1
     return 0

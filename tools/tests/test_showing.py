@@ -191,23 +191,64 @@ class Listings(unittest.TestCase):
             'user1.s:3 j a', '00000010 08000000 j 0 -> 00000000'])
 
 
+ENDLESS = FAULTY.replace('  return 1;', '  while (tail == 3) { ok = true; }\n  return 1;')
+
+
 class Program(unittest.TestCase):
+    def setUp(self):
+        room = tempfile.TemporaryDirectory()
+        self.addCleanup(room.cleanup)
+        self.room = room.name
+
+    def put(self, kernel):
+        """The files of a system whose user is linked, and its run, which the model makes in place of the program."""
+        for name, text in (('kernel.c0', kernel), ('params', PARAMS), ('schedule', ''), ('user1.s', ASKS)):
+            with open(os.path.join(self.room, name), 'w', encoding='utf-8') as file:
+                file.write(text)
+        with open(os.path.join(self.room, 'user1.img'), 'wb') as file:
+            file.write(b''.join(word.to_bytes(4, 'little') for word in assemble(ASKS)))
+        return mock.Mock(image=lambda name: os.path.join(self.room, 'user1.img'), schedule=os.path.join(self.room, 'schedule'),
+                         made=lambda name: os.path.join(self.room, name), boot=mock.Mock(side_effect=self.boot))
+
+    def boot(self, turns, steps):
+        """What the program prints of the endless kernel, which is called for good in turn 8, and its status."""
+        rows = running.boot_rows(running.System(Parser(ENDLESS), [assemble(ASKS)], PARAMS, ''), min(turns, 8), {})
+        with open(os.path.join(self.room, 'boot'), 'w', encoding='utf-8') as file:
+            file.write('\n'.join(rows if turns <= 8 else rows[:3]) + '\n')
+        return 0 if turns <= 8 else 4
+
+    def looked(self, run, *words, turns=100000):
+        """The rows that are shown of a run, what is said of it, and the status."""
+        options, left, rows, said = mock.Mock(looking=wanted.Wanted(), turns=turns, steps=30000, trace=None), list(words), io.BytesIO(), []
+        while left:
+            options.looking.take(left.pop(0), left)
+        with mock.patch.object(program, 'write', rows.write), mock.patch.object(looking, 'say', said.append), mock.patch.object(unasked, 'say', said.extend):
+            status = looking.look(run, folder.Folder(self.room), options)
+        return rows.getvalue().decode().split('\n'), said, status
+
     def test_bad_names_are_told_before_the_run(self):
-        with tempfile.TemporaryDirectory() as room:
-            for name, text in (('kernel.c0', FAULTY), ('params', PARAMS), ('schedule', ''), ('user1.s', ASKS)):
-                with open(os.path.join(room, name), 'w', encoding='utf-8') as file:
-                    file.write(text)
-            with open(os.path.join(room, 'user1.img'), 'wb') as file:
-                file.write(b''.join(word.to_bytes(4, 'little') for word in assemble(ASKS)))
-            run = mock.Mock(image=lambda name: os.path.join(room, 'user1.img'), schedule=os.path.join(room, 'schedule'))
-            for words in (['--watch', 'tial'], ['--break', 'kernel.c0:2'], ['--show', '--user', '2']):
-                options = mock.Mock(looking=wanted.Wanted())
-                left = list(words)
-                while left:
-                    options.looking.take(left.pop(0), left)
-                with self.assertRaises(Bad):
-                    looking.look(run, folder.Folder(room), options)
-            run.boot.assert_not_called()
+        run = self.put(FAULTY)
+        for words in (['--watch', 'tial'], ['--break', 'kernel.c0:2'], ['--show', '--user', '2']):
+            with self.assertRaises(Bad):
+                self.looked(run, *words)
+        run.boot.assert_not_called()
+
+    def test_a_run_is_made_no_further_than_it_is_looked_into(self):
+        for words, first, last in ((['--show', '0..5'], 'turn 0  dispatch(0, 0, 0)', '  next 1'), (['--watch', 'tail', '--show', '0..7'], 'turn 2 ', 'turn 5 '),
+                                   (['--break', 'kernel.c0:14', '--show', '3..6'], 'turn 5 ', '  user 1: 1 pages')):
+            run = self.put(ENDLESS)
+            rows, said, status = self.looked(run, *words)
+            run.boot.assert_called_once_with(int(words[-1].split('..')[1]) + 1, 30000)
+            self.assertTrue(rows[0].startswith(first) and rows[-2].startswith(last), (words, rows))
+            self.assertEqual((said, status), ([], 0), words)
+        for words in (['--show', '5..40'], ['--show'], ['--watch', 'tail']):
+            run = self.put(ENDLESS)
+            rows, said, status = self.looked(run, *words)
+            run.boot.assert_called_once_with(41 if '5..40' in words else 100000, 30000)
+            self.assertEqual(status, 4)
+            self.assertIn('has not come back', said[0])
+        self.assertEqual(self.looked(self.put(ENDLESS), '--show', '4..5', turns=6)[0][-2], 'stopped')
+        self.assertIn('turns 0 to 5 alone that a row tells of', self.looked(self.put(ENDLESS), '--show', '6..40')[1][-1])
 
     def test_words_of_a_user_that_are_others_are_told(self):
         with tempfile.TemporaryDirectory() as room:
