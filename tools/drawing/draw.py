@@ -7,6 +7,7 @@ import re
 import xml.etree.ElementTree as ElementTree
 
 from drawing import rows, times
+from running import pipes
 from running.only import letters, signed
 
 LEFT, WIDTH, RIGHT, TOP, BAND = 96, 780, 300, 66, 30
@@ -350,8 +351,7 @@ def read(name):
 def draw_files(boot, traces, to, title, turns, window=(None, None)):
     """Draws the texts of files into a file."""
     svg = draw(read(boot), [read(name) for name in traces], title, turns, window)
-    with open(to, 'w', encoding='utf-8') as file:
-        file.write(svg)
+    pipes.put(to, svg.encode('utf-8'))
 
 
 def is_picture(text):

@@ -1,4 +1,5 @@
 """Why a file can't be got or put, in a sentence that names it."""
+import errno
 import os
 import stat
 
@@ -32,6 +33,15 @@ def get_fault(name):
     return None
 
 
+def is_too_long(name):
+    """Whether a name is longer than the file's system takes."""
+    try:
+        os.lstat(name)
+    except OSError as error:
+        return error.errno == errno.ENAMETOOLONG
+    return False
+
+
 def put_fault(name):
     """Why the file of a name can't be put; None where that can't be told without a try."""
     if not name:
@@ -40,6 +50,8 @@ def put_fault(name):
     folder = os.path.dirname(real) or '.'
     if os.path.isdir(name):
         return "'%s' is a folder, and no file can be put there" % name
+    if is_too_long(real):
+        return "'%s' can't be put: its name is too long" % name
     if not os.path.isdir(folder):
         return "'%s' can't be put: there is no folder '%s'" % (name, folder)
     if os.path.exists(name) and not os.access(name, os.W_OK):

@@ -5,7 +5,7 @@ import os
 from drawing import draw, rows
 from explain import files
 from paging.record import Record
-from running import program
+from running import pipes, program
 from running.guard import Bad, say
 from showing import made
 from showing.looking import turns_made
@@ -82,8 +82,7 @@ def put_page(run, folder, options):
     except Differs as differs:
         say("try: '%s' is not made: %s. The program is what is proved." % (options.page, differs))
         return 70
-    with open(options.page, 'wb') as file:
-        file.write(text)
+    pipes.put(options.page, text)
     if record.first > 0 or record.last < total - 1:
         say("try: '%s' has turns %d to %d of %d: --from A --to B chooses others." % (options.page, record.first, record.last, total))
     return 0

@@ -31,12 +31,17 @@ def output():
         return None
 
 
+def becomes_disk(name):
+    """Whether a put to a name that leads nowhere yet would be to the file that becomes the disk's."""
+    return not os.path.exists(name) and os.path.realpath(name) == os.path.realpath(DISK)
+
+
 def role_fault(gets, puts):
     """Which file would have two roles, in a sentence; None where each has one."""
     disk, out = identity_of(DISK), output()
     for name in [*gets, *puts]:
         which = identity_of(name)
-        if which and which == disk or which is None and name in puts and name == DISK:
+        if which and which == disk or name in puts and becomes_disk(name):
             return "'%s' is the disk's file%s, and no command gets or puts that" % (name, '' if name == DISK else ", '%s'" % DISK)
         if which and which == out:
             return "'%s' is standard output, too, and what is printed would be lost or stand in it" % name

@@ -1,7 +1,9 @@
 """Pipes where files are to stand: none is waited for longer than a second where nobody has its other end."""
+import errno
 import os
 import select
 import stat
+import time
 
 from explain import files
 from running.guard import Bad
@@ -34,6 +36,24 @@ def content(name):
     finally:
         os.close(number)
     raise Bad("'%s' has more than 67,108,864 bytes" % name)
+
+
+def put(name, data):
+    """Puts bytes to a file or a pipe; the pipe's other end is to be there within a second."""
+    end, way = time.monotonic() + 1, os.O_WRONLY | (os.O_NONBLOCK if is_pipe(name) else os.O_CREAT | os.O_TRUNC)
+    while True:
+        try:
+            number = os.open(name, way, 0o666)
+            break
+        except OSError as error:
+            if error.errno != errno.ENXIO:
+                raise
+            if time.monotonic() > end:
+                raise Bad("nobody reads from the pipe '%s'" % name, 70) from None
+        time.sleep(0.05)
+    os.set_blocking(number, True)
+    with open(number, 'wb') as file:
+        file.write(data)
 
 
 def opening(process):

@@ -52,6 +52,19 @@ class Roles(Room):
                 status, said = foreseen.fault(words)
                 self.assertEqual((status, "the disk's file" in said), (6, True))
 
+    def test_what_becomes_the_disk_is_no_other_file(self):
+        os.mkdir('d')
+        os.symlink('cvm.disk', 'soft')
+        for name in ('cvm.disk', 'd/../cvm.disk', os.path.abspath('cvm.disk'), 'soft'):
+            with self.subTest(name):
+                self.assertIn("the disk's file", self.save(name)[1])
+        os.symlink('d/real', 'cvm.disk')
+        self.assertIn("the disk's file, 'cvm.disk'", self.save('d/real')[1])
+        self.assertIsNone(self.save('d/other'))
+        os.remove('cvm.disk')
+        os.symlink('/dev/null', 'cvm.disk')
+        self.assertIsNone(self.save('/dev/null'))
+
     def test_standard_output_is_no_other_file(self):
         with open('out', 'w', encoding='utf-8') as out, mock.patch.object(foreseen, 'output', lambda: foreseen.identity(os.fstat(out.fileno()))):
             self.assertEqual(self.save('out')[0], 6)
@@ -61,7 +74,7 @@ class Roles(Room):
 
     def test_a_file_of_save_that_cannot_be_put(self):
         os.symlink('missing/file', 'dangling')
-        for name in ('.', 'missing/file', 'dangling', ''):
+        for name in ('.', 'missing/file', 'dangling', '', 'x' * 300, 'x/' * 4000):
             with self.subTest(name):
                 self.assertEqual(self.save(name)[0], 6)
 
@@ -87,6 +100,23 @@ class Pipes(Room):
         with mock.patch.object(program, 'write', lambda part: None):
             self.assertEqual(program.run_here([sys.executable, '-c', OPENS, 'pipe', 'r'], ['pipe'], []), (0, ['opened']))
         writer.join()
+
+    def test_what_is_put_is_waited_for_a_second(self):
+        os.mkfifo('pipe')
+        with self.assertRaises(guard.Bad) as caught:
+            pipes.put('pipe', b'x')
+        self.assertEqual((caught.exception.status, str(caught.exception)), (70, "nobody reads from the pipe 'pipe'"))
+        read = []
+        reader = threading.Thread(target=lambda: read.append(open('pipe', 'rb').read()))
+        reader.start()
+        pipes.put('pipe', b'x' * 200000)
+        reader.join()
+        self.assertEqual(read, [b'x' * 200000])
+        pipes.put('file', b'longer')
+        pipes.put('file', b'y')
+        self.assertEqual(pipes.content('file'), b'y')
+        with self.assertRaises(OSError):
+            pipes.put('missing/file', b'x')
 
     def test_what_is_read_has_an_end(self):
         os.mkfifo('pipe')

@@ -113,6 +113,12 @@ class Run(Clones):
         self.assertEqual((status, text, 'REFUSALS' in said or 'cvm: ' in said), (2, 'refused 23 4\n', True))
         self.assertEqual(self.run_it('cvm')[:2], (1, 'bad words\n'))
 
+    def test_sources_that_cannot_be_summed(self):
+        """As where a limit of the host ends the summing: what came of it until then is no sum."""
+        os.remove(os.path.join(self.bin, 'find'))
+        put(os.path.join(self.bin, 'find'), '#!/bin/sh\necho half\nexit 1\n', mode=0o755)
+        self.is_not_run("the sources can't be summed")
+
     def test_sources_that_changed(self):
         why = 'the sources changed since it was built'
         for name in ('low/src/lib.rt', 'low/specs/Low.antt', 'low/proofs/deep/Low.antt', 'cvm/src/main.rt'):
