@@ -8,7 +8,7 @@ TOP = os.path.dirname(os.path.dirname(os.path.dirname(os.path.abspath(__file__))
 def page(name):
     """The text of a page of docs/; empty where it can't be read."""
     try:
-        with open(os.path.join(TOP, 'docs', name), encoding='utf-8') as file:
+        with open(os.path.join(TOP, 'docs', name), encoding='utf-8', errors='replace') as file:
             return file.read()
     except OSError:
         return ''

@@ -24,9 +24,11 @@ def text_of(name, fault=Bad):
 
 
 def pasted(line):
-    """A line that can be pasted: what stands in quotes and has bytes that aren't UTF-8 is written as a shell takes it, `$'caf\\xe9'`."""
+    """A line that can be pasted: what stands in quotes and has bytes that aren't UTF-8 is written as a shell takes it, `$'caf\\xe9'`; and so is the file of
+    a place, `$'caf\\xe9':2:1`."""
     byte = lambda match: '\\x%02x' % (ord(match[0]) - 0xdc00)
     quoted = lambda match: '$' + re.sub('[\udc80-\udcff]', byte, match[0].replace('\\', '\\\\'))
+    line = re.sub(r"^([^'\s:][^':]*[\udc80-\udcff][^':]*)(?=(?::\d+){1,2}$)", r"'\1'", line)
     line = re.sub("'[^']*[\udc80-\udcff][^']*'", quoted, line)
     return re.sub('[\udc80-\udcff]', byte, line)
 

@@ -107,7 +107,12 @@ class Pipes(Room):
             pipes.put('pipe', b'x')
         self.assertEqual((caught.exception.status, str(caught.exception)), (70, "nobody reads from the pipe 'pipe'"))
         read = []
-        reader = threading.Thread(target=lambda: read.append(open('pipe', 'rb').read()))
+
+        def take():
+            with open('pipe', 'rb') as pipe:
+                read.append(pipe.read())
+
+        reader = threading.Thread(target=take)
         reader.start()
         pipes.put('pipe', b'x' * 200000)
         reader.join()

@@ -94,6 +94,8 @@ class Pasted(unittest.TestCase):
         self.assertEqual(guard.pasted("there is no file 'caf\udce9'"), "there is no file $'caf\\xe9'")
         self.assertEqual(guard.pasted("'a' and 'b\\c\udcff' and \udcfe"), "'a' and $'b\\\\c\\xff' and \\xfe")
         self.assertEqual(guard.pasted("'caf\u00e9'"), "'caf\u00e9'")
+        self.assertEqual(guard.pasted('caf\udce9/kernel.c0:2:1'), "$'caf\\xe9/kernel.c0':2:1")
+        self.assertEqual(guard.pasted('caf\u00e9/kernel.c0:2:1'), 'caf\u00e9/kernel.c0:2:1')
 
     def test_pages_that_are_missing(self):
         with mock.patch.object(pages, 'page', lambda name: ''):

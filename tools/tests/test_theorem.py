@@ -175,6 +175,14 @@ class Words(unittest.TestCase):
             self.assertEqual(status, 64, words)
             self.assertNotIn('Traceback', said)
 
+    def test_pages_that_are_missing(self):
+        """Without the commands' page no exercise is left out in silence."""
+        with tempfile.TemporaryDirectory() as clone:
+            for name in ('tools', 'exercises', 'oracle'):
+                shutil.copytree(os.path.join(TOP, name), os.path.join(clone, name), ignore=shutil.ignore_patterns('tests', '__pycache__'))
+            status, said = run('exercises/check', top=clone)
+            self.assertEqual((status, said.split(', ')[0]), (70, "exercises/check: the commands are read from '%s/docs/FORMATS.md'" % clone))
+
     def test_crates_that_are_no_text(self):
         with tempfile.TemporaryDirectory() as clone:
             for name in ('tools', 'bench', 'release'):
