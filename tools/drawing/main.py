@@ -3,7 +3,7 @@ import os
 
 from explain import files, words as command_words
 from drawing import draw, rows
-from running import pipes, program
+from running import foreseen, pipes, program
 from running.guard import Bad
 
 USAGE = 'tools/picture BOOT.txt [TRACE..] [--turns N] [--from A] [--to B] [--title TEXT]: draws what a boot printed, with what traces printed, as an SVG on standard output'
@@ -33,6 +33,8 @@ def read(name):
     fault = files.get_fault(name)
     if fault:
         raise Bad(fault)
+    if foreseen.output() and foreseen.identity_of(name) == foreseen.output():
+        raise Bad("'%s' is standard output, too, and the picture would stand in it" % name)
     return pipes.content(name).decode('utf-8', errors='replace')
 
 

@@ -109,12 +109,27 @@ def checked(options):
         lost = None if isinstance(folder, str) else source_put_over(folder, [name for name in (options.picture, options.page) if name is not None])
         if lost is not None:
             raise Bad("'%s' is a file of the system itself, which would be lost: give another name" % lost)
+    same = standard_output(found, options)
+    if same is not None:
+        raise Bad("'%s' is standard output, too, and what is printed would be lost or stand in it" % same)
     return found
+
+
+def files_of(folder):
+    """The files of a folder's system; none where it has a fault."""
+    return [] if isinstance(folder, str) else [folder.kernel, folder.params, folder.schedule, *folder.users]
+
+
+def standard_output(folders, options):
+    """The first of the files that are read or put which is standard output, too; None where none is."""
+    names = [name for folder in folders for name in files_of(folder)] + [options.picture, options.page, options.extras.expect]
+    out = foreseen.output()
+    return next((name for name in names if out and name is not None and foreseen.identity_of(name) == out), None)
 
 
 def source_put_over(folder, names):
     """The first of the names that is a file of the folder's system; None where none is."""
-    sources = [name for name in (folder.kernel, folder.params, folder.schedule, *folder.users) if os.path.exists(name)]
+    sources = [name for name in files_of(folder) if os.path.exists(name)]
     return next((name for name in names if os.path.exists(name) and any(os.path.samefile(name, source) for source in sources)), None)
 
 

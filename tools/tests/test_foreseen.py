@@ -1,5 +1,6 @@
 """Files in two roles, and pipes whose other end nobody has: sentences before a run, and none where each file has one role."""
 import os
+import shutil
 import sys
 import tempfile
 import threading
@@ -7,7 +8,9 @@ import time
 import unittest
 from unittest import mock
 
-from running import foreseen, guard, pipes, program
+from drawing import main as drawing
+from explain import pages
+from running import foreseen, guard, pipes, program, try_main
 
 OPENS = 'import sys; open(sys.argv[1], sys.argv[2]).close(); print("opened")'
 
@@ -77,6 +80,38 @@ class Roles(Room):
         for name in ('.', 'missing/file', 'dangling', '', 'x' * 300, 'x/' * 4000):
             with self.subTest(name):
                 self.assertEqual(self.save(name)[0], 6)
+
+
+class Folders(Room):
+    """Of ./try and tools/picture."""
+
+    def setUp(self):
+        Room.setUp(self)
+        shutil.copytree(os.path.join(pages.TOP, 'examples', 'adder'), 'folder')
+
+    def said(self, name, *words):
+        """What is said where a file is standard output, too."""
+        with mock.patch.object(foreseen, 'output', lambda: foreseen.identity_of(name)):
+            try:
+                try_main.checked(try_main.options_of(['folder', *words]))
+            except guard.Bad as bad:
+                return bad.status, str(bad)
+        return None
+
+    def test_standard_output_is_no_file_that_is_read_or_put(self):
+        os.link('folder/params', 'hard')
+        for name in ('kernel.c0', 'params', 'schedule', 'user1.s'):
+            self.assertEqual(self.said('folder/' + name), (64, "'folder/%s' is standard output, too, and what is printed would be lost or stand in it" % name))
+        self.assertIn("'folder/params' is standard output, too", self.said('hard')[1])
+        self.assertIn('is standard output, too', self.said('folder/printed', '--expect', 'folder/printed')[1])
+        for option in ('--picture', '--page'):
+            self.assertIn("'image' is standard output, too", self.said('image', option, 'image')[1])
+        for name in ('folder/printed', '/dev/null', 'missing'):
+            self.assertIsNone(self.said(name))
+
+    def test_a_picture_is_not_put_into_what_it_is_drawn_of(self):
+        with mock.patch.object(foreseen, 'output', lambda: foreseen.identity_of('folder/printed')), self.assertRaises(guard.Bad):
+            drawing.main(['folder/printed'])
 
 
 class Pipes(Room):
