@@ -3,9 +3,10 @@ ghost use Rattle.std.specs.Prelude.{◌≡◌, ◌++◌, length};
 ghost use Rattle.cvm_model.specs.Text.{steps_row as steps_text};
 ghost use Rattle.boot_report.specs.Globals.{AreInside, GlobalsStand};
 ghost use Rattle.boot_report.specs.Texts.{end_row};
-ghost use Rattle.boot_run.specs.Report.{kernel_rows, runs_now, ForClosing, ForTraceClosing, StepsStand};
+ghost use Rattle.boot_run.specs.Report.{kernel_rows, runs_now, closing_calls, trace_calls, ForClosing, ForTraceClosing, StepsStand};
 ghost use Rattle.boot_report.specs.Leaves.{Reports};
-ghost use Rattle.cvm_outside.specs.Script.{Prints};
+ghost use Rattle.boot_report.specs.Scripts.{of_report};
+ghost use Rattle.cvm_outside.specs.Script.{Makes, Prints};
 ghost use Rattle.boot_report.specs.Stand.{CanReadUser, CanReadUsers};
 
 use crate::places::Places;
@@ -59,8 +60,10 @@ pub(crate) fn put_closing<D: Sectors, O: Sink>(
     requires many { length places.now.offsets.items ≡ length decls.now }
     requires users { CanReadUsers places.now.map (length machine.old.hardware.memory) (D.size disk.old) }
     requires inside { AreInside places.now.map places.now.offsets.items }
-    ensures { Reports (ForClosing (D.sectors disk.old) machine.old halted current places.now decls.now)
+    ensures report { Reports (ForClosing (D.sectors disk.old) machine.old halted current places.now decls.now)
         machine.old machine.new D.sectors D.size D.faults D.calls disk.old disk.new O.text O.faults out.old out.new result }
+    ensures script { Makes O.Sink D.Sectors (out.old, disk.old) (out.new, disk.new)
+        (closing_calls halted current machine.old (D.sectors disk.old) places.now decls.now) of_report result }
 {
     put_kernel(machine, places, decls, halted, out)?;
     let running = runs_now(halted, current);
@@ -94,6 +97,8 @@ pub(crate) fn put_trace_closing<D: Sectors, O: Sink>(
     ensures report { Reports (ForTraceClosing (D.sectors disk.old) machine.old halted current map.now tracer)
         machine.old machine.new D.sectors D.size D.faults D.calls disk.old disk.new O.text O.faults out.old out.new result }
     ensures rows { StepsStand (D.sectors disk.old) machine.old halted current map.now tracer (O.text out.old) (O.text out.new) result }
+    ensures script { Makes O.Sink D.Sectors (out.old, disk.old) (out.new, disk.new)
+        (trace_calls halted current machine.old (D.sectors disk.old) map.now tracer) of_report result }
 {
     put_last(tracer.steps, halted, out)?;
     let running = runs_now(halted, current);

@@ -7,6 +7,7 @@ ghost use Rattle.mips_machine.specs.Saved.{saved, AreSaved, CanBeSaved};
 ghost use Rattle.layer_contract.specs.Boots.{BootFollows};
 ghost use Rattle.boot_run.specs.OneTurn.{CanClose, RunLeaves};
 ghost use Rattle.boot_run.specs.LoadEnds.{pages_needed};
+ghost use Rattle.boot_run.specs.RunCalls.{RestCalls};
 ghost use Rattle.boot_run.specs.SavedFiles.{SavedBootsAreOfRuns};
 ghost use Rattle.boot_run.specs.Saving.{AreBoots, IsResumed, Joins, RunsOn};
 
@@ -101,6 +102,8 @@ pub fn run_on<L: Layer + Drop, D: Sectors, O: Sink>(
     ensures any { RunsOn D.size D.sectors (tally D.faults D.calls) O.text turns steps run.old disk.old disk.new result }
     ensures told { IsResumed run.old → IsSome (D.sectors disk.old) → IsSome (D.sectors disk.new) }
     ensures leaves { RunLeaves (result ≡ RunEnd.DiskFault) (result ≡ RunEnd.SinkFault) D.size D.faults O.faults disk.old out.old disk.new out.new }
+    ensures script { RestCalls O.Sink D.Sectors run.old (turns - run.old.turns) (steps - run.old.machine.time)
+        (out.old, disk.old) (out.new, disk.new) result }
 {
     machines_run();
     a_new_machine_is_steady();

@@ -12,6 +12,10 @@ ghost use Rattle.boot_turns.specs.LoopScripts.{StepsCall};
 ghost use Rattle.boot_run.specs.LoadEnds.{LoadLeaves, pages_needed, rom_needed};
 ghost use Rattle.boot_run.specs.Loaded.{IsLoaded, LoadTorn, boot_load, rom_load};
 ghost use Rattle.boot_report.specs.Leaves.{Asks, OnlyViews, Puts};
+ghost use Rattle.boot_run.specs.LoadedPages.{user_pages, rom_pages};
+ghost use Rattle.boot_run.specs.Loading.{system_of};
+ghost use Rattle.boot_run.specs.LoadScript.{load_script};
+ghost use Rattle.boot_run.specs.RunCalls.{LoadCalls, ReportCalls, TurnsCall};
 ghost use Rattle.boot_run.specs.Calls.{MakesTurns, Proceeds, ProceedsAnyhow, Reports};
 ghost use Rattle.boot_run.specs.OneTurn.{CanMake, TurnsMake, ReportLeaves, TurnsSay, as_turns};
 ghost use Rattle.boot_run.specs.Saving.{saved_run, AreBoots, IsTakenUp};
@@ -107,6 +111,7 @@ impl<L: Layer + Drop> Run<L> {
             (IsLoaded D.size D.sectors D.faults D.calls layer boot view schedule (boot_load boot schedule) disk.old disk.new) }
         ensures leaves { LoadLeaves D.size D.sectors D.faults D.calls boot view (pages_needed boot) (LoadTorn (boot_load boot schedule))
             disk.old disk.new result }
+        ensures script { LoadCalls D.Sectors disk.old disk.new (load_script (user_pages (system_of boot schedule)) (pages_needed boot)) result }
     {
         let users = boot.users.len() as u32;
         check_view(view, users)?;
@@ -156,6 +161,7 @@ impl<L: Layer + Drop> Run<L> {
             (IsLoaded D.size D.sectors D.faults D.calls layer boot view schedule (rom_load boot schedule rom.now.items) disk.old disk.new) }
         ensures leaves { LoadLeaves D.size D.sectors D.faults D.calls boot view (rom_needed boot) (LoadTorn (rom_load boot schedule rom.now.items))
             disk.old disk.new result }
+        ensures script { LoadCalls D.Sectors disk.old disk.new (load_script (rom_pages (system_of boot schedule)) (rom_needed boot)) result }
     {
         let users = boot.users.len() as u32;
         check_view(view, users)?;
@@ -219,6 +225,7 @@ impl<L: Layer + Drop> Run<L> {
         ensures no_sink { self.old.tracer ≡ None → result ≢ Err RunFault.Sink }
         ensures script { StepsCall O.Sink D.Sectors (map_of (boot_of self.old.boot)) self.old.machine self.old.tracer
             (out.old, disk.old) (out.new, disk.new) (budget.old - budget.new) result }
+        ensures less { budget.new ≤ budget.old }
     {
         memory_is_whole();
         loops_advance();
@@ -279,6 +286,8 @@ impl<L: Layer + Drop> Run<L> {
         ensures ends { Proceeds D.size D.sectors O.text most self.old disk.old budget.old out.old self.new disk.new budget.new out.new result }
         ensures any { ProceedsAnyhow D.size D.sectors O.text most self.old disk.old budget.old out.old self.new disk.new budget.new out.new result }
         ensures calls { IsCalled self.old self.new (tally D.faults D.calls disk.old) (tally D.faults D.calls disk.new) }
+        ensures script { TurnsCall O.Sink D.Sectors self.old budget.old (out.old, disk.old) (out.new, disk.new) (budget.old - budget.new) result }
+        ensures less { budget.new ≤ budget.old }
     {
         machines_run();
         traces_grow();
@@ -308,6 +317,8 @@ impl<L: Layer + Drop> Run<L> {
         requires can { CanMake most self.old (D.size disk.old) budget.old }
         ensures says { TurnsSay D.size D.sectors D.faults D.calls O.text O.faults most
             self.old disk.old budget.old out.old self.new disk.new budget.new out.new result }
+        ensures script { TurnsCall O.Sink D.Sectors self.old budget.old (out.old, disk.old) (out.new, disk.new) (budget.old - budget.new) result }
+        ensures less { budget.new ≤ budget.old }
     {
         if let Some(fault) = self.fault {
             return Err(fault);
@@ -338,6 +349,7 @@ impl<L: Layer + Drop> Run<L> {
         requires can { CanMake 1 self.old (D.size disk.old) budget.old }
         ensures says { TurnsSay D.size D.sectors D.faults D.calls O.text O.faults 1
             self.old disk.old budget.old out.old self.new disk.new budget.new out.new (as_turns result) }
+        ensures script { TurnsCall O.Sink D.Sectors self.old budget.old (out.old, disk.old) (out.new, disk.new) (budget.old - budget.new) result }
     {
         let (_, turn) = self.turns(1, budget, disk, out)?;
         Ok(turn)
@@ -353,6 +365,7 @@ impl<L: Layer + Drop> Run<L> {
         ensures limit { result ≢ Err RunFault.StepLimit }
         ensures blame { Blames (result ≡ Err RunFault.Disk) (result ≡ Err RunFault.Sink) D.faults disk.old disk.new O.faults out.old out.new }
         ensures asks { Asks (result ≡ Err RunFault.Disk) (tally D.faults D.calls disk.old) (tally D.faults D.calls disk.new) }
+        ensures script { ReportCalls O.Sink D.Sectors self.old (out.old, disk.old) (out.new, disk.new) result }
     {
         machines_run();
         runs_stay_typed();
@@ -408,6 +421,7 @@ impl<L: Layer + Drop> Run<L> {
         ensures rest { ReportLeaves D.size D.sectors D.faults O.text O.faults self.old disk.old out.old self.new disk.new out.new result }
         ensures ends { self.old.fault ≡ None → Reports D.size D.sectors O.text self.old disk.old out.old self.new disk.new out.new result }
         ensures asks { self.old.fault ≡ None → Asks (result ≡ Err RunFault.Disk) (tally D.faults D.calls disk.old) (tally D.faults D.calls disk.new) }
+        ensures script { ReportCalls O.Sink D.Sectors self.old (out.old, disk.old) (out.new, disk.new) result }
     {
         if let Some(fault) = self.fault {
             return Err(fault);

@@ -9,6 +9,11 @@ ghost use Rattle.boot_report.specs.Leaves.{Asks};
 ghost use Rattle.boot_run.specs.OneTurn.{CanClose, CanRun, RunLeaves};
 ghost use Rattle.boot_run.specs.LoadEnds.{LoadsRun, pages_needed};
 ghost use Rattle.boot_run.specs.Whole.{WholeStopped};
+ghost use Rattle.layer_contract.specs.Follows.{loaded};
+ghost use Rattle.boot_run.specs.LoadedPages.{user_pages};
+ghost use Rattle.boot_run.specs.Loading.{system_of};
+ghost use Rattle.boot_run.specs.LoadScript.{load_script};
+ghost use Rattle.boot_run.specs.SaveCalls.{SaveScript, StopCalls, ToStopCalls};
 ghost use Rattle.boot_run.specs.Saving.{end_of_stop, IsSaveDiskFault, IsSaveSinkFault, RunsToSave, RunStops, StopsOrCloses};
 
 use crate::load::LoadFault;
@@ -41,6 +46,7 @@ fn stop<L: Layer + Drop, D: Sectors, O: Sink>(
     ensures asks { Asks (end_of_stop result ≡ RunEnd.DiskFault) (tally D.faults D.calls disk.old) (tally D.faults D.calls disk.new) }
     ensures leaves { RunLeaves (end_of_stop result ≡ RunEnd.DiskFault) (end_of_stop result ≡ RunEnd.SinkFault)
         D.size D.faults O.faults disk.old out.old disk.new out.new }
+    ensures script { StopCalls O.Sink D.Sectors run.old (out.old, disk.old) (out.new, disk.new) result }
 {
     let over = run.ended().is_some();
     if over {
@@ -63,6 +69,7 @@ fn run_to_stop<L: Layer + Drop, D: Sectors, O: Sink>(
     ensures memory { result ≡ SaveEnd.Stopped → length run.new.machine.hardware.memory ≡ length run.old.machine.hardware.memory }
     ensures leaves { RunLeaves (end_of_stop result ≡ RunEnd.DiskFault) (end_of_stop result ≡ RunEnd.SinkFault)
         D.size D.faults O.faults disk.old out.old disk.new out.new }
+    ensures script { ToStopCalls O.Sink D.Sectors run.old turns steps (out.old, disk.old) (out.new, disk.new) result }
 {
     machines_run();
     traces_grow();
@@ -99,6 +106,8 @@ pub fn run_to_save<L: Layer + Drop, D: Sectors, O: Sink>(
     ensures loads { LoadsRun D.size D.sectors D.faults D.calls boot View.Boot (pages_needed boot) (WholeStopped boot schedule)
         disk.old out.old disk.new out.new result }
     ensures blame { Blames (IsSaveDiskFault result) (IsSaveSinkFault result) D.faults disk.old disk.new O.faults out.old out.new }
+    ensures script { SaveScript O.Sink D.Sectors (system_of boot schedule) schedule (loaded (system_of boot schedule)) turns steps
+        (load_script (user_pages (system_of boot schedule)) (pages_needed boot)) (out.old, disk.old) (out.new, disk.new) result }
 {
     machines_run();
     premises_hold(&layer, &boot, &schedule, disk);

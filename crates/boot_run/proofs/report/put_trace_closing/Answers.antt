@@ -37,3 +37,14 @@ returns-clause-rows g c = λ ss e f failed.
     (subst (λ n. AppendsPart (g.O.Sink.text c.put_last.new.out) (g.O.Sink.text c.put_user_rows.new.out) (rows_of_user c.args.map.now c.args.machine.now (paged_of c.args.map.now (state_of c.args.machine.now ss)) n c.args.tracer.user)) c.runs_now-running.ensures
     (of_err c.put_user_rows.result failed (user_reports g.O.Sink g.D.Sectors c.put_last.new.out c.put_user_rows.new.out c.args.disk.now c.put_user_rows.new.disk c.put_user_rows.result c.args.machine.now c.args.halted c.args.current c.args.map.now c.args.tracer
     c.requires.user.some c.requires.user.most ss e f c.runs_now-running.result c.put_user_rows.ensures).err))
+
+pub returns-in_err-put_last-clause-script : goal.returns-in_err-put_last-clause-script
+returns-in_err-put_last-clause-script g c =
+    let h = err_from_is_err_and c.from_residual.result c.from_residual.ensures.1 in
+    let rows = steps_row c.args.tracer.steps ++ end_row c.args.halted in
+    rw (h.1, h.2) (λ shelf. first (Printed (Some rows) ∷ []) _ _ _ _ (performed (Some rows) rows shelf _ _ _ _ refl c.in_err-put_last.ensures))
+
+pub returns-clause-script : goal.returns-clause-script
+returns-clause-script g c = λ shelf.
+    let rows = steps_row c.args.tracer.steps ++ end_row c.args.halted in
+    both (Printed (Some rows) ∷ []) _ _ _ _ _ (performed (Some rows) rows shelf _ _ _ _ refl c.in_ok-put_last.ensures) (rw c.runs_now-running.ensures at (c.put_user_rows.ensures shelf))

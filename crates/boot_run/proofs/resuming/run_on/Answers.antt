@@ -1,4 +1,4 @@
-use Rattle.std.proofs.Common.{arith}
+use Rattle.std.proofs.Common.{arith, sym}
 use Rattle.cvm_outside.specs.Numbering.{tally}
 use Rattle.boot_run.proofs.AnyFile.{anyhow, still_told}
 use Rattle.boot_run.proofs.Rejoining.{joins}
@@ -20,3 +20,6 @@ returns-clause-any g c =
 pub returns-clause-told : goal.returns-clause-told
 returns-clause-told g c = λ resumed told.
     still_told (g.D.Sectors.size c.args.disk.now) c.args.run.now c.args.turns c.args.steps (g.D.Sectors.sectors c.args.disk.now) (g.D.Sectors.sectors c.run_to_end.new.disk) c.run_to_end.result resumed (returns-clause-any g c) told
+
+pub returns-clause-script : goal.returns-clause-script
+returns-clause-script g c = rw (sym c.turns_left-left.ensures, sym c.steps_left-budget.ensures.value) c.run_to_end.ensures.script

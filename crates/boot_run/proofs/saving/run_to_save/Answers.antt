@@ -14,6 +14,8 @@ use Rattle.boot_run.specs.Whole.{WholeCalls, WholeStopped}
 use Rattle.boot_run.proofs.Loads.{needed_is}
 use Rattle.boot_run.proofs.Booting.{load_refused, load_stopped, refused, tally_is}
 use Rattle.boot_run.proofs.ToSave.{saves_so, saves_told, save_disk, save_sink, no_save_disk, no_save_sink, load_rose, no_load_disk, no_load_sink}
+use Rattle.boot_run.specs.LoadScript.{load_script}
+use Rattle.boot_run.proofs.SaveScripts.{save_refused, save_made}
 use Rattle.boot_run.proofs.saving.run_to_save.Goals as goal
 
 pub returns-in_err-run-clause-ends : goal.returns-in_err-run-clause-ends
@@ -81,3 +83,17 @@ returns-in_err-run-clause-blame g c =
       sink_rose = λ h. absurd (no_load_sink c.args.layer c.in_err-run.field-0.0 h);
       sink_same = λ h. refl;
     })
+
+-- the calls
+pub returns-in_err-run-clause-script : goal.returns-in_err-run-clause-script
+returns-in_err-run-clause-script g c =
+    let w = err_from_is_err_and c.from_residual.result c.from_residual.ensures.1 in
+    rw (w.1, w.2) (save_refused g.O.Sink g.D.Sectors (system_of c.args.boot c.args.schedule) c.args.schedule (loaded (system_of c.args.boot c.args.schedule)) c.args.turns c.args.steps
+    (load_script (user_pages (system_of c.args.boot c.args.schedule)) (pages_needed c.args.boot)) c.args.out.now c.args.disk.now c.load.new.disk c.in_err-run.field-0.0 c.in_err-run.ensures.script)
+
+pub returns-clause-script : goal.returns-clause-script
+returns-clause-script g c =
+    save_made g.O.Sink g.D.Sectors c.args.layer c.args.boot c.args.schedule (loaded (system_of c.args.boot c.args.schedule)) (user_sectors (system_of c.args.boot c.args.schedule)) (pages_needed c.args.boot) c.args.turns c.args.steps
+    (load_script (user_pages (system_of c.args.boot c.args.schedule)) (pages_needed c.args.boot)) c.args.out.now c.run_to_stop-end.new.out c.args.disk.now c.load.new.disk c.run_to_stop-end.new.disk c.in_ok-run.run' c.run_to_stop-end.new.run c.run_to_stop-end.result
+    c.in_ok-run.ensures.loaded.fresh c.in_ok-run.ensures.leaves.same_size c.requires.some (λ old is. (1, c.premises_hold.ensures old is c.in_ok-run.ensures.loaded.fresh.has_room.room)) c.in_ok-run.ensures.loaded.ready
+    c.in_ok-run.ensures.script c.run_to_stop-end.ensures.script

@@ -1,4 +1,6 @@
-use Rattle.std.proofs.Common.{◌≡◌, false, sym, ap, ◌∙◌, subst}
+use Rattle.std.proofs.Common.{◌≡◌, Option, Some, None, Err, false, sym, ap, ◌∙◌, subst}
+use Rattle.boot_turns.specs.declared.answers.RunFault.{RunFault}
+use Rattle.boot_turns.specs.declared.answers.RunFault.TheVariants.{StepLimit}
 use Rattle.mips_machine.specs.Machine.{Held}
 use Rattle.boot_run.specs.TurnCalls.{around}
 use Rattle.boot_run.specs.declared.whole.RunEnd.{RunEnd}
@@ -7,6 +9,7 @@ use Rattle.boot_run.specs.Pieces.{CloseRuns}
 use Rattle.boot_run.specs.AnyRun.{is_faulted}
 use Rattle.boot_run.proofs.AnyEnding.{fault_is}
 use Rattle.boot_run.proofs.Ending.{closes_done, closes_failed}
+use Rattle.boot_run.proofs.EndScripts.{closed_none, closed_done, closed_fails}
 use Rattle.boot_run.proofs.whole.close.Goals as goal
 
 pub returns-in-Ok-clause-ends : goal.returns-in-Ok-clause-ends
@@ -34,3 +37,19 @@ returns-in-Ok-clause-time g c = ap (λ (h : Held). h.time) c.report.ensures.rest
 
 pub returns-in-Err-clause-time : goal.returns-in-Err-clause-time
 returns-in-Err-clause-time g c = ap (λ (h : Held). h.time) c.report.ensures.rest.view.same
+
+-- the calls
+pub returns-then-has_faulted-clause-script : goal.returns-then-has_faulted-clause-script
+returns-then-has_faulted-clause-script g c =
+    closed_none g.O.Sink g.D.Sectors c.args.run.now c.args.out.now c.args.disk.now (ap has_faulted (sym c.ended.ensures) ∙ sym c.has_faulted.ensures ∙ c.if-has_faulted.true)
+
+pub returns-in-Ok-clause-script : goal.returns-in-Ok-clause-script
+returns-in-Ok-clause-script g c =
+    let other : has_faulted c.args.run.now.ended ≡ false = ap has_faulted (sym c.ended.ensures) ∙ sym c.has_faulted.ensures ∙ c.if-has_faulted.false in
+    closed_done g.O.Sink g.D.Sectors c.args.run.now c.args.out.now c.args.disk.now c.report.new.out c.report.new.disk c.requires.can.fine other {T = Unit {0}} tt c.in-Ok.ensures.script
+
+pub returns-in-Err-clause-script : goal.returns-in-Err-clause-script
+returns-in-Err-clause-script g c =
+    let other : has_faulted c.args.run.now.ended ≡ false = ap has_faulted (sym c.ended.ensures) ∙ sym c.has_faulted.ensures ∙ c.if-has_faulted.false in
+    closed_fails g.O.Sink g.D.Sectors c.args.run.now c.args.out.now c.args.disk.now c.report.new.out c.report.new.disk c.requires.can.fine other {T = Unit {0}} c.in-Err.fault
+    (λ e. (let h : ◌≡◌ {A = Option RunFault} None (Some StepLimit) = sym c.requires.can.fine ∙ c.in-Err.ensures.rest.limit (ap (λ f. Err f) e) in cc)) c.end_at.result c.end_at.ensures c.in-Err.ensures.script

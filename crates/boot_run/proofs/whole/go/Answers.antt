@@ -1,10 +1,16 @@
-use Rattle.std.proofs.Common.{◌≡◌, ◌-◌, ◌≤◌, inr, refl, sym, ◌∙◌, arith}
+use Rattle.std.proofs.Common.{ℕ, ◌≡◌, ◌-◌, ◌≤◌, ◌++◌, [], None, Ok, inl, inr, refl, sym, ◌∙◌, subst, arith}
 use Rattle.std.specs.Prelude.{IsSome}
 use Rattle.std.proofs.lemmas.Result.{err_from_is_err_and}
 use Rattle.cvm_outside.specs.Numbering.{tally}
+use Rattle.cvm_outside.specs.Script.{done}
+use Rattle.cvm_outside.proofs.Follow.{both}
+use Rattle.boot_turns.specs.declared.answers.Turn.{Turn}
+use Rattle.boot_turns.specs.LoopScripts.{SomeMake}
 use Rattle.boot_turns.proofs.CallCounts.{steps_stay}
+use Rattle.boot_turns.proofs.SomeCalls.{of_both}
 use Rattle.boot_run.specs.TurnCalls.{Around, around}
 use Rattle.boot_run.proofs.AnyCalls.{any_first, any_next, any_failed, any_over, any_went}
+use Rattle.boot_run.proofs.GoScripts.{KeepsMade, made_first, made_next, go_broke, go_came}
 use Rattle.boot_run.proofs.Looping.{calls_on, keeps_first, keeps_next, go_failed, went_over, went, not_over, not_failed, was_over}
 use Rattle.boot_run.proofs.whole.go.Goals as goal
 
@@ -20,6 +26,9 @@ loop-left-init g c = record {
   calls = steps_stay c.args.run.now.machine c.args.run.now.tracer (tally g.D.Sectors.faults g.D.Sectors.calls c.args.disk.now);
   going = keeps_first (g.D.Sectors.size c.args.disk.now) c.args.run.now (around c.args.run.now (g.D.Sectors.sectors c.args.disk.now) c.args.budget.now (g.O.Sink.text c.args.out.now)) _ (omega arith);
   anyhow = any_first (g.D.Sectors.size c.args.disk.now) c.args.run.now (around c.args.run.now (g.D.Sectors.sectors c.args.disk.now) c.args.budget.now (g.O.Sink.text c.args.out.now)) _ (omega arith);
+  still = λ _. (refl, refl);
+  made = made_first g.O.Sink g.D.Sectors c.args.run.now c.args.out.now c.args.disk.now c.args.budget.now (c.args.turns - c.args.turns) c.args.run.now.machine.time (omega arith);
+  some = ([], tt, λ shelf. done _);
 }
 
 pub returns-in_err-made-clause-ends : goal.returns-in_err-made-clause-ends
@@ -52,6 +61,8 @@ loop-left-preserved g c =
     let was = c.loop-left.invariant.kept in
     let few = c.loop-left.invariant.few in
     let most = c.in_ok-made.ensures.says.leaves.made.0 in
+    let spent = c.in_ok-made.ensures.says.leaves.spent in
+    let less = c.turns.ensures.less in
     record {
       kept = record {
         layer_is = kept.layer_is ∙ was.layer_is;
@@ -73,6 +84,16 @@ loop-left-preserved g c =
           c.loop-left.invariant.kept c.loop-left.invariant.size on (c.in_ok-made.ensures.says.ends c.loop-left.invariant.fault on) (omega (arith, few, most)) c.loop-left.invariant.going;
       anyhow = any_next (g.D.Sectors.size c.args.disk.now) (g.D.Sectors.size c.loop-left.disk) c.args.run.now c.loop-left.run c.loop-left.invariant.kept c.loop-left.invariant.size _ _ _ (c.args.turns - c.loop-left.left) c.loop-left.left on
           c.loop-left.invariant.anyhow _ c.in_ok-made.made c.in_ok-made.field-0-1 (c.in_ok-made.ensures.says.any c.loop-left.invariant.fault on) (omega (arith, few, most));
+      still = λ none. absurd (omega (arith, few, most, some, none));
+      made = made_next g.O.Sink g.D.Sectors c.args.run.now c.loop-left.run c.args.out.now c.loop-left.out c.turns.new.out c.args.disk.now c.loop-left.disk c.turns.new.disk c.args.budget.now c.loop-left.budget (c.args.turns - c.loop-left.left)
+          c.loop-left.invariant.kept c.loop-left.invariant.size c.loop-left.invariant.going c.loop-left.invariant.made c.machines_run.ensures (c.args.turns - (c.loop-left.left - c.in_ok-made.made)) c.in_ok-made.made (omega (arith, few, most)) some on
+          (c.loop-left.budget - c.turns.new.budget) c.turns.new.self.machine.time (omega (arith, spent, less)) c.in_ok-made.ensures.script.exact;
+      some =
+          let more = c.in_ok-made.ensures.script.some c.loop-left.invariant.fault in (
+            c.loop-left.invariant.some.0 ++ more.0,
+            of_both c.loop-left.invariant.some.0 more.0 c.loop-left.invariant.some.1 more.1,
+            λ shelf. both c.loop-left.invariant.some.0 more.0 _ _ _ None (c.loop-left.invariant.some.2 shelf) (more.2 shelf),
+          );
     }
 
 pub returns-clause-ends : goal.returns-clause-ends
@@ -117,3 +138,31 @@ pub returns-then-made-eq0-clause-calls : goal.returns-then-made-eq0-clause-calls
 returns-then-made-eq0-clause-calls g c =
     calls_on c.args.run.now c.loop-left.run c.turns.new.self (tally g.D.Sectors.faults g.D.Sectors.calls c.args.disk.now) (tally g.D.Sectors.faults g.D.Sectors.calls c.loop-left.disk) (tally g.D.Sectors.faults g.D.Sectors.calls c.turns.new.disk)
     c.loop-left.invariant.disk c.loop-left.invariant.calls c.in_ok-made.ensures.says.calls
+
+-- and their script
+pub returns-in_err-made-clause-script : goal.returns-in_err-made-clause-script
+returns-in_err-made-clause-script g c =
+    let w = err_from_is_err_and c.from_residual.result c.from_residual.ensures.1 in
+    let on = not_failed c.loop-left.run.ended c.in_err-made.field-0.0 (λ o. c.in_err-made.ensures.says.leaves.over c.loop-left.invariant.fault o) in
+    let few = c.loop-left.invariant.few in
+    let spent = c.in_err-made.ensures.says.leaves.spent in
+    let less = c.turns.ensures.less in
+    rw (w.1, w.2) (go_broke g.O.Sink g.D.Sectors c.args.run.now c.loop-left.run c.turns.new.self c.args.out.now c.loop-left.out c.turns.new.out c.args.disk.now c.loop-left.disk c.turns.new.disk c.args.budget.now c.loop-left.budget c.turns.new.budget (c.args.turns - c.loop-left.left) c.args.turns
+    c.loop-left.invariant.kept c.loop-left.invariant.size c.machines_run.ensures c.turns_are_counted.ensures c.loop-left.invariant.going c.loop-left.invariant.made c.loop-left.invariant.some c.loop-left.invariant.fault {R = ℕ × Turn} {T = Unit {0}} c.in_err-made.field-0.0 c.loop-left.left
+    (omega (arith, few)) on (c.in_err-made.ensures.says.ends c.loop-left.invariant.fault on) (c.loop-left.budget - c.turns.new.budget) (omega (arith, spent, less)) c.in_err-made.ensures.script)
+
+pub returns-then-made-eq0-clause-script : goal.returns-then-made-eq0-clause-script
+returns-then-made-eq0-clause-script g c =
+    let over : IsSome c.loop-left.run.ended = was_over c.loop-left.run.ended c.in_ok-made.made c.in_ok-made.ensures.says.leaves.made.1 c.if-made-eq0.true in
+    let st = c.in_ok-made.ensures.says.leaves.still (inr over) in
+    let so : KeepsMade g.O.Sink g.D.Sectors c.args.run.now c.args.out.now c.args.disk.now c.turns.new.out c.turns.new.disk c.args.budget.now (c.args.turns - c.loop-left.left) c.turns.new.self.machine.time =
+    rw (st.0, st.2, st.3) c.loop-left.invariant.made in
+    let some : SomeMake {T = Unit {0}} g.O.Sink g.D.Sectors (c.args.out.now, c.args.disk.now) (c.turns.new.out, c.turns.new.disk) (Ok tt) = rw (st.2, st.3) c.loop-left.invariant.some in
+    go_came g.O.Sink g.D.Sectors c.args.run.now c.turns.new.self c.args.out.now c.turns.new.out c.args.disk.now c.turns.new.disk c.args.budget.now c.turns.new.budget (c.args.turns - c.loop-left.left) c.args.turns c.machines_run.ensures c.turns_are_counted.ensures so some
+    (returns-then-made-eq0-clause-ends g c) (λ none. inr (subst IsSome (c.loop-left.invariant.still none).1 over))
+
+pub returns-clause-script : goal.returns-clause-script
+returns-clause-script g c =
+    let none = c.loop-left-test.false in
+    go_came g.O.Sink g.D.Sectors c.args.run.now c.loop-left.run c.args.out.now c.loop-left.out c.args.disk.now c.loop-left.disk c.args.budget.now c.loop-left.budget (c.args.turns - c.loop-left.left) c.args.turns c.machines_run.ensures c.turns_are_counted.ensures
+    c.loop-left.invariant.made c.loop-left.invariant.some (returns-clause-ends g c) (λ zero. inl (omega (arith, zero, none), (c.loop-left.invariant.still zero).0))

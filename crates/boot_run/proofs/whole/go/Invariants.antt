@@ -1,7 +1,9 @@
-use Rattle.std.proofs.Common.{◌≡◌, ◌+◌, ◌-◌, ◌≤◌, None}
+use Rattle.std.proofs.Common.{◌≡◌, ◌+◌, ◌-◌, ◌≤◌, None, Ok}
 use Rattle.cvm_outside.specs.Numbering.{tally}
+use Rattle.boot_turns.specs.LoopScripts.{SomeMake}
 use Rattle.boot_run.specs.TurnCalls.{around, IsCalled, KeepsLoad}
 use Rattle.boot_run.proofs.AnyCalls.{AnyGoing}
+use Rattle.boot_run.proofs.GoScripts.{KeepsMade}
 use Rattle.boot_run.proofs.Looping.{KeepsGoing}
 use Rattle.boot_run.proofs.whole.go.Given as goal
 
@@ -19,6 +21,9 @@ invariant-loop-left g l = record {
       (around l.run (g.D.Sectors.sectors l.disk) l.budget (g.O.Sink.text l.out));
   anyhow : AnyGoing (g.D.Sectors.size l.fn.disk) l.fn.run (around l.fn.run (g.D.Sectors.sectors l.fn.disk) l.fn.budget (g.O.Sink.text l.fn.out)) (l.fn.turns - l.left)
       (around l.run (g.D.Sectors.sectors l.disk) l.budget (g.O.Sink.text l.out));
+  still : l.fn.turns - l.left ≡ 0 → (l.run.machine.time ≡ l.fn.run.machine.time) × (l.run.ended ≡ l.fn.run.ended);
+  made : KeepsMade g.O.Sink g.D.Sectors l.fn.run l.fn.out l.fn.disk l.out l.disk l.fn.budget (l.fn.turns - l.left) l.run.machine.time;
+  some : SomeMake {T = Unit {0}} g.O.Sink g.D.Sectors (l.fn.out, l.fn.disk) (l.out, l.disk) (Ok tt);
 }
 
 abbrev pub decreases-loop-left : goal.decreases-loop-left

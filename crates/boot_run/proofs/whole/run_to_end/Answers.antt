@@ -6,6 +6,8 @@ use Rattle.boot_run.specs.Pieces.{RunsToEnd}
 use Rattle.boot_run.specs.AnyRun.{AnyRunsToEnd}
 use Rattle.boot_run.proofs.AnyEnding.{any_closed, any_fault, limit_is}
 use Rattle.boot_run.proofs.Ending.{to_fault, to_close}
+use Rattle.boot_run.specs.RunCalls.{RestCalls}
+use Rattle.boot_run.proofs.EndScripts.{rest_fails, rest_closes}
 use Rattle.boot_run.proofs.whole.run_to_end.Goals as goal
 
 pub returns-in-Ok-clause-ends : goal.returns-in-Ok-clause-ends
@@ -42,3 +44,15 @@ returns-in-Err-clause-limit g c = λ e.
     let spent = c.in-Err.ensures.spent in
     let none = (c.in-Err.ensures.limit (ap (λ f. Err f) (limit_is c.in-Err.fault (sym c.end_at.ensures ∙ e)))).0 in
     omega (arith, spent, none)
+
+-- the calls
+pub returns-in-Ok-clause-script : goal.returns-in-Ok-clause-script
+returns-in-Ok-clause-script g c =
+    rest_closes g.O.Sink g.D.Sectors c.args.run.now c.go.new.run c.args.out.now c.go.new.out c.close.new.out c.args.disk.now c.go.new.disk c.close.new.disk c.args.turns c.args.steps c.go.new.budget c.machines_run.ensures c.turns_are_counted.ensures c.close.result
+    c.in-Ok.ensures.kept c.in-Ok.ensures.leaves.same_size c.in-Ok.ensures.ends c.in-Ok.ensures.script c.close.ensures.script
+
+pub returns-in-Err-clause-script : goal.returns-in-Err-clause-script
+returns-in-Err-clause-script g c =
+    subst (RestCalls g.O.Sink g.D.Sectors c.args.run.now c.args.turns c.args.steps (c.args.out.now, c.args.disk.now) (c.go.new.out, c.go.new.disk)) (sym c.end_at.ensures)
+    (rest_fails {T = Unit {0}} g.O.Sink g.D.Sectors c.args.run.now c.go.new.run c.args.out.now c.go.new.out c.args.disk.now c.go.new.disk c.args.turns c.args.steps c.go.new.budget c.machines_run.ensures c.turns_are_counted.ensures c.in-Err.fault
+    c.in-Err.ensures.ends c.in-Err.ensures.script)

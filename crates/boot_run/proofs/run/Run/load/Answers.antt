@@ -10,6 +10,8 @@ use Rattle.boot_run.specs.LoadEnds.{names_sector, pages_needed}
 use Rattle.boot_run.specs.RunEnds.{SeesUser}
 use Rattle.boot_run.proofs.Readiness.{first_fits, fresh_run, loaded_ready}
 use Rattle.boot_run.proofs.Loads.{loaded_long, loaded_whole, stands_loaded, torn_loaded, user_calls, user_torn}
+use Rattle.boot_run.specs.LoadedPages.{user_pages}
+use Rattle.boot_run.proofs.WholeScripts.{load_done, load_broke}
 use Rattle.boot_run.proofs.run.Run.load.Goals as goal
 
 pub returns-in-Ok-clause-loaded : goal.returns-in-Ok-clause-loaded
@@ -67,3 +69,16 @@ invariant_of-result g c =
       },
       first_fits c.args.view c.first_tracer.result c.first_tracer.ensures (length c.args.boot.users.items) c.in_ok-machine.machine.time (subst (λ n. SeesUser c.args.view n) users c.in_ok-check_view.ensures.ok),
     )
+
+-- the calls
+pub returns-in-Ok-clause-script : goal.returns-in-Ok-clause-script
+returns-in-Ok-clause-script g c =
+    let users : c.len-users.result ≡ length c.args.boot.users.items = c.len-users.ensures ∙ sym c.as_slice.ensures.len ∙ ap (λ (us : List (Vec ℕ Global)). length us) c.as_slice.ensures.value in
+    load_done g.D.Sectors c.args.disk.now c.write_pages.new.disk (pages_of_users c.args.boot.params.pages c.as_slice.result.now []) (user_pages (system_of c.args.boot c.args.schedule)) (c.len-users.result * c.args.boot.params.pages) (pages_needed c.args.boot)
+    (ap (λ (us : List (Vec ℕ Global)). pages_of_users c.args.boot.params.pages us []) c.as_slice.ensures.value) (ap (λ n. n * c.args.boot.params.pages) users) _ c.in-Ok.ensures.script
+
+pub returns-in-Err-clause-script : goal.returns-in-Err-clause-script
+returns-in-Err-clause-script g c =
+    let users : c.len-users.result ≡ length c.args.boot.users.items = c.len-users.ensures ∙ sym c.as_slice.ensures.len ∙ ap (λ (us : List (Vec ℕ Global)). length us) c.as_slice.ensures.value in
+    load_broke g.D.Sectors c.args.disk.now c.write_pages.new.disk (pages_of_users c.args.boot.params.pages c.as_slice.result.now []) (user_pages (system_of c.args.boot c.args.schedule)) (c.len-users.result * c.args.boot.params.pages) (pages_needed c.args.boot)
+    (ap (λ (us : List (Vec ℕ Global)). pages_of_users c.args.boot.params.pages us []) c.as_slice.ensures.value) (ap (λ n. n * c.args.boot.params.pages) users) c.in-Err.field-0 c.in-Err.ensures.script

@@ -1,4 +1,4 @@
-use Rattle.std.proofs.Common.{refl, arith, ◌≡◌, ◌≤◌, ◌+◌, ◌*◌, ◌/◌, ◌∙◌, sym, ap, ℕ, List, Vec, Global, length, subst}
+use Rattle.std.proofs.Common.{refl, arith, ◌≡◌, ◌≤◌, ◌+◌, ◌*◌, ◌/◌, ◌∙◌, sym, ap, ap₂, ℕ, List, Vec, Global, length, subst}
 use Rattle.std.specs.Prelude.{IsTrue}
 use Rattle.std.specs.Option.{option_map}
 use Rattle.cvm_outside.specs.Numbering.{tally}
@@ -12,6 +12,9 @@ use Rattle.boot_run.specs.LoadEnds.{names_sector, rom_needed}
 use Rattle.boot_run.specs.RunEnds.{SeesUser}
 use Rattle.boot_run.proofs.Readiness.{first_fits, fresh_run, loaded_ready}
 use Rattle.boot_run.proofs.RomLoads.{calls_so, made_so, need_is, rom_torn, rom_whole, stands_from_rom, torn_so, written_so}
+use Rattle.boot_run.specs.Loading.{pages_of_users}
+use Rattle.boot_run.specs.LoadedPages.{rom_pages}
+use Rattle.boot_run.proofs.WholeScripts.{load_done, load_broke}
 use Rattle.boot_run.proofs.run.Run.load_rom.Goals as goal
 
 pub returns-in-Ok-clause-loaded : goal.returns-in-Ok-clause-loaded
@@ -74,3 +77,18 @@ invariant_of-result g c =
       },
       first_fits c.args.view c.first_tracer.result c.first_tracer.ensures (length c.args.boot.users.items) c.in_ok-machine.machine.time (subst (λ n. SeesUser c.args.view n) users c.in_ok-check_view.ensures.ok),
     )
+
+-- the calls
+pub returns-in-Ok-clause-script : goal.returns-in-Ok-clause-script
+returns-in-Ok-clause-script g c =
+    let users : c.len-users.result ≡ length c.args.boot.users.items = c.len-users.ensures ∙ sym c.as_slice.ensures.len ∙ ap (λ (us : List (Vec ℕ Global)). length us) c.as_slice.ensures.value in
+    let behind : c.sectors_of-behind.result ≡ (length c.args.boot.words.items + 1023) / 1024 = c.sectors_of-behind.ensures ∙ ap (λ (ws : List ℕ). (length ws + 1023) / 1024) c.as_slice-words.ensures.value in
+    load_done g.D.Sectors c.args.disk.now c.write_pages.new.disk (pages_of_users c.args.boot.params.pages c.as_slice.result.now c.as_slice-words.result.now) (rom_pages (system_of c.args.boot c.args.schedule)) (c.len-users.result * c.args.boot.params.pages + c.sectors_of-behind.result) (rom_needed c.args.boot)
+    (ap₂ (λ (us : List (Vec ℕ Global)) (ws : List ℕ). pages_of_users c.args.boot.params.pages us ws) c.as_slice.ensures.value c.as_slice-words.ensures.value) (need_is c.args.boot c.len-users.result c.sectors_of-behind.result users behind) _ c.in-Ok.ensures.script
+
+pub returns-in-Err-clause-script : goal.returns-in-Err-clause-script
+returns-in-Err-clause-script g c =
+    let users : c.len-users.result ≡ length c.args.boot.users.items = c.len-users.ensures ∙ sym c.as_slice.ensures.len ∙ ap (λ (us : List (Vec ℕ Global)). length us) c.as_slice.ensures.value in
+    let behind : c.sectors_of-behind.result ≡ (length c.args.boot.words.items + 1023) / 1024 = c.sectors_of-behind.ensures ∙ ap (λ (ws : List ℕ). (length ws + 1023) / 1024) c.as_slice-words.ensures.value in
+    load_broke g.D.Sectors c.args.disk.now c.write_pages.new.disk (pages_of_users c.args.boot.params.pages c.as_slice.result.now c.as_slice-words.result.now) (rom_pages (system_of c.args.boot c.args.schedule)) (c.len-users.result * c.args.boot.params.pages + c.sectors_of-behind.result) (rom_needed c.args.boot)
+    (ap₂ (λ (us : List (Vec ℕ Global)) (ws : List ℕ). pages_of_users c.args.boot.params.pages us ws) c.as_slice.ensures.value c.as_slice-words.ensures.value) (need_is c.args.boot c.len-users.result c.sectors_of-behind.result users behind) c.in-Err.field-0 c.in-Err.ensures.script

@@ -1,10 +1,16 @@
-use Rattle.std.proofs.Common.{Err, ap, sym}
+use Rattle.std.proofs.Common.{ℕ, ◌-◌, Some, None, Ok, Err, ap, sym, refl}
+use Rattle.std.specs.Io.KnownBytes.{append_known}
+use Rattle.boot_turns.specs.declared.answers.Turn.{Turn}
 use Rattle.std.proofs.lemmas.Result.{err_from_is_err_and}
 use Rattle.cvm_outside.specs.Numbering.{tally}
+use Rattle.cvm_outside.specs.Script.{TheSink}
 use Rattle.boot_turns.specs.declared.answers.RunFault.TheVariants.{Sink}
 use Rattle.boot_turns.proofs.CallCounts.{steps_stay}
 use Rattle.boot_run.proofs.AnyCalls.{any_cut_before, any_broke_off, any_made, any_cut_after, any_passed}
 use Rattle.boot_run.proofs.Proceeding.{cut_before, broke_off, went, cut_after, passed}
+use Rattle.boot_run.specs.TurnParts.{rows_before, rows_after}
+use Rattle.boot_run.proofs.ScriptParts.{puts_of}
+use Rattle.boot_run.proofs.Scripting.{begun_cut, broken_calls, made_calls}
 use Rattle.boot_run.proofs.run.Run.proceed.Goals as goal
 
 pub returns-in_err-put_before-clause-ends : goal.returns-in_err-put_before-clause-ends
@@ -76,3 +82,54 @@ returns-clause-any g c = λ _ e.
 -- no step was made
 pub returns-in_err-put_before-clause-calls : goal.returns-in_err-put_before-clause-calls
 returns-in_err-put_before-clause-calls g c = steps_stay c.args.self.now.machine c.args.self.now.tracer (tally g.D.Sectors.faults g.D.Sectors.calls c.args.disk.now)
+
+-- the calls: those before the turns, in their steps and behind them
+pub returns-in_err-put_before-clause-script : goal.returns-in_err-put_before-clause-script
+returns-in_err-put_before-clause-script g c =
+    let h = err_from_is_err_and c.from_residual.result c.from_residual.ensures.1 in
+    rw (h.1, h.2) (begun_cut g.O.Sink g.D.Sectors c.args.self.now c.args.self.now c.args.out.now c.put_before.new.out c.put_before.new.out c.put_before.new.out c.args.disk.now c.args.disk.now c.args.budget.now c.args.budget.now c.args.most
+    c.put_before.ensures.views c.machines_run.ensures c.traces_grow.ensures c.journal_rows_follow.ensures c.in_err-put_before.ensures.first.0 c.in_err-put_before.ensures.first.1
+    (puts_of g.O.Sink c.args.out.now c.put_before.new.out (rows_before c.args.self.now.boot c.args.self.now.tracer c.args.self.now.turns) (Err c.in_err-put_before.field-0.0) c.in_err-put_before.ensures.put)
+    (c.args.budget.now - c.args.budget.now))
+
+pub returns-in_err-made-clause-script : goal.returns-in_err-made-clause-script
+returns-in_err-made-clause-script g c =
+    let h = err_from_is_err_and c.from_residual-in_err-made.result c.from_residual-in_err-made.ensures.1 in
+    rw (h.1, h.2) (broken_calls g.O.Sink g.D.Sectors c.args.self.now c.make_turn.new.self c.args.out.now c.put_before.new.out c.make_turn.new.out c.make_turn.new.out c.args.disk.now c.make_turn.new.disk c.args.budget.now c.make_turn.new.budget c.args.most
+    c.put_before.ensures.views c.machines_run.ensures c.traces_grow.ensures c.journal_rows_follow.ensures (puts_of g.O.Sink c.args.out.now c.put_before.new.out (rows_before c.args.self.now.boot c.args.self.now.tracer c.args.self.now.turns) (Ok tt) c.in_ok-put_before.ensures.put)
+    (c.args.budget.now - c.make_turn.new.budget) refl c.in_err-made.field-0.0 (λ e f. c.in_err-made.ensures.no_sink e (ap (λ q. Err q) f)) c.in_err-made.ensures.script {T = ℕ × Turn}
+    (broke_off c.args.self.now c.make_turn.new.self (g.D.Sectors.size c.args.disk.now) c.args.most c.requires.can.some (g.D.Sectors.sectors c.args.disk.now) (g.D.Sectors.sectors c.make_turn.new.disk) c.args.budget.now c.make_turn.new.budget (g.O.Sink.text c.args.out.now)
+    (g.O.Sink.text c.put_before.new.out) (g.O.Sink.text c.make_turn.new.out) (g.O.Sink.text c.make_turn.new.out) c.put_before.ensures.views c.machines_run.ensures c.traces_grow.ensures c.journal_rows_follow.ensures
+    c.in_ok-put_before.ensures.put.ok (λ e. ap g.O.Sink.text (c.make_turn.ensures.untraced e).1) c.make_turn.ensures.makes.spent
+    c.in_err-made.field-0.0 c.in_err-made.ensures.ends.0 (λ e f. c.in_err-made.ensures.no_sink e (ap (λ q. Err q) f)) c.in_err-made.ensures.ends.1 (λ e. (c.make_turn.ensures.untraced e).0)))
+
+pub returns-in_err-put_after-clause-script : goal.returns-in_err-put_after-clause-script
+returns-in_err-put_after-clause-script g c =
+    let h = err_from_is_err_and c.from_residual-in_err-put_after.result c.from_residual-in_err-put_after.ensures.1 in
+    let turns = c.in_ok-made.ensures.ends in
+    rw (h.1, h.2) (made_calls g.O.Sink g.D.Sectors c.args.self.now c.make_turn.new.self c.args.out.now c.put_before.new.out c.make_turn.new.out c.put_after.new.out c.args.disk.now c.make_turn.new.disk c.args.budget.now c.make_turn.new.budget c.args.most
+    c.put_before.ensures.views c.machines_run.ensures c.traces_grow.ensures c.journal_rows_follow.ensures (puts_of g.O.Sink c.args.out.now c.put_before.new.out (rows_before c.args.self.now.boot c.args.self.now.tracer c.args.self.now.turns) (Ok tt) c.in_ok-put_before.ensures.put)
+    (c.args.budget.now - c.make_turn.new.budget) refl (c.in_ok-made.made, c.in_ok-made.answer) c.in_ok-made.ensures.script c.in_ok-made.made c.in_ok-made.answer (Some TheSink)
+    (puts_of g.O.Sink c.make_turn.new.out c.put_after.new.out (rows_after c.make_turn.new.self.tracer c.make_turn.new.self.ended c.in_ok-made.answer) (Err c.in_err-put_after.field-0.0) c.in_err-put_after.ensures.put)
+    (λ e. (c.make_turn.ensures.untraced e).0) (λ e _. c.in_err-put_after.ensures.dispatch (c.make_turn.ensures.untraced e).0) (λ i _. c.in_err-put_after.ensures.faulted i) {T = ℕ × Turn} (Err Sink) refl
+    (append_known (g.O.Sink.text c.make_turn.new.out) (rows_after c.make_turn.new.self.tracer c.make_turn.new.self.ended c.in_ok-made.answer))
+    (went c.args.self.now c.make_turn.new.self (g.D.Sectors.size c.args.disk.now) c.args.most c.requires.can.some (g.D.Sectors.sectors c.args.disk.now) (g.D.Sectors.sectors c.make_turn.new.disk) c.args.budget.now c.make_turn.new.budget (g.O.Sink.text c.args.out.now)
+    (g.O.Sink.text c.put_before.new.out) (g.O.Sink.text c.make_turn.new.out) (append_known (g.O.Sink.text c.make_turn.new.out) (rows_after c.make_turn.new.self.tracer c.make_turn.new.self.ended c.in_ok-made.answer)) c.put_before.ensures.views c.machines_run.ensures c.traces_grow.ensures c.journal_rows_follow.ensures
+    c.in_ok-put_before.ensures.put.ok (λ e. ap g.O.Sink.text (c.make_turn.ensures.untraced e).1) c.make_turn.ensures.makes.spent
+    c.in_ok-made.made turns.0 turns.1 c.in_ok-made.answer turns.2 turns.3 turns.4 c.requires.can.steps c.make_turn.ensures.makes.fault (λ e. (c.make_turn.ensures.untraced e).0)
+    refl))
+
+pub returns-clause-script : goal.returns-clause-script
+returns-clause-script g c =
+    let turns = c.in_ok-made.ensures.ends in
+    made_calls g.O.Sink g.D.Sectors c.args.self.now c.make_turn.new.self c.args.out.now c.put_before.new.out c.make_turn.new.out c.put_after.new.out c.args.disk.now c.make_turn.new.disk c.args.budget.now c.make_turn.new.budget c.args.most
+    c.put_before.ensures.views c.machines_run.ensures c.traces_grow.ensures c.journal_rows_follow.ensures (puts_of g.O.Sink c.args.out.now c.put_before.new.out (rows_before c.args.self.now.boot c.args.self.now.tracer c.args.self.now.turns) (Ok tt) c.in_ok-put_before.ensures.put)
+    (c.args.budget.now - c.make_turn.new.budget) refl (c.in_ok-made.made, c.in_ok-made.answer) c.in_ok-made.ensures.script c.in_ok-made.made c.in_ok-made.answer None
+    (puts_of g.O.Sink c.make_turn.new.out c.put_after.new.out (rows_after c.make_turn.new.self.tracer c.make_turn.new.self.ended c.in_ok-made.answer) (Ok tt) c.in_ok-put_after.ensures.put)
+    (λ e. (c.make_turn.ensures.untraced e).0) (λ e ne. absurd (ne refl)) (λ i ne. absurd (ne refl)) {T = ℕ × Turn} (Ok (c.in_ok-made.made, c.in_ok-made.answer)) refl
+    (append_known (g.O.Sink.text c.make_turn.new.out) (rows_after c.make_turn.new.self.tracer c.make_turn.new.self.ended c.in_ok-made.answer))
+    (went c.args.self.now c.make_turn.new.self (g.D.Sectors.size c.args.disk.now) c.args.most c.requires.can.some (g.D.Sectors.sectors c.args.disk.now) (g.D.Sectors.sectors c.make_turn.new.disk) c.args.budget.now c.make_turn.new.budget (g.O.Sink.text c.args.out.now)
+    (g.O.Sink.text c.put_before.new.out) (g.O.Sink.text c.make_turn.new.out) (append_known (g.O.Sink.text c.make_turn.new.out) (rows_after c.make_turn.new.self.tracer c.make_turn.new.self.ended c.in_ok-made.answer)) c.put_before.ensures.views c.machines_run.ensures c.traces_grow.ensures c.journal_rows_follow.ensures
+    c.in_ok-put_before.ensures.put.ok (λ e. ap g.O.Sink.text (c.make_turn.ensures.untraced e).1) c.make_turn.ensures.makes.spent
+    c.in_ok-made.made turns.0 turns.1 c.in_ok-made.answer turns.2 turns.3 turns.4 c.requires.can.steps c.make_turn.ensures.makes.fault (λ e. (c.make_turn.ensures.untraced e).0)
+    refl)

@@ -1,9 +1,13 @@
-use Rattle.std.proofs.Common.{Some, Err, rules}
+use Rattle.std.proofs.Common.{arith, ◌-◌, Some, Err, rules, ap, sym, ◌∙◌, subst}
+use Rattle.std.specs.Prelude.{IsSome}
 use Rattle.cvm_outside.specs.Numbering.{tally}
 use Rattle.boot_turns.proofs.CallCounts.{steps_stay}
+use Rattle.boot_turns.specs.declared.answers.Turn.TheVariants.{Over}
+use Rattle.boot_run.specs.LoadEnds.{Kept}
 use Rattle.boot_run.specs.TurnCalls.{around}
 use Rattle.boot_run.proofs.AnyCalls.{any_kept}
 use Rattle.boot_run.proofs.Proceeding.{runs_faulted, runs_after}
+use Rattle.boot_run.proofs.Scripting.{faulted_calls, over_calls}
 use Rattle.boot_run.proofs.run.Run.turns.Goals as goal
 
 -- nothing is touched
@@ -15,6 +19,9 @@ returns-in-Some g c = record {
     any = search rules;
     calls = steps_stay c.args.self.now.machine c.args.self.now.tracer (tally g.D.Sectors.faults g.D.Sectors.calls c.args.disk.now);
   };
+  script = faulted_calls g.O.Sink g.D.Sectors c.args.self.now c.args.out.now c.args.out.now c.args.disk.now c.args.disk.now c.args.budget.now (c.args.budget.now - c.args.budget.now) (Err c.in-Some.fault)
+      c.in-Some.fault (ap (λ (q : Kept _). q.fault) (sym c.self.view_is) ∙ c.in-Some.is);
+  less = omega arith;
 }
 
 pub returns-then-is_some : goal.returns-then-is_some
@@ -25,6 +32,9 @@ returns-then-is_some g c = record {
     any = search rules;
     calls = steps_stay c.args.self.now.machine c.args.self.now.tracer (tally g.D.Sectors.faults g.D.Sectors.calls c.args.disk.now);
   };
+  script = over_calls g.O.Sink g.D.Sectors c.args.self.now c.args.out.now c.args.disk.now c.args.budget.now (c.args.budget.now - c.args.budget.now) (0, Over)
+      (subst (λ (q : Kept _). IsSome q.ended) c.self.view_is (sym c.is_some.ensures ∙ c.if-is_some.true));
+  less = omega arith;
 }
 
 pub returns-in-Ok : goal.returns-in-Ok
@@ -35,6 +45,8 @@ returns-in-Ok g c = record {
     any = c.in-Ok.ensures.any;
     calls = c.proceed.ensures.calls;
   };
+  script = c.in-Ok.ensures.script;
+  less = c.proceed.ensures.less;
 }
 
 pub returns-in-Err : goal.returns-in-Err
@@ -49,4 +61,6 @@ returns-in-Err g c = record {
         (g.D.Sectors.sectors c.proceed.new.disk) c.proceed.new.budget (g.O.Sink.text c.proceed.new.out) c.in-Err.fault (c.in-Err.ensures.any f e);
     calls = search rules;
   };
+  script = c.in-Err.ensures.script;
+  less = c.proceed.ensures.less;
 }

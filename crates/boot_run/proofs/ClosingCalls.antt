@@ -1,0 +1,276 @@
+-- The script of a call of `report`, where the machine of a run stands between turns.
+use Rattle.std.proofs.Common.{◌≡◌, ℕ, zero, suc, ◌+◌, ◌-◌, ◌*◌, ◌≤◌, Bool, true, false, Option, Some, None, List, [], ◌∷◌, ◌++◌, length, drop, Result, Ok, refl, sym, ap, ap₂, ◌∙◌, subst, arith}
+use Rattle.std.specs.Prelude.{◌==◌, is_some, if◌then◌else◌, IsTrue}
+use Rattle.std.specs.Option.{option_map}
+use Rattle.std.proofs.lemmas.List.{length-map}
+use Rattle.std.proofs.Math.Seq.{drop-append_seam}
+use Rattle.c0_tree.specs.Primitives.{kernel_primitives}
+use Rattle.c0_tree.specs.View.{unit_view}
+use Rattle.c0_tree.specs.Tree.{CUnit}
+use Rattle.c0_tree.specs.declared.tree.Decl.{Decl}
+use Rattle.c0_meaning.specs.TypedState.{IsTypedState}
+use Rattle.c0_meaning.specs.Unit.{IsWellFormed}
+use Rattle.cvm_outside.specs.Outside.{Files}
+use Rattle.cvm_outside.specs.declared.sink.Sink as sink_of
+use Rattle.cvm_outside.specs.declared.sectors.Sectors as sectors_of
+use Rattle.cvm_outside.specs.Script.{Call, Printed, Read, Performs, done, Makes, blame, scripts}
+use Rattle.cvm_outside.proofs.Putting.{same_script, scripts-none, scripts-suc}
+use Rattle.mips_table.specs.Device.{Outside}
+use Rattle.mips_table.specs.Machine.{State, run}
+use Rattle.mips_table.specs.Turns.{complete, lines_of}
+use Rattle.mips_machine.specs.Machine.{Held, state_of}
+use Rattle.mips_machine.specs.Steps.{outside_of}
+use Rattle.layer_map.specs.Map.{Map}
+use Rattle.cvm_model.specs.Cvm.{Boot as CvmBoot, System, Status, Running, Halted, Faulted, Cvm, IsCvm, map_of}
+use Rattle.cvm_model.specs.Kernel.{JournalEntry, parts_of}
+use Rattle.cvm_model.specs.Primitives.{user_of}
+use Rattle.cvm_model.specs.Text.{end_text, globals_text, log_text, journal_rows, open_journal_rows, steps_row}
+use Rattle.layer_contract.specs.Boots.{boot_of}
+use Rattle.layer_contract.specs.Follows.{site_of}
+use Rattle.boot_report.specs.Resident.{is_resident, page_reads, shown}
+use Rattle.boot_report.specs.Scripts as reported
+use Rattle.boot_report.specs.Scripts.{of_report}
+use Rattle.boot_report.specs.Texts.{page_text, pages_in, log_rows}
+use Rattle.boot_report.specs.Told.{RowsTell, UserRowsTell}
+use Rattle.boot_report.specs.Given.{GlobalRowsTell}
+use Rattle.boot_report.specs.declared.fault.ReportFault.{ReportFault}
+use Rattle.boot_turns.specs.Entries.{TracesGrow, TraceGrows}
+use Rattle.boot_turns.specs.JournalText.{RowsFollow, pending_steps}
+use Rattle.boot_turns.specs.Premises.{StartsFrom}
+use Rattle.boot_turns.specs.RunMachines.{RunMachines, MachinesRun, RunsStayTyped}
+use Rattle.boot_turns.specs.Trace.{Shown}
+use Rattle.boot_turns.specs.Tracing.{tracer_at}
+use Rattle.boot_turns.specs.declared.tracer.Tracer.{Tracer}
+use Rattle.boot_turns.specs.declared.answers.View.{View}
+use Rattle.boot_turns.specs.declared.answers.View.TheVariants.{Boot, Trace}
+use Rattle.boot_turns.specs.declared.answers.RunFault.{RunFault}
+use Rattle.boot_turns.specs.Runs.{Run, Past, cvm_at}
+use Rattle.boot_turns.specs.RowScripts.{of_run}
+use Rattle.boot_turns.specs.LoopScripts.{AreOfRun}
+use Rattle.boot_turns.proofs.SomeCalls.{untold, made_untold, untold_both}
+use Rattle.boot_run.specs.declared.places.Places.{Places}
+use Rattle.boot_run.specs.Closing.{says, boot_report, trace_report, last_steps, user_script}
+use Rattle.boot_run.specs.LoadEnds.{Kept, viewed, tracer_fits}
+use Rattle.boot_run.specs.Placed.{PlacesHold}
+use Rattle.boot_run.specs.Report.{runs_now, closing_calls, trace_calls}
+use Rattle.boot_run.specs.RunCalls.{run_at, report_script, TellsFrom, ReportCalls}
+use Rattle.boot_run.specs.Shown.{has_faulted}
+use Rattle.boot_run.specs.Sink.{Base}
+use Rattle.boot_run.specs.TurnCalls.{ended_of, around, Ready, Traces}
+use Rattle.boot_run.proofs.Fitting.{user_there}
+use Rattle.boot_run.proofs.ReportScripts.{user_script_is, users_script_is}
+use Rattle.boot_run.proofs.Reporting.{its_told, its_map, stands, halting, running, told_rows, told_globals}
+use Rattle.boot_run.proofs.ScriptParts.{at}
+use Rattle.boot_run.proofs.TraceReporting.{is_user, told_user, users_are_those}
+
+no_fault : (b : Bool) → b ≡ true → b ≡ false → ⊥
+no_fault b e f = cc
+
+-- which calls a report makes, where nothing is told
+of_if : (b : Bool) (q : ℕ) → AreOfRun (untold (if b then [] else Read q ∷ []))
+of_if true q = tt
+of_if false q = tt
+
+untold_scripts : (f : ℕ → List Call) (n : ℕ) → ((i : ℕ) → AreOfRun (untold (f i))) → AreOfRun (untold (scripts f n))
+untold_scripts f zero h = subst (λ (l : List Call). AreOfRun (untold l)) (sym (scripts-none f)) tt
+untold_scripts f (suc n) h = subst (λ (l : List Call). AreOfRun (untold l)) (sym (scripts-suc f n)) (untold_both (scripts f n) (f n) (untold_scripts f n h) (h n))
+
+of_user : (m : Map) (held : Held) (told : Option (List (List ℕ))) (runs : Bool) (u : ℕ) → AreOfRun (untold (reported.user_script m held told runs u))
+of_user m held told runs u = untold_scripts (λ p. reported.page_script m (state_of held []) told ((u - 1) * m.params.pages + p) p) (pages_in m held.hardware.memory u) (λ p.
+    untold_both (page_reads m (state_of held []) ((u - 1) * m.params.pages + p)) (Printed (option_map (page_text p) (shown m (state_of held []) told ((u - 1) * m.params.pages + p))) ∷ [])
+    (of_if (is_resident m (state_of held []) ((u - 1) * m.params.pages + p)) ((u - 1) * m.params.pages + p)) tt)
+
+pub of_closing : (halted : Bool) (current : ℕ) (held : Held) (told : Option (List (List ℕ))) (places : Places) (decls : List Decl) → AreOfRun (untold (closing_calls halted current held told places decls))
+of_closing halted current held told places decls =
+    untold_scripts (λ i. reported.user_script places.map held told (i + 1 == runs_now halted current) (i + 1)) places.map.users (λ i. of_user places.map held told (i + 1 == runs_now halted current) (i + 1))
+
+pub of_trace : (halted : Bool) (current : ℕ) (held : Held) (told : Option (List (List ℕ))) (m : Map) (kept : Tracer) → AreOfRun (untold (trace_calls halted current held told m kept))
+of_trace halted current held told m kept = of_user m held told (kept.user == runs_now halted current) kept.user
+
+-- the report of a run that hasn't faulted, by what the abstract machine says of it
+boot_script : (x : Outside) (y : System) (s : State) (turns steps : ℕ) (p : Past) (t : ℕ) (c : Cvm) → cvm_at (run_at x y s Boot turns steps) p t ≡ c → (st : Status) → c.status ≡ st → has_faulted (ended_of st) ≡ false →
+    report_script Boot (run_at x y s Boot turns steps) p t st ≡
+    says (end_text st ++ globals_text y.boot.meaning.names (parts_of c.core.c0.global_values) ++ log_text c.core.console.log)
+    ++ scripts (λ i. user_script (map_of y.boot) (run x s t) (i + 1) (user_of c.core.users (i + 1))) (length c.core.users)
+boot_script x y s turns steps p t c e Running is fine = ap (λ (z : Cvm). boot_report y (run x s t) z z.status) e ∙ ap (boot_report y (run x s t) c) is
+boot_script x y s turns steps p t c e Halted is fine = ap (λ (z : Cvm). boot_report y (run x s t) z z.status) e ∙ ap (boot_report y (run x s t) c) is
+boot_script x y s turns steps p t c e (Faulted f) is fine = absurd (let h = fine in cc)
+
+trace_script : (x : Outside) (y : System) (s : State) (u turns steps : ℕ) (p : Past) (t : ℕ) (c : Cvm) → cvm_at (run_at x y s (Trace u) turns steps) p t ≡ c → (st : Status) → c.status ≡ st → has_faulted (ended_of st) ≡ false →
+    report_script (Trace u) (run_at x y s (Trace u) turns steps) p t st ≡ says (last_steps (p.shown t) ++ end_text st) ++ user_script (map_of y.boot) (run x s t) u (user_of c.core.users u)
+trace_script x y s u turns steps p t c e Running is fine = ap (λ (z : Cvm). trace_report y (run x s t) z u (p.shown t) z.status) e ∙ ap (trace_report y (run x s t) c u (p.shown t)) is
+trace_script x y s u turns steps p t c e Halted is fine = ap (λ (z : Cvm). trace_report y (run x s t) z u (p.shown t) z.status) e ∙ ap (trace_report y (run x s t) c u (p.shown t)) is
+trace_script x y s u turns steps p t c e (Faulted f) is fine = absurd (let h = fine in cc)
+
+-- that of one that has is none
+pub faulted_script : (v : View) (r : Run) (p : Past) (t : ℕ) (st : Status) → has_faulted (ended_of st) ≡ true → report_script v r p t st ≡ []
+faulted_script v r p t Running e = absurd (let h = e in cc)
+faulted_script v r p t Halted e = absurd (let h = e in cc)
+faulted_script v r p t (Faulted f) e = refl
+
+pub faulted_report : {L O D T : Type 0} (text : sink_of.Ghosts O) (told : sectors_of.Ghosts D) (r : Kept L) (o : O) (d : D) (v0 : T) → has_faulted r.ended ≡ true → ReportCalls {T = T} text told r (o, d) (o, d) (Ok v0)
+faulted_report text told r o d v0 faulted = record {
+  exact = λ budget y s late held base k t c same lawful ready turns steps p tells shelf.
+      same_script [] (report_script r.view (run_at (outside_of r.machine.rows (told.size d)) y s r.view turns steps) p t c.status) (at text told shelf o d) (at text told shelf o d) None
+      (sym (faulted_script r.view (run_at (outside_of r.machine.rows (told.size d)) y s r.view turns steps) p t c.status (ap has_faulted (sym ready.ended) ∙ faulted))) (done (at text told shelf o d));
+  some = λ none. ([], tt, λ shelf. done (at text told shelf o d));
+}
+
+-- A CALL THAT KEPT A FAULT calls nothing
+pub kept_report : {L O D T : Type 0} (text : sink_of.Ghosts O) (told : sectors_of.Ghosts D) (r : Kept L) (o o1 : O) (d d1 : D) (result : Result T RunFault) (f : RunFault) → r.fault ≡ Some f → ReportCalls text told r (o, d) (o1, d1) result
+kept_report text told r o o1 d d1 result f is = record {
+  exact = λ budget y s late held base k t c same lawful ready turns steps p tells shelf. absurd (let e : ◌≡◌ {A = Option RunFault} (Some f) None = sym is ∙ ready.fault in cc);
+  some = λ none. absurd (let e : ◌≡◌ {A = Option RunFault} (Some f) None = sym is ∙ none in cc);
+}
+
+module _ {L O D : Type 0} (text : sink_of.Ghosts O) (told : sectors_of.Ghosts D) (r : Kept L) (o o1 : O) (d d1 : D) (fine : has_faulted r.ended ≡ false) (places : Places)
+    (placed : PlacesHold r.boot places.map places.offsets.items r.machine.hardware.memory r.count) (law : (u : CUnit) → MachinesRun (IsTypedState u)) where
+  abbrev x : Outside
+  x = outside_of r.machine.rows (told.size d)
+
+  -- what the abstract machine says between turns
+  its_cvm : (y : System) (s : State) (late held : ℕ) → RunMachines x y s late held → (v : View) (base : Base) (k t : ℕ) (c : Cvm) (budget : ℕ) → Ready x y s v base (suc k) t c (around r (told.sectors d) budget (text.text o)) → (turns steps : ℕ) (p : Past) →
+      TellsFrom (run_at x y s v turns steps) p t t → cvm_at (run_at x y s v turns steps) p t ≡ c
+  its_cvm y s late held m v base k t c budget ready turns steps p tells =
+      m.same (complete x s t) (cvm_at (run_at x y s v turns steps) p t) c (tells.turns t (omega arith) (omega arith)) (subst (λ n. IsCvm y (lines_of x s) n c) (sym ready.stood.all) ready.stood.cvm)
+
+  -- of a boot
+  module _ (view : r.view ≡ Boot) (typed : (u : CUnit) → RunsStayTyped (IsTypedState u)) (rows : RowsTell) (globals : GlobalRowsTell) (formed : IsWellFormed kernel_primitives (unit_view r.boot.unit)) where
+    boot_is : (y : System) (s : State) (late held : ℕ) (base : Base) (k t : ℕ) (c : Cvm) (budget : ℕ) → y.boot ≡ boot_of r.boot → StartsFrom (IsTypedState (unit_view r.boot.unit)) x y s late held →
+        Ready x y s Boot base (suc k) t c (around r (told.sectors d) budget (text.text o)) → (turns steps : ℕ) (p : Past) → TellsFrom (run_at x y s Boot turns steps) p t t →
+        closing_calls (is_some r.ended) r.current r.machine (told.sectors d) places r.boot.unit.globals.items ≡ report_script Boot (run_at x y s Boot turns steps) p t c.status
+    boot_is y s late held base k t c budget same lawful ready turns steps p tells =
+        let m = law (unit_view r.boot.unit) x y s late held lawful in
+        let stays = typed (unit_view r.boot.unit) x y s late held lawful in
+        let T = told.sectors d in
+        let seen = its_told x y s Boot base k t budget c r T (text.text o) ready in
+        let h = halting x y s Boot base k t budget c r T (text.text o) ready same places.map places.offsets.items placed fine in
+        let told_is = told_rows x y s Boot base k t budget c r T (text.text o) ready same places.map places.offsets.items placed fine late held m stays rows globals formed in
+        let now = runs_now (is_some r.ended) r.current in
+        let users : reported.users_script places.map r.machine (Some seen.sectors) now places.map.users ≡ scripts (λ i. user_script (map_of y.boot) (run x s t) (i + 1) (user_of c.core.users (i + 1))) (length c.core.users) =
+        ap (λ (q : Map). reported.users_script q r.machine (Some seen.sectors) now q.users) (its_map x y s Boot base k t budget c r T (text.text o) ready same places.map places.offsets.items placed fine)
+        ∙ users_script_is x (site_of y.boot) r.machine seen.sectors c.status c.core now (stands x y s Boot base k t budget c r T (text.text o) ready same places.map places.offsets.items placed fine)
+        (running x y s Boot base k t budget c r T (text.text o) ready same places.map places.offsets.items placed fine) told_is.entries
+        ∙ ap (λ (z : State). scripts (λ i. user_script (map_of y.boot) z (i + 1) (user_of c.core.users (i + 1))) (length c.core.users)) seen.state in
+        ap (λ (q : Option (List (List ℕ))). closing_calls (is_some r.ended) r.current r.machine q places r.boot.unit.globals.items) seen.are
+        ∙ ap₂ (λ (e g : List ℕ). Printed (Some (e ++ g ++ log_rows r.machine.hardware.console.log)) ∷ reported.users_script places.map r.machine (Some seen.sectors) now places.map.users) h.end
+        (told_globals x y s Boot base k t budget c r T (text.text o) ready same places.map places.offsets.items placed fine late held m stays rows globals formed)
+        ∙ ap₂ (λ (l : List ℕ) (us : List Call). Printed (Some (end_text c.status ++ globals_text y.boot.meaning.names (parts_of c.core.c0.global_values) ++ l)) ∷ us) told_is.log users
+        ∙ sym (boot_script x y s turns steps p t c (its_cvm y s late held m Boot base k t c budget ready turns steps p tells) c.status refl (ap has_faulted (sym ready.ended) ∙ fine))
+
+    boot_performs : {R T : Type 0} (before : Result R ReportFault) (result : Result T RunFault) → blame of_report before ≡ blame of_run result →
+        Makes text told (o, d) (o1, d1) (closing_calls (is_some r.ended) r.current r.machine (told.sectors d) places r.boot.unit.globals.items) of_report before → ReportCalls text told r (o, d) (o1, d1) result
+    boot_performs before result same_blame made = record {
+      exact = λ budget y s late held base k t c same lawful ready turns steps p tells shelf. by r.view view budget y s late held base k t c same lawful ready turns steps p tells shelf;
+      some = λ none. (
+        untold (closing_calls (is_some r.ended) r.current r.machine (told.sectors d) places r.boot.unit.globals.items),
+        of_closing (is_some r.ended) r.current r.machine (told.sectors d) places r.boot.unit.globals.items,
+        λ shelf. made_untold (closing_calls (is_some r.ended) r.current r.machine (told.sectors d) places r.boot.unit.globals.items) (at text told shelf o d) (at text told shelf o1 d1) (blame of_run result)
+            (subst (Performs (closing_calls (is_some r.ended) r.current r.machine (told.sectors d) places r.boot.unit.globals.items) (at text told shelf o d) (at text told shelf o1 d1)) same_blame (made shelf)),
+      );
+    }
+      where
+        by : (v : View) → v ≡ Boot → (budget : ℕ) (y : System) (s : State) (late held : ℕ) (base : Base) (k t : ℕ) (c : Cvm) → y.boot ≡ boot_of r.boot → StartsFrom (IsTypedState (unit_view r.boot.unit)) x y s late held →
+            Ready x y s v base (suc k) t c (around r (told.sectors d) budget (text.text o)) → (turns steps : ℕ) (p : Past) → TellsFrom (run_at x y s v turns steps) p t t → (shelf : Files) →
+            Performs (report_script v (run_at x y s v turns steps) p t c.status) (at text told shelf o d) (at text told shelf o1 d1) (blame of_run result)
+        by Boot e budget y s late held base k t c same lawful ready turns steps p tells shelf =
+            same_script (closing_calls (is_some r.ended) r.current r.machine (told.sectors d) places r.boot.unit.globals.items) (report_script Boot (run_at x y s Boot turns steps) p t c.status) (at text told shelf o d) (at text told shelf o1 d1) (blame of_run result)
+            (boot_is y s late held base k t c budget same lawful ready turns steps p tells)
+            (subst (Performs (closing_calls (is_some r.ended) r.current r.machine (told.sectors d) places r.boot.unit.globals.items) (at text told shelf o d) (at text told shelf o1 d1)) same_blame (made shelf))
+        by (Trace u) e budget y s late held base k t c same lawful ready turns steps p tells shelf = absurd (cc)
+
+  -- of a trace
+  module _ (kept : Tracer) (tracer : r.tracer ≡ Some kept) (view : r.view ≡ Trace kept.user) (grow : (u : CUnit) → TracesGrow (IsTypedState u)) (follow : RowsFollow) (rows : UserRowsTell) (some : 1 ≤ kept.user) (most : kept.user ≤ places.map.users) where
+    -- what is kept tells the last steps of what is shown
+    last_is : (y : System) (s : State) (t : ℕ) (p : Past) → TraceGrows x y s kept.user → Shown x s y kept.user t (p.shown t) → Traces x y s (Trace kept.user) t r.tracer → steps_row kept.steps ≡ last_steps (p.shown t)
+    last_is y s t p g shown traces =
+        let j : List JournalEntry = traces.0 in
+        let one : p.shown t ≡ j = g.one t (p.shown t) j shown traces.1 in
+        let steps : kept.steps ≡ pending_steps j = same_steps kept (tracer_at x y s kept.user t j) (sym tracer ∙ traces.2) in
+        ap steps_row steps ∙ sym (ap (λ i. drop (length (open_journal_rows i)) (journal_rows i)) one ∙ ap (drop (length (open_journal_rows j))) (follow.end j) ∙ drop-append_seam (open_journal_rows j) (steps_row (pending_steps j)))
+      where
+        same_steps : (a b : Tracer) → Some a ≡ Some b → a.steps ≡ b.steps
+        same_steps a b e = cc
+
+    few : (y : System) → y.boot ≡ boot_of r.boot → kept.user ≤ length y.boot.users
+    few y same =
+        let a : places.map.users ≡ length (boot_of r.boot).users = users_are_those r.boot places.map places.offsets.items r.machine.hardware.memory r.count placed in
+        let b : length y.boot.users ≡ length (boot_of r.boot).users = ap (λ (q : CvmBoot). length q.users) same in
+        omega (arith, a, b, most)
+
+    trace_is : (y : System) (s : State) (late held : ℕ) (base : Base) (k t : ℕ) (c : Cvm) (budget : ℕ) → y.boot ≡ boot_of r.boot → StartsFrom (IsTypedState (unit_view r.boot.unit)) x y s late held →
+        Ready x y s (Trace kept.user) base (suc k) t c (around r (told.sectors d) budget (text.text o)) → (turns steps : ℕ) (p : Past) → TellsFrom (run_at x y s (Trace kept.user) turns steps) p t t →
+        trace_calls (is_some r.ended) r.current r.machine (told.sectors d) places.map kept ≡ report_script (Trace kept.user) (run_at x y s (Trace kept.user) turns steps) p t c.status
+    trace_is y s late held base k t c budget same lawful ready turns steps p tells =
+        let u = kept.user in
+        let v = Trace kept.user in
+        let m = law (unit_view r.boot.unit) x y s late held lawful in
+        let T = told.sectors d in
+        let seen = its_told x y s v base k t budget c r T (text.text o) ready in
+        let h = halting x y s v base k t budget c r T (text.text o) ready same places.map places.offsets.items placed fine in
+        let told_is = told_user x y s v base k t budget c r T (text.text o) ready same places.map places.offsets.items placed fine rows u some most in
+        let lt = (is_user x y s v base k t budget c r T (text.text o) ready same places.map places.offsets.items placed fine rows u some most).1 in
+        let now = runs_now (is_some r.ended) r.current in
+        let after : u - 1 + 1 ≡ u = omega (arith, some) in
+        let user : reported.user_script places.map r.machine (Some seen.sectors) (u == now) u ≡ user_script (map_of y.boot) (run x s t) u (user_of c.core.users u) =
+        ap (λ (q : Map). reported.user_script q r.machine (Some seen.sectors) (u == now) u) (its_map x y s v base k t budget c r T (text.text o) ready same places.map places.offsets.items placed fine)
+        ∙ subst (λ i. reported.user_script (site_of y.boot).map r.machine (Some seen.sectors) (i == now) i ≡ user_script (site_of y.boot).map (state_of r.machine seen.sectors) i (user_of c.core.users i)) after
+        (user_script_is x (site_of y.boot) r.machine seen.sectors c.status c.core now (stands x y s v base k t budget c r T (text.text o) ready same places.map places.offsets.items placed fine)
+        (running x y s v base k t budget c r T (text.text o) ready same places.map places.offsets.items placed fine) told_is.entries (u - 1) (omega (arith, some, lt)))
+        ∙ ap (λ (z : State). user_script (map_of y.boot) z u (user_of c.core.users u)) seen.state in
+        ap (λ (q : Option (List (List ℕ))). trace_calls (is_some r.ended) r.current r.machine q places.map kept) seen.are
+        ∙ ap₂ (λ (a e : List ℕ). Printed (Some (a ++ e)) ∷ reported.user_script places.map r.machine (Some seen.sectors) (u == now) u)
+        (last_is y s t p (grow (unit_view r.boot.unit) x y s late held u lawful some (few y same)) (tells.user t (omega arith) (omega arith)) ready.traces) h.end
+        ∙ ap (λ (us : List Call). Printed (Some (last_steps (p.shown t) ++ end_text c.status)) ∷ us) user
+        ∙ sym (trace_script x y s u turns steps p t c (its_cvm y s late held m v base k t c budget ready turns steps p tells) c.status refl (ap has_faulted (sym ready.ended) ∙ fine))
+
+    trace_performs : {R T : Type 0} (before : Result R ReportFault) (result : Result T RunFault) → blame of_report before ≡ blame of_run result →
+        Makes text told (o, d) (o1, d1) (trace_calls (is_some r.ended) r.current r.machine (told.sectors d) places.map kept) of_report before → ReportCalls text told r (o, d) (o1, d1) result
+    trace_performs before result same_blame made = record {
+      exact = λ budget y s late held base k t c same lawful ready turns steps p tells shelf. by r.view view budget y s late held base k t c same lawful ready turns steps p tells shelf;
+      some = λ none. (
+        untold (trace_calls (is_some r.ended) r.current r.machine (told.sectors d) places.map kept),
+        of_trace (is_some r.ended) r.current r.machine (told.sectors d) places.map kept,
+        λ shelf. made_untold (trace_calls (is_some r.ended) r.current r.machine (told.sectors d) places.map kept) (at text told shelf o d) (at text told shelf o1 d1) (blame of_run result)
+            (subst (Performs (trace_calls (is_some r.ended) r.current r.machine (told.sectors d) places.map kept) (at text told shelf o d) (at text told shelf o1 d1)) same_blame (made shelf)),
+      );
+    }
+      where
+        by : (v : View) → v ≡ Trace kept.user → (budget : ℕ) (y : System) (s : State) (late held : ℕ) (base : Base) (k t : ℕ) (c : Cvm) → y.boot ≡ boot_of r.boot → StartsFrom (IsTypedState (unit_view r.boot.unit)) x y s late held →
+            Ready x y s v base (suc k) t c (around r (told.sectors d) budget (text.text o)) → (turns steps : ℕ) (p : Past) → TellsFrom (run_at x y s v turns steps) p t t → (shelf : Files) →
+            Performs (report_script v (run_at x y s v turns steps) p t c.status) (at text told shelf o d) (at text told shelf o1 d1) (blame of_run result)
+        by v e budget y s late held base k t c same lawful ready turns steps p tells shelf =
+            subst (λ (w : View). Performs (report_script w (run_at x y s w turns steps) p t c.status) (at text told shelf o d) (at text told shelf o1 d1) (blame of_run result)) (sym e)
+            (same_script (trace_calls (is_some r.ended) r.current r.machine (told.sectors d) places.map kept) (report_script (Trace kept.user) (run_at x y s (Trace kept.user) turns steps) p t c.status) (at text told shelf o d) (at text told shelf o1 d1) (blame of_run result)
+            (trace_is y s late held base k t c budget same lawful (subst (λ (w : View). Ready x y s w base (suc k) t c (around r (told.sectors d) budget (text.text o))) e ready) turns steps p
+            (subst (λ (w : View). TellsFrom (run_at x y s w turns steps) p t t) e tells))
+            (subst (Performs (trace_calls (is_some r.ended) r.current r.machine (told.sectors d) places.map kept) (at text told shelf o d) (at text told shelf o1 d1)) same_blame (made shelf)))
+
+-- THE SAME OF THE RUN AS THE CALL FOUND IT, by the code's own values
+module _ {L O D : Type 0} (text : sink_of.Ghosts O) (told : sectors_of.Ghosts D) (now r : Kept L) (same : r ≡ now) (o o1 : O) (d d1 : D) (fine : has_faulted now.ended ≡ false) (view : r.view ≡ viewed r.tracer) (places : Places)
+    (placed : PlacesHold r.boot places.map places.offsets.items r.machine.hardware.memory r.count) (law : (u : CUnit) → MachinesRun (IsTypedState u)) (halted : Bool) (halted_is : halted ≡ is_some r.ended) where
+  its_end : has_faulted r.ended ≡ false
+  its_end = ap (λ (q : Kept L). has_faulted q.ended) same ∙ fine
+
+  pub boot_report_calls : {R T : Type 0} (before : Result R ReportFault) (result : Result T RunFault) → blame of_report before ≡ blame of_run result → r.tracer ≡ None → (typed : (u : CUnit) → RunsStayTyped (IsTypedState u)) (rows : RowsTell) (globals : GlobalRowsTell)
+      (formed : IsWellFormed kernel_primitives (unit_view r.boot.unit)) (decls : List Decl) → decls ≡ r.boot.unit.globals.items → Makes text told (o, d) (o1, d1) (closing_calls halted r.current r.machine (told.sectors d) places decls) of_report before →
+      ReportCalls text told now (o, d) (o1, d1) result
+  boot_report_calls {R} {T} before result blames tracer typed rows globals formed decls decls_are made =
+      subst (λ (q : Kept L). ReportCalls text told q (o, d) (o1, d1) result) same
+      (boot_performs text told r o o1 d d1 its_end places placed law (view ∙ ap viewed tracer) typed rows globals formed {R = R} {T = T} before result blames
+      (subst (λ (ds : List Decl). Makes text told (o, d) (o1, d1) (closing_calls (is_some r.ended) r.current r.machine (told.sectors d) places ds) of_report before) decls_are
+      (subst (λ (h : Bool). Makes text told (o, d) (o1, d1) (closing_calls h r.current r.machine (told.sectors d) places decls) of_report before) halted_is made)))
+
+  its_user : (kept : Tracer) → r.tracer ≡ Some kept → IsTrue (tracer_fits r.tracer (length r.boot.users.items) r.machine.time) → (1 ≤ kept.user) × (kept.user ≤ places.map.users)
+  its_user kept tracer fits =
+      let there = user_there kept (length r.boot.users.items) r.machine.time (subst (λ (q : Option Tracer). IsTrue (tracer_fits q (length r.boot.users.items) r.machine.time)) tracer fits) in
+      let all = users_are_those r.boot places.map places.offsets.items r.machine.hardware.memory r.count placed in
+      (there.0, (let most : kept.user ≤ length r.boot.users.items = there.1 in omega (arith, most, all, length-map r.boot.users.items (λ words. words.items))))
+
+  pub trace_report_calls : {R T : Type 0} (before : Result R ReportFault) (result : Result T RunFault) → blame of_report before ≡ blame of_run result → (kept : Tracer) → r.tracer ≡ Some kept → (grow : (u : CUnit) → TracesGrow (IsTypedState u)) (follow : RowsFollow)
+      (rows : UserRowsTell) → IsTrue (tracer_fits r.tracer (length r.boot.users.items) r.machine.time) → Makes text told (o, d) (o1, d1) (trace_calls halted r.current r.machine (told.sectors d) places.map kept) of_report before → ReportCalls text told now (o, d) (o1, d1) result
+  trace_report_calls {R} {T} before result blames kept tracer grow follow rows fits made =
+      let user = its_user kept tracer fits in
+      subst (λ (q : Kept L). ReportCalls text told q (o, d) (o1, d1) result) same
+      (trace_performs text told r o o1 d d1 its_end places placed law kept tracer (view ∙ ap viewed tracer) grow follow rows user.0 user.1 {R = R} {T = T} before result blames
+      (subst (λ (h : Bool). Makes text told (o, d) (o1, d1) (trace_calls h r.current r.machine (told.sectors d) places.map kept) of_report before) halted_is made))

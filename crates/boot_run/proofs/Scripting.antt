@@ -1,0 +1,430 @@
+-- The script of turns, by what was called before them, in their steps and behind them.
+use Rattle.std.proofs.Common.{◌≡◌, ◌≢◌, ℕ, zero, suc, ◌+◌, ◌-◌, ◌<◌, ◌≤◌, true, false, Option, Some, None, List, [], ◌∷◌, ◌++◌, length, drop, codes, Result, Ok, Err, refl, sym, ap, ap₂, ◌∙◌, subst, arith, ⊎_elim, ◌⊎◌, inl, inr, append-nil, append_assoc}
+use Rattle.std.specs.Prelude.{IsSome}
+use Rattle.std.specs.Io.KnownBytes.{append_known}
+use Rattle.std.proofs.lemmas.Bool.{cases_lt}
+use Rattle.std.proofs.lemmas.List.{length-map}
+use Rattle.std.proofs.Math.Seq.{drop-append_seam, drop-length}
+use Rattle.cvm_outside.specs.Outside.{Outside, Output, Files, output, drive}
+use Rattle.cvm_outside.specs.declared.sink.Sink as sink_of
+use Rattle.cvm_outside.specs.declared.sectors.Sectors as sectors_of
+use Rattle.cvm_outside.specs.Script.{Call, Printed, Who, TheSink, TheDisk, Performs, done, Puts, blame}
+use Rattle.cvm_outside.proofs.Follow.{both, first}
+use Rattle.cvm_outside.proofs.Putting.{same_script}
+use Rattle.mips_table.specs.Device as device
+use Rattle.mips_table.specs.Machine.{State, run}
+use Rattle.mips_table.specs.Turns.{complete, lines_of}
+use Rattle.mips_machine.specs.Steps.{outside_of, due}
+use Rattle.c0_tree.specs.Tree.{CUnit}
+use Rattle.c0_meaning.specs.TypedState.{IsTypedState}
+use Rattle.cvm_model.specs.Cvm.{Boot as CvmBoot, System, Status, Running, Halted, Faulted, Cvm, IsCvm, map_of}
+use Rattle.cvm_model.specs.Kernel.{JournalEntry, power_of}
+use Rattle.cvm_model.specs.Text.{rows_text, steps_row, fault_name, open_journal_rows}
+use Rattle.cvm_model.specs.declared.row.Next.{Next}
+use Rattle.cvm_model.specs.declared.row.Row.{Row}
+use Rattle.layer_contract.specs.Boots.{boot_of}
+use Rattle.layer_contract.specs.Layer.{Rests}
+use Rattle.cvm_model.specs.declared.kernel_fault.KernelFault.{KernelFault}
+use Rattle.cvm_model.specs.declared.row.Next.TheVariants.{Halt}
+use Rattle.boot_turns.specs.Ahead.{Ahead}
+use Rattle.boot_turns.specs.Advances.{Skipped}
+use Rattle.boot_turns.specs.Entries.{TracesGrow}
+use Rattle.boot_turns.specs.JournalText.{RowsFollow, pending_steps}
+use Rattle.boot_turns.specs.Premises.{StartsFrom}
+use Rattle.boot_turns.specs.RunMachines.{RunMachines, MachinesRun}
+use Rattle.boot_turns.specs.Trace.{Shown}
+use Rattle.boot_turns.specs.Tracing.{Traced}
+use Rattle.boot_turns.specs.declared.tracer.Tracer.{Tracer}
+use Rattle.boot_turns.specs.declared.answers.View.{View}
+use Rattle.boot_turns.specs.declared.answers.View.TheVariants.{Boot, Trace}
+use Rattle.boot_turns.specs.declared.answers.Turn.{Turn}
+use Rattle.boot_turns.specs.declared.answers.RunFault.{RunFault}
+use Rattle.boot_turns.specs.declared.answers.RunFault.TheVariants.{StepLimit, Disk, Sink}
+use Rattle.boot_turns.specs.Runs.{Run, Past, state_at, cvm_at}
+use Rattle.boot_turns.specs.StepScript.{prints, transfers, rows_script, step_script, steps_script}
+use Rattle.boot_turns.specs.RowScripts.{of_run}
+use Rattle.boot_turns.specs.LoopScripts.{StepsCall}
+use Rattle.boot_turns.proofs.ShownRows.{scripts-same}
+use Rattle.boot_turns.proofs.SomeCalls.{of_both}
+use Rattle.boot_turns.proofs.TurnScripts.{rows_last}
+use Rattle.boot_run.specs.Closing.{says, last_steps, report_by, boot_report, trace_report}
+use Rattle.boot_run.specs.LoadEnds.{Kept}
+use Rattle.boot_run.specs.RunCalls.{run_at, begin_script, fault_script, turns_script, TellsFrom, TurnsCall}
+use Rattle.boot_run.specs.Shown.{has_faulted}
+use Rattle.boot_run.specs.Sink.{Base}
+use Rattle.boot_run.specs.TurnCalls.{rows_of, ended_of, around, Ready, Turned, TurnFails, TurnsEnd, TurnsRun}
+use Rattle.boot_run.specs.TurnParts.{rows_before, rows_after, fault_rows, Views}
+use Rattle.boot_run.proofs.Proceeding.{by_view, starts}
+use Rattle.boot_run.proofs.ScriptParts.{at, none_put, says_put, some_put, prints_put, three, two, one, same_rows}
+use Rattle.boot_run.proofs.TracedTurn.{start_at, traced_mid}
+
+-- of a boot that faulted nothing is behind its steps
+no_fault : (r : Run) (p : Past) (t : ℕ) (off : Option ℕ) (st : Status) → (cvm_at r p t).status ≡ st → fault_script Boot r p t off st ≡ []
+no_fault r p t None st e = refl
+no_fault r p t (Some power) Running e = refl
+no_fault r p t (Some power) Halted e = refl
+no_fault r p t (Some power) (Faulted f) e = ap (boot_report r.system (state_at r t) (cvm_at r p t)) e
+
+-- of a run that goes on neither
+pub goes_none : (v : View) (r : Run) (p : Past) (t : ℕ) (off : Option ℕ) (st : Status) → st ≡ Running → fault_script v r p t off st ≡ []
+goes_none v r p t None st e = refl
+goes_none v r p t (Some power) st e = ap (fault_script v r p t (Some power)) e
+
+-- THE STEPS OF A BOOT, whose turns from k to b have the same rows, at a run of it
+module _ (x : device.Outside) (y : System) (s : State) (late held : ℕ) (m : RunMachines x y s late held) (turns steps : ℕ) (p : Past) (t n : ℕ) (tells : TellsFrom (run_at x y s Boot turns steps) p t (t + n))
+    (a b : ℕ) (ca cb : Cvm) (ia : IsCvm y (lines_of x s) a ca) (ib : IsCvm y (lines_of x s) b cb) (same : cb.rows ≡ ca.rows) where
+  abbrev r : Run
+  r = run_at x y s Boot turns steps
+
+  rows_at : (j : ℕ) → t ≤ j → j ≤ t + n → a ≤ complete x s j → complete x s j ≤ b → (cvm_at (run_at x y s Boot turns steps) p j).rows ≡ ca.rows
+  rows_at j from to low high = same_rows x y s late held m a (complete x s j) b ca (cvm_at r p j) cb low high ia (tells.turns j from to) ib same
+
+  -- none adds a row
+  pub quiet_steps : ((j : ℕ) → t ≤ j → j ≤ t + n → (a ≤ complete x s j) × (complete x s j ≤ b)) → steps_script (run_at x y s Boot turns steps) p t n ≡ transfers x s t n
+  quiet_steps between = scripts-same (λ i. step_script (run_at x y s Boot turns steps) p (t + i)) (λ i. due x (run x s (t + i))) n (λ i lt.
+      let h = between (t + i) (omega arith) (omega (arith, lt)) in
+      let k = between (suc (t + i)) (omega arith) (omega (arith, lt)) in
+      let before = rows_at (t + i) (omega arith) (omega (arith, lt)) h.0 h.1 in
+      let after = rows_at (suc (t + i)) (omega arith) (omega (arith, lt)) k.0 k.1 in
+      ap (λ (l : List Call). due x (run x s (t + i)) ++ l)
+      (ap₂ (λ (c d : List Row). prints (rows_text (drop (length c) d))) before after ∙ ap (λ (l : List Row). prints (rows_text l)) (drop-length ca.rows))
+      ∙ append-nil (due x (run x s (t + i))))
+
+  -- the last may
+  pub last_step : (i : ℕ) → n ≡ suc i → ((j : ℕ) → t ≤ j → j ≤ t + i → (a ≤ complete x s j) × (complete x s j ≤ b)) → (more : List Row) → (cvm_at (run_at x y s Boot turns steps) p (t + n)).rows ≡ ca.rows ++ more →
+      steps_script (run_at x y s Boot turns steps) p t n ≡ transfers x s t n ++ prints (rows_text more)
+  last_step i is between more now =
+      let flat : (j : ℕ) → t ≤ j → j ≤ t + i → (cvm_at r p j).rows ≡ ca.rows = λ j from to. (let h = between j from to in rows_at j from (omega (arith, to, is)) h.0 h.1) in
+      let end : suc (t + i) ≡ t + n = omega (arith, is) in
+      let here : (cvm_at r p (suc (t + i))).rows ≡ ca.rows ++ more = ap (λ j. (cvm_at r p j).rows) end ∙ now in
+      rw is (
+      rows_last r p t i refl (λ j lt. flat (suc (t + j)) (omega arith) (omega (arith, lt)) ∙ sym (flat (t + j) (omega arith) (omega (arith, lt))))
+      ∙ ap (λ (l : List Call). transfers x s t (suc i) ++ l)
+      (ap₂ (λ (c d : List Row). prints (rows_text (drop (length c) d))) (flat (t + i) (omega arith) (omega arith)) here
+      ∙ ap (λ (l : List Row). prints (rows_text l)) (drop-append_seam ca.rows more)))
+
+  -- where it breaks off before its rows it is the transfers'
+  pub last_breaks : (i : ℕ) → n ≡ suc i → ((j : ℕ) → t ≤ j → j ≤ t + i → (a ≤ complete x s j) × (complete x s j ≤ b)) → (old new : Outside) (whom : Who) → Performs (transfers x s t n) old new (Some whom) →
+      Performs (steps_script (run_at x y s Boot turns steps) p t n) old new (Some whom)
+  last_breaks i is between old new whom made =
+      let flat : (j : ℕ) → t ≤ j → j ≤ t + i → (cvm_at r p j).rows ≡ ca.rows = λ j from to. (let h = between j from to in rows_at j from (omega (arith, to, is)) h.0 h.1) in
+      let all : steps_script r p t n ≡ transfers x s t n ++ rows_script Boot r p (t + i) =
+      rw is (rows_last r p t i refl (λ j lt. flat (suc (t + j)) (omega arith) (omega (arith, lt)) ∙ sym (flat (t + j) (omega arith) (omega (arith, lt))))) in
+      same_script (transfers x s t n ++ rows_script Boot r p (t + i)) (steps_script r p t n) old new (Some whom) (sym all) (first (transfers x s t n) (rows_script Boot r p (t + i)) old new whom made)
+
+-- the row of a fault behind the last steps of a trace
+fault_is : (follow : RowsFollow) (j : List JournalEntry) (f : List ℕ) → steps_row (pending_steps j) ++ (codes "fault " ++ f ++ 10 ∷ []) ≡ last_steps j ++ codes "fault " ++ f ++ codes "\n"
+fault_is follow j f =
+    let last : last_steps j ≡ steps_row (pending_steps j) = ap (drop (length (open_journal_rows j))) (follow.end j) ∙ drop-append_seam (open_journal_rows j) (steps_row (pending_steps j)) in
+    ap (λ (l : List ℕ). l ++ (codes "fault " ++ f ++ 10 ∷ [])) (sym last)
+    ∙ sym (append_assoc (last_steps j) (codes "fault " ++ f) (10 ∷ []))
+    ∙ ap (λ (l : List ℕ). l ++ 10 ∷ []) (sym (append_assoc (last_steps j) (codes "fault ") f))
+
+-- THE ROW OF A TRACE'S FAULT is put, or none
+module _ {O D : Type 0} (text : sink_of.Ghosts O) (told : sectors_of.Ghosts D) (shelf : Files) (o o1 : O) (d : D) (follow : RowsFollow) (x : device.Outside) (y : System) (s : State) (u turns steps : ℕ) (p : Past) (e : ℕ)
+    (c : Cvm) (c_is : cvm_at (run_at x y s (Trace u) turns steps) p e ≡ c) (j : List JournalEntry) (j_is : p.shown e ≡ j) (ended : Option Next) where
+  abbrev tr : Run
+  tr = run_at x y s (Trace u) turns steps
+
+  no_put : (w : Option Who) → (w ≢ None → false ≡ true) → Puts [] (output text o) (output text o1) w → Performs [] (at text told shelf o d) (at text told shelf o1 d) w
+  no_put None f q = none_put text told shelf o o1 d [] refl q
+  no_put (Some whom) f q = absurd (let h = f (λ z. cc) in cc)
+
+  none_put_by : ended ≡ None ⊎ ended ≡ Some Halt → (blamed : Option Who) → (blamed ≢ None → has_faulted ended ≡ true) → Puts (fault_rows (pending_steps j) ended) (output text o) (output text o1) blamed → Performs [] (at text told shelf o d) (at text told shelf o1 d) blamed
+  none_put_by (inl is) blamed faulted puts =
+      no_put blamed (λ ne. subst (λ (n : Option Next). has_faulted n ≡ true) is (faulted ne)) (subst (λ (n : Option Next). Puts (fault_rows (pending_steps j) n) (output text o) (output text o1) blamed) is puts)
+  none_put_by (inr is) blamed faulted puts =
+      no_put blamed (λ ne. subst (λ (n : Option Next). has_faulted n ≡ true) is (faulted ne)) (subst (λ (n : Option Next). Puts (fault_rows (pending_steps j) n) (output text o) (output text o1) blamed) is puts)
+
+  -- where the kernel faulted the machine is off
+  pub fault_put : (off : Option ℕ) (st : Status) → c.status ≡ st → ended ≡ ended_of st → ((f : KernelFault) → st ≡ Faulted f → off ≡ Some (power_of f)) → (blamed : Option Who) → (blamed ≢ None → has_faulted ended ≡ true) →
+      Puts (fault_rows (pending_steps j) ended) (output text o) (output text o1) blamed → Performs (fault_script (Trace u) (run_at x y s (Trace u) turns steps) p e off st) (at text told shelf o d) (at text told shelf o1 d) blamed
+  fault_put off Running e_st is rests blamed faulted puts =
+      subst (λ (l : List Call). Performs l (at text told shelf o d) (at text told shelf o1 d) blamed) (sym (goes_none (Trace u) tr p e off Running refl)) (none_put_by (inl is) blamed faulted puts)
+  fault_put None Halted e_st is rests blamed faulted puts = none_put_by (inr is) blamed faulted puts
+  fault_put (Some power) Halted e_st is rests blamed faulted puts = none_put_by (inr is) blamed faulted puts
+  fault_put None (Faulted f) e_st is rests blamed faulted puts = absurd (let h : ◌≡◌ {A = Option ℕ} None (Some (power_of f)) = rests f refl in cc)
+  fault_put (Some power) (Faulted f) e_st is rests blamed faulted puts =
+      let rows : List ℕ = last_steps j ++ codes "fault " ++ fault_name f ++ codes "\n" in
+      let there : (cvm_at tr p e).status ≡ Faulted f = ap (λ (q : Cvm). q.status) c_is ∙ e_st in
+      let all : report_by (Trace u) tr p e ≡ says (last_steps j ++ codes "fault " ++ fault_name f ++ codes "\n") =
+      ap₂ (λ (i : List JournalEntry) (st : Status). trace_report y (run x s e) (cvm_at tr p e) u i st) j_is there in
+      same_script (says rows) (report_by (Trace u) tr p e) (at text told shelf o d) (at text told shelf o1 d) blamed (sym all)
+      (says_put text told shelf o o1 d rows blamed
+      (subst (λ (l : List ℕ). Puts l (output text o) (output text o1) blamed) (ap (fault_rows (pending_steps j)) is ∙ fault_is follow j (fault_name f)) puts))
+
+-- turns that were passed, and the next up to some step
+spread : (x : device.Outside) (y : System) (s : State) (k t : ℕ) (c : Cvm) (i : ℕ) → Skipped x y s k t c i → (u : ℕ) → ((j : ℕ) → t + i ≤ j → j ≤ u → complete x s j ≡ k + i) →
+    (j : ℕ) → t ≤ j → j ≤ u → (k ≤ complete x s j) × (complete x s j ≤ k + i)
+spread x y s k t c i w u flat j from to = ⊎_elim
+    (λ (lt : j < t + i).
+    let here : t + (j - t) ≡ j = omega (arith, from) in
+    let e : complete x s j ≡ k + (j - t) = subst (λ a. complete x s a ≡ k + (j - t)) here (w.done (j - t) (omega (arith, lt, from))) in
+    (omega (arith, e), omega (arith, e, lt, from)))
+    (λ (ge : t + i ≤ j). let e = flat j ge to in (omega (arith, e), omega (arith, e)))
+    (cases_lt j (t + i))
+
+-- at the end of a turn the abstract machine is as the run says
+at_end : (x : device.Outside) (y : System) (s : State) (late held : ℕ) → RunMachines x y s late held → (v : View) (turns steps : ℕ) (p : Past) (t n : ℕ) → TellsFrom (run_at x y s v turns steps) p t (t + n) → (k from : ℕ) (c : Cvm) →
+    (a : Ahead x y s k from c) → t + n ≡ a.end → cvm_at (run_at x y s v turns steps) p (t + n) ≡ a.after
+at_end x y s late held m v turns steps p t n tells k from c a there =
+    m.same (complete x s (t + n)) (cvm_at (run_at x y s v turns steps) p (t + n)) a.after (tells.turns (t + n) (omega arith) (omega arith))
+    (subst (λ z. IsCvm y (lines_of x s) z a.after) (sym (ap (complete x s) there ∙ a.stood.all)) a.stood.cvm)
+
+-- WHAT IS CALLED BEFORE THE TURNS, in their steps and behind them: by the run before and after, and by sinks, disks and budgets
+module _ {L O D : Type 0} (text : sink_of.Ghosts O) (told : sectors_of.Ghosts D) (r new : Kept L) (o o1 o2 o3 : O) (d d1 : D) (budget left most : ℕ) (views : Views r)
+    (law : (u : CUnit) → MachinesRun (IsTypedState u)) (grow : (u : CUnit) → TracesGrow (IsTypedState u)) (follow : RowsFollow) where
+  abbrev x : device.Outside
+  x = outside_of r.machine.rows (told.size d)
+
+  -- the calls of so many steps, of a run viewed so, by whom they blame
+  abbrev CallsAs : O → D → (n : ℕ) → Option Who → View → Type 0
+  CallsAs o9 d9 n blamed v = (u : CUnit) (y : System) (s : State) (late held : ℕ) (base : Base) (k t : ℕ) (c : Cvm) → y.boot ≡ boot_of r.boot → StartsFrom (IsTypedState u) (outside_of r.machine.rows (told.size d)) y s late held →
+      Ready (outside_of r.machine.rows (told.size d)) y s v base k t c (around r (told.sectors d) budget (text.text o)) → c.status ≡ Running → (turns steps : ℕ) (p : Past) →
+      TellsFrom (run_at (outside_of r.machine.rows (told.size d)) y s v turns steps) p t (t + n) → (shelf : Files) →
+      Performs (turns_script (run_at (outside_of r.machine.rows (told.size d)) y s v turns steps) p k t n) (at text told shelf o d) (at text told shelf o9 d9) blamed
+
+  -- what turns come to, of a run viewed so
+  abbrev EndsAs : Option (List ℕ) → Result (ℕ × Turn) RunFault → View → Type 0
+  EndsAs retext result v = (u : CUnit) (y : System) (s : State) (late held : ℕ) (base : Base) (k t : ℕ) (c : Cvm) → y.boot ≡ boot_of r.boot → StartsFrom (IsTypedState u) (outside_of r.machine.rows (told.size d)) y s late held →
+      Ready (outside_of r.machine.rows (told.size d)) y s v base k t c (around r (told.sectors d) budget (text.text o)) → c.status ≡ Running →
+      TurnsEnd (outside_of r.machine.rows (told.size d)) y s v base k t c most (around r (told.sectors d) budget (text.text o)) (around new (told.sectors d1) left retext) result
+
+  -- the first row of a trace, where it is put
+  begin_put : (kept : Tracer) (y : System) (s : State) (turns steps k : ℕ) (shelf : Files) (blamed : Option Who) → r.tracer ≡ Some kept → y.boot ≡ boot_of r.boot → r.turns ≡ k → (blamed ≢ None → r.turns ≡ 0) →
+      Puts (rows_before r.boot r.tracer r.turns) (output text o) (output text o1) blamed →
+      Performs (begin_script (run_at (outside_of r.machine.rows (told.size d)) y s (Trace kept.user) turns steps) k) (at text told shelf o d) (at text told shelf o1 d) blamed
+  begin_put kept y s turns steps k shelf blamed e same at_k first_turn puts = by k at_k (subst (λ (l : List ℕ). Puts l (output text o) (output text o1) blamed) (ap (λ q. rows_before r.boot q r.turns) e ∙ starts r.boot kept r.turns y same) puts)
+    where
+      by : (k : ℕ) → r.turns ≡ k → Puts (start_at y kept.user r.turns) (output text o) (output text o1) blamed →
+          Performs (begin_script (run_at (outside_of r.machine.rows (told.size d)) y s (Trace kept.user) turns steps) k) (at text told shelf o d) (at text told shelf o1 d) blamed
+      by zero z q = says_put text told shelf o o1 d (start_at y kept.user 0) blamed (subst (λ i. Puts (start_at y kept.user i) (output text o) (output text o1) blamed) z q)
+      by (suc i) z q = none blamed (λ ne. (let n = first_turn ne in omega (arith, n, z))) (subst (λ i. Puts (start_at y kept.user i) (output text o) (output text o1) blamed) z q)
+        where
+          none : (w : Option Who) → (w ≢ None → ⊥) → Puts [] (output text o) (output text o1) w → Performs [] (at text told shelf o d) (at text told shelf o1 d) w
+          none None h q = none_put text told shelf o o1 d [] refl q
+          none (Some whom) h q = absurd (h (λ z. cc))
+
+  begin_none : (y : System) (s : State) (turns steps k : ℕ) (shelf : Files) → r.tracer ≡ None → Puts (rows_before r.boot r.tracer r.turns) (output text o) (output text o1) None →
+      Performs (begin_script (run_at (outside_of r.machine.rows (told.size d)) y s Boot turns steps) k) (at text told shelf o d) (at text told shelf o1 d) None
+  begin_none y s turns steps k shelf e puts = by k
+    where
+      nothing : Performs [] (at text told shelf o d) (at text told shelf o1 d) None
+      nothing = none_put text told shelf o o1 d (rows_before r.boot r.tracer r.turns) (ap (λ q. rows_before r.boot q r.turns) e) puts
+
+      by : (k : ℕ) → Performs (begin_script (run_at (outside_of r.machine.rows (told.size d)) y s Boot turns steps) k) (at text told shelf o d) (at text told shelf o1 d) None
+      by zero = nothing
+      by (suc i) = nothing
+
+  few : (y : System) (u : ℕ) → y.boot ≡ boot_of r.boot → u ≤ length r.boot.users.items → u ≤ length y.boot.users
+  few y u same le = subst (λ n. u ≤ n) (sym (ap (λ (q : CvmBoot). length q.users) same ∙ length-map r.boot.users.items (λ words. words.items))) le
+
+  gone : (q : Option Tracer) → q ≡ None → IsSome q → ⊥
+  gone None e h = cc
+  gone (Some k) e h = absurd (cc)
+
+  -- WHAT STANDS BEFORE THE FIRST TURN was cut off, and no step is made
+  pub begun_cut : {T : Type 0} → IsSome r.tracer → r.turns ≡ 0 → Puts (rows_before r.boot r.tracer r.turns) (output text o) (output text o1) (Some TheSink) → (n : ℕ) →
+      TurnsCall {T = T} text told r budget (o, d) (o1, d) n (Err Sink)
+  begun_cut {T} traced first_turn puts n = record {
+    exact = by_view r views (CallsAs o1 d n (Some TheSink))
+        (λ e. absurd (gone r.tracer e traced))
+        (λ kept e low high. λ u y s late held base k t c same lawful ready running turns steps p tells shelf.
+        one (begin_script (run_at (outside_of r.machine.rows (told.size d)) y s (Trace kept.user) turns steps) k) (steps_script (run_at (outside_of r.machine.rows (told.size d)) y s (Trace kept.user) turns steps) p t n)
+        (fault_script (Trace kept.user) (run_at (outside_of r.machine.rows (told.size d)) y s (Trace kept.user) turns steps) p (t + n) (run x s (t + n)).off (cvm_at (run_at (outside_of r.machine.rows (told.size d)) y s (Trace kept.user) turns steps) p (t + n)).status)
+        (at text told shelf o d) (at text told shelf o1 d) TheSink
+        (begin_put kept y s turns steps k shelf (Some TheSink) e same ready.turns (λ ne. first_turn) puts));
+    some = λ _. (Printed None ∷ [], tt, λ shelf. some_put text told shelf o o1 d (rows_before r.boot r.tracer r.turns) (Some TheSink) puts);
+  }
+
+  module _ (puts : Puts (rows_before r.boot r.tracer r.turns) (output text o) (output text o1) None) (n : ℕ) (n_is : n ≡ budget - left) where
+    -- the text before the steps of a trace
+    traced : (kept : Tracer) → r.tracer ≡ Some kept → 1 ≤ kept.user → kept.user ≤ length r.boot.users.items → (u : CUnit) (y : System) (s : State) (late held : ℕ) (base : Base) (k t : ℕ) (c : Cvm) → y.boot ≡ boot_of r.boot →
+        StartsFrom (IsTypedState u) x y s late held → Ready x y s (Trace kept.user) base k t c (around r (told.sectors d) budget (text.text o)) → c.status ≡ Running →
+        Traced x y s kept.user t (base.shows (start_at y kept.user 0)) r.tracer (text.text o1)
+    traced kept e low high u y s late held base k t c same lawful ready running =
+        traced_mid x y s late held (law u x y s late held lawful) kept.user (grow u x y s late held kept.user lawful low (few y kept.user same high)) follow base k t c
+        (around r (told.sectors d) budget (text.text o)) (around r (told.sectors d) budget (text.text o)) ready running (text.text o1)
+        (ap (λ (q : Output). q.text) puts.by ∙ ap (append_known (text.text o)) (ap (λ q. rows_before r.boot q r.turns) e ∙ starts r.boot kept r.turns y same))
+
+    -- THE TURNS WERE BROKEN OFF
+    module _ {R : Type 0} (f : RunFault) (no_sink : r.tracer ≡ None → f ≡ Sink → ⊥) (calls : StepsCall {T = R} text told (map_of (boot_of r.boot)) r.machine r.tracer (o1, d) (o2, d1) n (Err f)) where
+      boot_fails : (f' : RunFault) → f' ≡ f → r.tracer ≡ None → (y : System) (s : State) (late held : ℕ) → RunMachines x y s late held → (base : Base) (k t : ℕ) (c : Cvm) →
+          Ready x y s Boot base k t c (around r (told.sectors d) budget (text.text o)) → (i : ℕ) → i ≤ budget → (w : Skipped x y s k t c i) →
+          TurnFails x y s Boot base (k + i) (t + i) w.after (record (around r (told.sectors d) budget (text.text o)) { budget = budget - i }) (around new (told.sectors d1) left (text.text o2)) f' →
+          (turns steps : ℕ) (p : Past) → TellsFrom (run_at x y s Boot turns steps) p t (t + n) → (old new : Outside) → Performs (transfers x s t n) old new (of_run f') →
+          Performs (steps_script (run_at x y s Boot turns steps) p t n) old new (of_run f')
+      boot_fails StepLimit is none y s late held m base k t c ready i le w fails turns steps p tells old new made =
+          let spent : left ≡ 0 = fails.spent in
+          let all : t + n ≡ t + i + (budget - i) = omega (arith, n_is, spent, le) in
+          same_script (transfers x s t n) (steps_script (run_at x y s Boot turns steps) p t n) old new None
+          (sym (quiet_steps x y s late held m turns steps p t n tells k (k + i) c w.after ready.stood.cvm w.stood.cvm w.rows
+          (spread x y s k t c i w (t + n) (λ j from to. fails.between j from (omega (arith, to, all)))))) made
+      boot_fails Disk is none y s late held m base k t c ready i le w fails turns steps p tells old new made =
+          let spent : left + suc fails.at ≡ budget - i + (t + i) = fails.budget in
+          let from : t + i ≤ fails.at = fails.from in
+          let many : n ≡ suc (fails.at - t) = omega (arith, n_is, spent, le, from) in
+          last_breaks x y s late held m turns steps p t n tells k (k + i) c w.after ready.stood.cvm w.stood.cvm w.rows (fails.at - t) many
+          (spread x y s k t c i w (t + (fails.at - t)) (λ j low high. fails.between j low (omega (arith, high, from)))) old new TheDisk made
+      boot_fails Sink is none y s late held m base k t c ready i le w fails turns steps p tells old new made = absurd (no_sink none (sym is))
+
+      -- of a run that is out of steps nothing is behind them
+      none_behind : (f' : RunFault) → (v : View) (y : System) (s : State) (late held : ℕ) → RunMachines x y s late held → (base : Base) (k t : ℕ) (c : Cvm) (i : ℕ) → i ≤ budget → (w : Skipped x y s k t c i) →
+          TurnFails x y s v base (k + i) (t + i) w.after (record (around r (told.sectors d) budget (text.text o)) { budget = budget - i }) (around new (told.sectors d1) left (text.text o2)) f' →
+          (turns steps : ℕ) (p : Past) → TellsFrom (run_at x y s v turns steps) p t (t + n) → of_run f' ≡ None →
+          fault_script v (run_at x y s v turns steps) p (t + n) (run x s (t + n)).off (cvm_at (run_at x y s v turns steps) p (t + n)).status ≡ []
+      none_behind StepLimit v y s late held m base k t c i le w fails turns steps p tells e =
+          let spent : left ≡ 0 = fails.spent in
+          let all : t + n ≡ t + i + (budget - i) = omega (arith, n_is, spent, le) in
+          let here : complete x s (t + n) ≡ k + i = fails.between (t + n) (omega (arith, all)) (omega (arith, all)) in
+          let is : cvm_at (run_at x y s v turns steps) p (t + n) ≡ w.after =
+          m.same (k + i) (cvm_at (run_at x y s v turns steps) p (t + n)) w.after (subst (λ j. IsCvm y (lines_of x s) j (cvm_at (run_at x y s v turns steps) p (t + n))) here (tells.turns (t + n) (omega arith) (omega arith))) w.stood.cvm in
+          goes_none v (run_at x y s v turns steps) p (t + n) (run x s (t + n)).off (cvm_at (run_at x y s v turns steps) p (t + n)).status (ap (λ (q : Cvm). q.status) is ∙ w.running)
+      none_behind Disk v y s late held m base k t c i le w fails turns steps p tells e = absurd (let h = e in cc)
+      none_behind Sink v y s late held m base k t c i le w fails turns steps p tells e = absurd (let h = e in cc)
+
+      pub broken_calls : {T : Type 0} → TurnsRun (told.size d) r most (around r (told.sectors d) budget (text.text o)) (around new (told.sectors d1) left (text.text o2)) (Err f) → TurnsCall {T = T} text told r budget (o, d) (o2, d1) n (Err f)
+      broken_calls {T} runs = record {
+        exact = by_view r views (λ v. EndsAs (text.text o2) (Err f) v → CallsAs o2 d1 n (of_run f) v)
+            (λ e ends. λ u y s late held base k t c same lawful ready running turns steps p tells shelf.
+            let q = ends u y s late held base k t c same lawful ready running in
+            let m = law u x y s late held lawful in
+            let rn : Run = run_at x y s Boot turns steps in
+            two (begin_script rn k) (steps_script rn p t n) (fault_script Boot rn p (t + n) (run x s (t + n)).off (cvm_at rn p (t + n)).status) (at text told shelf o d) (at text told shelf o1 d) (at text told shelf o2 d1) (of_run f)
+            (λ _. no_fault rn p (t + n) (run x s (t + n)).off (cvm_at rn p (t + n)).status refl)
+            (begin_none y s turns steps k shelf e puts)
+            (boot_fails f refl e y s late held m base k t c ready q.0 q.2 q.3 q.4 turns steps p tells (at text told shelf o1 d) (at text told shelf o2 d1) (calls.untraced e s t ready.state shelf)))
+            (λ kept e low high ends. λ u y s late held base k t c same lawful ready running turns steps p tells shelf.
+            let q = ends u y s late held base k t c same lawful ready running in
+            let m = law u x y s late held lawful in
+            let rn : Run = run_at x y s (Trace kept.user) turns steps in
+            two (begin_script rn k) (steps_script rn p t n) (fault_script (Trace kept.user) rn p (t + n) (run x s (t + n)).off (cvm_at rn p (t + n)).status) (at text told shelf o d) (at text told shelf o1 d) (at text told shelf o2 d1) (of_run f)
+            (none_behind f (Trace kept.user) y s late held m base k t c q.0 q.2 q.3 q.4 turns steps p tells)
+            (begin_put kept y s turns steps k shelf None e same ready.turns (λ ne. absurd (ne refl)) puts)
+            (calls.traced u y s late held kept.user t (base.shows (start_at y kept.user 0)) lawful (ap map_of (sym same)) low (few y kept.user same high) ready.state
+            (traced kept e low high u y s late held base k t c same lawful ready running) p turns steps tells.user shelf))
+            runs;
+        some = λ _. (
+          Printed None ∷ calls.some.0,
+          calls.some.1,
+          λ shelf. both (Printed None ∷ []) calls.some.0 (at text told shelf o d) (at text told shelf o1 d) (at text told shelf o2 d1) (of_run f) (some_put text told shelf o o1 d (rows_before r.boot r.tracer r.turns) None puts) (calls.some.2 shelf),
+        );
+      }
+
+    -- THE TURNS WERE MADE, and what is behind them was put, or cut off
+    module _ {R : Type 0} (v0 : R) (calls : StepsCall {T = R} text told (map_of (boot_of r.boot)) r.machine r.tracer (o1, d) (o2, d1) n (Ok v0)) (made : ℕ) (answer : Turn) (blamed : Option Who)
+        (behind : Puts (rows_after new.tracer new.ended answer) (output text o2) (output text o3) blamed) (none_kept : r.tracer ≡ None → new.tracer ≡ None)
+        (one_row : r.tracer ≡ None → blamed ≢ None → (row : Row) × (rows_of answer ≡ row ∷ [])) (faulted : IsSome new.tracer → blamed ≢ None → has_faulted new.ended ≡ true) where
+      -- a row is a text
+      some_row : (rows : List Row) → (blamed ≢ None → (row : Row) × (rows ≡ row ∷ [])) → rows_text rows ≡ [] → blamed ≡ None
+      some_row rows h e = by blamed h
+        where
+          by : (w : Option Who) → (w ≢ None → (row : Row) × (rows ≡ row ∷ [])) → w ≡ None
+          by None h = refl
+          by (Some whom) h = let z = h (λ q. cc) in absurd (let g : rows_text (z.0 ∷ []) ≡ [] = sym (ap rows_text z.1) ∙ e in cc)
+
+      boot_made : r.tracer ≡ None → (retext : Option (List ℕ)) → EndsAs retext (Ok (made, answer)) Boot → CallsAs o3 d1 n blamed Boot
+      boot_made e retext ends u y s late held base k t c same lawful ready running turns steps p tells shelf =
+          let q = ends u y s late held base k t c same lawful ready running in
+          let i = q.0 in
+          let le : i ≤ budget = q.2 in
+          let w : Skipped x y s k t c i = q.3 in
+          let g : Turned x y s Boot base (k + i) (t + i) w.after (record (around r (told.sectors d) budget (text.text o)) { budget = budget - i }) (around new (told.sectors d1) left retext) answer = q.4.1 in
+          let m = law u x y s late held lawful in
+          let rn : Run = run_at x y s Boot turns steps in
+          let sum : left + g.ahead.end ≡ budget - i + (t + i) = g.budget in
+          let from : t + i ≤ g.ahead.start = g.ahead.from in
+          let to : g.ahead.start < g.ahead.end = g.ahead.to in
+          let there : t + n ≡ g.ahead.end = omega (arith, n_is, sum, le, from, to) in
+          let many : n ≡ suc (n - 1) = omega (arith, there, from, to) in
+          let is : cvm_at rn p (t + n) ≡ g.ahead.after = at_end x y s late held m Boot turns steps p t n tells (k + i) (t + i) w.after g.ahead there in
+          let rows : (cvm_at rn p (t + n)).rows ≡ c.rows ++ rows_of answer = ap (λ (z : Cvm). z.rows) is ∙ g.rows ∙ ap (λ (l : List Row). l ++ rows_of answer) w.rows in
+          let all : steps_script rn p t n ≡ transfers x s t n ++ prints (rows_text (rows_of answer)) =
+          last_step x y s late held m turns steps p t n tells k (k + i) c w.after ready.stood.cvm w.stood.cvm w.rows (n - 1) many
+          (spread x y s k t c i w (t + (n - 1)) (λ j low high. g.ahead.between j low (omega (arith, high, there, from, to)))) (rows_of answer) rows in
+          let after : Puts (rows_text (rows_of answer)) (output text o2) (output text o3) blamed = subst (λ (z : Option Tracer). Puts (rows_after z new.ended answer) (output text o2) (output text o3) blamed) (none_kept e) behind in
+          two (begin_script rn k) (steps_script rn p t n) (fault_script Boot rn p (t + n) (run x s (t + n)).off (cvm_at rn p (t + n)).status) (at text told shelf o d) (at text told shelf o1 d) (at text told shelf o3 d1) blamed
+          (λ _. no_fault rn p (t + n) (run x s (t + n)).off (cvm_at rn p (t + n)).status refl)
+          (begin_none y s turns steps k shelf e puts)
+          (same_script (transfers x s t n ++ prints (rows_text (rows_of answer))) (steps_script rn p t n) (at text told shelf o1 d) (at text told shelf o3 d1) blamed (sym all)
+          (both (transfers x s t n) (prints (rows_text (rows_of answer))) (at text told shelf o1 d) (at text told shelf o2 d1) (at text told shelf o3 d1) blamed (calls.untraced e s t ready.state shelf)
+          (prints_put text told shelf o2 o3 d1 (rows_text (rows_of answer)) blamed (some_row (rows_of answer) (one_row e)) after)))
+
+      off_at : (x : device.Outside) (s : State) (a b : ℕ) → a ≡ b → (f : KernelFault) (st : Status) → st ≡ Faulted f → Rests st (run x s b) → (run x s a).off ≡ Some (power_of f)
+      off_at x s a b e f st is rests = ap (λ i. (run x s i).off) e ∙ subst (λ (z : Status). Rests z (run x s b)) is rests
+
+      trace_made : (kept : Tracer) → r.tracer ≡ Some kept → 1 ≤ kept.user → kept.user ≤ length r.boot.users.items → (retext : Option (List ℕ)) → EndsAs retext (Ok (made, answer)) (Trace kept.user) → CallsAs o3 d1 n blamed (Trace kept.user)
+      trace_made kept e low high retext ends u y s late held base k t c same lawful ready running turns steps p tells shelf =
+          let q = ends u y s late held base k t c same lawful ready running in
+          let i = q.0 in
+          let le : i ≤ budget = q.2 in
+          let w : Skipped x y s k t c i = q.3 in
+          let g : Turned x y s (Trace kept.user) base (k + i) (t + i) w.after (record (around r (told.sectors d) budget (text.text o)) { budget = budget - i }) (around new (told.sectors d1) left retext) answer = q.4.1 in
+          let m = law u x y s late held lawful in
+          let grows = grow u x y s late held kept.user lawful low (few y kept.user same high) in
+          let rn : Run = run_at x y s (Trace kept.user) turns steps in
+          let sum : left + g.ahead.end ≡ budget - i + (t + i) = g.budget in
+          let from : t + i ≤ g.ahead.start = g.ahead.from in
+          let to : g.ahead.start < g.ahead.end = g.ahead.to in
+          let there : t + n ≡ g.ahead.end = omega (arith, n_is, sum, le, from, to) in
+          let is : cvm_at rn p (t + n) ≡ g.ahead.after = at_end x y s late held m (Trace kept.user) turns steps p t n tells (k + i) (t + i) w.after g.ahead there in
+          let traces = g.ready.traces in
+          let j : List JournalEntry = traces.0 in
+          let shown : p.shown (t + n) ≡ j =
+          grows.one (t + n) (p.shown (t + n)) j (tells.user (t + n) (omega arith) (omega arith)) (subst (λ z. Shown x s y kept.user z j) (sym there) traces.1) in
+          let rows : rows_after new.tracer new.ended answer ≡ fault_rows (pending_steps j) new.ended = ap (λ z. rows_after z new.ended answer) traces.2 in
+          three (begin_script rn k) (steps_script rn p t n) (fault_script (Trace kept.user) rn p (t + n) (run x s (t + n)).off (cvm_at rn p (t + n)).status)
+          (at text told shelf o d) (at text told shelf o1 d) (at text told shelf o2 d1) (at text told shelf o3 d1) blamed
+          (begin_put kept y s turns steps k shelf None e same ready.turns (λ ne. absurd (ne refl)) puts)
+          (calls.traced u y s late held kept.user t (base.shows (start_at y kept.user 0)) lawful (ap map_of (sym same)) low (few y kept.user same high) ready.state
+          (traced kept e low high u y s late held base k t c same lawful ready running) p turns steps tells.user shelf)
+          (fault_put text told shelf o2 o3 d1 follow x y s kept.user turns steps p (t + n) g.ahead.after is j shown new.ended (run x s (t + n)).off (cvm_at rn p (t + n)).status (sym (ap (λ (z : Cvm). z.status) is))
+          (g.ready.ended ∙ ap ended_of (sym (ap (λ (z : Cvm). z.status) is)))
+          (λ f e_st. off_at x s (t + n) g.ahead.end there f (g.ahead.after.status) (sym (ap (λ (z : Cvm). z.status) is) ∙ e_st) g.ahead.stood.rests.0) blamed (faulted (subst IsSome (sym traces.2) refl))
+          (subst (λ (l : List ℕ). Puts l (output text o2) (output text o3) blamed) rows behind))
+
+      pub made_calls : {T : Type 0} (result : Result T RunFault) → blame of_run result ≡ blamed → (retext : Option (List ℕ)) →
+          TurnsRun (told.size d) r most (around r (told.sectors d) budget (text.text o)) (around new (told.sectors d1) left retext) (Ok (made, answer)) → TurnsCall text told r budget (o, d) (o3, d1) n result
+      made_calls result is retext runs = record {
+        exact = subst (λ (w : Option Who). CallsAs o3 d1 n w r.view) (sym is)
+            (by_view r views (λ v. EndsAs retext (Ok (made, answer)) v → CallsAs o3 d1 n blamed v) (λ e. boot_made e retext) (λ kept e low high. trace_made kept e low high retext) runs);
+        some = λ _. (
+          Printed None ∷ calls.some.0 ++ Printed None ∷ [],
+          of_both calls.some.0 (Printed None ∷ []) calls.some.1 tt,
+          λ shelf. subst (Performs (Printed None ∷ calls.some.0 ++ Printed None ∷ []) (at text told shelf o d) (at text told shelf o3 d1)) (sym is)
+              (both (Printed None ∷ []) (calls.some.0 ++ Printed None ∷ []) (at text told shelf o d) (at text told shelf o1 d) (at text told shelf o3 d1) blamed (some_put text told shelf o o1 d (rows_before r.boot r.tracer r.turns) None puts)
+              (both calls.some.0 (Printed None ∷ []) (at text told shelf o1 d) (at text told shelf o2 d1) (at text told shelf o3 d1) blamed (calls.some.2 shelf) (some_put text told shelf o2 o3 d1 (rows_after new.tracer new.ended answer) blamed behind))),
+        );
+      }
+
+-- a run that kept a fault, or has ended, calls nothing
+module _ {L O D T : Type 0} (text : sink_of.Ghosts O) (told : sectors_of.Ghosts D) (r : Kept L) (o o1 : O) (d d1 : D) (budget n : ℕ) (result : Result T RunFault) where
+  pub faulted_calls : (f : RunFault) → r.fault ≡ Some f → TurnsCall text told r budget (o, d) (o1, d1) n result
+  faulted_calls f is = record {
+    exact = λ u y s late held base k t c same lawful ready running turns steps p tells shelf. absurd (let e : ◌≡◌ {A = Option RunFault} (Some f) None = sym is ∙ ready.fault in cc);
+    some = λ none. absurd (let e : ◌≡◌ {A = Option RunFault} (Some f) None = sym is ∙ none in cc);
+  }
+
+-- an answer of another call that blames the same
+pub as_calls : {L O D T R : Type 0} (text : sink_of.Ghosts O) (told : sectors_of.Ghosts D) (r : Kept L) (o o1 : O) (d d1 : D) (budget n : ℕ) (before : Result T RunFault) (result : Result R RunFault) → blame of_run before ≡ blame of_run result →
+    TurnsCall text told r budget (o, d) (o1, d1) n before → TurnsCall text told r budget (o, d) (o1, d1) n result
+as_calls text told r o o1 d d1 budget n before result same calls = record {
+  exact = λ u y s late held base k t c at lawful ready running turns steps p tells shelf.
+      subst (Performs (turns_script (run_at (outside_of r.machine.rows (told.size d)) y s r.view turns steps) p k t n) (record { shelf = shelf; sink = output text o; disk = drive told d }) (record { shelf = shelf; sink = output text o1; disk = drive told d1 })) same
+      (calls.exact u y s late held base k t c at lawful ready running turns steps p tells shelf);
+  some = λ none. (let q = calls.some none in (q.0, q.1, λ shelf. subst (Performs q.0 (record { shelf = shelf; sink = output text o; disk = drive told d }) (record { shelf = shelf; sink = output text o1; disk = drive told d1 })) same (q.2 shelf)));
+}
+
+ended_calls : {L O D T : Type 0} (text : sink_of.Ghosts O) (told : sectors_of.Ghosts D) (r : Kept L) (o : O) (d : D) (budget n : ℕ) (v : T) (e : Next) → r.ended ≡ Some e → TurnsCall {T = T} text told r budget (o, d) (o, d) n (Ok v)
+ended_calls text told r o d budget n v e is = record {
+  exact = λ u y s late held base k t c same lawful ready running turns steps p tells shelf.
+      absurd (let h : ◌≡◌ {A = Option Next} (Some e) None = sym is ∙ ready.ended ∙ ap ended_of running in cc);
+  some = λ none. ([], tt, λ shelf. done (record { shelf = shelf; sink = output text o; disk = drive told d }));
+}
+
+pub over_calls : {L O D T : Type 0} (text : sink_of.Ghosts O) (told : sectors_of.Ghosts D) (r : Kept L) (o : O) (d : D) (budget n : ℕ) (v : T) → IsSome r.ended → TurnsCall {T = T} text told r budget (o, d) (o, d) n (Ok v)
+over_calls text told r o d budget n v some = by r.ended refl some
+  where
+    by : (e : Option Next) → r.ended ≡ e → IsSome e → TurnsCall text told r budget (o, d) (o, d) n (Ok v)
+    by None is h = absurd (cc)
+    by (Some e) is h = ended_calls text told r o d budget n v e is

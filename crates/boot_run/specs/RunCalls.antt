@@ -1,0 +1,212 @@
+-- THE SCRIPTS OF THE CALLS of a loaded run: turns, the report, and a run to its end; over a disk that tells its sectors exactly, and else some calls.
+use Rattle.std.specs.Prelude.{◌≡◌, ℕ, zero, suc, ◌+◌, ◌-◌, ◌≤◌, ⊤, Bool, true, false, Option, Some, None, List, [], ◌++◌, Result, Ok, Err}
+use Rattle.mips_table.specs.Device.{Outside}
+use Rattle.mips_table.specs.Machine.{State}
+use Rattle.schedule_file.specs.Rows.{Rows}
+use Rattle.mips_machine.specs.Steps.{outside_of}
+use Rattle.c0_tree.specs.Tree.{CUnit}
+use Rattle.c0_tree.specs.View.{unit_view}
+use Rattle.c0_meaning.specs.TypedState.{IsTypedState}
+use Rattle.cvm_outside.specs.Outside.{Files, Output, output, drive}
+use Rattle.cvm_outside.specs.declared.sink.Sink as sink_of
+use Rattle.cvm_outside.specs.declared.sectors.Sectors as sectors_of
+use Rattle.cvm_outside.specs.Script.{Call, Who, TheSink, TheDisk, Performs, Makes, blame}
+use Rattle.cvm_model.specs.Cvm.{System, Status, Running, Faulted, Cvm, IsCvm}
+use Rattle.layer_contract.specs.Boots.{boot_of}
+use Rattle.boot_turns.specs.Premises.{StartsFrom}
+use Rattle.boot_turns.specs.declared.answers.View.{View}
+use Rattle.boot_turns.specs.declared.answers.RunFault.{RunFault}
+use Rattle.boot_turns.specs.Runs.{Run, Past, IsPast, IsShown, state_at, turns_at, lines_met, steps_made, has_ended, cvm_at}
+use Rattle.boot_turns.specs.StepScript.{steps_script}
+use Rattle.boot_turns.specs.RowScripts.{of_run}
+use Rattle.boot_turns.specs.LoopScripts.{AreOfRun, SomeMake}
+use Rattle.boot_run.specs.declared.load.LoadFault.{LoadFault}
+use Rattle.boot_run.specs.declared.load.LoadFault.TheVariants as load
+use Rattle.boot_run.specs.declared.whole.RunEnd.{RunEnd}
+use Rattle.boot_run.specs.declared.whole.RunEnd.TheVariants as ends
+use Rattle.boot_run.specs.Closing.{opening_script, report_by}
+use Rattle.boot_run.specs.RunScript.{rest_script, run_script}
+use Rattle.boot_run.specs.LoadEnds.{Kept}
+use Rattle.boot_run.specs.Sink.{Base}
+use Rattle.boot_run.specs.Pieces.{Bootable, FirstAt}
+use Rattle.boot_run.specs.TurnCalls.{around, Ready}
+
+-- the run of a system from a start, viewed so, for so many turns and steps
+abbrev pub run_at : Outside → System → State → View → (turns steps : ℕ) → Run
+run_at x y s v turns steps = record { around = x; system = y; first = s; view = v; turns = turns; steps = steps }
+
+-- this is what the abstract machine says of it from step a to step b
+pub record TellsFrom (r : Run) (p : Past) (a b : ℕ) : Type 0 where
+  pub turns : (j : ℕ) → a ≤ j → j ≤ b → IsCvm r.system (lines_met r) (turns_at r j) (cvm_at r p j)
+  pub user : (j : ℕ) → a ≤ j → j ≤ b → IsShown r.view r j (p.shown j)
+
+-- before its first turn, number 0, the first row of a trace is printed
+abbrev pub begin_script : Run → (k : ℕ) → List Call
+begin_script r zero = opening_script r.view r.system
+begin_script r (suc k) = []
+
+-- behind step number t, where the machine is off, the whole report of a kernel that faulted; and of no other one
+abbrev pub fault_script : View → Run → Past → (t : ℕ) → (off : Option ℕ) → Status → List Call
+fault_script v r p t None status = []
+fault_script v r p t (Some power) (Faulted f) = report_by v r p t
+fault_script v r p t (Some power) other = []
+
+-- and the report of any other
+abbrev pub report_script : View → Run → Past → (t : ℕ) → Status → List Call
+report_script v r p t (Faulted f) = []
+report_script v r p t other = report_by v r p t
+
+-- TURNS, from turn number k and step number t on, in n steps
+abbrev pub turns_script : Run → Past → (k t n : ℕ) → List Call
+turns_script r p k t n = begin_script r k ++ steps_script r p t n ++ fault_script r.view r p (t + n) (state_at r (t + n)).off (cvm_at r p (t + n)).status
+
+-- THE CALLS OF TURNS that a loaded run makes in n steps: from any moment between turns of any boot of this kernel that stands there and goes on
+abbrev pub TurnsPerform : {O D L T : Type 0} → sink_of.Ghosts O → sectors_of.Ghosts D → Kept L → (budget : ℕ) → (old new : O × D) → (n : ℕ) →
+    Result T RunFault → Type 0
+TurnsPerform text told run budget (out, disk) new n result =
+    (u : CUnit) (y : System) (s : State) (late held : ℕ) (base : Base) (k t : ℕ) (c : Cvm) → y.boot ≡ boot_of run.boot →
+    StartsFrom (IsTypedState u) (outside_of run.machine.rows (told.size disk)) y s late held →
+    Ready (outside_of run.machine.rows (told.size disk)) y s run.view base k t c (around run (told.sectors disk) budget (text.text out)) →
+    c.status ≡ Running → (turns steps : ℕ) (p : Past) →
+    TellsFrom (run_at (outside_of run.machine.rows (told.size disk)) y s run.view turns steps) p t (t + n) →
+    Makes text told (out, disk) new (turns_script (run_at (outside_of run.machine.rows (told.size disk)) y s run.view turns steps) p k t n) of_run result
+
+-- so it is; and where it kept no fault some calls of a run are made over any disk
+pub record TurnsCall {O D L T : Type 0} (text : sink_of.Ghosts O) (told : sectors_of.Ghosts D) (run : Kept L) (budget : ℕ) (old new : O × D) (n : ℕ)
+    (result : Result T RunFault) : Type 0 where
+  pub exact : TurnsPerform text told run budget old new n result
+  pub some : run.fault ≡ None → SomeMake text told old new result
+
+-- THE CALLS OF A REPORT, between turns of any boot of this kernel that stands there
+abbrev pub ReportPerforms : {O D L T : Type 0} → sink_of.Ghosts O → sectors_of.Ghosts D → Kept L → (old new : O × D) → Result T RunFault → Type 0
+ReportPerforms text told run (out, disk) new result =
+    (budget : ℕ) (y : System) (s : State) (late held : ℕ) (base : Base) (k t : ℕ) (c : Cvm) → y.boot ≡ boot_of run.boot →
+    StartsFrom (IsTypedState (unit_view run.boot.unit)) (outside_of run.machine.rows (told.size disk)) y s late held →
+    Ready (outside_of run.machine.rows (told.size disk)) y s run.view base (suc k) t c (around run (told.sectors disk) budget (text.text out)) →
+    (turns steps : ℕ) (p : Past) → TellsFrom (run_at (outside_of run.machine.rows (told.size disk)) y s run.view turns steps) p t t →
+    Makes text told (out, disk) new
+    (report_script run.view (run_at (outside_of run.machine.rows (told.size disk)) y s run.view turns steps) p t c.status) of_run result
+
+pub record ReportCalls {O D L T : Type 0} (text : sink_of.Ghosts O) (told : sectors_of.Ghosts D) (run : Kept L) (old new : O × D)
+    (result : Result T RunFault) : Type 0 where
+  pub exact : ReportPerforms text told run old new result
+  pub some : run.fault ≡ None → SomeMake text told old new result
+
+-- whom an answer of a load blames
+abbrev pub of_load : LoadFault → Option Who
+of_load load.Disk = Some TheDisk
+of_load other = None
+
+-- a load is begun, or refused before it
+abbrev pub loads : {T : Type 0} → Result T LoadFault → Bool
+loads (Ok r) = true
+loads (Err load.Disk) = true
+loads (Err other) = false
+
+-- THE CALLS OF A LOAD, over a disk: those of its script; where it is refused before, none
+pub record LoadCalls {D T : Type 0} (told : sectors_of.Ghosts D) (disk redisk : D) (script : List Call) (result : Result T LoadFault) : Type 0 where
+  pub made : loads result ≡ true → (shelf : Files) (sink : Output) → Performs script (record { shelf = shelf; sink = sink; disk = drive told disk })
+      (record { shelf = shelf; sink = sink; disk = drive told redisk }) (blame of_load result)
+  pub none : loads result ≡ false → redisk ≡ disk
+
+-- whom an end blames, and how a run ends where no call fails: by whether it came to its end, and by what the abstract machine says
+abbrev pub of_end : RunEnd → Option Who
+of_end ends.DiskFault = Some TheDisk
+of_end ends.SinkFault = Some TheSink
+of_end other = None
+
+abbrev pub end_by : (ended : Bool) → Status → RunEnd
+end_by false status = ends.OutOfSteps
+end_by true (Faulted f) = ends.KernelFaulted
+end_by true other = ends.Done
+
+abbrev pub due_end : Run → Past → RunEnd
+due_end r p = end_by (has_ended r) (cvm_at r p (steps_made r)).status
+
+-- calls of a sink and a disk, by whom they blame
+abbrev pub Made : {O D : Type 0} → sink_of.Ghosts O → sectors_of.Ghosts D → (old new : O × D) → List Call → Option Who → Type 0
+Made text told (out, disk) (reout, redisk) script blamed = (shelf : Files) →
+    Performs script (record { shelf = shelf; sink = output text out; disk = drive told disk })
+    (record { shelf = shelf; sink = output text reout; disk = drive told redisk }) blamed
+
+-- A SCRIPT OF A WHOLE RUN is made, and the run ends as is due unless a call fails
+pub record EndsBy {O D : Type 0} (text : sink_of.Ghosts O) (told : sectors_of.Ghosts D) (old new : O × D) (script : List Call) (due end : RunEnd) :
+    Type 0 where
+  pub made : Made text told old new script (of_end end)
+  pub is : of_end end ≡ None → end ≡ due
+
+-- THE CALLS OF THE LOOP over turns: from any moment at which turns are complete for the first time, of any boot of this kernel that stands there and
+-- goes on, those of the turns up to the headline's step
+abbrev pub GoPerforms : {O D L T : Type 0} → sink_of.Ghosts O → sectors_of.Ghosts D → Kept L → (turns budget : ℕ) → (old new : O × D) →
+    Result T RunFault → Type 0
+GoPerforms text told run turns budget (out, disk) new result =
+    (y : System) (s : State) (late held : ℕ) (old : List (List ℕ)) (base : Base) (k t wanted steps : ℕ) (c : Cvm) →
+    Bootable run.boot run.machine.rows (told.size disk) y s late held old → FirstAt (outside_of run.machine.rows (told.size disk)) s k t → 1 ≤ wanted →
+    k + turns ≡ wanted → budget + t ≡ steps →
+    Ready (outside_of run.machine.rows (told.size disk)) y s run.view base k t c (around run (told.sectors disk) budget (text.text out)) →
+    c.status ≡ Running → (p : Past) → IsPast (run_at (outside_of run.machine.rows (told.size disk)) y s run.view wanted steps) p →
+    Makes text told (out, disk) new (turns_script (run_at (outside_of run.machine.rows (told.size disk)) y s run.view wanted steps) p k t
+    (steps_made (run_at (outside_of run.machine.rows (told.size disk)) y s run.view wanted steps) - t)) of_run result
+
+pub record GoCalls {O D L T : Type 0} (text : sink_of.Ghosts O) (told : sectors_of.Ghosts D) (run : Kept L) (turns budget : ℕ) (old new : O × D)
+    (result : Result T RunFault) : Type 0 where
+  pub exact : GoPerforms text told run turns budget old new result
+  pub some : SomeMake text told old new result
+
+-- THE CALLS OF A LOADED RUN TO ITS END: from any moment at which turns are complete for the first time, of any boot of this kernel that stands there and
+-- goes on
+abbrev pub RestPerforms : {O D L : Type 0} → sink_of.Ghosts O → sectors_of.Ghosts D → Kept L → (turns budget : ℕ) → (old new : O × D) → RunEnd → Type 0
+RestPerforms text told run turns budget (out, disk) new end =
+    (y : System) (s : State) (late held : ℕ) (old : List (List ℕ)) (base : Base) (k t wanted steps : ℕ) (c : Cvm) →
+    Bootable run.boot run.machine.rows (told.size disk) y s late held old → FirstAt (outside_of run.machine.rows (told.size disk)) s k t → 1 ≤ wanted →
+    k + turns ≡ wanted → budget + t ≡ steps →
+    Ready (outside_of run.machine.rows (told.size disk)) y s run.view base k t c (around run (told.sectors disk) budget (text.text out)) →
+    c.status ≡ Running → (p : Past) → IsPast (run_at (outside_of run.machine.rows (told.size disk)) y s run.view wanted steps) p →
+    EndsBy text told (out, disk) new (begin_script (run_at (outside_of run.machine.rows (told.size disk)) y s run.view wanted steps) k
+    ++ rest_script (run_at (outside_of run.machine.rows (told.size disk)) y s run.view wanted steps) p t)
+    (due_end (run_at (outside_of run.machine.rows (told.size disk)) y s run.view wanted steps) p) end
+
+-- THE CALLS THAT CLOSE A RUN: those of its report, by whom the end blames
+abbrev pub ClosePerforms : {O D L : Type 0} → sink_of.Ghosts O → sectors_of.Ghosts D → Kept L → (old new : O × D) → RunEnd → Type 0
+ClosePerforms text told run (out, disk) new end =
+    (budget : ℕ) (y : System) (s : State) (late held : ℕ) (base : Base) (k t : ℕ) (c : Cvm) → y.boot ≡ boot_of run.boot →
+    StartsFrom (IsTypedState (unit_view run.boot.unit)) (outside_of run.machine.rows (told.size disk)) y s late held →
+    Ready (outside_of run.machine.rows (told.size disk)) y s run.view base (suc k) t c (around run (told.sectors disk) budget (text.text out)) →
+    (turns steps : ℕ) (p : Past) → TellsFrom (run_at (outside_of run.machine.rows (told.size disk)) y s run.view turns steps) p t t →
+    EndsBy text told (out, disk) new (report_script run.view (run_at (outside_of run.machine.rows (told.size disk)) y s run.view turns steps) p t c.status)
+    (end_by true c.status) end
+
+-- some calls of a run are made, by whom they blame
+abbrev pub SomeMade : {O D : Type 0} → sink_of.Ghosts O → sectors_of.Ghosts D → (old new : O × D) → Option Who → Type 0
+SomeMade text told old new blamed = (script : List Call) × AreOfRun script × Made text told old new script blamed
+
+pub record CloseCalls {O D L : Type 0} (text : sink_of.Ghosts O) (told : sectors_of.Ghosts D) (run : Kept L) (old new : O × D) (end : RunEnd) :
+    Type 0 where
+  pub exact : ClosePerforms text told run old new end
+  pub some : SomeMade text told old new (of_end end)
+
+pub record RestCalls {O D L : Type 0} (text : sink_of.Ghosts O) (told : sectors_of.Ghosts D) (run : Kept L) (turns budget : ℕ) (old new : O × D)
+    (end : RunEnd) : Type 0 where
+  pub exact : RestPerforms text told run turns budget old new end
+  pub some : SomeMade text told old new (of_end end)
+
+-- whom an answer blames of a call that loads a run and makes it
+abbrev pub of_answer : Result RunEnd LoadFault → Option Who
+of_answer (Ok end) = of_end end
+of_answer (Err fault) = of_load fault
+
+-- the end that an answer tells is the one that is due
+abbrev pub IsDue : Result RunEnd LoadFault → RunEnd → Type 0
+IsDue (Ok end) due = end ≡ due
+IsDue (Err fault) due = ⊤
+
+-- THE CALLS OF A WHOLE BOOT OR TRACE, of a system from the start that these sectors make, and with the load of these pages: those of the run's script,
+-- where the sectors are told; else the load's, and some calls of a run; and none where it is refused before the load
+pub record WholeScript {O D : Type 0} (text : sink_of.Ghosts O) (told : sectors_of.Ghosts D) (y : System) (rows : Rows) (start : List (List ℕ) → State)
+    (view : View) (turns steps : ℕ) (load : List Call) (old new : O × D) (result : Result RunEnd LoadFault) : Type 0 where
+  pub exact : loads result ≡ true → (sectors : List (List ℕ)) (p : Past) → told.sectors old.1 ≡ Some sectors →
+      IsPast (run_at (outside_of rows (told.size old.1)) y (start sectors) view turns steps) p →
+      Made text told old new (run_script (run_at (outside_of rows (told.size old.1)) y (start sectors) view turns steps) load p) (of_answer result)
+      × (of_answer result ≡ None → IsDue result (due_end (run_at (outside_of rows (told.size old.1)) y (start sectors) view turns steps) p))
+  pub some : loads result ≡ true → (more : List Call) × AreOfRun more × Made text told old new (load ++ more) (of_answer result)
+  pub none : loads result ≡ false → new ≡ old
