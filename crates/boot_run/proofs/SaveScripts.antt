@@ -182,12 +182,16 @@ pub save_refused : {L O D T : Type 0} (text : sink_of.Ghosts O) (told : sectors_
     LoadCalls {T = T} told d d1 script (Err f) → SaveScript {L = L} text told y rows start turns steps script (o, d) (o, d1) (Err f)
 save_refused {L} {O} {D} {T} text told y rows start turns steps script o d d1 f calls = record {
   exact = λ begun sectors p is past. (
-      λ shelf. subst (Performs (script ++ stop_script (run_at (outside_of rows (told.size d)) y (start sectors) Boot turns steps) p 0) (at text told shelf o d) (at text told shelf o d1)) (sym (by_disk (Kept L × SaveEnd) f begun))
-      (first script (stop_script (run_at (outside_of rows (told.size d)) y (start sectors) Boot turns steps) p 0) (at text told shelf o d) (at text told shelf o d1) TheDisk (made begun shelf)),
-      λ _. tt,
+    λ shelf. subst (Performs (script ++ stop_script (run_at (outside_of rows (told.size d)) y (start sectors) Boot turns steps) p 0) (at text told shelf o d) (at text told shelf o d1)) (sym (by_disk (Kept L × SaveEnd) f begun))
+        (first script (stop_script (run_at (outside_of rows (told.size d)) y (start sectors) Boot turns steps) p 0) (at text told shelf o d) (at text told shelf o d1) TheDisk (made begun shelf)),
+    λ _. tt,
   );
-  some = λ begun. ([], tt, λ shelf. same_script script (script ++ []) (at text told shelf o d) (at text told shelf o d1) (of_load f) (sym (append-nil script))
-      (subst (Performs script (at text told shelf o d) (at text told shelf o d1)) (sym (by_disk (Kept L × SaveEnd) f begun)) (made begun shelf)));
+  some = λ begun. (
+    [],
+    tt,
+    λ shelf. same_script script (script ++ []) (at text told shelf o d) (at text told shelf o d1) (of_load f) (sym (append-nil script))
+        (subst (Performs script (at text told shelf o d) (at text told shelf o d1)) (sym (by_disk (Kept L × SaveEnd) f begun)) (made begun shelf)),
+  );
   none = λ e. ap (λ (q : D). (o, q)) (calls.none (same_loads T (Kept L × SaveEnd) f ∙ e));
 }
   where

@@ -61,14 +61,18 @@ pub whole_refused : {O D T : Type 0} (text : sink_of.Ghosts O) (told : sectors_o
     LoadCalls {T = T} told d d1 script (Err f) → WholeScript text told y rows start view turns steps script (o, d) (o, d1) (Err f)
 whole_refused {O} {D} {T} text told y rows start view turns steps script o d d1 f calls = record {
   exact = λ begun sectors p is past. (
-      λ shelf. (let w = made begun shelf in
-      subst (Performs (run_script (run_at (outside_of rows (told.size d)) y (start sectors) view turns steps) script p) (at text told shelf o d) (at text told shelf o d1)) (sym (by_disk RunEnd f begun))
-      (first (script ++ opening_script view y) (rest_script (run_at (outside_of rows (told.size d)) y (start sectors) view turns steps) p 0) (at text told shelf o d) (at text told shelf o d1) TheDisk
-      (first script (opening_script view y) (at text told shelf o d) (at text told shelf o d1) TheDisk w))),
-      λ _. tt,
+    λ shelf. (let w = made begun shelf in
+        subst (Performs (run_script (run_at (outside_of rows (told.size d)) y (start sectors) view turns steps) script p) (at text told shelf o d) (at text told shelf o d1)) (sym (by_disk RunEnd f begun))
+        (first (script ++ opening_script view y) (rest_script (run_at (outside_of rows (told.size d)) y (start sectors) view turns steps) p 0) (at text told shelf o d) (at text told shelf o d1) TheDisk
+        (first script (opening_script view y) (at text told shelf o d) (at text told shelf o d1) TheDisk w))),
+    λ _. tt,
   );
-  some = λ begun. ([], tt, λ shelf. same_script script (script ++ []) (at text told shelf o d) (at text told shelf o d1) (of_load f) (sym (append-nil script))
-      (subst (Performs script (at text told shelf o d) (at text told shelf o d1)) (sym (by_disk RunEnd f begun)) (made begun shelf)));
+  some = λ begun. (
+    [],
+    tt,
+    λ shelf. same_script script (script ++ []) (at text told shelf o d) (at text told shelf o d1) (of_load f) (sym (append-nil script))
+        (subst (Performs script (at text told shelf o d) (at text told shelf o d1)) (sym (by_disk RunEnd f begun)) (made begun shelf)),
+  );
   none = λ e. ap (λ (q : D). (o, q)) (calls.none (same_loads T RunEnd f ∙ e));
 }
   where
