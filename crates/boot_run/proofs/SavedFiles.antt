@@ -1,25 +1,31 @@
--- What is saved of a boot is what a file that is taken up may hold.
--- It serves `saved_boots_are_of_runs` alone.
-use Rattle.std.proofs.Common.{◌≡◌, ℕ, zero, suc, ◌+◌, ◌-◌, ◌*◌, ◌<◌, ◌≤◌, Bool, true, false, not, length, replicate, refl, ap, ◌∙◌, ⊎_elim, arith, length-append, lt-ltb, le-ltb}
+-- What is saved of a run of a system is what a file that is taken up may hold.
+use Rattle.std.proofs.Common.{◌≡◌, ℕ, zero, suc, ◌+◌, ◌-◌, ◌*◌, ◌^◌, ◌<◌, ◌≤◌, Bool, true, false, not, List, length, replicate, refl, ap, ◌∙◌, subst, ⊎_elim, arith, length-append, lt-ltb, le-ltb}
 use Rattle.std.specs.Prelude.{is_some, ◌&&◌, ◌||◌, nat_lt, nat_le, Option}
 use Rattle.std.proofs.lemmas.Bool.{cases_lt}
 use Rattle.std.proofs.lemmas.List.{length-map, length-replicate}
+use Rattle.mips_table.specs.Device.{Outside}
 use Rattle.mips_table.specs.Machine.{State, run}
 use Rattle.mips_table.specs.Turns.{is_on, SumLaws}
 use Rattle.mips_table.specs.Steady.{StartSteady, StaysSteady}
 use Rattle.mips_machine.specs.Steps.{outside_of}
 use Rattle.layer_map.specs.Map.{Map, MapInRange, PartsInOrder, MemoryIsWhole, block_at, layer_words, memory_words, memory_frames}
-use Rattle.cvm_model.specs.Cvm.{Status, Running, Halted, Faulted, map_of}
+use Rattle.c0_tree.specs.View.{unit_view}
+use Rattle.c0_meaning.specs.State.{State as C0}
+use Rattle.c0_meaning.specs.TypedState.{IsTypedState}
+use Rattle.cvm_model.specs.Cvm.{Boot, System, Status, map_of}
 use Rattle.cvm_model.specs.Primitives.{no_flat}
-use Rattle.cvm_model.specs.Stands.{Stands, is_own, runs_user}
-use Rattle.layer_contract.specs.declared.boot.Boot.{Boot as Booted}
+use Rattle.cvm_model.specs.Stands.{Stands, is_own}
 use Rattle.layer_contract.specs.Boots.{boot_of}
 use Rattle.layer_contract.specs.Layer.{Rests}
 use Rattle.layer_contract.specs.Follows.{site_of, loaded, loaded_memory}
-use Rattle.saved_file.specs.Resumable.{is_left_out}
+use Rattle.layer_contract.specs.Starts.{user_sectors}
+use Rattle.boot_turns.specs.Premises.{StartsFrom}
+use Rattle.saved_file.specs.Resumable.{Wanted, is_left_out}
+use Rattle.saved_file.specs.Answer.{IsOfRun}
 use Rattle.boot_run.specs.Loading.{system_of}
 use Rattle.boot_run.specs.Resuming.{IsFirst}
 use Rattle.boot_run.specs.SavedFiles.{SavedBootsAreOfRuns}
+use Rattle.boot_run.specs.SavedRuns.{SavedAt}
 use Rattle.boot_run.proofs.TakingUp.{steady, stands, can, user_mode, goes_on}
 use Rattle.boot_run.proofs.Rejoining.{first_of}
 use Rattle.boot_run.proofs.Unchanging.{stays_whole}
@@ -60,66 +66,84 @@ ends_behind : (len globals heap stack tables table empty gw hw sw tw fw more : �
     table + fw ≤ empty → len ≤ empty + 1024 + more
 ends_behind len globals heap stack tables table empty gw hw sw tw fw more a b c d e f = omega (arith, a, b, c, d, e, f)
 
-room : (b : Booted) → PartsInOrder (map_of (boot_of b)) → length b.words.items ≤ memory_words (map_of (boot_of b))
-room b o = ends_behind (length b.words.items) _ _ _ _ _ _ _ _ _ _ _ (1024 * b.params.frames) o.code o.globals o.heap o.stack o.tables o.frame_table
+room : (b : Boot) → PartsInOrder (map_of b) → length b.words ≤ memory_words (map_of b)
+room b o = ends_behind (length b.words) _ _ _ _ _ _ _ _ _ _ _ (1024 * b.params.frames) o.code o.globals o.heap o.stack o.tables o.frame_table
 
 filled_up : (all len filling total frames : ℕ) → all ≡ len + filling → filling ≡ total - len → len ≤ total → frames * 1024 ≡ total → all ≡ 1024 * frames
 filled_up all len filling total frames a b c d = omega (arith, a, b, c, d)
 
 -- the loaded memory is the map's
-whole_memory : (b : Booted) → PartsInOrder (map_of (boot_of b)) → MemoryIsWhole (map_of (boot_of b)) → length (loaded_memory (boot_of b)) ≡ 1024 * memory_frames (map_of (boot_of b))
+whole_memory : (b : Boot) → PartsInOrder (map_of b) → MemoryIsWhole (map_of b) → length (loaded_memory b) ≡ 1024 * memory_frames (map_of b)
 whole_memory b order whole =
-    filled_up (length (loaded_memory (boot_of b))) (length b.words.items) (length (replicate {A = ℕ} (memory_words (map_of (boot_of b)) - length b.words.items) 0)) (memory_words (map_of (boot_of b))) (memory_frames (map_of (boot_of b)))
-    (length-append b.words.items (replicate (memory_words (map_of (boot_of b)) - length b.words.items) 0))
-    (length-replicate {A = ℕ} (memory_words (map_of (boot_of b)) - length b.words.items) 0) (room b order) whole.frames
+    filled_up (length (loaded_memory b)) (length b.words) (length (replicate {A = ℕ} (memory_words (map_of b) - length b.words) 0)) (memory_words (map_of b)) (memory_frames (map_of b))
+    (length-append b.words (replicate (memory_words (map_of b) - length b.words) 0))
+    (length-replicate {A = ℕ} (memory_words (map_of b) - length b.words) 0) (room b order) whole.frames
 
-runs_of : (s : Status) (z : State) → s ≡ Running → Rests s z → runs_user z ≡ true
-runs_of Running z e r = r
-runs_of Halted z e r = absurd (cc)
-runs_of (Faulted f) z e r = absurd (cc)
+-- what a saved machine has to fit to be taken up as this system's, for so many turns, where it has so many users
+abbrev pub wanted_with : System → (users turns : ℕ) → Wanted
+wanted_with y users turns =
+    record { frames = memory_frames (map_of y.boot); users = users; pages = y.boot.params.pages; inputs = y.input; linked = y.boot.words; turns = turns }
 
-pub are_of_runs : StartSteady → StaysSteady → SumLaws → ((m : Map) → MapInRange m → PartsInOrder m) → ((m : Map) → MapInRange m → MemoryIsWhole m) → SavedBootsAreOfRuns
-are_of_runs begins stays sums order whole b rows count old left (suc k) spent turns words shown p a some more bits limit =
+-- what the laws say of machines and of maps
+pub record MachineLaws : Type 0 where
+  pub begins : StartSteady
+  pub stays : StaysSteady
+  pub sums : SumLaws
+  pub order : (m : Map) → MapInRange m → PartsInOrder m
+  pub whole : (m : Map) → MapInRange m → MemoryIsWhole m
+
+-- THE MACHINE that was saved of a run of a system is one of its run
+module _ (law : MachineLaws) (Typed : C0 → Type 0) (x : Outside) (y : System) (old : List (List ℕ)) (late held : ℕ) (starts : StartsFrom Typed x y (loaded y old) late held) where
+  abbrev s0 : State
+  s0 = loaded y old
+
+  pub of_system : (few spent turns : ℕ) (words : List ℕ) (left : List (List ℕ)) (shown : List ℕ) (a : SavedAt x y s0 (suc few) spent words left shown) → suc few ≤ turns → turns < 2 ^ 32 → spent < 2 ^ 64 →
+      IsOfRun x (wanted_with y (length y.boot.users) turns) (run x s0 a.at) (suc few) a.past.core.current
+  of_system few spent turns words left shown a more bits limit =
+      let first : IsFirst y s0 = first_of law.begins y old in
+      let fits = starts.boots.fits in
+      let st : Stands x (site_of y.boot) (run x s0 a.at) a.past.status a.past.core = stands law.stays x y s0 few spent words left shown first a in
+      let on : is_on (run x s0 a.at) ≡ true = ap (λ (o : Option ℕ). not (is_some o)) a.on in
+      let begun = first.time in
+      let time = law.sums.time x s0 a.at on in
+      let within = a.within in
+      let memory = stays_whole x s0 a.at ∙ whole_memory y.boot (law.order (map_of y.boot) fits.range) (law.whole (map_of y.boot) fits.range) in
+      let most = (law.whole (map_of y.boot) fits.range).most in
+      let sixty = fits.range.users in
+      let running = goes_on a.past.status (run x s0 a.at) a.on a.stood.rests.0 in
+      let runs = st.users.runs (subst (λ (status : Status). Rests status (run x s0 a.at)) running a.stood.rests.0) in
+      let from = runs.user.0 in
+      let to = runs.user.1 in
+      let many = st.whole.users in
+      let few_inputs = fits.core.input in
+      record {
+        fits = st.fits;
+        steady = steady law.stays x y s0 few spent words left shown first a;
+        can = can law.stays x y s0 few spent words left shown first a;
+        mode = user_mode law.stays x y s0 few spent words left shown first a;
+        time = omega (arith, time, begun, within, limit);
+        inputs = omega (arith, few_inputs);
+        frames = memory;
+        few = omega (arith, most);
+        a_turn = omega arith;
+        enough = more;
+        bits = omega (arith, more, bits);
+        a_user = from;
+        of_users = omega (arith, to, many);
+        users = omega (arith, to, many, sixty);
+        linked = λ place lt out. st.kernel.linked place lt (own_is (map_of y.boot) place sixty out);
+        sizes = λ u low high.
+            let there : u ≤ length a.past.core.users = omega (arith, high, many) in
+            let size = st.users.sizes u (low, there) in
+            let few = (st.whole.each (u - 1) no_flat (omega (arith, low, there))).pages in
+            omega (arith, size, few);
+      }
+
+pub are_of_runs : MachineLaws → SavedBootsAreOfRuns
+are_of_runs law b rows count old left (suc k) spent turns words shown p a some more bits limit =
     let x = outside_of rows count in
     let y = system_of b rows in
-    let s0 = loaded (system_of b rows) old in
-    let first : IsFirst y s0 = first_of begins y old in
-    let fits = p.starts.boots.fits in
-    let st : Stands x (site_of y.boot) (run x s0 a.at) a.past.status a.past.core = stands stays x y s0 k spent words left shown first a in
-    let on : is_on (run x s0 a.at) ≡ true = ap (λ (o : Option ℕ). not (is_some o)) a.on in
-    let begun = first.time in
-    let time = sums.time x s0 a.at on in
-    let within = a.within in
-    let memory = stays_whole x s0 a.at ∙ whole_memory b (order (map_of (boot_of b)) fits.range) (whole (map_of (boot_of b)) fits.range) in
-    let most = (whole (map_of (boot_of b)) fits.range).most in
     let users : length (boot_of b).users ≡ length b.users.items = length-map b.users.items (λ words. words.items) in
-    let sixty = fits.range.users in
-    let running = goes_on a.past.status (run x s0 a.at) a.on a.stood.rests.0 in
-    let runs = st.users.runs (runs_of a.past.status (run x s0 a.at) running a.stood.rests.0) in
-    let from = runs.user.0 in
-    let to = runs.user.1 in
-    let many = st.whole.users in
-    let few_inputs = fits.core.input in
-    record {
-      fits = st.fits;
-      steady = steady stays x y s0 k spent words left shown first a;
-      can = can stays x y s0 k spent words left shown first a;
-      mode = user_mode stays x y s0 k spent words left shown first a;
-      time = omega (arith, time, begun, within, limit);
-      inputs = omega (arith, few_inputs);
-      frames = memory;
-      few = omega (arith, most);
-      a_turn = some;
-      enough = more;
-      bits = omega (arith, more, bits);
-      a_user = from;
-      of_users = omega (arith, to, many, users);
-      users = omega (arith, to, many, sixty);
-      linked = λ place lt out. st.kernel.linked place lt (own_is (map_of (boot_of b)) place sixty out);
-      sizes = λ u low high.
-          let there : u ≤ length a.past.core.users = omega (arith, high, many, users) in
-          let size = st.users.sizes u (low, there) in
-          let few = (st.whole.each (u - 1) no_flat (omega (arith, low, there))).pages in
-          omega (arith, size, few);
-    }
-are_of_runs begins stays sums order whole b rows count old left zero spent turns words shown p a some more bits limit = absurd (omega (arith, some))
+    subst (λ (n : ℕ). IsOfRun x (wanted_with y n turns) (run x (loaded y old) a.at) (suc k) a.past.core.current) users
+    (of_system law (IsTypedState (unit_view b.unit)) x y old 1 (user_sectors y) p.starts k spent turns words left shown a more bits limit)
+are_of_runs law b rows count old left zero spent turns words shown p a some more bits limit = absurd (omega (arith, some))

@@ -45,16 +45,16 @@ pub record Plain (a : List Call) : Type 0 where
   pub gets : gets_in a ≡ []
   pub puts : puts_in a ≡ []
 
-plain_both : (a b : List Call) → Plain a → Plain b → Plain (a ++ b)
+pub plain_both : (a b : List Call) → Plain a → Plain b → Plain (a ++ b)
 plain_both a b p q = record { gets = gets-append a b ∙ ap₂ (λ (x y : List (List ℕ)). x ++ y) p.gets q.gets; puts = puts-append a b ∙ ap₂ (λ (x y : List (List ℕ)). x ++ y) p.puts q.puts }
 
-plain : Closed Plain
+pub plain : Closed Plain
 plain = record { none = record { gets = refl; puts = refl }; both = plain_both; print = λ t. record { gets = refl; puts = refl }; read = λ q. record { gets = refl; puts = refl } }
 
-plain_write : (q : ℕ) (ws : List ℕ) → Plain (Wrote q ws ∷ [])
+pub plain_write : (q : ℕ) (ws : List ℕ) → Plain (Wrote q ws ∷ [])
 plain_write q ws = record { gets = refl; puts = refl }
 
-plain_load : (session : Session) (s : ImageSystem) (rows : Rows) → Plain (load_of session s rows)
+pub plain_load : (session : Session) (s : ImageSystem) (rows : Rows) → Plain (load_of session s rows)
 plain_load session s rows = of_load Plain plain plain_write (pages_loaded session.start (booted s rows)) (sectors_needed session s rows)
 
 plain_some : (a : List Call) → AreOfRun a → Plain a
@@ -164,6 +164,13 @@ files_stay name a old new b h (goes_on (Got m) rest _ mid _ _ d p) n ne = files_
 files_stay name a old new b h (goes_on (Stored m bs) rest _ mid _ _ d p) n ne =
     let k = one_of name m (puts_in rest) h in
     files_stay name rest mid new b (subst (NamedBy name) (sym k.1) tt) p n ne ∙ d.0 n (λ e. ne (k.0 ∙ ap (λ (l : List ℕ). Some l) (sym e)))
+
+none_named : (n : List ℕ) → None ≢ Some n
+none_named n e = cc
+
+-- and where no call is one of the shelf all do
+pub plain_stays : (a : List Call) (old new : Outside) (b : Option Who) → Plain a → Performs a old new b → (n : List ℕ) → new.shelf.file n ≡ old.shelf.file n
+plain_stays a old new b h p n = files_stay None a old new b (subst (NamedBy None) (sym h.puts) tt) p n (none_named n)
 
 -- THE DISK stays where none of its calls is made
 pub disk_stays : (a : List Call) (old new : Outside) (b : Option Who) → asks a ≡ 0 → Performs a old new b → new.disk ≡ old.disk

@@ -5,7 +5,7 @@ use Rattle.std.proofs.lemmas.Bool.{cond-true, cond-false, le-ltb}
 use Rattle.mips_table.specs.Device.{Outside}
 use Rattle.mips_table.specs.Machine.{State, run}
 use Rattle.mips_table.specs.Turns.{in_user, is_on, rests, turn_of, complete, is_end}
-use Rattle.cvm_model.specs.Cvm.{Cvm, cvm}
+use Rattle.cvm_model.specs.Cvm.{Cvm}
 use Rattle.cvm_model.specs.Journal.{Isolated as ReplaysUsers, journal, replay}
 use Rattle.cvm_model.specs.Kernel.{JournalEntry}
 use Rattle.cvm_model.specs.KernelMeaning.{UnitsReplay}

@@ -1,7 +1,6 @@
 mod Same
 pub mod Keeps
 pub mod Joins
-pub mod Heads
 pub mod Whole
 mod Schedules
 mod LayerWords
@@ -13,6 +12,7 @@ pub mod Pasts
 pub mod Tells
 pub mod Reports
 pub mod MadeOf
+mod Effects
 pub mod Stores
 pub mod StartSectors
 pub mod StoredRuns
@@ -27,3 +27,17 @@ pub mod Completes
 pub mod Saves
 pub mod Asking
 pub mod Isolates
+pub mod Broken
+pub mod Behind
+pub mod RunFaults
+pub mod SaveFaults
+pub mod FaultLaws
+pub mod Yes
+mod Skips
+mod Joining
+mod Performed
+mod SavedMachines
+mod Holding
+mod Resuming
+mod Taken
+mod Rejoining

@@ -54,7 +54,7 @@ module _ (P : List Call → Type 0) (c : Closed P) where
   of_entry m s u (Put address value ∷ rest) = of_reads m s (page_of m u (address / 4096))
   of_entry m s u other = c.none
 
-  of_row : (r : Run) (p : Past) (u t k : ℕ) → P (entry_script r p u t k)
+  pub of_row : (r : Run) (p : Past) (u t k : ℕ) → P (entry_script r p u t k)
   of_row r p u t k =
       let read : List Call = entry_reads (map_of r.system.boot) (state_at r (suc t)) u (drop k (p.shown (suc t))) in
       c.both (if copies_at r u t then read else []) (prints (row_behind (p.shown (suc t)) k))

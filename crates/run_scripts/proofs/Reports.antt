@@ -137,7 +137,7 @@ module _ (r : Run) (k : Known r) (p : Past) (is : IsPast r p) where
   rows_end : (j : List JournalEntry) → journal_rows j ≡ open_journal_rows j ++ last_steps j
   rows_end j = k.rows.end j ∙ ap (λ (l : List ℕ). open_journal_rows j ++ l) (sym (drop-append_seam (open_journal_rows j) _) ∙ ap (drop (length (open_journal_rows j))) (sym (k.rows.end j)))
 
-  behind_last : (row rest : List ℕ) (j : List JournalEntry) → row ++ journal_rows j ++ rest ≡ (row ++ open_journal_rows j) ++ (last_steps j ++ rest)
+  pub behind_last : (row rest : List ℕ) (j : List JournalEntry) → row ++ journal_rows j ++ rest ≡ (row ++ open_journal_rows j) ++ (last_steps j ++ rest)
   behind_last row rest j =
       ap (λ (l : List ℕ). row ++ l ++ rest) (rows_end j) ∙ ap (λ (l : List ℕ). l ++ rest) (sym (append_assoc row (open_journal_rows j) (last_steps j))) ∙ append_assoc (row ++ open_journal_rows j) (last_steps j) rest
 
@@ -165,7 +165,7 @@ module _ (r : Run) (k : Known r) (p : Past) (is : IsPast r p) where
   trace_tells u some most Running e row j = user_end u some most (codes "stopped\n") e row j
   trace_tells u some most Halted e row j = user_end u some most (codes "halted\n") e row j
 
-  closing_tells : has_ended r ≡ true → Tells (closing_script r p) (text_at r p (steps_made r)) (ended_text r.view r p (steps_made r))
+  pub closing_tells : has_ended r ≡ true → Tells (closing_script r p) (text_at r p (steps_made r)) (ended_text r.view r p (steps_made r))
   closing_tells e = by r.view k.user
     where
       by : (v : View) → SeesUser v (length r.system.boot.users) → Tells (report_by v r p (steps_made r)) (text_by v r p (steps_made r)) (ended_text v r p (steps_made r))

@@ -14,7 +14,7 @@ use Rattle.run_scripts.proofs.Pasts.{on_before}
 use Rattle.run_scripts.proofs.Stores.{stored-append, quiet_stores, stored_scripts, step_stores}
 
 -- WHAT WRITES no sector
-quiet : Closed IsQuiet
+pub quiet : Closed IsQuiet
 quiet = record { none = tt; both = quiet_both; print = λ text. tt; read = λ q. tt }
 
 -- A STEP, steps, and what is left from a step on

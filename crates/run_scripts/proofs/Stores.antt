@@ -1,20 +1,14 @@
 -- What scripts store: the transfer of each step leaves the sectors of the next state, and nothing else writes one.
-use Rattle.std.specs.Prelude.{Option, Some, None, slice_index, slice_set, nat_lt, not, ◌==◌, ◌&&◌, if◌then◌else◌}
-use Rattle.std.proofs.Common.{◌≡◌, ℕ, zero, suc, ◌+◌, ◌-◌, ◌<◌, Bool, true, false, List, [], ◌∷◌, ◌++◌, drop, length, refl, sym, ap, ◌∙◌, subst, arith}
-use Rattle.mips_table.specs.declared.special.TheConstants.{SR}
-use Rattle.mips_table.specs.declared.cause.Cause.{Cause}
-use Rattle.mips_table.specs.declared.cause.Cause.TheVariants.{Reset, External, Illegal}
-use Rattle.mips_table.specs.declared.inst.Inst.{Inst}
-use Rattle.mips_table.specs.declared.inst.Inst.TheVariants.{Mfc0, Mtc0, Eret}
-use Rattle.mips_table.specs.Decoding.{decoding}
-use Rattle.mips_table.specs.Processor.{Move, Ran, Loaded, Stored as Puts, Trapped, Privileged, is_aligned, move}
-use Rattle.mips_table.specs.Device.{Device, Outside, Pending, Idle, Reading, Writing, BUFFER, POWER, COMMAND, SECTOR, is_busy, is_buffer, begun, port_write, settled}
-use Rattle.mips_table.specs.Machine.{State, LOG, INPUT, Interrupt, interrupted, come_to, after_read, after_read_at, port_written, written, written_at, log_has_room, in_system, located, privileged, moved, fetch, fetched, access, coming, latched, if_on, step}
+use Rattle.std.specs.Prelude.{Option, None, slice_set, nat_lt, not, ◌==◌, if◌then◌else◌}
+use Rattle.std.proofs.Common.{◌≡◌, ℕ, zero, suc, ◌+◌, ◌-◌, ◌<◌, Bool, true, false, List, [], ◌∷◌, ◌++◌, refl, sym, ap, ◌∙◌, subst, arith}
+use Rattle.mips_table.specs.Device.{Device, Outside, Pending, Idle, Reading, Writing, BUFFER, COMMAND, SECTOR, is_busy, is_buffer, begun, port_write, settled}
+use Rattle.mips_table.specs.Machine.{State, come_to, coming, latched, if_on, step}
 use Rattle.mips_machine.specs.Steps.{before_count, due, due_if}
 use Rattle.cvm_outside.specs.Script.{Call, Printed, Read, Wrote, Got, Stored, IsQuiet, scripts, stored}
 use Rattle.cvm_outside.proofs.Putting.{scripts-none, scripts-suc, quiet_both}
 use Rattle.boot_turns.specs.Runs.{Run, state_at}
 use Rattle.sector_disk.specs.Ports.{transfer_script}
+use Rattle.run_scripts.proofs.Effects.{Stays, coming_stays}
 
 -- SCRIPTS one after another
 pub stored-append : (a b : List Call) (ss : List (List ℕ)) → stored (a ++ b) ss ≡ stored b (stored a ss)
@@ -65,77 +59,18 @@ port_keeps busy count d k value = by (is_busy d.pending) (k == COMMAND) (is_buff
     by false false false true = refl
     by false false false false = refl
 
-module _ (x : Outside) (s : State) where
-  port_written_keeps : (k value : ℕ) → (port_written x s k value).device.sectors ≡ s.device.sectors
-  port_written_keeps k value = by (k == POWER) (k == LOG) (log_has_room s.log)
-    where
-      by : (a b c : Bool) → (if a then record s { off = Some value } else if b then (if c then record s { log = s.log ++ value ∷ [] } else s) else
-          record s { device = port_write x.busy x.count s.device k value }).device.sectors ≡ s.device.sectors
-      by true b c = refl
-      by false true true = refl
-      by false true false = refl
-      by false false c = port_keeps x.busy x.count s.device k value
-
-  written_keeps : (k value : ℕ) → (written x s k value).device.sectors ≡ s.device.sectors
-  written_keeps k value = by (nat_lt k (length s.memory))
-    where
-      by : (a : Bool) → (if a then record s { memory = slice_set s.memory k value } else port_written x s k value).device.sectors ≡ s.device.sectors
-      by true = refl
-      by false = port_written_keeps k value
-
-  written_at_keeps : (o : Option ℕ) (value : ℕ) → (written_at x s o value).device.sectors ≡ s.device.sectors
-  written_at_keeps None value = refl
-  written_at_keeps (Some address) value = written_keeps _ value
-
-read_keeps : (s : State) (k : ℕ) → (after_read s k).device.sectors ≡ s.device.sectors
-read_keeps s k = by (nat_lt k (length s.memory)) (k == INPUT)
-  where
-    by : (a b : Bool) → (if a then s else if b then record s { input = drop 1 s.input } else s).device.sectors ≡ s.device.sectors
-    by true b = refl
-    by false true = refl
-    by false false = refl
-
-read_at_keeps : (s : State) (o : Option ℕ) → (after_read_at s o).device.sectors ≡ s.device.sectors
-read_at_keeps s None = refl
-read_at_keeps s (Some address) = read_keeps s _
-
-interrupted_keeps : (s : State) (cause : Cause) (edata epc : ℕ) → (interrupted s cause edata epc).device.sectors ≡ s.device.sectors
-interrupted_keeps s Reset edata epc = refl
-interrupted_keeps s External edata epc = refl
-interrupted_keeps s other edata epc = refl
-
-privileged_keeps : (s : State) (word : ℕ) (o : Option Inst) → (come_to (privileged s word o)).device.sectors ≡ s.device.sectors
-privileged_keeps s word (Some (Mfc0 rt special)) = refl
-privileged_keeps s word (Some (Mtc0 rt special)) = refl
-privileged_keeps s word (Some Eret) = refl
-privileged_keeps s word other = refl
-
-moved_keeps : (x : Outside) (s : State) (m : Move) → (come_to (moved x s m)).device.sectors ≡ s.device.sectors
-moved_keeps x s (Ran c) = refl
-moved_keeps x s (Loaded c register address) = read_at_keeps s (located s false address)
-moved_keeps x s (Puts c address value) = written_at_keeps x s (located s true address) value
-moved_keeps x s (Trapped cause edata epc) = interrupted_keeps s cause edata epc
-moved_keeps x s (Privileged word) = by (in_system s.special)
-  where
-    by : (a : Bool) → (come_to (if a then privileged s word (decoding word) else Interrupt s Illegal word s.cpu.pc)).device.sectors ≡ s.device.sectors
-    by true = privileged_keeps s word (decoding word)
-    by false = refl
-
-fetched_keeps : (s : State) → (fetched s).device.sectors ≡ s.device.sectors
-fetched_keeps s = by (is_aligned s.cpu.pc)
-  where
-    by : (a : Bool) → (if a then after_read_at s (located s false s.cpu.pc) else s).device.sectors ≡ s.device.sectors
-    by true = read_at_keeps s (located s false s.cpu.pc)
-    by false = refl
-
-coming_keeps : (x : Outside) (s : State) → (come_to (coming x s)).device.sectors ≡ s.device.sectors
-coming_keeps x s = by s.reset (slice_index s.special SR == 1 && not (s.mask == 0))
-  where
-    by : (a b : Bool) → (come_to (if a then Interrupt s Reset 0 s.cpu.pc else if b then Interrupt s External s.mask s.cpu.pc else
-        moved x (fetched s) (move (access s) s.cpu (fetch s)))).device.sectors ≡ s.device.sectors
-    by true b = refl
-    by false true = refl
-    by false false = moved_keeps x (fetched s) (move (access s) s.cpu (fetch s)) ∙ fetched_keeps s
+sectors_stay : (x : Outside) (sectors : List (List ℕ)) → Stays x (λ s. s.device.sectors ≡ sectors)
+sectors_stay x sectors = record {
+  cpu = λ s c e. e;
+  special = λ s words e. e;
+  memory = λ s words e. e;
+  device = λ s k value e. port_keeps x.busy x.count s.device k value ∙ e;
+  log = λ s words e. e;
+  input = λ s words e. e;
+  mask = λ s lines e. e;
+  reset = λ s e. e;
+  off = λ s power e. e;
+}
 
 -- THE TRANSFER that is due
 transfer_stores : (p : Pending) (d : Device) (ss : List (List ℕ)) → d.sectors ≡ ss → stored (transfer_script p d.buffer) ss ≡ (settled p d).sectors
@@ -151,5 +86,6 @@ step_stores r t on =
     let s : State = state_at r t in
     let d : Device = (come_to (coming r.around (latched r.around s))).device in
     ap (λ (o : Option ℕ). stored (due_if r.around s o) s.device.sectors) on
-    ∙ transfer_stores d.pending d s.device.sectors (coming_keeps r.around (latched r.around s))
+    ∙ transfer_stores d.pending d s.device.sectors
+    (coming_stays r.around (λ t. t.device.sectors ≡ s.device.sectors) (sectors_stay r.around s.device.sectors) (latched r.around s) refl)
     ∙ ap (λ (o : Option ℕ). (if_on r.around s o).device.sectors) (sym on)

@@ -69,7 +69,7 @@ quiet_transfer (Reading (suc n) q) buffer = refl
 quiet_transfer (Writing zero q) buffer = refl
 quiet_transfer (Writing (suc n) q) buffer = refl
 
-quiet_due : (x : Outside) (s : State) → spoken (due x s) ≡ Some []
+pub quiet_due : (x : Outside) (s : State) → spoken (due x s) ≡ Some []
 unfolding due
 quiet_due x s = by s.off
   where
@@ -114,7 +114,7 @@ module _ (r : Run) (k : Known r) (p : Past) (is : IsPast r p) where
 
   module _ (u : ℕ) (some : 1 ≤ u) (most : u ≤ length r.system.boot.users) (v : r.view ≡ Trace u) where
     -- an entry's row stands behind those before it
-    entry_tells : (t i : ℕ) (old : List ℕ) → length (p.shown t) + i < length (p.shown (suc t)) →
+    pub entry_tells : (t i : ℕ) (old : List ℕ) → length (p.shown t) + i < length (p.shown (suc t)) →
         Tells (entry_script r p u t (length (p.shown t) + i)) (old ++ open_journal_rows (take (length (p.shown t) + i) (p.shown (suc t))))
         (old ++ open_journal_rows (take (length (p.shown t) + suc i) (p.shown (suc t))))
     entry_tells t i old lt =

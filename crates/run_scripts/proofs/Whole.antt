@@ -1,41 +1,46 @@
--- The headline of every command, from the keys.
-use Rattle.std.proofs.Common.{◌≡◌, ◌⊎◌, inl, inr, ℕ, List, Option, Some, refl}
-use Rattle.cvm_shell.specs.Command.{Command, IsCommand, boot, trace, save, resume, compile_user, compile_kernel, compile_program, link, migrate, sample, check}
-use Rattle.cvm_shell.specs.Plan.{Plan, bad_words, boots, PlanComesTo, no_command, boot_plan, trace_plan, save_plan, resume_plan, user_plan, kernel_plan, image_plan, link_plan, migrate_plan, sample_plan, check_plan}
-use Rattle.cvm_outside.specs.Script.{TheShelf}
+-- The headline of every command, from the keys and the laws of scripts.
+use Rattle.std.specs.Prelude.{Option, None}
+use Rattle.std.specs.Io.KnownBytes.{append_known}
+use Rattle.std.proofs.Common.{List, [], refl, sym, ap, ◌∙◌, subst, arith}
+use Rattle.cvm_shell.specs.Plan.{boots}
+use Rattle.cvm_outside.specs.Script.{Call, Who, Performs}
 use Rattle.cvm_outside.specs.ScriptLaws.{ScriptsTell, ScriptsStore, ScriptsBlame}
-use Rattle.cvm_shell.specs.Boot.{sectors_needed}
-use Rattle.cvm_shell.specs.Ends.{gets, files_of, done, no_file, no_memory}
-use Rattle.run_scripts.specs.Headline.{Headline, Headlines}
+use Rattle.boot_turns.specs.Runs.{Run, state_at, steps_made}
+use Rattle.boot_run.specs.RunScript.{run_script}
+use Rattle.cvm_shell.specs.Ends.{done, no_file, no_memory, RunAsks, SomeRunAsks, load_of}
 use Rattle.cvm_shell.specs.SessionRuns.{run_of}
+use Rattle.run_scripts.specs.Headline.{Headlines, whole_text}
 use Rattle.run_scripts.specs.Keys.{ScriptsTellTheText, ScriptsStoreTheSectors, SectorsBehindStay, EndsAreOver}
-use Rattle.run_scripts.proofs.Joins.{got_keeps}
-use Rattle.run_scripts.proofs.Heads.{headlines_from}
-
-has_command : (words : List (List ℕ)) (file : List ℕ → Option (List ℕ)) (p : Plan) → PlanComesTo words file p → (p ≡ bad_words) ⊎ ((c : Command) × IsCommand words c)
-has_command words file p (no_command n) = inl refl
-has_command words file p (boot_plan b _ is g) = inr (boot b, is)
-has_command words file p (trace_plan b _ is g) = inr (trace b, is)
-has_command words file p (save_plan b _ is g) = inr (save b, is)
-has_command words file p (resume_plan b _ is g) = inr (resume b, is)
-has_command words file p (user_plan b _ is g) = inr (compile_user b, is)
-has_command words file p (kernel_plan b _ is g) = inr (compile_kernel b, is)
-has_command words file p (image_plan b _ is g) = inr (compile_program b, is)
-has_command words file p (link_plan b _ is g) = inr (link b, is)
-has_command words file p (migrate_plan b _ is g) = inr (migrate b, is)
-has_command words file p (sample_plan b _ is g) = inr (sample b, is)
-has_command words file p (check_plan b _ is g) = inr (check b, is)
+use Rattle.run_scripts.proofs.Causes.{mid_disk}
+use Rattle.run_scripts.proofs.Performed.{says_text, leaves_sectors}
+use Rattle.run_scripts.proofs.Refusals.{none_blamed, status_due, plan_asks, no_file_failed}
+use Rattle.run_scripts.proofs.Saves.{told_asks}
+use Rattle.run_scripts.proofs.Tells.{Tells}
 
 pub headlines : ScriptsBlame → ScriptsTell → ScriptsStore → ScriptsTellTheText → ScriptsStoreTheSectors → SectorsBehindStay → EndsAreOver → Headlines
-headlines bl te st tells stores behind over words session s rows before old new status a f (done _ h) m =
-    by (has_command words old.shelf.file _ a.is_plan)
-  where
-    by : (boots session s rows ≡ bad_words) ⊎ ((c : Command) × IsCommand words c) →
-        Headline (run_of session s rows old.disk.size before) (sectors_needed session s rows) before old new status
-    by (inl e) = cc
-    by (inr w) =
-        let k = got_keeps _ _ _ _ _ old h.mid (h.gets.0 w.0 w.1) h.files in
-        headlines_from bl te st tells stores behind over words session s rows before old new status a f h k.disk k.sink
-headlines bl te st tells stores behind over words session s rows before old new status a f (no_file c i g t) m =
-    absurd (f TheShelf ((bl (gets (files_of c)) old new (Some TheShelf) g TheShelf).rose refl).rose)
-headlines bl te st tells stores behind over words session s rows before old new status a f (no_memory c i w) m = absurd (m refl)
+headlines blame tell store tells stores behind over words session s rows before old new status a f (done _ h) m =
+    let r : Run = run_of session s rows old.disk.size before in
+    let load : List Call = load_of session s rows in
+    let asks = plan_asks blame words old new status h (boots session s rows) a.files a.is_plan in
+    let k = mid_disk blame words old new status h in
+    let t = told_asks words _ session s rows before old h.mid (λ size ss. RunAsks (run_of session s rows size ss) (load_of session s rows)) (SomeRunAsks (load_of session s rows)) h.script h.due a k.0 asks in
+    let n = none_blamed blame words old new status h f in
+    let p : Performs (run_script r load t.past) h.mid new None =
+    subst (λ (x : List Call). Performs x h.mid new None) t.script_is (subst (λ (b : Option Who). Performs h.script h.mid new b) n h.performs) in
+    let told : Tells (run_script r load t.past) [] (whole_text r t.past) =
+    record { text = whole_text r t.past; told = tells words _ session s rows before old a t.past t.is_past; is = refl } in
+    let text = says_text tell (run_script r load t.past) old h.mid new [] (whole_text r t.past) told k.1 p in
+    let made = stores words _ session s rows before old a t.past t.is_past in
+    record {
+      past = t.past;
+      is_past = t.is_past;
+      machine = record {
+        are = leaves_sectors store (run_script r load t.past) old h.mid new before (state_at r (steps_made r)).device.sectors a.sectors made k.0 p;
+        beyond = behind words _ session s rows before old a (steps_made r) (omega arith);
+      };
+      status_is = status_due blame words old new status h n ∙ t.status_is;
+      text = text.printed ∙ ap (append_known old.sink.text) (sym text.is);
+      over = over words _ session s rows before old a t.past t.is_past;
+    }
+headlines blame tell store tells stores behind over words session s rows before old new status a f (no_file c i g t) m = absurd (no_file_failed blame c old new f g)
+headlines blame tell store tells stores behind over words session s rows before old new status a f (no_memory c i w) m = absurd (m refl)

@@ -4,3 +4,4 @@ pub mod Causes
 pub mod Shapes
 pub mod Saving
 pub mod Checks
+pub mod Faults

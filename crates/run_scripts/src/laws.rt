@@ -3,23 +3,35 @@ ghost use Rattle.run_scripts.specs.Headline.{Headlines, FilesAsk, ItGoesOn, Memo
 ghost use Rattle.run_scripts.specs.Keys.{RunsStart, PastsExist, PastsAgree, TextsGrow, ScriptsTellTheText, ScriptsStoreTheSectors, LoadsStoreTheStart, SectorsBehindStay, EndsAreOver};
 ghost use Rattle.run_scripts.specs.Causes.{StatusesAreCaused, WordsAreRefused, FilesAreRefused, MissingUsersAreRefused, SmallDisksAreRefused, LongFilesAreRefused, StepsAreSpent, WorkCompletes};
 ghost use Rattle.run_scripts.specs.Shapes.{PlansHaveShape, OthersStay, NothingIsLoaded, GetsComeFirst};
-ghost use Rattle.run_scripts.specs.Saving.{SavesComplete, ResumesJoin};
-ghost use Rattle.run_scripts.specs.Checks.{StackOutIsNotMet};
+ghost use Rattle.run_scripts.specs.Saving.{SavesHold, SavesComplete, ScriptsJoin, ResumesJoin, SavedAndResumedAreBooted, ResumesGoOn};
+ghost use Rattle.run_scripts.specs.Checks.{StackOutIsNotMet, YesSuffices};
+ghost use Rattle.run_scripts.specs.Faults.{FaultsLeave, SaveFaultsLeave};
 
 use boot_image::images_are_their_spellings;
-use boot_turns::{journal_rows_follow, machines_run, the_rom_starts, traces_grow};
+use boot_turns::{
+    journal_rows_follow, machines_run, step_scripts_join, the_rom_starts, traces_grow,
+};
+use bound_check::longest_chains_are_kept;
 use c0_meaning::laws::units_are_typed_or_faulty;
 use c0_meaning::run_laws::zeros_have_the_words_of_their_types;
-use c0_types::laws::units_of_sources_are_checked;
+use c0_types::laws::{sources_have_one_answer, units_of_sources_are_checked};
 use c0_unit::laws::{trees_have_places, units_are_short, units_stand};
 use cvm_model::{
     units_are_kernels, units_dont_matter, units_replay, units_stay_typed, users_are_isolated,
 };
 use cvm_outside::script::{scripts_blame, scripts_store, scripts_tell};
-use kernel_linker::laws::{accepted_systems_are_of_their_images, spelled_images_fit};
+use kernel_linker::laws::{
+    accepted_systems_are_of_their_images, opened_units_are_their_sources, spelled_images_fit,
+};
 use layer_contract::the_loaded_machine_starts;
-use mips_table::runs::turns_are_counted;
+use layer_map::{memory_is_whole, parts_are_in_order};
+use mips_machine::laws::saved_machines_differ;
+use mips_table::runs::{
+    a_new_machine_is_steady, machines_stay_steady, runs_are_taken_up, turns_are_counted,
+};
+use object_file::bytes_have_one_answer;
 use real_layer::{the_image_is_linked, the_layer_is_lawful};
+use saved_file::saved_machines_are_read_back;
 use schedule_file::busy_times_are_within_the_longest;
 use unit_runs::laws::{units_calls_follow, units_run_over_layers};
 
@@ -281,12 +293,104 @@ pub fn saves_complete()
     scripts_blame();
 }
 
+/// A law: what a save leaves is what its boot leaves, but for the file, and for the row `saved` in place of `stopped` and all behind it.
+pub fn saves_hold()
+    ensures { SavesHold }
+{
+    scripts_blame();
+    scripts_tell();
+    scripts_store();
+    runs_start();
+    machines_run();
+    traces_grow();
+    turns_are_counted();
+    journal_rows_follow();
+    runs_are_taken_up();
+    a_new_machine_is_steady();
+    machines_stay_steady();
+    parts_are_in_order();
+    memory_is_whole();
+    saved_machines_are_read_back();
+}
+
+/// A law: what a save does before it puts its file, and what a resume of it does, are what the boot does.
+pub fn scripts_join()
+    ensures { ScriptsJoin }
+{
+    units_dont_matter();
+    turns_are_counted();
+    step_scripts_join();
+}
+
 /// A law: a resume of a saved run performs what is left of its boot.
 pub fn resumes_join()
     ensures { ResumesJoin }
 {}
 
+/// A law: a save and a resume over what it left come to the boot as a whole.
+pub fn saved_and_resumed_are_booted()
+    ensures { SavedAndResumedAreBooted }
+{
+    scripts_blame();
+    scripts_tell();
+    scripts_store();
+    runs_start();
+    machines_run();
+    traces_grow();
+    turns_are_counted();
+    journal_rows_follow();
+}
+
+/// A law: a resume of any file that is taken up is the run of the one machine which the file names.
+pub fn resumes_go_on()
+    ensures { ResumesGoOn }
+{
+    scripts_blame();
+    scripts_store();
+    turns_are_counted();
+    saved_machines_differ();
+}
+
 /// A law: no run of a system whose stack is enough stops for want of it.
 pub fn stack_out_is_not_met()
     ensures { StackOutIsNotMet }
 {}
+
+/// A law: what a boot, a rom, a trace or a sample leaves where its steps were spent, or the disk or the sink failed.
+pub fn faults_leave()
+    ensures { FaultsLeave }
+{
+    runs_start();
+    machines_run();
+    traces_grow();
+    turns_are_counted();
+    journal_rows_follow();
+    scripts_blame();
+    scripts_tell();
+    scripts_store();
+}
+
+/// A law: and what a save leaves, with its file.
+pub fn save_faults_leave()
+    ensures { SaveFaultsLeave }
+{
+    runs_start();
+    machines_run();
+    traces_grow();
+    turns_are_counted();
+    journal_rows_follow();
+    scripts_blame();
+    scripts_tell();
+    scripts_store();
+}
+
+/// A law: where a check said `yes`, no run of a system of the object's source with so much stack stops for want of it.
+pub fn yes_suffices()
+    ensures { YesSuffices }
+{
+    scripts_blame();
+    sources_have_one_answer();
+    bytes_have_one_answer();
+    opened_units_are_their_sources();
+    longest_chains_are_kept();
+}

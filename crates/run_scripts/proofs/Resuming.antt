@@ -1,0 +1,85 @@
+-- A resume of any file: the run is that of the one machine which the file names.
+use Rattle.std.specs.Prelude.{Option, Some, None}
+use Rattle.std.proofs.Common.{◌≡◌, ◌≢◌, ℕ, ◌+◌, ◌-◌, ◌≤◌, false, List, [], ◌∷◌, ◌++◌, refl, sym, ap, ap₂, ◌∙◌, subst, arith}
+use Rattle.mips_table.specs.Machine.{State}
+use Rattle.mips_table.specs.Turns.{TurnLaws}
+use Rattle.mips_machine.specs.Saved.{SavedOnce}
+use Rattle.mips_machine.specs.Steps.{due}
+use Rattle.kernel_linker.specs.Accept.{ImageSystem}
+use Rattle.schedule_file.specs.Rows.{Rows}
+use Rattle.cvm_shell.specs.declared.boot.Session.{Session}
+use Rattle.cvm_shell.specs.Command.{resume, save_session}
+use Rattle.cvm_shell.specs.Plan.{resumes}
+use Rattle.cvm_outside.specs.Script.{Call, Printed, Read, Wrote, Got, Stored, Who, Performs, IsQuiet, stored}
+use Rattle.cvm_outside.specs.ScriptLaws.{ScriptsBlame, ScriptsStore}
+use Rattle.boot_turns.specs.Runs.{Run, state_at, steps_made, has_ended}
+use Rattle.cvm_shell.specs.SessionRuns.{run_of}
+use Rattle.boot_run.specs.RunScript.{AreReads, untold_steps}
+use Rattle.cvm_shell.specs.Ends.{GoesOn, ResumeAsks, SomeRunAsks, done, no_file, no_memory}
+use Rattle.run_scripts.specs.Saving.{ResumesGoOn}
+use Rattle.run_scripts.proofs.Causes.{mid_disk}
+use Rattle.run_scripts.proofs.Pasts.{on_before}
+use Rattle.run_scripts.proofs.Performed.{leaves_sectors}
+use Rattle.run_scripts.proofs.Refusals.{none_blamed, status_due, plan_asks, no_file_failed}
+use Rattle.run_scripts.proofs.Saves.{told_asks}
+use Rattle.run_scripts.proofs.Shapes.{others_stay}
+use Rattle.run_scripts.proofs.Stores.{stored-append, quiet_stores, stored_scripts, step_stores}
+
+-- ONE RUN goes on from the words
+one_run : SavedOnce → (session : Session) (s : ImageSystem) (rows : Rows) (words : List ℕ) (size : ℕ) (sectors : List (List ℕ)) (r q : Run) → GoesOn session s rows words size sectors r →
+    GoesOn session s rows words size sectors q → q ≡ r
+one_run once session s rows words size sectors r q g h =
+    let same = once rows.inputs h.machine g.machine h.done h.user g.done g.user h.ready g.ready (h.over ∙ sym g.over) (h.named ∙ sym g.named) in
+    let made : State → ℕ → Run = λ z turns. record (run_of session s rows size sectors) { first = z; turns = session.turns - turns; steps = session.steps - z.time } in
+    h.is ∙ ap₂ made same.0 same.1 ∙ sym g.is
+
+-- ITS SCRIPT leaves the machine's sectors
+reads_quietly : (a : List Call) → AreReads a → IsQuiet a
+reads_quietly [] h = tt
+reads_quietly (Read q ∷ a) h = reads_quietly a h
+reads_quietly (Printed None ∷ a) h = reads_quietly a h
+reads_quietly (Printed (Some x) ∷ a) h = absurd h
+reads_quietly (Wrote q ws ∷ a) h = absurd h
+reads_quietly (Got n ∷ a) h = absurd h
+reads_quietly (Stored n bs ∷ a) h = absurd h
+
+untold_leaves : TurnLaws → (r : Run) → stored (untold_steps r) r.first.device.sectors ≡ (state_at r (steps_made r)).device.sectors
+untold_leaves count r =
+    stored_scripts (λ t. due r.around (state_at r t) ++ Printed None ∷ []) (λ t. (state_at r t).device.sectors) (steps_made r)
+    (λ t lt. stored-append (due r.around (state_at r t)) (Printed None ∷ []) (state_at r t).device.sectors ∙ step_stores r t (on_before count r t lt))
+
+-- where it comes to no end its steps are spent
+all_spent : (made budget steps now then_ : ℕ) → made ≡ budget → budget ≡ steps - now → then_ ≡ now → steps ≤ then_ + made
+all_spent made budget steps now then_ a b c = omega (arith, a, b, c)
+
+steps_spent : TurnLaws → (session : Session) (s : ImageSystem) (rows : Rows) (words : List ℕ) (size : ℕ) (sectors : List (List ℕ)) (r : Run) → GoesOn session s rows words size sectors r → has_ended r ≡ false →
+    session.steps ≤ r.first.time + steps_made r
+steps_spent count session s rows words size sectors r g e =
+    all_spent (steps_made r) r.steps session.steps g.machine.time r.first.time (count.none r.around r.first r.turns r.steps e).0 (ap (λ (q : Run). q.steps) g.is) (ap (λ (q : Run). q.first.time) g.is)
+
+none_named : (n : List ℕ) → None ≢ Some n
+none_named n e = cc
+
+pub resumes_go_on : ScriptsBlame → ScriptsStore → TurnLaws → SavedOnce → ResumesGoOn
+resumes_go_on blame store count once words d s rows machine left old new status is a f (done _ h) m =
+    let asks = plan_asks blame words old new status h (resumes (save_session d) s rows machine) a.files a.is_plan in
+    let k = mid_disk blame words old new status h in
+    let t = told_asks words _ (save_session d) s rows left old h.mid (λ size ss. ResumeAsks (save_session d) s rows machine size ss) (SomeRunAsks []) h.script h.due a k.0 asks in
+    let n = none_blamed blame words old new status h f in
+    let p : Performs (untold_steps t.run ++ t.report) h.mid new None =
+    subst (λ (x : List Call). Performs x h.mid new None) t.script_is (subst (λ (b : Option Who). Performs h.script h.mid new b) n h.performs) in
+    let from : t.run.first.device.sectors ≡ left = ap (λ (q : Run). q.first.device.sectors) t.goes_on.is ∙ t.goes_on.over in
+    let leaves : stored (untold_steps t.run ++ t.report) left ≡ (state_at t.run (steps_made t.run)).device.sectors =
+    stored-append (untold_steps t.run) t.report left ∙ quiet_stores t.report (reads_quietly t.report t.is_report.0) (stored (untold_steps t.run) left)
+    ∙ ap (stored (untold_steps t.run)) (sym from) ∙ untold_leaves count t.run in
+    record {
+      run = t.run;
+      goes_on = t.goes_on;
+      only = λ other g. one_run once (save_session d) s rows machine old.disk.size left t.run other t.goes_on g;
+      sectors = leaves_sectors store (untold_steps t.run ++ t.report) old h.mid new left (state_at t.run (steps_made t.run)).device.sectors a.sectors leaves k.0 p;
+      status_is = status_due blame words old new status h n ∙ t.status_is;
+      spent = steps_spent count (save_session d) s rows machine old.disk.size left t.run t.goes_on;
+      files = λ name. others_stay words (resume d) old new status is (done status h) name (none_named name);
+    }
+resumes_go_on blame store count once words d s rows machine left old new status is a f (no_file c k g t) m = absurd (no_file_failed blame c old new f g)
+resumes_go_on blame store count once words d s rows machine left old new status is a f (no_memory c k w) m = absurd (m refl)

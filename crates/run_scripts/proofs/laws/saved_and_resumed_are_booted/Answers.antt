@@ -1,0 +1,16 @@
+use Rattle.run_scripts.proofs.Rejoining.{saved_and_resumed_are_booted}
+use Rattle.run_scripts.proofs.laws.saved_and_resumed_are_booted.Goals as goal
+
+pub returns : goal.returns
+returns c = saved_and_resumed_are_booted (record {
+  blame = c.scripts_blame.ensures;
+  tell = c.scripts_tell.ensures;
+  store = c.scripts_store.ensures;
+  runs = record {
+    start = c.runs_start.ensures;
+    machines = c.machines_run.ensures;
+    traces = c.traces_grow.ensures;
+    count = c.turns_are_counted.ensures;
+    rows = c.journal_rows_follow.ensures;
+  };
+})
