@@ -86,7 +86,7 @@ class Believed(unittest.TestCase):
     def test_laws_are_public_functions_with_a_clause(self):
         named = {'%s::%s' % (crate, name) for _, laws in self.believed.LAWS for crate, _, name in laws}
         for law in ('kernel_linker::linked_images_are_accepted', 'cvm_shell::stack_out_is_not_printed', 'cvm_shell::booted_programs_run', 'cvm_shell::saved_and_resumed_are_booted',
-                    'kernel_boots::round_robins_boot', 'summing::summing_boots', 'program_systems::compiled_sums_boot', 'program_systems::compiled_answers_boot'):
+                    'kernel_boots::round_robins_boot', 'summing::summing_boots', 'summing::compiled_sums_boot', 'answering::compiled_answers_boot'):
             self.assertIn(law, named)
         for _, laws in self.believed.LAWS:
             for crate, path, name in laws:

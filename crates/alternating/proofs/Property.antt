@@ -22,7 +22,7 @@ use Rattle.kernel_theorems.proofs.Tests.{by_same}
 use Rattle.kernel_theorems.proofs.OneKernel.{DoesWithin, keeps_within}
 use Rattle.alternating.specs.Tree.{kernel_tree}
 use Rattle.alternating.specs.Users.{user_1, user_2}
-use Rattle.alternating.specs.Property.{data_of, half, turn_of, leg, steps_up_to, behind, machines, status_behind, console_of, Alternates, Alternating, Runs, UsersAlternate}
+use Rattle.alternating.specs.Property.{data_of, half, turn_of, steps_of_1, steps_of_2, leg, steps_up_to, behind, machines, status_behind, console_of, Alternates, Alternating, Runs, UsersAlternate}
 use Rattle.alternating.proofs.Users.{brings_odd, brings_even}
 
 -- a state that is running is behind five calls at most
@@ -60,16 +60,17 @@ module _ (y : System) (r : Runs y) (f g : Flat) (odd : (c : ℕ) → c ≤ 2 →
     stands : (t : ℕ) → user_of (machines f g calls t) (turn_of calls) ≡ after t (caller calls)
     steps : (t : ℕ) → with_user (machines f g calls t) (turn_of calls) (after (suc t) (caller calls)) ≡ machines f g calls (suc t)
     passes : (t : ℕ) → with_user (machines f g calls t) (turn_of calls) (after (suc (leg (half calls))) (caller calls)) ≡ machines f g (suc calls) 0
+    called : user_of (machines f g (suc calls) 0) (turn_of calls) ≡ after (suc (leg (half calls))) (caller calls)
     some : 1 ≤ turn_of calls
     most : turn_of calls ≤ 2
 
   turn : (calls : ℕ) → calls ≤ 5 → Turn calls
-  turn zero few = record { brings = odd 0 (omega arith); stands = λ t. refl; steps = λ t. refl; passes = λ t. refl; some = omega arith; most = omega arith }
-  turn (suc zero) few = record { brings = even 0 (omega arith); stands = λ t. refl; steps = λ t. refl; passes = λ t. refl; some = omega arith; most = omega arith }
-  turn (suc (suc zero)) few = record { brings = odd 1 (omega arith); stands = λ t. refl; steps = λ t. refl; passes = λ t. refl; some = omega arith; most = omega arith }
-  turn (suc (suc (suc zero))) few = record { brings = even 1 (omega arith); stands = λ t. refl; steps = λ t. refl; passes = λ t. refl; some = omega arith; most = omega arith }
-  turn (suc (suc (suc (suc zero)))) few = record { brings = odd 2 (omega arith); stands = λ t. refl; steps = λ t. refl; passes = λ t. refl; some = omega arith; most = omega arith }
-  turn (suc (suc (suc (suc (suc zero))))) few = record { brings = even 2 (omega arith); stands = λ t. refl; steps = λ t. refl; passes = λ t. refl; some = omega arith; most = omega arith }
+  turn zero few = record { brings = odd 0 (omega arith); stands = λ t. refl; steps = λ t. refl; passes = λ t. refl; called = refl; some = omega arith; most = omega arith }
+  turn (suc zero) few = record { brings = even 0 (omega arith); stands = λ t. refl; steps = λ t. refl; passes = λ t. refl; called = refl; some = omega arith; most = omega arith }
+  turn (suc (suc zero)) few = record { brings = odd 1 (omega arith); stands = λ t. refl; steps = λ t. refl; passes = λ t. refl; called = refl; some = omega arith; most = omega arith }
+  turn (suc (suc (suc zero))) few = record { brings = even 1 (omega arith); stands = λ t. refl; steps = λ t. refl; passes = λ t. refl; called = refl; some = omega arith; most = omega arith }
+  turn (suc (suc (suc (suc zero)))) few = record { brings = odd 2 (omega arith); stands = λ t. refl; steps = λ t. refl; passes = λ t. refl; called = refl; some = omega arith; most = omega arith }
+  turn (suc (suc (suc (suc (suc zero))))) few = record { brings = even 2 (omega arith); stands = λ t. refl; steps = λ t. refl; passes = λ t. refl; called = refl; some = omega arith; most = omega arith }
   turn (suc (suc (suc (suc (suc (suc calls)))))) few = absurd (omega (arith, few))
 
   -- BEHIND A DISPATCH
@@ -118,76 +119,44 @@ module _ (y : System) (r : Runs y) (f g : Flat) (odd : (c : ℕ) → c ≤ 2 →
             (made k past _ h.calls h.steps _ h.few h.before_call h.at_end (omega (arith, turns)) (omega (arith, long)) refl h.users_are h.console_is h.turn_is (sym (sym h.status_is ∙ on))),
       )
 
-  -- A CALL, at a state that is written out: f' and g' are the machines as it left them, and its number is known
-  abbrev at_call : (calls : ℕ) → Flat → Flat → ℕ → Core
-  at_call calls f' g' u = core_of_parts (data_of calls) (f' ∷ g' ∷ []) (console_of y.input calls) u
+  -- A CALL behind so many, at a state that is written out, in which one of the users has called: what it brings is logged, and the other one is next, or nobody
+  -- behind the sixth
+  abbrev at_call : (calls : ℕ) → List Flat → ℕ → Core
+  at_call calls users u = core_of_parts (data_of calls) users (console_of y.input calls) u
 
-  module _ (k edata : ℕ) (past : List Dispatch) (f' g' : Flat) where
-    abbrev First : (calls : ℕ) → Type 0
-    First calls = signed (slice_index f'.cpu.regs 4) ≡ pos (suc calls) → k ≡ 1 + steps_up_to (suc calls) + calls + lines_taken past → length past ≡ 1 + calls + lines_taken past
-        → f' ∷ g' ∷ [] ≡ machines f g (suc calls) 0 → Does k 6 edata past (at_call calls f' g' 1) calls
+  module _ (k edata : ℕ) (past : List Dispatch) (calls : ℕ) (few : calls ≤ 5) (turns : k ≡ 1 + steps_up_to (suc calls) + calls + lines_taken past) (long : length past ≡ 1 + calls + lines_taken past) (f' g' : Flat)
+      (users : f' ∷ g' ∷ [] ≡ machines f g (suc calls) 0) where
+    goes_on : (d : Dispatch) (c : Core) → d.cause ≡ 6 → c.c0 ≡ data_of (suc calls) → c.users ≡ f' ∷ g' ∷ [] → c.console ≡ console_of y.input (suc calls) → (suc calls ≤ 5 → c.current ≡ turn_of (suc calls))
+        → status_of d.next ≡ status_behind (suc calls) → I (suc k) (past ++ d ∷ []) c
+    goes_on d c six data_is users_are console turn status =
+        let no_line : ◌≡◌ {A = ℕ} (if d.cause == 1 then 1 else 0) 0 = ap (λ (n : ℕ). if n == 1 then 1 else 0) six in
+        made k past d (suc calls) 0 c (omega (arith, few)) (omega arith) (λ e. refl) (omega (arith, turns, no_line)) (omega (arith, long, no_line)) data_is (users_are ∙ users) console turn status
 
-    abbrev Second : (calls : ℕ) → Type 0
-    Second calls = signed (slice_index g'.cpu.regs 4) ≡ pos (suc calls) → k ≡ 1 + steps_up_to (suc calls) + calls + lines_taken past → length past ≡ 1 + calls + lines_taken past
-        → f' ∷ g' ∷ [] ≡ machines f g (suc calls) 0 → Does k 6 edata past (at_call calls f' g' 2) calls
+  two_there : (u : ℕ) → u ≤ 2 → u ≤ length y.boot.users
+  two_there u few = let many = many_users in omega (arith, few, many)
 
-    call_1 : First 0
-    unfolding int_wrap
-    call_1 is turns long users = rw (has_room, is) (
-      omega arith,
-      all_user y I k 6 edata past _ _ 2 refl (omega arith) (let many = many_users in omega (arith, many))
-          (made k past _ 1 0 _ (omega arith) (omega arith) (λ e. refl) (omega (arith, turns)) (omega (arith, long)) refl users refl (λ few. refl) refl),
-    )
+  call : (k edata : ℕ) (past : List Dispatch) (calls : ℕ) (few : calls ≤ 5) (turns : k ≡ 1 + steps_up_to (suc calls) + calls + lines_taken past) (long : length past ≡ 1 + calls + lines_taken past) (f' g' : Flat)
+      → f' ∷ g' ∷ [] ≡ machines f g (suc calls) 0 → signed (slice_index (user_of (f' ∷ g' ∷ []) (turn_of calls)).cpu.regs 4) ≡ pos (suc calls) → Does k 6 edata past (at_call calls (f' ∷ g' ∷ []) (turn_of calls)) calls
+  unfolding int_wrap
+  call k edata past zero few turns long f' g' users is =
+      rw (has_room, is) (omega arith, all_user y I k 6 edata past _ _ 2 refl (omega arith) (two_there 2 (omega arith)) (goes_on k edata past 0 few turns long f' g' users _ _ refl refl refl refl (λ few. refl) refl))
+  call k edata past (suc zero) few turns long f' g' users is =
+      rw (has_room, is) (omega arith, all_user y I k 6 edata past _ _ 1 refl (omega arith) (two_there 1 (omega arith)) (goes_on k edata past 1 few turns long f' g' users _ _ refl refl refl refl (λ few. refl) refl))
+  call k edata past (suc (suc zero)) few turns long f' g' users is =
+      rw (has_room, is) (omega arith, all_user y I k 6 edata past _ _ 2 refl (omega arith) (two_there 2 (omega arith)) (goes_on k edata past 2 few turns long f' g' users _ _ refl refl refl refl (λ few. refl) refl))
+  call k edata past (suc (suc (suc zero))) few turns long f' g' users is =
+      rw (has_room, is) (omega arith, all_user y I k 6 edata past _ _ 1 refl (omega arith) (two_there 1 (omega arith)) (goes_on k edata past 3 few turns long f' g' users _ _ refl refl refl refl (λ few. refl) refl))
+  call k edata past (suc (suc (suc (suc zero)))) few turns long f' g' users is =
+      rw (has_room, is) (omega arith, all_user y I k 6 edata past _ _ 2 refl (omega arith) (two_there 2 (omega arith)) (goes_on k edata past 4 few turns long f' g' users _ _ refl refl refl refl (λ few. refl) refl))
+  call k edata past (suc (suc (suc (suc (suc zero))))) few turns long f' g' users is =
+      rw (has_room, is) (omega arith, all_halt y I k 6 edata past _ _ refl (goes_on k edata past 5 few turns long f' g' users _ _ refl refl refl refl (λ more. absurd (omega (arith, more))) refl))
+  call k edata past (suc (suc (suc (suc (suc (suc calls)))))) few turns long f' g' users is = absurd (omega (arith, few))
 
-    call_2 : Second 1
-    unfolding int_wrap
-    call_2 is turns long users = rw (has_room, is) (
-      omega arith,
-      all_user y I k 6 edata past _ _ 1 refl (omega arith) (let many = many_users in omega (arith, many))
-          (made k past _ 2 0 _ (omega arith) (omega arith) (λ e. refl) (omega (arith, turns)) (omega (arith, long)) refl users refl (λ few. refl) refl),
-    )
-
-    call_3 : First 2
-    unfolding int_wrap
-    call_3 is turns long users = rw (has_room, is) (
-      omega arith,
-      all_user y I k 6 edata past _ _ 2 refl (omega arith) (let many = many_users in omega (arith, many))
-          (made k past _ 3 0 _ (omega arith) (omega arith) (λ e. refl) (omega (arith, turns)) (omega (arith, long)) refl users refl (λ few. refl) refl),
-    )
-
-    call_4 : Second 3
-    unfolding int_wrap
-    call_4 is turns long users = rw (has_room, is) (
-      omega arith,
-      all_user y I k 6 edata past _ _ 1 refl (omega arith) (let many = many_users in omega (arith, many))
-          (made k past _ 4 0 _ (omega arith) (omega arith) (λ e. refl) (omega (arith, turns)) (omega (arith, long)) refl users refl (λ few. refl) refl),
-    )
-
-    call_5 : First 4
-    unfolding int_wrap
-    call_5 is turns long users = rw (has_room, is) (
-      omega arith,
-      all_user y I k 6 edata past _ _ 2 refl (omega arith) (let many = many_users in omega (arith, many))
-          (made k past _ 5 0 _ (omega arith) (omega arith) (λ e. refl) (omega (arith, turns)) (omega (arith, long)) refl users refl (λ few. refl) refl),
-    )
-
-    call_6 : Second 5
-    unfolding int_wrap
-    call_6 is turns long users = rw (has_room, is) (
-      omega arith,
-      all_halt y I k 6 edata past _ _ refl (made k past _ 6 0 _ (omega arith) (omega arith) (λ e. refl) (omega (arith, turns)) (omega (arith, long)) refl users refl (λ few. absurd (omega (arith, few))) refl),
-    )
-
-  -- each of the six
-  called : (k edata : ℕ) (past : List Dispatch) (calls : ℕ) → calls ≤ 5 → CallsAfter (caller calls) (leg (half calls)) (suc calls) → k ≡ 1 + steps_up_to (suc calls) + calls + lines_taken past
-      → length past ≡ 1 + calls + lines_taken past → Does k 6 edata past (core_of_parts (data_of calls) (machines f g (suc calls) 0) (console_of y.input calls) (turn_of calls)) calls
-  called k edata past zero few h turns long = call_1 k edata past (behind f 1) g h.value_is turns long refl
-  called k edata past (suc zero) few h turns long = call_2 k edata past (behind f 1) (behind g 1) h.value_is turns long refl
-  called k edata past (suc (suc zero)) few h turns long = call_3 k edata past (behind f 2) (behind g 1) h.value_is turns long refl
-  called k edata past (suc (suc (suc zero))) few h turns long = call_4 k edata past (behind f 2) (behind g 2) h.value_is turns long refl
-  called k edata past (suc (suc (suc (suc zero)))) few h turns long = call_5 k edata past (behind f 3) (behind g 2) h.value_is turns long refl
-  called k edata past (suc (suc (suc (suc (suc zero))))) few h turns long = call_6 k edata past (behind f 3) (behind g 3) h.value_is turns long refl
-  called k edata past (suc (suc (suc (suc (suc (suc calls)))))) few h turns long = absurd (omega (arith, few))
+  called : (k edata : ℕ) (past : List Dispatch) (calls : ℕ) → calls ≤ 5 → Turn calls → k ≡ 1 + steps_up_to (suc calls) + calls + lines_taken past
+      → length past ≡ 1 + calls + lines_taken past → Does k 6 edata past (at_call calls (machines f g (suc calls) 0) (turn_of calls)) calls
+  called k edata past calls few w turns long =
+      call k edata past calls few turns long (after (steps_of_1 (suc calls) 0) (behind f (half (suc (suc calls))))) (after (steps_of_2 (suc calls) 0) (behind g (half (suc calls)))) refl
+      (ap (λ (m : Flat). signed (slice_index m.cpu.regs 4)) w.called ∙ w.brings.value_is)
 
   -- A TRAP is the call of the user whose turn it is
   trapped : (k : ℕ) (cause : Cause) (edata : ℕ) (past : List Dispatch) (before at : Core) → IsTrapOf before cause edata at → status_after past ≡ Running → UsePages y 300 0 past → (h : I k past before)
@@ -201,7 +170,7 @@ module _ (y : System) (r : Runs y) (f g : Flat) (odd : (c : ℕ) → c ≤ 2 →
       let last = trap.last in
       arrives trap (subst (λ us. KeepsAll y 300 J k 6 w.brings.calls.edata past (core_of_parts (data_of h.calls) us (console_of y.input h.calls) (turn_of h.calls))) (sym (w.passes h.steps))
       (keeps_within y kernel_tree r.meaning_is 300 0 I k 6 w.brings.calls.edata past (core_of_parts (data_of h.calls) (machines f g (suc h.calls) 0) (console_of y.input h.calls) (turn_of h.calls)) (data_of h.calls) touch refl
-      (called k w.brings.calls.edata past h.calls few w.brings (omega (arith, turns, last)) h.length_is)))
+      (called k w.brings.calls.edata past h.calls few w (omega (arith, turns, last)) h.length_is)))
 
   -- A STEP of that user
   stepped : (k : ℕ) (past : List Dispatch) (c : Core) (next : Flat) → vstep (user_of c.users c.current) ≡ Goes next → status_after past ≡ Running → (h : I k past c) → I (suc k) past (with_machine c next)

@@ -26,9 +26,9 @@ pub fn text_is_tree()
     ensures { IsTextOf 19600 text kernel_tree }
 {}
 
-/// A law: each boot (`boot`, `rom` or `sample`, with no failed call) of an image with this text and these users, under every schedule, printed the text of such a
-/// state; with 17 turns and one more for each `line` row, and the steps for them, it halted, and then it printed at most 7 rows and one more for each `line` row,
-/// and a report that is stated letter by letter.
+/// A law: each boot (`boot`, `rom` or `sample`, with no failed call) of an image with this text and these users, under every schedule, printed the text of
+/// such a state; with 17 turns and one more for each `line` row, and the steps for them, it halted, and then it printed at most 7 rows and one more for each
+/// `line` row, and a report that is stated letter by letter.
 pub fn alternating_boots()
     ensures { AlternatingBoots }
 {

@@ -23,7 +23,8 @@ use Rattle.kernel_boots.proofs.Boots.{asked_read}
 use Rattle.kernel_boots.proofs.Systems.{asks_source, asked_users, stopped, systems_boot}
 use Rattle.answering.specs.Tree.{kernel_tree}
 use Rattle.answering.specs.Text.{text as kernel_text}
-use Rattle.answering.specs.Property.{AsksAndEnds, Runs, data_of, Phase, FirstAsks, FirstEnds, SecondAsks, SecondEnds, Over, traps_of, total_of, status_of_phase, most_of, gone_by, first_at, second_at, IsAnswering, Answering}
+use Rattle.kernel_theorems.specs.UserRuns.{AsksAndEnds}
+use Rattle.answering.specs.Property.{Runs, data_of, Phase, FirstAsks, FirstEnds, SecondAsks, SecondEnds, Over, traps_of, total_of, status_of_phase, most_of, gone_by, first_at, second_at, IsAnswering, Answering}
 use Rattle.answering.specs.Boots.{report_of, ended, AnswersShown, AnyUsersAnswered}
 use Rattle.answering.proofs.Property.{invariant}
 

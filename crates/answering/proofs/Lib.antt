@@ -1,3 +1,6 @@
 mod Property
 mod Texts
 mod Answered
+mod Programs
+mod Compiled
+mod StepCounts

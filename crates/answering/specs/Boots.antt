@@ -19,9 +19,9 @@ use Rattle.cvm_shell.specs.Host.{Host}
 use Rattle.cvm_shell.specs.Boot.{booted, around, first_state, steps_before, IsHonest}
 use Rattle.cvm_shell.specs.CommandEnds.{Headlines}
 use Rattle.kernel_boots.specs.Systems.{AsksSystem, SystemShown}
-use Rattle.kernel_theorems.specs.UserRuns.{after, told}
+use Rattle.kernel_theorems.specs.UserRuns.{after, AsksAndEnds, told}
 use Rattle.answering.specs.Text.{text as kernel_text}
-use Rattle.answering.specs.Property.{AsksAndEnds, Answering}
+use Rattle.answering.specs.Property.{Answering}
 
 -- the report of the system once it has halted, with this total and these machines: nothing was logged
 abbrev pub report_of : (total : ℕ) → List Flat → List ℕ

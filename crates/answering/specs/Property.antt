@@ -1,8 +1,6 @@
 -- A whole system in which users are answered: a kernel that lets user 1 and then user 2 run to its end. Each asks it once, with a number in register 4; the
 -- kernel adds it to the total, and answers with the total in register 2. When both have ended, the system halts.
-use Rattle.std.specs.Prelude.{◌≡◌, ◌≤◌, ◌<◌, ◌^◌, ℕ, suc, ◌+◌, ℤ, pos, List, [], ◌∷◌, length, slice_index, Some}
-use Rattle.mips_table.specs.Arith.{signed}
-use Rattle.mips_table.specs.declared.cause.Cause.TheVariants.{Syscall}
+use Rattle.std.specs.Prelude.{◌≡◌, ◌≤◌, ◌<◌, ◌^◌, ℕ, suc, ◌+◌, ℤ, pos, List, [], ◌∷◌, length, Some}
 use Rattle.mips_table.specs.Flat.{Flat}
 use Rattle.c0_meaning.specs.Value.{int, group, empty, part}
 use Rattle.c0_meaning.specs.State.{State}
@@ -11,16 +9,8 @@ use Rattle.cvm_model.specs.KernelMeaning.{kernel_meaning}
 use Rattle.cvm_model.specs.Cvm.{System, Cvm, Status, Running, Halted, first_flat, first_core, cvm, IsCvm}
 use Rattle.cvm_model.specs.Invariant.{Dispatch, dispatches_of, HasEight, HasUsers}
 use Rattle.cvm_model.specs.Systems.{SystemProperty, status_after, lines_taken, UsePages, SystemHolds}
-use Rattle.kernel_theorems.specs.UserRuns.{after, TrapsAfter, told}
+use Rattle.kernel_theorems.specs.UserRuns.{after, AsksAndEnds, told}
 use Rattle.answering.specs.Tree.{kernel_tree}
-
--- a user asks after so many untrapped steps, with this number in register 4; and answered so it ends after so many more
-pub record AsksAndEnds (f : Flat) (steps rest value answer : ℕ) : Type 0 where
-  pub asks : TrapsAfter f steps Syscall
-  pub asks_by : asks.edata ≡ 12
-  pub value_is : signed (slice_index (after (suc steps) f).cpu.regs 4) ≡ pos value
-  pub ends : TrapsAfter (told (after (suc steps) f) answer) rest Syscall
-  pub ends_by : ends.edata ≡ 76
 
 -- a system of this kernel: two users, which ask with v and w, whose sum is an int, and end; and its stack has room for a frame
 pub record Runs (y : System) (a b c d v w : ℕ) : Type 0 where

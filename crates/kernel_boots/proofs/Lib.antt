@@ -6,3 +6,8 @@ pub mod Systems
 mod RoundRobins
 mod Guardeds
 mod Mailboxes
+mod Semaphores
+mod OwnRuns
+mod Blocks
+mod Separate
+pub mod Linked

@@ -249,3 +249,12 @@ boots_are_chains laws chains words status old new headlines session s rows befor
       chain = λ k e. chains y s.unit (lines_of x first) b.stands.is.units k b.stands.state refl eight
           (subst (λ j. cvm y (lines_of x first) b.stands.is.units j ≡ Some b.stands.state) e b.stands.is.is);
     }
+
+-- MORE TURNS want more steps: for users whose steps are only bounded. This may be cited from other crates.
+with_fewer : (r d a b late steps : ℕ) → a ≤ b → r + b + d + late ≤ steps → r + a + d + late ≤ steps
+with_fewer r d a b late steps le h = omega (arith, le, h)
+
+pub fewer_turns : (y : System) (j k d n p late steps : ℕ) → j ≤ k → steps_for y k d n p + late ≤ steps → steps_for y j d n p + late ≤ steps
+fewer_turns y j k d n p late steps le h =
+    with_fewer (reset_steps (map_of y.boot)) (d * (enter_steps + leave_steps + run_steps (map_of y.boot) y.longest n p)) _ _ late steps
+    (mul-le j (turn_steps (map_of y.boot) y.longest) k (turn_steps (map_of y.boot) y.longest) le (omega arith)) h

@@ -4,3 +4,7 @@ pub mod Systems
 pub mod RoundRobins
 pub mod Guardeds
 pub mod Mailboxes
+pub mod Semaphores
+pub mod OwnRuns
+pub mod Separation
+pub mod Linked

@@ -1,11 +1,13 @@
 //! What each boot of a kernel prints, by what was proved of its runs: each function is a law over the headline of `cvm_shell::run`. A boot here is one by
-//! `boot`, `rom` or `sample` under the headline's premises (`IsHonest`: among them that no call fails), with another status than 8.
+//! `boot`, `rom` or `sample` under the headline's premises (`IsHonest`: among them that no call fails), with another status than 8. What two boots print of the
+//! same user is compared in `separation`.
 #![tactic(auto)]
 
 ghost use Rattle.kernel_boots.specs.Boots.{BootsStand, RunsItsSource};
 ghost use Rattle.kernel_boots.specs.Guardeds.{GuardedKernelsBoot};
 ghost use Rattle.kernel_boots.specs.Mailboxes.{MailboxesBoot};
 ghost use Rattle.kernel_boots.specs.RoundRobins.{RoundRobinsBoot};
+ghost use Rattle.kernel_boots.specs.Semaphores.{SemaphoresBoot};
 ghost use Rattle.kernel_boots.specs.Stands.{ResumesStand, SavesStand, TracesStand};
 ghost use Rattle.kernel_boots.specs.Systems.{BootsAreChains};
 
@@ -15,7 +17,10 @@ use kernel_linker::laws::accepted_systems_are_of_their_images;
 use kernel_theorems::guarded::{guarded_never_faults, text_is_guarded};
 use kernel_theorems::mailbox::{messages_are_delivered, text_is_mailbox};
 use kernel_theorems::round_robin::{round_robin_is_fair, text_is_round_robin};
+use kernel_theorems::semaphore::{at_most_one_is_inside, text_is_semaphore};
 use kernel_theorems::texts_mean_trees;
+
+pub mod separation;
 
 /// A law: what a boot, a trace or a sample runs is the unit of the source of its image.
 pub fn boots_run_their_source()
@@ -97,4 +102,16 @@ pub fn mailboxes_boot()
     messages_are_delivered();
     texts_mean_trees();
     text_is_mailbox();
+}
+
+/// A law: in each boot of an image with the semaphore's text and three users, by the rows that it prints and their dispatches, at most one user is inside, and
+/// its status is no kernel's fault.
+pub fn semaphores_boot()
+    ensures { SemaphoresBoot }
+{
+    accepted_systems_are_of_their_images();
+    runs_are_lawful();
+    at_most_one_is_inside();
+    texts_mean_trees();
+    text_is_semaphore();
 }

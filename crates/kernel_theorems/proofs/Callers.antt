@@ -1,5 +1,6 @@
--- The current user of a dispatch: which caller fits the tests of primitives, and a call that is answered in a register. This file may be cited from other crates.
-use Rattle.std.proofs.Common.{◌≡◌, ℕ, ◌-◌, ◌≤◌, ◌<◌, length, Bool, true, false, refl, ap₂, ◌∙◌, subst, arith}
+-- The current user of a dispatch: which caller fits the tests of primitives, and a call that is answered in a register; and a dispatch in which nobody calls. This
+-- file may be cited from other crates.
+use Rattle.std.proofs.Common.{◌≡◌, ℕ, ◌-◌, ◌≤◌, ◌<◌, length, Bool, true, false, refl, ap, ap₂, ◌∙◌, subst, arith}
 use Rattle.std.specs.Prelude.{ℤ, nat_le, ◌==◌, ◌&&◌, FitsSigned}
 use Rattle.std.specs.Int.{w32}
 use Rattle.std.proofs.lemmas.Bool.{le-leb, eqb-true, eq-eqb}
@@ -50,3 +51,14 @@ answered_call sets y d register a cause c user room fits users =
       found = λ v e. subst (λ x. holds d.after x register ≡ a) (the_caller d v e) set.found;
       others = λ v some e. set.others v some (λ same. not_both (calls v d) (ap₂ (λ b w. b && (d.before.current == w)) cause same ∙ eq-eqb d.before.current d.before.current refl) e);
     }
+
+-- A QUIET DISPATCH is for no system call and changes no machine: nobody calls in it, whatever is claimed of callers, and each user finds what it had
+pub record IsQuiet (d : Dispatch) : Type 0 where
+  pub none : (v : ℕ) → calls v d ≡ false
+  pub nobody : (v : ℕ) → calls v d ≡ true → ⊥
+  pub kept : (v : ℕ) → user_of d.after.users v ≡ user_of d.before.users v
+
+pub quiet_dispatch : (d : Dispatch) → (d.cause == 6) ≡ false → d.after.users ≡ d.before.users → IsQuiet d
+quiet_dispatch d other same =
+    let none : (v : ℕ) → calls v d ≡ false = λ v. ap (λ b. b && (d.before.current == v)) other in
+    record { none = none; nobody = λ v e. not_both (calls v d) e (none v); kept = λ v. ap (λ us. user_of us v) same }

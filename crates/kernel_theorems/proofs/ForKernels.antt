@@ -16,5 +16,5 @@ pub use Rattle.kernel_theorems.specs.History.{EachHas, told_by}
 pub use Rattle.kernel_theorems.proofs.Answering.{rows_join, each_more, answers_user, answers_halt}
 pub use Rattle.kernel_theorems.proofs.Histories.{told_more, one_more, rows_length}
 pub use Rattle.kernel_theorems.proofs.Tests.{not_both, left_of, and_false, by_test, by_same, by_equal, small_fits, small_sum}
-pub use Rattle.kernel_theorems.proofs.Callers.{Caller, caller, the_caller, AnsweredCall, answered_call}
+pub use Rattle.kernel_theorems.proofs.Callers.{Caller, caller, the_caller, AnsweredCall, answered_call, IsQuiet, quiet_dispatch}
 pub use Rattle.kernel_theorems.proofs.OneKernel.{Does, keeps_from, to_user}

@@ -12,6 +12,8 @@ mod Mailboxes
 mod MailboxTexts
 mod Loggings
 mod LoggingTexts
+mod Semaphores
+mod SemaphoreTexts
 pub mod UserRuns
 pub mod Tests
 pub mod Histories

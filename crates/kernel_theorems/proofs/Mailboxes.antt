@@ -27,6 +27,8 @@ use Rattle.cvm_model.specs.Invariant.{Dispatch, dispatches_of, IsTrap, Keeps, Ke
 use Rattle.cvm_model.proofs.Invariants.{invariants_hold}
 use Rattle.cvm_model.proofs.Kept.{keeps_by}
 use Rattle.kernel_theorems.proofs.Answering.{each_more, answers_user, answers_halt}
+use Rattle.kernel_theorems.proofs.Callers.{quiet_dispatch}
+use Rattle.kernel_theorems.proofs.Tests.{not_both}
 use Rattle.kernel_theorems.specs.Registers.{holds, calls, set_in, IsSet, SetsAreFound}
 use Rattle.kernel_theorems.specs.History.{EachHas}
 use Rattle.kernel_theorems.specs.MailboxTree.{mailbox}
@@ -65,10 +67,6 @@ carried past d w v now u order answered local fits is = record {
   fits = fits;
 }
 
-clash : (b : Bool) → b ≡ true → b ≡ false → ⊥
-clash true e f = absurd (cc)
-clash false e f = absurd (cc)
-
 -- who called
 call_of : (user : ℕ) (d : Dispatch) → d.cause ≡ 6 → d.before.current ≡ user → (user == user) ≡ true → calls user d ≡ true
 call_of user d cause is same = ap₂ (λ c u. (c == 6) && (u == user)) cause is ∙ same
@@ -95,15 +93,12 @@ idle : (past : List Dispatch) (d : Dispatch) (w : Option ℤ) (now : ℤ) (u : �
 idle past d w now u order answered fits put got is =
     carried past d w w now u order answered (ap (λ xs. under_way w ++ xs) (no_put d put) ∙ append-nil (under_way w) ∙ ap (λ xs. xs ++ under_way w) (sym (no_get d got))) fits is
 
--- a dispatch of no system call, which changes no machine
+-- a quiet dispatch
 quiet : (past : List Dispatch) (d : Dispatch) (w : Option ℤ) (now : ℤ) (u : ℕ) → puts past ≡ gots past ++ under_way w → EachHas IsAnswered [] past → IsIntOr w
-    → ((user : ℕ) → calls user d ≡ false) → d.after.users ≡ d.before.users → Carries (past ++ d ∷ []) (data_of w now) u
-quiet past d w now u order answered fits none same =
-    idle past d w now u order answered fits (failed 1 d (none 1)) (failed 2 d (none 2)) (record {
-      put = λ e. absurd (clash (calls 1 d) e (none 1));
-      get = λ e. absurd (clash (calls 2 d) e (none 2));
-      others = λ v some e. ap (λ us. user_of us v) same;
-    })
+    → (d.cause == 6) ≡ false → d.after.users ≡ d.before.users → Carries (past ++ d ∷ []) (data_of w now) u
+quiet past d w now u order answered fits other same =
+    let q = quiet_dispatch d other same in
+    idle past d w now u order answered fits (failed 1 d (q.none 1)) (failed 2 d (q.none 2)) (record { put = λ e. absurd (q.nobody 1 e); get = λ e. absurd (q.nobody 2 e); others = λ v some e. q.kept v })
 
 one_fits : FitsSigned w32 (pos 1)
 one_fits = record { sfits = omega arith }
@@ -126,7 +121,7 @@ module _ (past : List Dispatch) (d : Dispatch) (at : Core) (w : Option ℤ) (cau
 
   others_of : (user : ℕ) → calls user d ≡ true → Others user → (v : ℕ) → 1 ≤ v → calls v d ≡ false → user_of d.after.users v ≡ user_of d.before.users v
   others_of user c h v some e =
-      h v some (λ same. clash (calls v d) (subst (λ x. calls x d ≡ true) (sym same) c) e) ∙ ap (λ (x : Core). user_of x.users v) (sym before)
+      h v some (λ same. not_both (calls v d) (subst (λ x. calls x d ≡ true) (sym same) c) e) ∙ ap (λ (x : Core). user_of x.users v) (sym before)
 
   by_one : (a : ℤ) → at.current ≡ 1 → (if is_some w then pos 0 else pos 1) ≡ a → holds d.after 1 2 ≡ a → Others 1 → (calls 1 d ≡ true) × (calls 2 d ≡ false) × IsAnswered past d
   by_one a current answer found others =
@@ -137,7 +132,7 @@ module _ (past : List Dispatch) (d : Dispatch) (at : Core) (w : Option ℤ) (cau
         n,
         record {
           put = λ e. found ∙ sym (ap (λ b. if b then pos 0 else pos 1) (waits_is past w order) ∙ answer);
-          get = λ e. absurd (clash (calls 2 d) e n);
+          get = λ e. absurd (not_both (calls 2 d) e n);
           others = others_of 1 c others;
         },
       )
@@ -150,7 +145,7 @@ module _ (past : List Dispatch) (d : Dispatch) (at : Core) (w : Option ℤ) (cau
         c,
         n,
         record {
-          put = λ e. absurd (clash (calls 1 d) e n);
+          put = λ e. absurd (not_both (calls 1 d) e n);
           get = λ e. found ∙ sym (ap (λ b. if b then pos 1 else pos 0) (waits_is past w order) ∙ answer);
           others = others_of 2 c others;
         },
@@ -221,7 +216,7 @@ module _ (sets : SetsAreFound) (y : System) (r : RunsMailbox y) where
       (subst (λ (t : State). Comes (dispatch (setting_of mailbox y.boot.params) 400 (pos cause) (signed edata) (pos at.current) t (machines_of y.boot.params at)) (KeptAt y Carries k cause edata past at)) (sym data_is) h)
 
   started : Does 0 0 0 [] (first_core y) (data_of None (pos 0))
-  started = rw has_room (answers_user y Carries 0 0 0 [] (first_core y) _ 1 refl (omega arith) (let two = r.two in omega (arith, two)) (quiet [] _ None (pos 0) 1 refl tt tt (λ user. refl) refl))
+  started = rw has_room (answers_user y Carries 0 0 0 [] (first_core y) _ 1 refl (omega arith) (let two = r.two in omega (arith, two)) (quiet [] _ None (pos 0) 1 refl tt tt refl refl))
 
   -- the other user
   abbrev who : Core → ℕ
@@ -242,9 +237,9 @@ module _ (sets : SetsAreFound) (y : System) (r : RunsMailbox y) where
   -- A LINE is taken: the other user is next
   lined : (k mask : ℕ) (past : List Dispatch) (at : Core) (w : Option ℤ) (old : ℤ) → puts past ≡ gots past ++ under_way w → EachHas IsAnswered [] past → IsIntOr w → Does (suc k) 1 mask past at (data_of w old)
   lined k mask past at None old order answered fits =
-      rw has_room (answers_user y Carries (suc k) 1 mask past at _ (who at) (answers_who at) (some_who at) (few_who at) (quiet past _ None old (who at) order answered fits (λ user. refl) refl))
+      rw has_room (answers_user y Carries (suc k) 1 mask past at _ (who at) (answers_who at) (some_who at) (few_who at) (quiet past _ None old (who at) order answered fits refl refl))
   lined k mask past at (Some m) old order answered fits =
-      rw has_room (answers_user y Carries (suc k) 1 mask past at _ (who at) (answers_who at) (some_who at) (few_who at) (quiet past _ (Some m) old (who at) order answered fits (λ user. refl) refl))
+      rw has_room (answers_user y Carries (suc k) 1 mask past at _ (who at) (answers_who at) (some_who at) (few_who at) (quiet past _ (Some m) old (who at) order answered fits refl refl))
 
   -- A SYSTEM CALL of user 1, or of user 2: the answers of the tests are named, and each way computes
   module _ (k edata : ℕ) (past : List Dispatch) (at : Core) (fit : Shaped y at) (user : IsUser at at.current) (answered : EachHas IsAnswered [] past) where
@@ -299,9 +294,9 @@ module _ (sets : SetsAreFound) (y : System) (r : RunsMailbox y) where
   trapped k causes.External edata past at trap fit user w old order answered fits = absurd trap
   trapped k causes.Syscall edata past at trap fit user w old order answered fits = called k edata past at fit user answered w old order fits
   trapped k cause edata past at trap fit user None old order answered fits =
-      rw has_room (answers_halt y Carries (suc k) (number_of cause) edata past at _ refl (quiet past _ None old at.current order answered fits (λ user. refl) refl))
+      rw has_room (answers_halt y Carries (suc k) (number_of cause) edata past at _ refl (quiet past _ None old at.current order answered fits refl refl))
   trapped k cause edata past at trap fit user (Some v) old order answered fits =
-      rw has_room (answers_halt y Carries (suc k) (number_of cause) edata past at _ refl (quiet past _ (Some v) old at.current order answered fits (λ user. refl) refl))
+      rw has_room (answers_halt y Carries (suc k) (number_of cause) edata past at _ refl (quiet past _ (Some v) old at.current order answered fits refl refl))
 
   invariant : IsInvariant y 400 (Shaped y) Carries
   invariant = record {

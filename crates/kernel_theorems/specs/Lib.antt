@@ -3,6 +3,7 @@ pub mod Text
 pub mod Registers
 pub mod History
 pub mod Traps
+pub mod Heads
 pub mod RoundRobin
 pub mod RoundRobinText
 pub mod GuardedTree
@@ -12,3 +13,6 @@ pub mod Mailbox
 pub mod LoggingTree
 pub mod Logging
 pub mod UserRuns
+pub mod SemaphoreTree
+pub mod SemaphoreText
+pub mod Semaphore

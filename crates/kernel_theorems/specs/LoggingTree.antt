@@ -5,15 +5,10 @@ use Rattle.c0_tree.specs.declared.tree.BinaryOp.TheVariants.{Add, Rem, Lt, Gt, E
 use Rattle.c0_tree.specs.Tree.{CUnit, CFunction, CDecl, CExpr, CStmts, binary, assign, call, new, choice, loop, done, next, code}
 use Rattle.c0_tree.specs.Tree as tree
 use Rattle.worked_rows.specs.Kernels.{z, name, decl, global, local, number, block, function, causes}
+use Rattle.kernel_theorems.specs.Heads.{goes_on}
 
 abbrev pub dispatch_locals : List CDecl
 dispatch_locals = decl tree.int (codes "next") Local 3 ∷ decl tree.int (codes "i") Local 4 ∷ decl tree.bool (codes "ok") Local 5 ∷ []
-
-abbrev pub dispatch_test1 : CExpr
-dispatch_test1 = binary z Eq (local (codes "cause") 0) (number 0)
-
-abbrev pub dispatch_yes1 : CStmts
-dispatch_yes1 = block (assign z (local (codes "next") 3) (number 1) ∷ [])
 
 abbrev pub dispatch_test2 : CExpr
 dispatch_test2 = binary z Eq (local (codes "cause") 0) (number 1)
@@ -43,7 +38,7 @@ abbrev pub dispatch_rest1 : CStmts
 dispatch_rest1 = next (choice z dispatch_test2 dispatch_yes2 done) dispatch_rest2
 
 abbrev pub dispatch_body : CStmts
-dispatch_body = next (assign z (local (codes "next") 3) (local (codes "user") 2)) (next (choice z dispatch_test1 dispatch_yes1 done) dispatch_rest1)
+dispatch_body = goes_on dispatch_rest1
 
 abbrev pub dispatch_answer : CExpr
 dispatch_answer = local (codes "next") 3

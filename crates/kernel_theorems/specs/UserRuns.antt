@@ -31,3 +31,11 @@ pub record CallsAfter (f : Flat) (steps value : ℕ) : Type 0 where
 -- a machine that was answered this number, in register 2
 abbrev pub told : Flat → ℕ → Flat
 told f x = with_register f 2 (cast_unsigned w32 (pos x))
+
+-- a user asks after so many untrapped steps, with this number in register 4; and answered so it ends after so many more
+pub record AsksAndEnds (f : Flat) (steps rest value answer : ℕ) : Type 0 where
+  pub asks : TrapsAfter f steps Syscall
+  pub asks_by : asks.edata ≡ 12
+  pub value_is : signed (slice_index (after (suc steps) f).cpu.regs 4) ≡ pos value
+  pub ends : TrapsAfter (told (after (suc steps) f) answer) rest Syscall
+  pub ends_by : ends.edata ≡ 76

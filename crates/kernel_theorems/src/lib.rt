@@ -13,6 +13,7 @@ pub mod logging;
 pub mod mailbox;
 pub mod registers;
 pub mod round_robin;
+pub mod semaphore;
 pub mod traps;
 
 /// A law: a text that is read by computation means the tree that it comes to.

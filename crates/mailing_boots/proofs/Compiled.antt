@@ -18,7 +18,8 @@ use Rattle.cvm_shell.specs.Boot.{booted, around, first_state, steps_before}
 use Rattle.cvm_shell.specs.Programs.{HasProgram, LinkedPrograms}
 use Rattle.kernel_theorems.specs.Text.{MeansProgram}
 use Rattle.program_systems.specs.Counts.{ImagesIgnorePlaces}
-use Rattle.program_systems.proofs.Compiled.{AreThere, are_there, asks_system, image_is}
+use Rattle.program_systems.proofs.Places.{image_is}
+use Rattle.kernel_boots.proofs.Linked.{AreThere, are_there, asks_system}
 use Rattle.mailing.specs.Text.{text as kernel_text}
 use Rattle.mailing.specs.Users.{ended}
 use Rattle.mailing.specs.Property.{sends, receives}

@@ -10,7 +10,7 @@ use Rattle.cvm_shell.specs.declared.boot.Session.{Session}
 use Rattle.cvm_shell.specs.Host.{Host}
 use Rattle.cvm_shell.specs.CommandEnds.{Headlines}
 use Rattle.kernel_boots.specs.Systems.{AsksSystem}
-use Rattle.program_systems.proofs.Programs.{fewer_turns}
+use Rattle.kernel_boots.proofs.Systems.{fewer_turns}
 use Rattle.mailing.specs.Text.{text as kernel_text}
 use Rattle.std.proofs.Common.{◌≡◌, ℕ, suc, ◌+◌, ◌*◌, ◌≤◌, List, [], ◌∷◌, ◌++◌, length, refl, sym, ap, ap₂, ◌∙◌, subst, arith}
 use Rattle.mips_table.specs.Device.{Outside}

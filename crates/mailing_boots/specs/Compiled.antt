@@ -23,7 +23,7 @@ use Rattle.cvm_shell.specs.Boot.{booted, around, first_state, steps_before, IsHo
 use Rattle.cvm_shell.specs.CommandEnds.{Headlines}
 use Rattle.kernel_boots.specs.Boots.{AsksSource}
 use Rattle.kernel_boots.specs.Systems.{AsksSystem}
-use Rattle.program_systems.specs.Boots.{IsLinkedOf}
+use Rattle.kernel_boots.specs.Linked.{IsLinkedOf}
 use Rattle.mailing.specs.Text.{text as kernel_text}
 use Rattle.mailing.specs.Users.{CallsInTurn, ended}
 use Rattle.mailing.specs.Property.{Message, sends, receives, numbers}

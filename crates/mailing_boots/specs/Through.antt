@@ -1,5 +1,5 @@
 -- Programs that make known calls, one after another, and then return: what they are as users of a whole system.
-use Rattle.std.specs.Prelude.{◌≡◌, ℕ, suc, ◌+◌, ◌^◌, ◌<◌, ◌≤◌, ℤ, pos, List, [], ◌∷◌, length, map, Option, Some, None, option_map}
+use Rattle.std.specs.Prelude.{◌≡◌, ℕ, ◌+◌, ◌^◌, ◌<◌, ◌≤◌, ℤ, pos, List, [], ◌∷◌, length, map, sum}
 use Rattle.mips_table.specs.Flat.{Flat}
 use Rattle.c0_tree.specs.Tree.{CUnit}
 use Rattle.c0_meaning.specs.UserProgram.{prog, done}
@@ -7,8 +7,7 @@ use Rattle.cvm_model.specs.Cvm.{first_flat}
 use Rattle.user_c0.specs.Image.{image_words}
 use Rattle.user_c0.specs.Program.{steps_of as most_steps}
 use Rattle.user_c0.specs.Users.{IsProgram}
-use Rattle.kernel_theorems.specs.UserRuns.{after, told}
-use Rattle.program_systems.specs.Counts.{steps_below}
+use Rattle.program_systems.specs.Counts.{TrapsThrough}
 use Rattle.mailing.specs.Users.{Leg, CallsInTurn}
 
 -- numbers as ints, each of which is one
@@ -45,21 +44,12 @@ abbrev pub ProgramsComeThrough : Type 0
 ProgramsComeThrough = (u : CUnit) (n : ℕ) (arguments answers : List ℕ) → CallsAndReturns u n arguments answers
     → ComesThrough (first_flat (image_words u)) (most_steps n) arguments answers
 
--- a number, where it is known, and one more by it
-abbrev pub and_more : Option ℕ → (ℕ → Option ℕ) → Option ℕ
-and_more None rest = None
-and_more (Some n) rest = option_map (λ m. n + m) (rest n)
-
--- the untrapped steps of a machine that is answered so at its traps, one after another, up to the trap behind the last answer: counted, fewer than k up to each trap
-abbrev pub steps_through : (k : ℕ) → Flat → (answers : List ℕ) → Option ℕ
-steps_through k f [] = steps_below k f
-steps_through k f (x ∷ answers) = and_more (steps_below k f) (λ n. steps_through k (told (after (suc n) f) x) answers)
-
--- they are n, and a number is known below which they are up to each trap
+-- its untrapped steps are n in all, where it is answered so at each of its traps but the last one
 pub record IsCountedThrough (f : Flat) (answers : List ℕ) (n : ℕ) : Type 0 where
-  pub below : ℕ
-  pub counts : steps_through below f answers ≡ Some n
+  pub steps : List ℕ
+  pub traps : TrapsThrough f answers steps
+  pub sum_is : sum steps ≡ n
 
--- A LAW: where they are counted, a machine that makes its calls in turn and is answered so makes just these untrapped steps
+-- A LAW: where it is known so, a machine that makes its calls in turn and is answered so makes just these untrapped steps
 abbrev pub CountsTellThrough : Type 0
 CountsTellThrough = (f : Flat) (legs : List Leg) (last n : ℕ) → CallsInTurn f legs last → IsCountedThrough f (map (λ (leg : Leg). leg.answer) legs) n → untrapped_in legs last ≡ n

@@ -29,7 +29,7 @@ pub fn programs_come_through()
     answers_ahead_dont_matter();
 }
 
-/// A law: where a machine's steps are counted from answer to answer, it makes just these where it makes its calls in turn.
+/// A law: where it is known behind how many steps a machine traps, from answer to answer, it makes just these where it makes its calls in turn.
 pub fn counts_tell_through()
     ensures { CountsTellThrough }
 {
@@ -62,7 +62,7 @@ pub fn any_programs_mail()
     any_users_mail();
 }
 
-/// A law: where the programs' steps are counted, with turns and steps by just these.
+/// A law: where the programs' steps are known, with turns and steps by just these.
 pub fn any_counted_programs_mail()
     ensures { AnyCountedProgramsMail }
 {
@@ -79,15 +79,17 @@ pub fn mailers_call()
 /// A law: their images make 144 and 174 untrapped steps.
 pub fn mailers_are_counted()
     ensures { MailersAreCounted }
-{}
+{
+    counts_tell();
+}
 
 /// A law: the texts are those of the trees.
 pub fn texts_are_mailers()
     ensures { TextsAreMailers }
 {}
 
-/// A law: so it is of each boot of an image that was linked of what `compile program` put of the two texts: the numbers from 1 to 10 are printed in order, and it
-/// halts with 351 turns more than the schedule has `line` rows, which are those that it takes without them.
+/// A law: so it is of each boot of an image that was linked of what `compile program` put of the two texts: the numbers from 1 to 10 are printed in order,
+/// and it halts with 351 turns more than the schedule has `line` rows, which are those that it takes without them.
 pub fn compiled_mail_boots()
     ensures { CompiledMailBoots }
 {

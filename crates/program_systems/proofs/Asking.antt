@@ -2,27 +2,18 @@
 use Rattle.std.specs.Prelude.{ℤ, pos, map}
 use Rattle.std.specs.Int.{w32, cast_unsigned}
 use Rattle.std.proofs.Common.{◌≡◌, ℕ, suc, ◌+◌, ◌^◌, ◌<◌, ◌≤◌, List, [], ◌∷◌, ◌++◌, length, Option, Some, refl, sym, ap, ◌∙◌, subst, arith}
-use Rattle.mips_table.specs.Device.{Outside}
-use Rattle.mips_table.specs.Machine.{State}
-use Rattle.mips_table.specs.declared.cause.Cause.TheVariants.{Syscall}
 use Rattle.mips_table.specs.Flat.{Flat}
 use Rattle.c0_tree.specs.Tree.{CUnit}
 use Rattle.c0_meaning.specs.RunLaws.{HasEnded}
 use Rattle.c0_meaning.specs.UserProgram.{Seen, prog, done}
-use Rattle.cvm_model.specs.Cvm.{System, first_flat}
-use Rattle.cvm_shell.specs.declared.exit_status.Status.{Status}
-use Rattle.cvm_shell.specs.Boot.{booted, around, first_state, steps_before}
+use Rattle.cvm_model.specs.Cvm.{first_flat}
 use Rattle.user_c0.specs.Image.{image_words}
 use Rattle.user_c0.specs.Events.{Event, step, call, other, replies, calls, others, untrapped, answer_of, answers}
 use Rattle.user_c0.specs.Program.{EndsBy, steps_of}
 use Rattle.user_c0.specs.Users.{HasCome, UsersGoOn, IntsAreTold}
 use Rattle.kernel_theorems.specs.UserRuns.{after, told}
-use Rattle.answering.specs.Property.{AsksAndEnds}
-use Rattle.answering.specs.Boots.{AnswersShown, AnyUsersAnswered}
 use Rattle.program_systems.specs.Coming.{CallsNext, CallsCome, EndsNext, EndsCome}
-use Rattle.program_systems.specs.Answered.{BringsAndEnds, AskedAndEnded, ProgramsAskAndEnd, ProgramsAnsweredShown, AnyProgramsAnswered, AnyCountedProgramsAnswered}
-use Rattle.program_systems.specs.Counts.{AreCounted, CountsTell}
-use Rattle.program_systems.proofs.Programs.{fewer_turns}
+use Rattle.program_systems.specs.Asking.{BringsAndEnds, AskedAndEnded, ProgramsAskAndEnd}
 
 -- A CALL MORE: these three may be cited from other crates
 pub replies_call : (es : List Event) (x : Option ℕ) → replies (es ++ call x ∷ []) ≡ replies es ++ x ∷ []
@@ -96,45 +87,3 @@ asked ends ints u n value answer b less f r =
 pub programs_ask_and_end : UsersGoOn → CallsCome → EndsCome → IntsAreTold → ProgramsAskAndEnd
 programs_ask_and_end go calls ends ints u n value answer b less =
     asked ends ints u n value answer b less (first_flat (image_words u)) (calls u [] (first_flat (image_words u)) n (pos value) b.program (go.starts u) refl b.calls)
-
--- WITH TURNS BY UNITS
-fewer : (a b c d n k raised : ℕ) → a + b ≤ n → c + d ≤ k → 5 + a + b + c + d + raised ≤ 5 + n + k + raised
-fewer a b c d n k raised la lb = omega (arith, la, lb)
-
-module _ (x : Outside) (y : System) (s : State) (late raised turns steps : ℕ) (one two : CUnit) (n k v w : ℕ) (first : AskedAndEnded (first_flat (image_words one)) (steps_of n) v v)
-    (second : AskedAndEnded (first_flat (image_words two)) (steps_of k) w (v + w)) (status : Status) (text : List ℕ)
-    (h : AnswersShown x y s late raised turns steps first.steps first.rest second.steps second.rest v w (first_flat (image_words one)) (first_flat (image_words two)) status text) where
-  shown : ProgramsAnsweredShown x y s late raised turns steps one two n k v w status text
-  shown = record {
-    first = first;
-    second = second;
-    shows = h;
-    halted = λ enough long.
-        let le = fewer first.steps first.rest second.steps second.rest (steps_of n) (steps_of k) raised first.few second.few in
-        h.halted (omega (arith, le, enough)) (fewer_turns y (5 + first.steps + first.rest + second.steps + second.rest + raised) (5 + steps_of n + steps_of k + raised) (5 + raised) 100 0 late steps le long);
-  }
-
-pub any_programs_answered : ProgramsAskAndEnd → AnyUsersAnswered → AnyProgramsAnswered
-any_programs_answered does law one two n k v w first second fits words status old new headlines session s rows before h some view system =
-    let c : AskedAndEnded (first_flat (image_words one)) (steps_of n) v v = does one n v v first (omega (arith, fits)) in
-    let d : AskedAndEnded (first_flat (image_words two)) (steps_of k) w (v + w) = does two k w (v + w) second fits in
-    let (text, printed, shows) = law (image_words one) (image_words two) c.steps c.rest d.steps d.rest v w c.runs d.runs fits words status old new headlines session s rows before h some view system in (
-      text,
-      printed,
-      shown (around rows old) (booted s rows) (first_state session s rows before) (steps_before session.start (booted s rows)) (length rows.lines) session.turns session.steps one two n k v w c d status text shows,
-    )
-
--- WITH COUNTED STEPS: first those of the call, and then those behind the answer
-counted_end : CountsTell → (f : Flat) (v x a b m : ℕ) → AreCounted f x a b → AsksAndEnds f a m v x → AsksAndEnds f a b v x
-counted_end tell f v x a b m are r = subst (λ m. AsksAndEnds f a m v x) (tell.exactly (told (after (suc a) f) x) b m Syscall are.ends r.ends) r
-
-counted_run : CountsTell → (f : Flat) (most v x a b : ℕ) → AreCounted f x a b → AskedAndEnded f most v x → AsksAndEnds f a b v x
-counted_run tell f most v x a b are q =
-    counted_end tell f v x a b q.rest are (subst (λ m. AsksAndEnds f m q.rest v x) (tell.exactly f a q.steps Syscall are.asks q.runs.asks) q.runs)
-
-pub any_counted_programs_answered : ProgramsAskAndEnd → CountsTell → AnyUsersAnswered → AnyCountedProgramsAnswered
-any_counted_programs_answered does tell law one two n k v w a b c d first second fits counted also words status old new headlines session s rows before h some view system =
-    law (image_words one) (image_words two) a b c d v w
-    (counted_run tell (first_flat (image_words one)) (steps_of n) v v a b counted (does one n v v first (omega (arith, fits))))
-    (counted_run tell (first_flat (image_words two)) (steps_of k) w (v + w) c d also (does two k w (v + w) second fits))
-    fits words status old new headlines session s rows before h some view system

@@ -38,7 +38,7 @@ untrapped_step (call r ∷ es) = untrapped_step es
 untrapped_step (other c d ∷ es) = untrapped_step es
 
 -- the steps behind the first one
-front : (t : ℕ) (f g : Flat) → vstep f ≡ Goes g → after (suc t) f ≡ after t g
+pub front : (t : ℕ) (f g : Flat) → vstep f ≡ Goes g → after (suc t) f ≡ after t g
 front zero f g e = ap machine_after e
 front (suc t) f g e = ap (λ h. machine_after (vstep h)) (front t f g e)
 

@@ -1,32 +1,47 @@
 -- What is counted comes: a step more at the front, and two traps that come of one machine come at once.
 use Rattle.std.specs.Prelude.{option_map}
-use Rattle.std.proofs.Common.{◌≡◌, ℕ, zero, suc, ◌<◌, ◌≤◌, Option, Some, None, refl, subst, arith, ⊎_elim}
+use Rattle.std.proofs.Common.{◌≡◌, ℕ, zero, suc, ◌<◌, ◌≤◌, List, [], ◌∷◌, Option, Some, None, refl, sym, ap, subst, arith, ⊎_elim}
 use Rattle.std.proofs.lemmas.Bool.{cases_lt}
 use Rattle.mips_table.specs.declared.cause.Cause.{Cause}
 use Rattle.mips_table.specs.Flat.{Flat, VStep, Next as Goes, Trap, vstep}
-use Rattle.kernel_theorems.specs.UserRuns.{after, IsGoes, TrapsAfter}
-use Rattle.program_systems.specs.Counts.{counted, steps_below, CountsTell}
-use Rattle.program_systems.proofs.Coming.{at_once, one_more}
+use Rattle.cvm_model.specs.Invariant.{machine_after}
+use Rattle.kernel_theorems.specs.UserRuns.{after, IsGoes, TrapsAfter, told}
+use Rattle.program_systems.specs.Counts.{TrapsThrough, step_more, counted, steps_below, CountsTell}
+use Rattle.program_systems.proofs.Coming.{front, at_once, one_more}
 
--- COUNTED STEPS COME
-none_told : (n : ℕ) → ◌≡◌ {A = Option ℕ} None (Some n) → ⊥
-none_told n e = cc
+pub none_told : (steps : List ℕ) → ◌≡◌ {A = Option (List ℕ)} None (Some steps) → ⊥
+none_told steps e = cc
 
-same_told : (m n : ℕ) → ◌≡◌ {A = Option ℕ} (Some m) (Some n) → m ≡ n
-same_told m n e = cc
+same_told : (a b : List ℕ) → ◌≡◌ {A = Option (List ℕ)} (Some a) (Some b) → a ≡ b
+same_told a b e = cc
 
-one_counted : (f g : Flat) (o : Option ℕ) (n : ℕ) → vstep f ≡ Goes g → option_map suc o ≡ Some n → ((m : ℕ) → o ≡ Some m → (cause : Cause) × TrapsAfter g m cause) → (cause : Cause) × TrapsAfter f n cause
-one_counted f g None n e told rest = absurd (none_told n told)
-one_counted f g (Some m) n e told rest = let (cause, r) = rest m refl in (cause, subst (λ n. TrapsAfter f n cause) (same_told (suc m) n told) (one_more f g m cause e r))
+-- COUNTED STEPS COME: a step more before the first trap
+gone : (f g : Flat) (answers steps : List ℕ) → vstep f ≡ Goes g → TrapsThrough g answers steps → TrapsThrough f answers (step_more steps)
+gone f g answers [] e h = absurd h
+gone f g [] (n ∷ steps) e h = (h.0, (h.1.0, one_more f g n h.1.0 e h.1.1))
+gone f g (x ∷ answers) (n ∷ steps) e h = ((h.0.0, one_more f g n h.0.0 e h.0.1), subst (λ m. TrapsThrough (told m x) answers steps) (sym (front (suc n) f g e)) h.1)
 
-by_step : (f : Flat) (k n : ℕ) (v : VStep) → vstep f ≡ v → counted v (steps_below k) ≡ Some n → ((g : Flat) (m : ℕ) → steps_below k g ≡ Some m → (cause : Cause) × TrapsAfter g m cause)
-    → (cause : Cause) × TrapsAfter f n cause
-by_step f k n (Goes g) e told rest = one_counted f g (steps_below k g) n e told (λ m same. rest g m same)
-by_step f k n (Trap g cause edata) e told rest = (cause, subst (λ n. TrapsAfter f n cause) (same_told 0 n told) (at_once f g cause edata e))
+-- a trap at once, and those behind its answer
+trapped : (f g : Flat) (cause : Cause) (edata x : ℕ) (answers steps : List ℕ) → vstep f ≡ Trap g cause edata → TrapsThrough (told g x) answers steps → TrapsThrough f (x ∷ answers) (0 ∷ steps)
+trapped f g cause edata x answers steps e h = ((cause, at_once f g cause edata e), subst (λ m. TrapsThrough (told m x) answers steps) (sym (ap machine_after e)) h)
 
-traps : (k n : ℕ) (f : Flat) → steps_below k f ≡ Some n → (cause : Cause) × TrapsAfter f n cause
-traps zero n f told = absurd (none_told n told)
-traps (suc k) n f told = by_step f k n (vstep f) refl told (λ g m same. traps k m g same)
+pub mapped : (make : List ℕ → List ℕ) (o : Option (List ℕ)) (steps : List ℕ) → option_map make o ≡ Some steps → (found : List ℕ) × (o ≡ Some found) × (make found ≡ steps)
+mapped make None steps e = absurd (none_told steps e)
+mapped make (Some found) steps e = (found, refl, same_told (make found) steps e)
+
+by_step : (f : Flat) (k : ℕ) (answers steps : List ℕ) (v : VStep) → vstep f ≡ v → counted v answers (steps_below k) ≡ Some steps
+    → ((g : Flat) (given made : List ℕ) → steps_below k g given ≡ Some made → TrapsThrough g given made) → TrapsThrough f answers steps
+by_step f k answers steps (Goes g) e told_so rest =
+    let (found, same, made) = mapped step_more (steps_below k g answers) steps told_so in
+    subst (λ ns. TrapsThrough f answers ns) made (gone f g answers found e (rest g answers found same))
+by_step f k [] steps (Trap g cause edata) e told_so rest = subst (λ ns. TrapsThrough f [] ns) (same_told (0 ∷ []) steps told_so) (refl, (cause, at_once f g cause edata e))
+by_step f k (x ∷ answers) steps (Trap g cause edata) e told_so rest =
+    let (found, same, made) = mapped (λ ns. 0 ∷ ns) (steps_below k (told g x) answers) steps told_so in
+    subst (λ ns. TrapsThrough f (x ∷ answers) ns) made (trapped f g cause edata x answers found e (rest (told g x) answers found same))
+
+traps : (k : ℕ) (f : Flat) (answers steps : List ℕ) → steps_below k f answers ≡ Some steps → TrapsThrough f answers steps
+traps zero f answers steps told_so = absurd (none_told steps told_so)
+traps (suc k) f answers steps told_so = by_step f k answers steps (vstep f) refl told_so (λ g given made same. traps k g given made same)
 
 -- AND NO OTHERS
 no_trap : (v : VStep) (f : Flat) (cause : Cause) (edata : ℕ) → IsGoes v → v ≡ Trap f cause edata → ⊥
@@ -35,14 +50,11 @@ no_trap v f cause edata goes e = subst IsGoes e goes
 not_before : (f : Flat) (m n : ℕ) (by cause : Cause) → TrapsAfter f m by → TrapsAfter f n cause → m < n → ⊥
 not_before f m n by cause r s lt = no_trap (vstep (after m f)) (after (suc m) f) by r.edata (s.goes m lt) r.traps
 
-at_one_time : (f : Flat) (m n : ℕ) (by cause : Cause) → TrapsAfter f m by → TrapsAfter f n cause → m ≡ n
-at_one_time f m n by cause r s =
-    ⊎_elim (λ (lt : m < n). absurd (not_before f m n by cause r s lt))
-    (λ (ge : n ≤ m). ⊎_elim (λ (lt : n < m). absurd (not_before f n m cause by s r lt)) (λ (le : m ≤ n). omega (arith, ge, le)) (cases_lt n m))
+at_one_time : (f : Flat) (n m : ℕ) (by cause : Cause) → TrapsAfter f n by → TrapsAfter f m cause → m ≡ n
+at_one_time f n m by cause r s =
+    ⊎_elim (λ (lt : m < n). absurd (not_before f m n cause by s r lt))
+    (λ (ge : n ≤ m). ⊎_elim (λ (lt : n < m). absurd (not_before f n m by cause r s lt)) (λ (le : m ≤ n). omega (arith, ge, le)) (cases_lt n m))
     (cases_lt m n)
 
 pub counts_tell : CountsTell
-counts_tell = record {
-  traps = λ f n is. traps is.below n f is.counts;
-  exactly = λ f n m cause is r. let (by, s) = traps is.below n f is.counts in at_one_time f m n cause by r s;
-}
+counts_tell = record { traps = λ f answers steps is. traps is.below f answers steps is.counts; exactly = at_one_time }

@@ -1,12 +1,9 @@
 mod Coming
 mod Dispatches
-mod Counting
-mod Places
+pub mod Counting
+pub mod Parts
+pub mod Places
 mod AdderCounts
 mod Adders
 mod AdderTexts
-pub mod Programs
-pub mod Compiled
-mod StepCounts
 pub mod Asking
-mod CompiledAnswers

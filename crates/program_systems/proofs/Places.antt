@@ -1,7 +1,7 @@
 -- The image of a program is that of the unit without places: its code is made of names' kinds and numbers, and of types.
 use Rattle.std.specs.Prelude.{◌%◌, ◌^◌, ◌-◌, ◌*◌, ◌/◌, ◌==◌, ◌&&◌, ◌||◌, max, sum, not, nat_lt, nat_le, if◌then◌else◌, slice_index, option_map, unwrap_or, bytes_eq, codes}
 use Rattle.std.specs.List.{prefix_len, list_all}
-use Rattle.std.proofs.Common.{◌≡◌, ℕ, suc, ◌+◌, List, [], ◌∷◌, ◌++◌, map, length, Bool, true, false, Some, None, refl, ap, ◌∙◌}
+use Rattle.std.proofs.Common.{◌≡◌, ℕ, suc, ◌+◌, List, [], ◌∷◌, ◌++◌, map, length, Bool, true, false, Some, None, refl, sym, ap, ◌∙◌}
 use Rattle.mips_table.specs.declared.inst.Inst.{Inst}
 use Rattle.mips_table.specs.declared.inst.Inst.TheVariants.{Jal, Addiu}
 use Rattle.mips_table.specs.Encoding.{encoding}
@@ -27,7 +27,9 @@ use Rattle.c0_expr_code.specs.Code.{field_made, index_made, target_spot, at_plac
 use Rattle.c0_expr_code.specs.Test.{plain_test, unary_test, binary_test, test_code}
 use Rattle.c0_stmt_code.specs.Code.{Links, callee_index, skip, stored_code, assigned_code, args_code, otherwise, otherwise_at, stmt_code, stmts_code, is_calling, are_calling, register_entry, frame_entry, exit_code, body_code, function_code}
 use Rattle.c0_unit.specs.Code.{fault_exits, scope, links, functions_code, words_of, starts_from, function_starts, functions_at, code_words, routines_code, program_words}
-use Rattle.user_c0.specs.Image.{ROOM, map_of, laid, parts}
+use Rattle.c0_types.specs.Front.{IsUnitAs}
+use Rattle.user_c0.specs.Image.{ROOM, map_of, laid, parts, image_words}
+use Rattle.kernel_theorems.specs.Text.{MeansProgram}
 use Rattle.program_systems.specs.Counts.{ImagesIgnorePlaces}
 
 -- DECLARATIONS
@@ -233,3 +235,7 @@ map_bare u = λ j. record {
 
 pub images_ignore_places : ImagesIgnorePlaces
 images_ignore_places u = λ j. laid [] (parts (words_bare u j) (4 * heap_at (map_bare u j)) (4 * stack_at (map_bare u j)) (tables_at (map_bare u j)))
+
+-- so the image of a text's unit is that of its tree: this may be cited from other crates
+pub image_is : ImagesIgnorePlaces → (text : List ℕ) (tree : CUnit) → MeansProgram text tree → (u : CUnit) → IsUnitAs User text u → image_words u ≡ image_words tree
+image_is ignore text tree means u is = sym (ignore u) ∙ ap image_words (means.tree_is u is)

@@ -8,7 +8,7 @@ use Rattle.c0_meaning.specs.UserProgram.{prog, done, not_yet}
 use Rattle.worked_rows.specs.Kernels.{z, name, decl, local, number, block, function}
 use Rattle.cvm_model.specs.Cvm.{first_flat}
 use Rattle.user_c0.specs.Image.{image_words}
-use Rattle.program_systems.specs.Counts.{AreCounted}
+use Rattle.program_systems.specs.Counts.{TrapsThrough}
 
 -- int main() { int i; int s; int a; while (i < LIMIT) { i = i + 1; s = s + i; } a = trap(s); return 0; }
 abbrev pub adder : ℕ → CUnit
@@ -33,5 +33,5 @@ pub record AddersCall : Type 0 where
 
 -- A LAW: their images call behind 123 steps and behind 223, and end behind 8 more, whatever they are answered
 pub record AddersAreCounted : Type 0 where
-  pub ten : (x : ℕ) → AreCounted (first_flat (image_words (adder 10))) x 123 8
-  pub twenty : (x : ℕ) → AreCounted (first_flat (image_words (adder 20))) x 223 8
+  pub ten : (x : ℕ) → TrapsThrough (first_flat (image_words (adder 10))) (x ∷ []) (123 ∷ 8 ∷ [])
+  pub twenty : (x : ℕ) → TrapsThrough (first_flat (image_words (adder 20))) (x ∷ []) (223 ∷ 8 ∷ [])

@@ -1,7 +1,6 @@
 pub mod Coming
 pub mod Dispatches
 pub mod Counts
+pub mod Asking
 pub mod Adders
 pub mod AdderTexts
-pub mod Boots
-pub mod Answered

@@ -1,20 +1,14 @@
-//! Whole systems whose users are compiled of C0: the kernels of summing and answering, and two programs that each bring them a number by `trap`. Each
+//! Programs in C0 as users of whole systems: when their machines trap and by what, in how many steps, and two programs that each bring a number by `trap`. Each
 //! function is a law.
 #![tactic(auto)]
 
 ghost use Rattle.program_systems.specs.AdderTexts.{TextsAreAdders};
 ghost use Rattle.program_systems.specs.Adders.{AddersAreCounted, AddersCall};
-ghost use Rattle.program_systems.specs.Answered.{AnsweredStepsAreFew, AnyCountedProgramsAnswered, AnyProgramsAnswered, CompiledAnswersBoot, ProgramsAskAndEnd};
-ghost use Rattle.program_systems.specs.Boots.{AnyCountedProgramsSum, AnyProgramsSum, CompiledStepsAreFew, CompiledSumsBoot};
+ghost use Rattle.program_systems.specs.Asking.{ProgramsAskAndEnd};
 ghost use Rattle.program_systems.specs.Coming.{CallsCome, EndsCome, FirstCallsCome, ProgramsCome};
 ghost use Rattle.program_systems.specs.Counts.{CountsTell, ImagesIgnorePlaces};
 ghost use Rattle.program_systems.specs.Dispatches.{DispatchesAnswer};
 
-use answering::any_users_answered;
-use cvm_shell::laws::linked_users_have_their_programs;
-use kernel_linker::laws::accepted_systems_are_of_their_images;
-use kernel_theorems::program_texts_mean_trees;
-use summing::any_users_sum;
 use user_c0::users::{ints_are_told, programs_stay, programs_trap, traps_are_known, users_go_on};
 
 /// A law: a program whose next call or end is due within some units traps within their steps.
@@ -62,7 +56,17 @@ pub fn first_calls_come()
     calls_come();
 }
 
-/// A law: where the steps of a machine are counted up to its next trap, that trap comes behind just these.
+/// A law: the image of a program that is known to call, and to end where it is answered so, asks, goes on with the answer, and ends.
+pub fn programs_ask_and_end()
+    ensures { ProgramsAskAndEnd }
+{
+    users_go_on();
+    calls_come();
+    ends_come();
+    ints_are_told();
+}
+
+/// A law: where the steps of a machine are counted up to each of its traps, where it is answered so, the traps come behind just these.
 pub fn counts_tell()
     ensures { CountsTell }
 {}
@@ -80,99 +84,11 @@ pub fn adders_call()
 /// A law: their images call behind 123 and behind 223 steps, and end behind 8 more.
 pub fn adders_are_counted()
     ensures { AddersAreCounted }
-{}
+{
+    counts_tell();
+}
 
 /// A law: the texts are those of the trees.
 pub fn texts_are_adders()
     ensures { TextsAreAdders }
-{}
-
-/// A law: each boot (`boot`, `rom` or `sample`, with no failed call) of an image with the kernel's text and the images of two programs that bring numbers, under
-/// every schedule, printed the text of a state of its run in which the total is the sum of what was brought; and with enough turns and steps, which the
-/// programs' units say, it halted and reports the sum.
-pub fn any_programs_sum()
-    ensures { AnyProgramsSum }
-{
-    first_calls_come();
-    any_users_sum();
-}
-
-/// A law: where the programs' steps up to their calls are counted, it halts with as many turns as these, three, and the schedule's `line` rows.
-pub fn any_counted_programs_sum()
-    ensures { AnyCountedProgramsSum }
-{
-    first_calls_come();
-    counts_tell();
-    any_users_sum();
-}
-
-/// A law: so it is of each boot of an image that was linked of what `compile program` put of the two texts, with a total of 265, and with 349 turns more than
-/// the schedule has `line` rows, which are those that it takes without them.
-pub fn compiled_sums_boot()
-    ensures { CompiledSumsBoot }
-{
-    accepted_systems_are_of_their_images();
-    linked_users_have_their_programs();
-    program_texts_mean_trees();
-    texts_are_adders();
-    adders_call();
-    images_ignore_places();
-    adders_are_counted();
-    any_counted_programs_sum();
-}
-
-/// A law: with 20 pages for each user, 48 frames and no busy times the steps that `compiled_sums_boot` asks for are 140,705,421, and 464,561 more for each
-/// `line` row.
-pub fn steps_are_few()
-    ensures { CompiledStepsAreFew }
-{}
-
-/// A law: the image of a program that is known to call, and to end where it is answered so, asks, goes on with the answer, and ends.
-pub fn programs_ask_and_end()
-    ensures { ProgramsAskAndEnd }
-{
-    users_go_on();
-    calls_come();
-    ends_come();
-    ints_are_told();
-}
-
-/// A law: each boot of an image with the text of answering and two such programs, under every schedule, printed the text of a state of its run in which the
-/// total is the sum of what was brought and each program has what it was answered; and with enough turns and steps, which the programs' units say, it halted
-/// behind both ends and reports the sum.
-pub fn any_programs_answered()
-    ensures { AnyProgramsAnswered }
-{
-    programs_ask_and_end();
-    any_users_answered();
-}
-
-/// A law: where the programs' steps up to their calls, and from their answers to their ends, are counted, it halts with as many turns as these, five, and the
-/// schedule's `line` rows.
-pub fn any_counted_programs_answered()
-    ensures { AnyCountedProgramsAnswered }
-{
-    programs_ask_and_end();
-    counts_tell();
-    any_users_answered();
-}
-
-/// A law: so it is of each boot of an image that was linked of what `compile program` put of the two texts, with a total of 265, and with 367 turns more than
-/// the schedule has `line` rows.
-pub fn compiled_answers_boot()
-    ensures { CompiledAnswersBoot }
-{
-    accepted_systems_are_of_their_images();
-    linked_users_have_their_programs();
-    program_texts_mean_trees();
-    texts_are_adders();
-    adders_call();
-    images_ignore_places();
-    adders_are_counted();
-    any_counted_programs_answered();
-}
-
-/// A law: and these, with the same numbers, are 148,075,519, and 464,561 more for each `line` row.
-pub fn answered_steps_are_few()
-    ensures { AnsweredStepsAreFew }
 {}

@@ -33,8 +33,8 @@ pub fn traces_are_answered()
     journals_are_answered();
 }
 
-/// A law: where each dispatch of a run answers a user, so where it sets register 2 of it alone, once at most, and only where this user calls, the user's journal is
-/// that of events; and so each trace of it is answered.
+/// A law: where each dispatch of a run answers a user, so where it sets register 2 of it alone, once at most, and only where this user calls, the user's
+/// journal is that of events; and so each trace of it is answered.
 pub fn kernels_answer()
     ensures { KernelsAnswer }
 {

@@ -4,3 +4,5 @@ mod SummingBoots
 mod Texts
 mod Reports
 mod StepCounts
+mod Programs
+mod Compiled

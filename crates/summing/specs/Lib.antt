@@ -3,3 +3,4 @@ pub mod Text
 pub mod Property
 pub mod Users
 pub mod Boots
+pub mod Compiled

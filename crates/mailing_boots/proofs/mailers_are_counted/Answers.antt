@@ -2,4 +2,4 @@ use Rattle.mailing_boots.proofs.Counting.{mailers_are_counted}
 use Rattle.mailing_boots.proofs.mailers_are_counted.Goals as goal
 
 pub returns : goal.returns
-returns c = mailers_are_counted
+returns c = mailers_are_counted c.counts_tell.ensures

@@ -1,0 +1,5 @@
+use Rattle.kernel_boots.proofs.Separate.{boots_agree}
+use Rattle.kernel_boots.proofs.separation.boots_agree.Goals as goal
+
+pub returns : goal.returns
+returns c = boots_agree c.units_replay.ensures c.users_are_isolated.ensures c.runs_are_own.ensures c.accepted_systems_are_of_their_images.ensures c.boots_run_their_source.ensures

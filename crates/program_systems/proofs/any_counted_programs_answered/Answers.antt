@@ -1,5 +1,0 @@
-use Rattle.program_systems.proofs.Asking.{any_counted_programs_answered}
-use Rattle.program_systems.proofs.any_counted_programs_answered.Goals as goal
-
-pub returns : goal.returns
-returns c = any_counted_programs_answered c.programs_ask_and_end.ensures c.counts_tell.ensures c.any_users_answered.ensures

@@ -1,5 +1,0 @@
-use Rattle.program_systems.proofs.Programs.{any_programs_sum}
-use Rattle.program_systems.proofs.any_programs_sum.Goals as goal
-
-pub returns : goal.returns
-returns c = any_programs_sum c.first_calls_come.ensures c.any_users_sum.ensures

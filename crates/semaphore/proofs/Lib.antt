@@ -1,3 +1,0 @@
-mod Property
-mod Texts
-mod SemaphoreBoots

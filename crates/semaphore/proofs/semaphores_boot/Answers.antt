@@ -1,5 +1,0 @@
-use Rattle.semaphore.proofs.SemaphoreBoots.{semaphores_boot}
-use Rattle.semaphore.proofs.semaphores_boot.Goals as goal
-
-pub returns : goal.returns
-returns c = semaphores_boot c.accepted_systems_are_of_their_images.ensures c.runs_are_lawful.ensures c.property_holds.ensures (c.texts_mean_trees.ensures _ _ _ c.text_is_tree.ensures)

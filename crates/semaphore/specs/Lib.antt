@@ -1,4 +1,0 @@
-pub mod Tree
-pub mod Text
-pub mod Property
-pub mod Boots

@@ -1,3 +1,0 @@
-mod OwnRuns
-mod Blocks
-mod Separate

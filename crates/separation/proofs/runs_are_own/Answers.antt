@@ -1,5 +1,0 @@
-use Rattle.separation.proofs.OwnRuns.{runs_are_own}
-use Rattle.separation.proofs.runs_are_own.Goals as goal
-
-pub returns : goal.returns
-returns c = runs_are_own c.users_are_isolated.ensures

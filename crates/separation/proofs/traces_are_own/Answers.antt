@@ -1,5 +1,0 @@
-use Rattle.separation.proofs.Separate.{traces_are_own}
-use Rattle.separation.proofs.traces_are_own.Goals as goal
-
-pub returns : goal.returns
-returns c = traces_are_own c.units_replay.ensures c.users_are_isolated.ensures c.runs_are_own.ensures c.accepted_systems_are_of_their_images.ensures c.boots_run_their_source.ensures
