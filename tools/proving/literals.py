@@ -2,6 +2,7 @@
 import re
 
 PLAIN = re.compile(r'[ !#-\[\]-~]+')
+MARK = '  -- of dispatch'
 
 
 def term(text):
@@ -28,8 +29,8 @@ def bracketed(text):
     return '(%s)' % shown
 
 
-def of_lines(text):
-    """A whole text, line by line, as the body of a definition."""
+def of_lines(text, marked=None):
+    """A whole text, line by line, as the body of a definition. A line that is marked, by its number from 0, has a comment that tells it from others like it."""
     lines = text.split('\n')
     rest = lines.pop()
     if not lines:
@@ -37,16 +38,16 @@ def of_lines(text):
     shown = [term(line) for line in lines]
     shown = ['(%s)' % it if '∷' in it or '++' in it else it for it in shown]
     out = ['by_lines (']
-    out += ['    %s%s%s' % ('∷ ' if i else '', line, ' ∷ [])' if i == len(shown) - 1 else '') for i, line in enumerate(shown)]
+    out += ['    %s%s%s%s' % ('∷ ' if i else '', line, ' ∷ [])' if i == len(shown) - 1 else '', MARK if i == marked else '') for i, line in enumerate(shown)]
     if rest:
         out[0] = '(by_lines ('
         out[-1] += ') ++ ' + bracketed(rest)
     return out
 
 
-def definition(name, text):
+def definition(name, text, marked=None):
     """A definition of a text, with the imports that it needs."""
-    body = of_lines(text)
+    body = of_lines(text, marked)
     uses = ['codes'] if any('codes "' in line for line in body) else []
     uses = ['ℕ', 'List', '[]', '◌∷◌'] + (['◌++◌'] if any('++' in line for line in body) else []) + uses
     return uses, ['abbrev pub %s : List ℕ' % name, '%s = %s' % (name, body[0])] + body[1:]

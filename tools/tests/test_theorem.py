@@ -123,6 +123,60 @@ class Theorem(unittest.TestCase):
         self.assertIn('loop z main_test1 main_turn1', made['specs/Program1.antt'])
         self.assertIn('(Shaped y)', made['proofs/Property.antt'])
 
+    def edited(self, made):
+        """The files of a crate behind its one edit, as the gate applies it: what is old stands once in its file."""
+        edits = [name for name in made if name.startswith('must-fail/')]
+        self.assertEqual(edits, ['must-fail/answers_always_one.edit'])
+        files = dict(made)
+        for line in made[edits[0]].splitlines():
+            word, text = line.split(': ', 1)
+            if word == 'file':
+                file = text
+            elif word == 'old':
+                old = text
+                self.assertEqual(files[file].count(old), 1, old)
+            else:
+                files[file] = files[file].replace(old, text)
+        return files
+
+    def definitions(self, text):
+        """A file without its imports."""
+        return [line for line in text.split('\n') if not line.startswith('use ')]
+
+    def test_an_edit_is_ready_for_each_example(self):
+        theorem, examples = tool('theorem'), os.path.join(TOP, 'examples')
+        folders = [folder for folder in sorted(os.listdir(examples)) if os.path.exists(os.path.join(examples, folder, 'kernel.c0'))]
+        self.assertGreater(len(folders), 10)
+        for folder in folders:
+            made, _ = self.written(os.path.join(examples, folder), 'of_' + folder)
+            files = self.edited(made)
+            source = theorem.source_of(os.path.join(examples, folder, 'kernel.c0'))
+            at = source.rindex('return', 0, source.rindex(';'))
+            changed = self.kernel(source[:at] + 'return 1' + source[source.index(';', at):])
+            self.assertEqual(self.definitions(files['specs/Tree.antt']), self.definitions(theorem.spec_files(changed, theorem.source_of(changed))['specs/Tree.antt']), folder)
+            self.assertEqual(files['specs/Text.antt'].replace('  -- of dispatch', ''), theorem.spec_files(changed, theorem.source_of(changed))['specs/Text.antt'], folder)
+
+    def test_an_answer_that_stands_twice_is_marked(self):
+        made, _ = self.written(self.kernel('int other(int user) {\n  return user;\n}\n' + KERNEL), 'twice')
+        self.assertEqual(made['specs/Text.antt'].count('∷ codes "  return user;"  -- of dispatch'), 1)
+        self.assertIn('∷ codes "  return 1;"  -- of dispatch', self.edited(made)['specs/Text.antt'])
+
+    def test_a_word_that_the_tree_lacks_comes_with_the_edit(self):
+        made, _ = self.written(self.kernel(KERNEL.replace('turn + 1', 'turn + user')), 'lacking')
+        self.assertNotIn('number', made['specs/Tree.antt'])
+        self.assertIn('block, function, causes, number}', self.edited(made)['specs/Tree.antt'])
+        self.assertIn('dispatch_answer = number 1\n', self.edited(made)['specs/Tree.antt'])
+
+    def test_a_word_that_the_edit_leaves_out_stays_imported(self):
+        made, _ = self.written(self.kernel('int dispatch(int cause, int data, int user) {\n  return user;\n}\n'), 'losing')
+        self.assertIn('use Rattle.worked_rows.specs.Kernels.{z, local, function, causes, number}\n', self.edited(made)['specs/Tree.antt'])
+
+    def test_an_answer_over_lines_has_no_edit(self):
+        with mock.patch('sys.stderr', io.StringIO()) as said:
+            made, _ = self.written(self.kernel(KERNEL.replace('return user', 'return user\n    + 0')), 'long')
+        self.assertIn('no edit is ready: what dispatch returns goes over more than one line', said.getvalue())
+        self.assertFalse([name for name in made if name.startswith('must-fail/')])
+
     def why_folder(self, **files):
         status, said = run('tools/theorem', self.folder(**files))
         self.assertEqual((status, said.startswith('theorem: ')), (64, True), said)
