@@ -251,5 +251,9 @@ class Words(unittest.TestCase):
                     self.assertEqual((status, said), (wanted, "%s: '%s/crates.txt' is not UTF-8, and has to be: git -C '%s' checkout 'crates.txt' brings it back\n"
                                                       % (words[0].replace('tools/', '').replace('dev/', ''), clone, clone)))
 
+    def test_sources_that_are_no_crates(self):
+        with mock.patch.dict(os.environ, {'SOURCES': 'cvm_words,cvm_txt'}):
+            self.assertEqual(run('tools/check_over', 'cvm'), (64, "check_over: SOURCES names 'cvm_txt', which is no crate of crates.txt\n"))
+
     def test_a_crate_that_is_nearly_named(self):
         self.assertIn("did you mean 'kernel_theorems'?", run('tools/check_over', 'kernel_theorem')[1])
