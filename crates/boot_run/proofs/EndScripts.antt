@@ -177,6 +177,14 @@ module _ (counts : TurnLaws) (x : device.Outside) (y : System) (s : State) (late
             same_script a (a ++ tail (is_end x s turns (end_within x s turns steps)) rep) old new None (sym (append-nil a) ∙ ap (λ (b : Bool). a ++ tail b rep) (sym (none refl))) made
         by (Some whom) none made = first (turns_script (run_at x y s v turns steps) p k t (end_within x s turns steps - t)) (tail (is_end x s turns (end_within x s turns steps)) rep) old new whom made
 
+-- where it was out of steps its run has no end within them
+pub late_none : {L : Type 0} (count : ℕ) (r new : Kept L) (turns budget left : ℕ) (told retold : Option (List (List ℕ))) (text retext : Option (List ℕ)) (f : RunFault) → GoRuns count r turns (around r told budget text) (around new retold left retext) (Err f) → of_run f ≡ None →
+    (y : System) (s : State) (late held : ℕ) (old : List (List ℕ)) (base : Base) (k t wanted steps : ℕ) (c : Cvm) → Bootable r.boot r.machine.rows count y s late held old → FirstAt (outside_of r.machine.rows count) s k t → 1 ≤ wanted → k + turns ≡ wanted → budget + t ≡ steps →
+    Ready (outside_of r.machine.rows count) y s r.view base k t c (around r told budget text) → is_end (outside_of r.machine.rows count) s wanted (end_within (outside_of r.machine.rows count) s wanted steps) ≡ false
+late_none count r new turns budget left told retold text retext StepLimit goes e y s late held old base k t wanted steps c p starts some more sum ready = (goes y s late held old base k t wanted steps c p starts some more sum ready).none
+late_none count r new turns budget left told retold text retext Disk goes e y s late held old base k t wanted steps c p starts some more sum ready = absurd (let h = e in cc)
+late_none count r new turns budget left told retold text retext Sink goes e y s late held old base k t wanted steps c p starts some more sum ready = absurd (let h = e in cc)
+
 -- THE LOOP FAILED
 pub rest_fails : {L O D T : Type 0} (text : sink_of.Ghosts O) (told : sectors_of.Ghosts D) (r new : Kept L) (o o1 : O) (d d1 : D) (turns budget left : ℕ) (law : (u : CUnit) → MachinesRun (IsTypedState u)) (counts : TurnLaws) (f : RunFault) →
     GoRuns (told.size d) r turns (around r (told.sectors d) budget (text.text o)) (around new (told.sectors d1) left (text.text o1)) (Err f) → GoCalls {T = T} text told r turns budget (o, d) (o1, d1) (Err f) → RestCalls text told r turns budget (o, d) (o1, d1) (end_of_fault f)
@@ -184,11 +192,12 @@ rest_fails text told r new o o1 d d1 turns budget left law counts f goes calls =
   exact = λ y s late held old base k t wanted steps c p starts some more sum ready running past is.
       let x = outside_of r.machine.rows (told.size d) in
       let m = machines law r.boot r.machine.rows (told.size d) y s late held old p in
-      let none : of_run f ≡ None → is_end x s wanted (end_within x s wanted steps) ≡ false = λ e. by f refl e y s late held old base k t wanted steps c p starts some more sum ready in
+      let none : of_run f ≡ None → is_end x s wanted (end_within x s wanted steps) ≡ false = λ e. late_none (told.size d) r new turns budget left (told.sectors d) (told.sectors d1) (text.text o) (text.text o1) f goes e y s late held old base k t wanted steps c p starts some more sum ready in
+      let low : t ≤ end_within x s wanted steps = no_sooner counts x s wanted steps t (omega (arith, sum)) (λ j lt. goes_before x s k t wanted starts (omega (arith, more)) j lt) in
       record {
         made = λ shelf. subst (Performs (begin_script (run_at x y s r.view wanted steps) k ++ rest_script (run_at x y s r.view wanted steps) past t) (at text told shelf o d) (at text told shelf o1 d1)) (sym (blames_so f))
             (rest_broke counts x y s late held m r.view wanted steps past is (closing_script (run_at x y s r.view wanted steps) past) (report_script r.view (run_at x y s r.view wanted steps) past (end_within x s wanted steps) (cvm_at (run_at x y s r.view wanted steps) past (end_within x s wanted steps)).status)
-            (closing_is counts x y s late held m r.view wanted steps past is) k t (begins counts y s late held old base k t wanted steps c p starts some more sum ready running) (at text told shelf o d) (at text told shelf o1 d1) (of_run f) none
+            (closing_is counts x y s late held m r.view wanted steps past is) k t low (at text told shelf o d) (at text told shelf o1 d1) (of_run f) none
             (calls.exact y s late held old base k t wanted steps c p starts some more sum ready running past is shelf));
         is = λ e. due f (sym (blames_so f) ∙ e) (is_end x s wanted (end_within x s wanted steps)) (none (sym (blames_so f) ∙ e)) (cvm_at (run_at x y s r.view wanted steps) past (end_within x s wanted steps)).status;
       };
@@ -199,19 +208,6 @@ rest_fails text told r new o o1 d d1 turns budget left law counts f goes calls =
     due StepLimit e b is st = ap (λ (q : Bool). end_by q st) (sym is)
     due Disk e b is st = absurd (let h = e in cc)
     due Sink e b is st = absurd (let h = e in cc)
-
-    by : (f' : RunFault) → f' ≡ f → of_run f' ≡ None → (y : System) (s : State) (late held : ℕ) (old : List (List ℕ)) (base : Base) (k t wanted steps : ℕ) (c : Cvm) → Bootable r.boot r.machine.rows (told.size d) y s late held old →
-        FirstAt (outside_of r.machine.rows (told.size d)) s k t → 1 ≤ wanted → k + turns ≡ wanted → budget + t ≡ steps → Ready (outside_of r.machine.rows (told.size d)) y s r.view base k t c (around r (told.sectors d) budget (text.text o)) →
-        is_end (outside_of r.machine.rows (told.size d)) s wanted (end_within (outside_of r.machine.rows (told.size d)) s wanted steps) ≡ false
-    by StepLimit same e y s late held old base k t wanted steps c p starts some more sum ready =
-        (subst (λ g. GoRuns (told.size d) r turns (around r (told.sectors d) budget (text.text o)) (around new (told.sectors d1) left (text.text o1)) (Err g)) (sym same) goes y s late held old base k t wanted steps c p starts some more sum ready).none
-    by Disk same e y s late held old base k t wanted steps c p starts some more sum ready = absurd (let h = e in cc)
-    by Sink same e y s late held old base k t wanted steps c p starts some more sum ready = absurd (let h = e in cc)
-
-    begins : (counts : TurnLaws) (y : System) (s : State) (late held : ℕ) (old : List (List ℕ)) (base : Base) (k t wanted steps : ℕ) (c : Cvm) → Bootable r.boot r.machine.rows (told.size d) y s late held old →
-        FirstAt (outside_of r.machine.rows (told.size d)) s k t → 1 ≤ wanted → k + turns ≡ wanted → budget + t ≡ steps → Ready (outside_of r.machine.rows (told.size d)) y s r.view base k t c (around r (told.sectors d) budget (text.text o)) → c.status ≡ Running →
-        t ≤ end_within (outside_of r.machine.rows (told.size d)) s wanted steps
-    begins counts y s late held old base k t wanted steps c p starts some more sum ready running = no_sooner counts (outside_of r.machine.rows (told.size d)) s wanted steps t (omega (arith, sum)) (λ j lt. goes_before (outside_of r.machine.rows (told.size d)) s k t wanted starts (omega (arith, more)) j lt)
 
 -- what closes a run, over these rows and this view and a disk of so many sectors
 abbrev ClosesAt : {L O D : Type 0} → sink_of.Ghosts O → sectors_of.Ghosts D → Kept L → Booted → Rows → View → (size : ℕ) → O → D → O → D → RunEnd → Type 0

@@ -38,7 +38,7 @@ use Rattle.boot_run.specs.RunCalls.{run_at, begin_script, fault_script, report_s
 use Rattle.boot_run.specs.SaveCalls.{unless_on, stop_script, of_stop, stop_by, due_stop, StopsBy, StopCalls, ToStopCalls, SaveScript}
 use Rattle.boot_run.specs.Sink.{Base, behind}
 use Rattle.boot_run.specs.TurnCalls.{ended_of, around, Ready, StandsReady, KeepsLoad}
-use Rattle.boot_run.proofs.EndScripts.{blames_so, now_is, closing_is, rest_made, rest_broke}
+use Rattle.boot_run.proofs.EndScripts.{blames_so, late_none, now_is, closing_is, rest_made, rest_broke}
 use Rattle.boot_run.proofs.Going.{running_of}
 use Rattle.boot_run.proofs.GoScripts.{no_sooner, goes_before, past_tells}
 use Rattle.boot_run.proofs.Looping.{machines}
@@ -101,7 +101,7 @@ stop_fails text told r new o o1 d d1 turns budget left law counts f goes calls =
       let rn : Run = run_at x y s r.view wanted steps in
       let m = machines law r.boot r.machine.rows (told.size d) y s late held old p in
       let st : Status = (cvm_at rn past (end_within x s wanted steps)).status in
-      let none : of_run f ≡ None → is_end x s wanted (end_within x s wanted steps) ≡ false = λ e. by f refl e y s late held old base k t wanted steps c p starts some more sum ready in
+      let none : of_run f ≡ None → is_end x s wanted (end_within x s wanted steps) ≡ false = λ e. late_none (told.size d) r new turns budget left (told.sectors d) (told.sectors d1) (text.text o) (text.text o1) f goes e y s late held old base k t wanted steps c p starts some more sum ready in
       let low : t ≤ end_within x s wanted steps = no_sooner counts x s wanted steps t (omega (arith, sum)) (λ j lt. goes_before x s k t wanted starts (omega (arith, more)) j lt) in
       let rep : List Call = report_script r.view rn past (end_within x s wanted steps) st in
       record {
@@ -119,14 +119,6 @@ stop_fails text told r new o o1 d d1 turns budget left law counts f goes calls =
     due StepLimit e b is st = ap (λ (q : Bool). stop_by q st) (sym is)
     due Disk e b is st = absurd (let h = e in cc)
     due Sink e b is st = absurd (let h = e in cc)
-
-    by : (f' : RunFault) → f' ≡ f → of_run f' ≡ None → (y : System) (s : State) (late held : ℕ) (old : List (List ℕ)) (base : Base) (k t wanted steps : ℕ) (c : Cvm) → Bootable r.boot r.machine.rows (told.size d) y s late held old →
-        FirstAt (outside_of r.machine.rows (told.size d)) s k t → 1 ≤ wanted → k + turns ≡ wanted → budget + t ≡ steps → Ready (outside_of r.machine.rows (told.size d)) y s r.view base k t c (around r (told.sectors d) budget (text.text o)) →
-        is_end (outside_of r.machine.rows (told.size d)) s wanted (end_within (outside_of r.machine.rows (told.size d)) s wanted steps) ≡ false
-    by StepLimit same e y s late held old base k t wanted steps c p starts some more sum ready =
-        (subst (λ g. GoRuns (told.size d) r turns (around r (told.sectors d) budget (text.text o)) (around new (told.sectors d1) left (text.text o1)) (Err g)) (sym same) goes y s late held old base k t wanted steps c p starts some more sum ready).none
-    by Disk same e y s late held old base k t wanted steps c p starts some more sum ready = absurd (let h = e in cc)
-    by Sink same e y s late held old base k t wanted steps c p starts some more sum ready = absurd (let h = e in cc)
 
 -- what stops or closes a run, over these rows and this view and a disk of so many sectors
 abbrev StopsAt : {L O D : Type 0} → sink_of.Ghosts O → sectors_of.Ghosts D → Kept L → Booted → Rows → View → (size : ℕ) → O → D → O → D → SaveEnd → Type 0
