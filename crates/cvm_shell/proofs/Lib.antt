@@ -5,6 +5,7 @@ mod BootPlans
 mod Causing
 mod CheckPlans
 mod CheckWords
+mod Doing
 mod Endings
 mod Few
 mod FirstBad
@@ -13,6 +14,7 @@ pub mod Follows
 mod Four
 mod FourBytes
 mod Fronts
+mod GotCalls
 mod GotFiles
 mod Isolating
 mod CodePlans

@@ -1,5 +1,5 @@
 -- What the files of a save and of a resume come to, by what those of their boot come to: one plan, and no other.
-use Rattle.std.proofs.Common.{◌≡◌, Bool, true, false, ℕ, ◌*◌, ◌<◌, ◌≤◌, List, length, refl, sym, ap, ◌∙◌, subst, arith, Ok, Err}
+use Rattle.std.proofs.Common.{◌≡◌, ◌≢◌, Bool, true, false, ℕ, ◌*◌, ◌<◌, ◌≤◌, List, length, refl, sym, ap, ◌∙◌, subst, arith, Ok, Err}
 use Rattle.std.specs.Prelude.{Option, ⊤, nat_lt, if◌then◌else◌}
 use Rattle.std.specs.Option.{IsSome}
 use Rattle.std.proofs.lemmas.Bool.Decides.{nat_tests}
@@ -152,3 +152,9 @@ room_short frames s room e (few, words, file) = subst (λ (n : ℕ). 4 * most_wo
 
 pub room_words : (frames : ℕ) (s : ImageSystem) (room : Filled) → frames ≡ frames_of s → IsRoom frames (Ok room) → room.words ≡ most_words (frames_of s)
 room_words frames s room e (few, words, file) = words ∙ ap most_words e
+
+-- want of room is no fault of the shelf, and no file is too long
+pub no_room_stops : (s : ImageSystem) (stop : Stop) → HasNoRoom s stop → (stop ≢ Shelf) × (stop ≢ Refused by.TooLong)
+no_room_stops s (Refused r) h = (λ e. cc, λ e. let d = h.0 in cc)
+no_room_stops s Shelf h = absurd h
+no_room_stops s Memory h = (λ e. cc, λ e. cc)

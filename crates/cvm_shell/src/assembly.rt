@@ -2,6 +2,8 @@
 ghost use Rattle.std.specs.Prelude.{◌≡◌, ◌≢◌, ◌↔◌, ◌*◌, ⊤, ℕ, List, length, IfOk, IfErr, IsErrOf};
 ghost use Rattle.cvm_outside.specs.Told.{TOO_LONG};
 ghost use Rattle.cvm_shell.specs.Command as Command;
+ghost use Rattle.cvm_shell.specs.Does.{Gets};
+ghost use Rattle.cvm_shell.specs.Ends.{files_of};
 ghost use Rattle.cvm_shell.specs.Plan.{AfterText, IsPlan, bytes_of};
 ghost use Rattle.cvm_shell.specs.Stages.{text_stop, PlanCounts, compiled, IsUserPlan};
 ghost use Rattle.cvm_shell.specs.Views.{user_view, IfPlan};
@@ -35,6 +37,7 @@ pub fn user_image<S: Shelf>(
     ensures long { IsErrOf result (Stop.Refused Refusal.TooLong) ↔ (S.taken shelf.new ≡ TOO_LONG) }
     ensures count { PlanCounts (S.faults shelf.old) (S.faults shelf.new) result }
     ensures files { (n : List ℕ) → S.file shelf.new n ≡ S.file shelf.old n }
+    ensures gets { Gets S.Shelf (files_of (Command.compile_user (user_view names.now))) shelf.old shelf.new result }
 {
     let text = shelf.get(alloc, names.text)?;
     assembled_image(alloc, &text)

@@ -5,6 +5,9 @@ ghost use Rattle.cvm_outside.specs.Told.{TOO_LONG};
 ghost use Rattle.real_layer.specs.Image.{layer_image};
 ghost use Rattle.boot_run.specs.RunEnds.{ending_of_end};
 ghost use Rattle.cvm_shell.specs.Boot.{ended_as};
+ghost use Rattle.cvm_shell.specs.Command.{boot as of_boot};
+ghost use Rattle.cvm_shell.specs.Does.{Gets};
+ghost use Rattle.cvm_shell.specs.Ends.{files_of};
 ghost use Rattle.cvm_shell.specs.Host.{within};
 ghost use Rattle.cvm_shell.specs.Plan.{AfterFiles, IsPlan};
 ghost use Rattle.cvm_shell.specs.Stages.{stop_of, accept_stop, schedule_stop, PlanCounts, ready_for, IsBootPlan, SystemFollows, RunsAs};
@@ -110,6 +113,7 @@ pub fn plan<S: Shelf>(alloc: Global, boot: &Boot, shelf: &mut S) -> Result<Ready
     ensures long { IsErrOf result (Stop.Refused Refusal.TooLong) ↔ (S.taken shelf.new ≡ TOO_LONG) }
     ensures count { PlanCounts (S.faults shelf.old) (S.faults shelf.new) result }
     ensures files { (n : List ℕ) → S.file shelf.new n ≡ S.file shelf.old n }
+    ensures gets { Gets S.Shelf (files_of (of_boot (boot_view boot.now))) shelf.old shelf.new result }
 {
     let image = shelf.get(alloc, boot.image)?;
     let schedule = shelf.get(alloc, boot.schedule)?;

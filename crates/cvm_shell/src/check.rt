@@ -6,6 +6,8 @@ ghost use Rattle.cvm_shell.specs.Check as checking;
 ghost use Rattle.cvm_shell.specs.Check.{IsCheck, TellsUnit};
 ghost use Rattle.cvm_shell.specs.Command as command;
 ghost use Rattle.cvm_shell.specs.CommandEnds.{Causes};
+ghost use Rattle.cvm_shell.specs.Does.{Gets, CommandDoes};
+ghost use Rattle.cvm_shell.specs.Ends.{files_of};
 ghost use Rattle.cvm_shell.specs.Host.{Drive, beside};
 ghost use Rattle.cvm_shell.specs.Plan.{AfterChecked, IsPlan};
 ghost use Rattle.cvm_shell.specs.Stages.{CommandEndsAs, PlanCounts, told_text, IsCheckPlan};
@@ -84,6 +86,7 @@ pub fn check_object<S: Shelf, O: Sink>(
 ) -> Status
     ensures ends { CommandEndsAs (command.check (check_view check.now)) (beside S.Shelf O.Sink) result (shelf.old, out.old) (shelf.new, out.new) }
     ensures causes { (disk : Drive) → Causes (beside S.Shelf O.Sink disk) result (shelf.old, out.old) (shelf.new, out.new) }
+    ensures does { CommandDoes S.Shelf O.Sink (command.check (check_view check.now)) result (shelf.old, out.old) (shelf.new, out.new) }
 {
     match stack_text(alloc, check, shelf) {
         Ok(text) => say(out, &text, Status::Done),
@@ -99,6 +102,7 @@ pub fn stack_text<S: Shelf>(alloc: Global, check: &Check, shelf: &mut S) -> Resu
     ensures long { IsErrOf result (Stop.Refused Refusal.TooLong) ↔ (S.taken shelf.new ≡ TOO_LONG) }
     ensures count { PlanCounts (S.faults shelf.old) (S.faults shelf.new) result }
     ensures files { (n : List ℕ) → S.file shelf.new n ≡ S.file shelf.old n }
+    ensures gets { Gets S.Shelf (files_of (command.check (check_view check.now))) shelf.old shelf.new result }
 {
     let object = shelf.get(alloc, check.object)?;
     object_text(alloc, &object, check.stack)

@@ -5,6 +5,7 @@ ghost use Rattle.std.specs.Prelude.{◌≤◌};
 ghost use Rattle.cvm_shell.specs.Command as command;
 ghost use Rattle.cvm_shell.specs.Command.{texts};
 ghost use Rattle.cvm_shell.specs.CommandEnds.{RunOutcome, Caused, Causes, Headlines, RunCompletes, SavesComplete, ResumesComplete, Isolates};
+ghost use Rattle.cvm_shell.specs.Does.{CommandDoes};
 ghost use Rattle.cvm_shell.specs.Host.{Drive, Files, seen, beside, within};
 ghost use Rattle.cvm_shell.specs.Resumes.{Resumes};
 ghost use Rattle.cvm_shell.specs.Saves.{Saves};
@@ -192,6 +193,7 @@ fn compile_user<S: Shelf, O: Sink>(
 ) -> Status
     ensures ends { CommandEndsAs (command.compile_user (user_view names.now)) (beside S.Shelf O.Sink) result (shelf.old, out.old) (shelf.new, out.new) }
     ensures causes { (disk : Drive) → Causes (beside S.Shelf O.Sink disk) result (shelf.old, out.old) (shelf.new, out.new) }
+    ensures does { CommandDoes S.Shelf O.Sink (command.compile_user (user_view names.now)) result (shelf.old, out.old) (shelf.new, out.new) }
 {
     let image = match user_image(alloc, names, shelf) {
         Ok(image) => image,
@@ -214,6 +216,7 @@ fn compile_kernel<S: Shelf, O: Sink>(
 ) -> Status
     ensures ends { CommandEndsAs (command.compile_kernel (kernel_view names.now)) (beside S.Shelf O.Sink) result (shelf.old, out.old) (shelf.new, out.new) }
     ensures causes { (disk : Drive) → Causes (beside S.Shelf O.Sink disk) result (shelf.old, out.old) (shelf.new, out.new) }
+    ensures does { CommandDoes S.Shelf O.Sink (command.compile_kernel (kernel_view names.now)) result (shelf.old, out.old) (shelf.new, out.new) }
 {
     let object = match kernel_object(alloc, names, shelf) {
         Ok(object) => object,
@@ -231,6 +234,7 @@ fn compile_kernel<S: Shelf, O: Sink>(
 fn link_system<S: Shelf, O: Sink>(alloc: Global, names: &Link, shelf: &mut S, out: &mut O) -> Status
     ensures ends { CommandEndsAs (command.link (link_view names.now)) (beside S.Shelf O.Sink) result (shelf.old, out.old) (shelf.new, out.new) }
     ensures causes { (disk : Drive) → Causes (beside S.Shelf O.Sink disk) result (shelf.old, out.old) (shelf.new, out.new) }
+    ensures does { CommandDoes S.Shelf O.Sink (command.link (link_view names.now)) result (shelf.old, out.old) (shelf.new, out.new) }
 {
     let linked = match system_image::<RealLayer, S>(alloc, names, shelf) {
         Ok(linked) => linked,
@@ -253,6 +257,7 @@ fn migrate_image<S: Shelf, O: Sink>(
 ) -> Status
     ensures ends { CommandEndsAs (command.migrate (migrate_view names.now)) (beside S.Shelf O.Sink) result (shelf.old, out.old) (shelf.new, out.new) }
     ensures causes { (disk : Drive) → Causes (beside S.Shelf O.Sink disk) result (shelf.old, out.old) (shelf.new, out.new) }
+    ensures does { CommandDoes S.Shelf O.Sink (command.migrate (migrate_view names.now)) result (shelf.old, out.old) (shelf.new, out.new) }
 {
     let made = match migrated_image::<RealLayer, S>(alloc, names, shelf) {
         Ok(made) => made,

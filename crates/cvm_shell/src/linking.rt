@@ -1,7 +1,9 @@
 // The image of a system: its object, parameters and users, read and linked.
 ghost use Rattle.std.specs.Prelude.{◌≡◌, ◌≢◌, ◌↔◌, ℕ, List, map, IfOk, IfErr, IsErrOf};
 ghost use Rattle.cvm_outside.specs.Told.{TOO_LONG};
-ghost use Rattle.cvm_shell.specs.Command.{texts};
+ghost use Rattle.cvm_shell.specs.Command.{link as link_command, texts};
+ghost use Rattle.cvm_shell.specs.Does.{Gets};
+ghost use Rattle.cvm_shell.specs.Ends.{files_of};
 ghost use Rattle.cvm_shell.specs.Linked.{IsAcceptedAs, AreAcceptedAs, LinkIsAccepted};
 ghost use Rattle.cvm_shell.specs.Plan.{AfterParts, AfterSystem};
 ghost use Rattle.cvm_shell.specs.Stages.{object_stop, file_stop, link_stop, Fetched, NotFetched, AreWordsOf, PlanCounts, LinksTo, linked_to, IsLinkPlan};
@@ -66,6 +68,7 @@ pub fn system_image<M: LayerMaker, S: Shelf>(
     ensures long { IsErrOf result (Stop.Refused Refusal.TooLong) ↔ (S.taken shelf.new ≡ TOO_LONG) }
     ensures count { PlanCounts (S.faults shelf.old) (S.faults shelf.new) result }
     ensures files { (n : List ℕ) → S.file shelf.new n ≡ S.file shelf.old n }
+    ensures gets { Gets S.Shelf (files_of (link_command (link_view names.now))) shelf.old shelf.new result }
 {
     let object = shelf.get(alloc, names.object)?;
     let params = shelf.get(alloc, names.params)?;
@@ -81,6 +84,7 @@ fn get_all<S: Shelf>(alloc: Global, names: &[String], shelf: &mut S) -> Result<V
     ensures long { IsErrOf result (Stop.Refused Refusal.TooLong) ↔ (S.taken shelf.new ≡ TOO_LONG) }
     ensures count { PlanCounts (S.faults shelf.old) (S.faults shelf.new) result }
     ensures files { (n : List ℕ) → S.file shelf.new n ≡ S.file shelf.old n }
+    ensures gets { Gets S.Shelf (texts names.now) shelf.old shelf.new result }
 {
     let mut files = Vec::new(alloc);
     for name in names {

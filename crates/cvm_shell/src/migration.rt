@@ -2,6 +2,8 @@
 ghost use Rattle.std.specs.Prelude.{◌≡◌, ◌≢◌, ◌↔◌, ⊤, ℕ, List, IfOk, IfErr, IsErrOf};
 ghost use Rattle.cvm_outside.specs.Told.{TOO_LONG};
 ghost use Rattle.cvm_shell.specs.Command as Command;
+ghost use Rattle.cvm_shell.specs.Does.{Gets};
+ghost use Rattle.cvm_shell.specs.Ends.{files_of};
 ghost use Rattle.cvm_shell.specs.Linked.{IsAcceptedAsOld, MigrateIsAccepted};
 ghost use Rattle.cvm_shell.specs.Plan.{AfterOld, IsPlan};
 ghost use Rattle.cvm_shell.specs.Stages.{PlanCounts, renewed, IsMigratePlan};
@@ -30,6 +32,7 @@ pub fn migrated_image<M: LayerMaker, S: Shelf>(
     ensures long { IsErrOf result (Stop.Refused Refusal.TooLong) ↔ (S.taken shelf.new ≡ TOO_LONG) }
     ensures count { PlanCounts (S.faults shelf.old) (S.faults shelf.new) result }
     ensures files { (n : List ℕ) → S.file shelf.new n ≡ S.file shelf.old n }
+    ensures gets { Gets S.Shelf (files_of (Command.migrate (migrate_view names.now))) shelf.old shelf.new result }
 {
     let old = shelf.get(alloc, names.old)?;
     renewed_image::<M>(alloc, &old)

@@ -6,6 +6,8 @@ ghost use Rattle.c0_tree.specs.View.{unit_view};
 ghost use Rattle.kernel_linker.specs.Object.{object_of};
 ghost use Rattle.object_file.specs.Format.{spelling};
 ghost use Rattle.cvm_shell.specs.Command as Command;
+ghost use Rattle.cvm_shell.specs.Does.{Gets};
+ghost use Rattle.cvm_shell.specs.Ends.{files_of};
 ghost use Rattle.cvm_shell.specs.Plan.{AfterKernel, IsPlan, MOST_SOURCE};
 ghost use Rattle.cvm_shell.specs.Stages.{source_stop, PlanCounts, linkable, IsKernelPlan};
 ghost use Rattle.cvm_shell.specs.Views.{kernel_view, IfPlan};
@@ -45,6 +47,7 @@ pub fn kernel_object<S: Shelf>(
     ensures long { IsErrOf result (Stop.Refused Refusal.TooLong) ↔ (S.taken shelf.new ≡ TOO_LONG) }
     ensures count { PlanCounts (S.faults shelf.old) (S.faults shelf.new) result }
     ensures files { (n : List ℕ) → S.file shelf.new n ≡ S.file shelf.old n }
+    ensures gets { Gets S.Shelf (files_of (Command.compile_kernel (kernel_view names.now))) shelf.old shelf.new result }
 {
     let source = shelf.get(alloc, names.source)?;
     compiled_object(alloc, &source)

@@ -4,6 +4,8 @@ ghost use Rattle.cvm_outside.specs.Told.{TOO_LONG};
 ghost use Rattle.cvm_shell.specs.Command as command;
 ghost use Rattle.cvm_shell.specs.CompileProgram as compiling;
 ghost use Rattle.cvm_shell.specs.CommandEnds.{Causes};
+ghost use Rattle.cvm_shell.specs.Does.{Gets, CommandDoes};
+ghost use Rattle.cvm_shell.specs.Ends.{files_of};
 ghost use Rattle.cvm_shell.specs.Host.{Drive, beside};
 ghost use Rattle.cvm_shell.specs.Plan.{AfterProgram, IsPlan};
 ghost use Rattle.cvm_shell.specs.Stages.{program_stop, CommandEndsAs, PlanCounts, runnable, IsProgramPlan};
@@ -72,6 +74,7 @@ pub fn program_image<S: Shelf>(
     ensures long { IsErrOf result (Stop.Refused Refusal.TooLong) ↔ (S.taken shelf.new ≡ TOO_LONG) }
     ensures count { PlanCounts (S.faults shelf.old) (S.faults shelf.new) result }
     ensures files { (n : List ℕ) → S.file shelf.new n ≡ S.file shelf.old n }
+    ensures gets { Gets S.Shelf (files_of (command.compile_program (program_view names.now))) shelf.old shelf.new result }
 {
     let source = shelf.get(alloc, names.source)?;
     compiled_program(alloc, &source)
@@ -101,6 +104,7 @@ pub fn compile_program<S: Shelf, O: Sink>(
 ) -> Status
     ensures ends { CommandEndsAs (command.compile_program (program_view names.now)) (beside S.Shelf O.Sink) result (shelf.old, out.old) (shelf.new, out.new) }
     ensures causes { (disk : Drive) → Causes (beside S.Shelf O.Sink disk) result (shelf.old, out.old) (shelf.new, out.new) }
+    ensures does { CommandDoes S.Shelf O.Sink (command.compile_program (program_view names.now)) result (shelf.old, out.old) (shelf.new, out.new) }
 {
     let image = match program_image(alloc, names, shelf) {
         Ok(image) => image,

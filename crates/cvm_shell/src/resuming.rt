@@ -4,7 +4,10 @@ ghost use Rattle.std.specs.Io.KnownBytes.{append_known};
 ghost use Rattle.cvm_outside.specs.Causes.{Rose};
 ghost use Rattle.cvm_outside.specs.Told.{AppendsPart, TOO_LONG};
 ghost use Rattle.real_layer.specs.Image.{layer_image};
+ghost use Rattle.cvm_shell.specs.Command.{resume as of_resume};
 ghost use Rattle.cvm_shell.specs.CommandEnds.{Causes};
+ghost use Rattle.cvm_shell.specs.Does.{Gets};
+ghost use Rattle.cvm_shell.specs.Ends.{files_of};
 ghost use Rattle.cvm_shell.specs.Host.{seen, within};
 ghost use Rattle.cvm_shell.specs.Refusal.{bad_save, refusal_text};
 ghost use Rattle.cvm_shell.specs.Stages.{resumable_for, SystemFollows, IsResumePlan, PlanCounts, ResumeEndsAs, ResumesAs};
@@ -35,6 +38,7 @@ pub fn plan_resume<S: Shelf>(alloc: Global, resume: &Save, shelf: &mut S) -> Res
     ensures long { IsErrOf result (Stop.Refused Refusal.TooLong) ↔ (S.taken shelf.new ≡ TOO_LONG) }
     ensures count { PlanCounts (S.faults shelf.old) (S.faults shelf.new) result }
     ensures files { (n : List ℕ) → S.file shelf.new n ≡ S.file shelf.old n }
+    ensures gets { Gets S.Shelf (files_of (of_resume (save_view resume.now))) shelf.old shelf.new result }
 {
     let image = shelf.get(alloc, resume.boot.image)?;
     let schedule = shelf.get(alloc, resume.boot.schedule)?;

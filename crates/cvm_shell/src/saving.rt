@@ -6,7 +6,10 @@ ghost use Rattle.kernel_linker.specs.Accept.{system_of};
 ghost use Rattle.machine_save.specs.Room.{most_words, FILE_ROOM};
 ghost use Rattle.machine_save.specs.SaveRun.{IsSavedDiskFault, IsSavedShelfFault, IsSavedSinkFault};
 ghost use Rattle.real_layer.specs.Image.{layer_image};
+ghost use Rattle.cvm_shell.specs.Command.{save as of_save};
 ghost use Rattle.cvm_shell.specs.CommandEnds.{Causes};
+ghost use Rattle.cvm_shell.specs.Does.{Gets};
+ghost use Rattle.cvm_shell.specs.Ends.{files_of};
 ghost use Rattle.cvm_shell.specs.Host.{seen};
 ghost use Rattle.cvm_shell.specs.Plan.{frames_of, most_bytes};
 ghost use Rattle.cvm_shell.specs.Stages.{save_stop, saveable_for, status_of_saved, SystemFollows, HasNoRoom, IsSavePlan, PlanCounts};
@@ -53,6 +56,7 @@ pub fn plan_save<S: Shelf>(alloc: Global, save: &Save, shelf: &mut S) -> Result<
     ensures long { IsErrOf result (Stop.Refused Refusal.TooLong) ↔ (S.taken shelf.new ≡ TOO_LONG) }
     ensures count { PlanCounts (S.faults shelf.old) (S.faults shelf.new) result }
     ensures files { (n : List ℕ) → S.file shelf.new n ≡ S.file shelf.old n }
+    ensures gets { Gets S.Shelf (files_of (of_save (save_view save.now))) shelf.old shelf.new result }
 {
     let ready = plan(alloc, &save.boot, shelf)?;
     let room = room_for(alloc, &ready)?;

@@ -1,4 +1,4 @@
-use Rattle.std.proofs.Common.{◌≡◌, ◌<◌, length, subst, ap, rules, List, ℕ, min, Err}
+use Rattle.std.proofs.Common.{◌≡◌, [], ◌∷◌, ◌<◌, length, subst, ap, rules, List, ℕ, min, Err}
 use Rattle.std.specs.Prelude.{Option, IfSome}
 use Rattle.std.specs.Option.{IsSome}
 use Rattle.std.proofs.lemmas.Result.{err_from_is_err_and}
@@ -10,6 +10,8 @@ use Rattle.cvm_shell.specs.Views.{boot_view}
 use Rattle.real_layer.specs.Image.{layer_image}
 use Rattle.cvm_shell.proofs.Plans.{got_fault}
 use Rattle.cvm_shell.proofs.BootPlans.{image_got, boot_got}
+use Rattle.cvm_outside.specs.Outside.{files}
+use Rattle.cvm_shell.proofs.GotCalls.{one_got, one_stopped, are_both, stopped_then, gets_behind}
 use Rattle.cvm_shell.proofs.boot.plan.Goals as goal
 
 pub returns-in_err-image-clause-comes : goal.returns-in_err-image-clause-comes
@@ -39,3 +41,33 @@ returns-clause-comes g c = λ session.
     subst P (c.in_ok-image.ensures.files c.args.boot.now.schedule.now) c.in_ok-schedule.ensures.bytes in
     boot_got layer_image (ready_for session) (g.S.Shelf.file c.args.shelf.now) b session c.in_ok-image.image.items c.in_ok-schedule.schedule.items c.ready_of.result c.in_ok-image.ensures.bytes short tells few
     (rw (c.deref.ensures.value, c.deref-2.ensures.value) at (c.ready_of.ensures.comes session))
+
+pub returns-in_err-image-clause-gets : goal.returns-in_err-image-clause-gets
+returns-in_err-image-clause-gets g c = λ sink disk.
+    let p = err_from_is_err_and c.from_residual.result c.from_residual.ensures.1 in
+    let e = c.in_err-image.ensures in
+    rw (p.1, p.2) (one_stopped _ (c.args.boot.now.schedule.now ∷ []) (files g.S.Shelf c.args.shelf.now) (files g.S.Shelf c.get.new.self) c.in_err-image.field-0.0 sink disk
+    (record { files = e.files; bytes = e.bytes; all = e.all; most = e.most; long = e.long; told_long = e.told_long; count = e.count }))
+
+pub returns-in_err-schedule-clause-gets : goal.returns-in_err-schedule-clause-gets
+returns-in_err-schedule-clause-gets g c = λ sink disk.
+    let p = err_from_is_err_and c.from_residual-in_err-schedule.result c.from_residual-in_err-schedule.ensures.1 in
+    let a = c.in_ok-image.ensures in
+    let e = c.in_err-schedule.ensures in
+    rw (p.1, p.2) (stopped_then (c.args.boot.now.image.now ∷ []) (c.args.boot.now.schedule.now ∷ []) _ _ _ _
+    (one_got _ (files g.S.Shelf c.args.shelf.now) (files g.S.Shelf c.get.new.self) c.in_ok-image.image sink disk
+    (record { files = a.files; bytes = a.bytes; all = a.all; most = a.most; long = a.long; told_long = a.told_long; count = a.count }))
+    (one_stopped _ [] (files g.S.Shelf c.get.new.self) (files g.S.Shelf c.get-2.new.self) c.in_err-schedule.field-0.0 sink disk
+    (record { files = e.files; bytes = e.bytes; all = e.all; most = e.most; long = e.long; told_long = e.told_long; count = e.count })))
+
+pub returns-clause-gets : goal.returns-clause-gets
+returns-clause-gets g c = λ sink disk.
+    let a = c.in_ok-image.ensures in
+    let e = c.in_ok-schedule.ensures in
+    gets_behind _ _ _ c.ready_of.result (are_both (c.args.boot.now.image.now ∷ []) _ _
+    (one_got _ (files g.S.Shelf c.args.shelf.now) (files g.S.Shelf c.get.new.self) c.in_ok-image.image sink disk
+    (record { files = a.files; bytes = a.bytes; all = a.all; most = a.most; long = a.long; told_long = a.told_long; count = a.count }))
+    (c.args.boot.now.schedule.now ∷ []) _
+    (one_got _ (files g.S.Shelf c.get.new.self) (files g.S.Shelf c.get-2.new.self) c.in_ok-schedule.schedule sink disk
+    (record { files = e.files; bytes = e.bytes; all = e.all; most = e.most; long = e.long; told_long = e.told_long; count = e.count })))
+    c.ready_of.ensures.inside c.ready_of.ensures.short

@@ -1,7 +1,10 @@
 use Rattle.std.proofs.Common.{◌≡◌, ◌≢◌, ℕ, List, map, take}
+use Rattle.cvm_outside.specs.Outside.{Output, Drive, files as told_files}
 use Rattle.cvm_outside.specs.Told.{TOO_LONG}
 use Rattle.cvm_shell.specs.Command.{texts}
+use Rattle.cvm_shell.specs.Does.{AreGot}
 use Rattle.cvm_shell.specs.Stages.{Fetched}
+use Rattle.cvm_shell.proofs.GotCalls.{beside}
 use Rattle.cvm_shell.proofs.linking.get_all.Given as goal
 
 abbrev pub invariant-loop-name : goal.invariant-loop-name
@@ -9,5 +12,6 @@ invariant-loop-name g l = record {
   short : g.S.Shelf.taken l.shelf ≢ TOO_LONG;
   same : g.S.Shelf.faults l.shelf ≡ g.S.Shelf.faults l.initial.shelf;
   files : (n : List ℕ) → g.S.Shelf.file l.shelf n ≡ g.S.Shelf.file l.initial.shelf n;
+  calls : (sink : Output) (disk : Drive) → AreGot (texts (take l.name-index l.names)) (beside sink disk (told_files g.S.Shelf l.initial.shelf)) (beside sink disk (told_files g.S.Shelf l.shelf));
   got : Fetched (g.S.Shelf.file l.initial.shelf) (texts (take l.name-index l.names)) (map (λ b. b.items) l.files.items);
 }

@@ -1,7 +1,8 @@
-use Rattle.std.proofs.Common.{◌≡◌, ◌<◌, ◌∙◌, length, map, subst, ap, rules, List, ℕ, min, Err, Vec, Global}
+use Rattle.std.proofs.Common.{◌≡◌, [], ◌∷◌, ◌<◌, ◌∙◌, length, map, subst, ap, rules, List, ℕ, min, Err, Vec, Global}
 use Rattle.std.specs.Prelude.{Option, IfSome}
 use Rattle.std.specs.Option.{IsSome}
 use Rattle.std.proofs.lemmas.Result.{err_from_is_err_and}
+use Rattle.cvm_outside.specs.Outside.{files}
 use Rattle.cvm_outside.specs.Told.{TOO_LONG, Tells}
 use Rattle.cvm_outside.specs.declared.shelf.ShelfFault.{ShelfFault}
 use Rattle.cvm_shell.specs.Linked.{AreAcceptedAs, LinkIsAccepted}
@@ -12,6 +13,7 @@ use Rattle.cvm_shell.proofs.Plans.{got_fault}
 use Rattle.cvm_shell.proofs.GotFiles.{fetched_moved, not_fetched_moved, unfetched_plan}
 use Rattle.cvm_shell.proofs.AcceptedAs.{if_ok}
 use Rattle.cvm_shell.proofs.LinkPlans.{object_got, params_got, system_got}
+use Rattle.cvm_shell.proofs.GotCalls.{one_got, one_stopped, are_both, stopped_then, gets_behind}
 use Rattle.cvm_shell.proofs.linking.system_image.Goals as goal
 
 pub returns-in_err-object-clause-comes : goal.returns-in_err-object-clause-comes
@@ -87,3 +89,52 @@ returns-clause-accepted g c =
       users_told = fetched_moved told _ (λ n. c.in_ok-params.ensures.files n ∙ c.in_ok-object.ensures.files n) l.users users c.in_ok-users.ensures.got;
       accepted = is;
     }) c.linked_image.result (rw (c.deref.ensures.value, c.deref-2.ensures.value, c.deref-3.ensures.value) at c.linked_image.ensures.accepted)
+
+pub returns-in_err-object-clause-gets : goal.returns-in_err-object-clause-gets
+returns-in_err-object-clause-gets g c = λ sink disk.
+    let p = err_from_is_err_and c.from_residual.result c.from_residual.ensures.1 in
+    let l = link_view c.args.names.now in
+    let e = c.in_err-object.ensures in
+    rw (p.1, p.2) (one_stopped _ (l.params ∷ l.users) (files g.S.Shelf c.args.shelf.now) (files g.S.Shelf c.get.new.self) c.in_err-object.field-0.0 sink disk
+    (record { files = e.files; bytes = e.bytes; all = e.all; most = e.most; long = e.long; told_long = e.told_long; count = e.count }))
+
+pub returns-in_err-params-clause-gets : goal.returns-in_err-params-clause-gets
+returns-in_err-params-clause-gets g c = λ sink disk.
+    let p = err_from_is_err_and c.from_residual-in_err-params.result c.from_residual-in_err-params.ensures.1 in
+    let l = link_view c.args.names.now in
+    let a = c.in_ok-object.ensures in
+    let e = c.in_err-params.ensures in
+    rw (p.1, p.2) (stopped_then (l.object ∷ []) (l.params ∷ l.users) _ _ _ _
+    (one_got _ (files g.S.Shelf c.args.shelf.now) (files g.S.Shelf c.get.new.self) c.in_ok-object.object sink disk
+    (record { files = a.files; bytes = a.bytes; all = a.all; most = a.most; long = a.long; told_long = a.told_long; count = a.count }))
+    (one_stopped _ l.users (files g.S.Shelf c.get.new.self) (files g.S.Shelf c.get-2.new.self) c.in_err-params.field-0.0 sink disk
+    (record { files = e.files; bytes = e.bytes; all = e.all; most = e.most; long = e.long; told_long = e.told_long; count = e.count })))
+
+pub returns-in_err-users-clause-gets : goal.returns-in_err-users-clause-gets
+returns-in_err-users-clause-gets g c = λ sink disk.
+    let p = err_from_is_err_and c.from_residual-in_err-users.result c.from_residual-in_err-users.ensures.1 in
+    let l = link_view c.args.names.now in
+    let a = c.in_ok-object.ensures in
+    let b = c.in_ok-params.ensures in
+    rw (p.1, p.2) (stopped_then (l.object ∷ l.params ∷ []) l.users _ _ _ c.in_err-users.field-0.0
+    (are_both (l.object ∷ []) _ _
+    (one_got _ (files g.S.Shelf c.args.shelf.now) (files g.S.Shelf c.get.new.self) c.in_ok-object.object sink disk
+    (record { files = a.files; bytes = a.bytes; all = a.all; most = a.most; long = a.long; told_long = a.told_long; count = a.count })) (l.params ∷ []) _
+    (one_got _ (files g.S.Shelf c.get.new.self) (files g.S.Shelf c.get-2.new.self) c.in_ok-params.params sink disk
+    (record { files = b.files; bytes = b.bytes; all = b.all; most = b.most; long = b.long; told_long = b.told_long; count = b.count })))
+    (c.in_err-users.ensures.gets sink disk))
+
+pub returns-clause-gets : goal.returns-clause-gets
+returns-clause-gets g c = λ sink disk.
+    let l = link_view c.args.names.now in
+    let a = c.in_ok-object.ensures in
+    let b = c.in_ok-params.ensures in
+    gets_behind (l.object ∷ l.params ∷ l.users) _ _ c.linked_image.result
+    (are_both (l.object ∷ l.params ∷ []) _ _
+    (are_both (l.object ∷ []) _ _
+    (one_got _ (files g.S.Shelf c.args.shelf.now) (files g.S.Shelf c.get.new.self) c.in_ok-object.object sink disk
+    (record { files = a.files; bytes = a.bytes; all = a.all; most = a.most; long = a.long; told_long = a.told_long; count = a.count })) (l.params ∷ []) _
+    (one_got _ (files g.S.Shelf c.get.new.self) (files g.S.Shelf c.get-2.new.self) c.in_ok-params.params sink disk
+    (record { files = b.files; bytes = b.bytes; all = b.all; most = b.most; long = b.long; told_long = b.told_long; count = b.count })))
+    l.users _ (c.in_ok-users.ensures.gets sink disk))
+    c.linked_image.ensures.inside c.linked_image.ensures.short

@@ -1,4 +1,4 @@
-use Rattle.std.proofs.Common.{◌≡◌, ◌<◌, length, subst, ap, ◌∙◌, rules, List, ℕ, min, Err}
+use Rattle.std.proofs.Common.{◌≡◌, [], ◌∷◌, ◌<◌, length, subst, ap, ◌∙◌, rules, List, ℕ, min, Err}
 use Rattle.std.specs.Prelude.{Option, IfSome}
 use Rattle.std.specs.Option.{IsSome}
 use Rattle.std.proofs.lemmas.Result.{err_from_is_err_and}
@@ -11,6 +11,9 @@ use Rattle.cvm_shell.specs.Plan.{boots, AfterThree}
 use Rattle.cvm_shell.specs.Views.{save_view}
 use Rattle.cvm_shell.proofs.Plans.{got_fault}
 use Rattle.cvm_shell.proofs.SavePlans.{three_come, second_stopped, third_stopped, all_got, all_stopped}
+use Rattle.cvm_outside.specs.Outside.{files}
+use Rattle.cvm_shell.specs.declared.boot.Stop.{Stop}
+use Rattle.cvm_shell.proofs.GotCalls.{one_got, one_stopped, are_both, stopped_then, stop_behind}
 use Rattle.cvm_shell.proofs.resuming.plan_resume.Goals as goal
 
 pub returns-in_err-image-clause-comes : goal.returns-in_err-image-clause-comes
@@ -74,3 +77,70 @@ returns-clause-comes g c =
     c.in_ok-image.ensures.bytes short schedule few bytes less
     (three_come layer_image (save_session v) c.in_ok-image.image.items c.in_ok-schedule.schedule.items c.in_ok-bytes.bytes.items (boots (save_session v) (system_of c.in_ok-ready.ready.boot) c.in_ok-ready.ready.schedule)
     (rw (c.deref.ensures.value, c.deref-2.ensures.value) at (c.in_ok-ready.ensures.comes (save_session v))))
+
+pub returns-in_err-image-clause-gets : goal.returns-in_err-image-clause-gets
+returns-in_err-image-clause-gets g c = λ sink disk.
+    let p = err_from_is_err_and c.from_residual.result c.from_residual.ensures.1 in
+    let v = save_view c.args.resume.now in
+    let e = c.in_err-image.ensures in
+    rw (p.1, p.2) (one_stopped _ (v.boot.schedule ∷ v.file ∷ []) (files g.S.Shelf c.args.shelf.now) (files g.S.Shelf c.get.new.self) c.in_err-image.field-0.0 sink disk
+    (record { files = e.files; bytes = e.bytes; all = e.all; most = e.most; long = e.long; told_long = e.told_long; count = e.count }))
+
+pub returns-in_err-schedule-clause-gets : goal.returns-in_err-schedule-clause-gets
+returns-in_err-schedule-clause-gets g c = λ sink disk.
+    let p = err_from_is_err_and c.from_residual-in_err-schedule.result c.from_residual-in_err-schedule.ensures.1 in
+    let v = save_view c.args.resume.now in
+    let a = c.in_ok-image.ensures in
+    let e = c.in_err-schedule.ensures in
+    rw (p.1, p.2) (stopped_then (v.boot.image ∷ []) (v.boot.schedule ∷ v.file ∷ []) _ _ _ _
+    (one_got _ (files g.S.Shelf c.args.shelf.now) (files g.S.Shelf c.get.new.self) c.in_ok-image.image sink disk
+    (record { files = a.files; bytes = a.bytes; all = a.all; most = a.most; long = a.long; told_long = a.told_long; count = a.count }))
+    (one_stopped _ (v.file ∷ []) (files g.S.Shelf c.get.new.self) (files g.S.Shelf c.get-2.new.self) c.in_err-schedule.field-0.0 sink disk
+    (record { files = e.files; bytes = e.bytes; all = e.all; most = e.most; long = e.long; told_long = e.told_long; count = e.count })))
+
+pub returns-in_err-bytes-clause-gets : goal.returns-in_err-bytes-clause-gets
+returns-in_err-bytes-clause-gets g c = λ sink disk.
+    let p = err_from_is_err_and c.from_residual-in_err-bytes.result c.from_residual-in_err-bytes.ensures.1 in
+    let v = save_view c.args.resume.now in
+    let a = c.in_ok-image.ensures in
+    let b = c.in_ok-schedule.ensures in
+    let e = c.in_err-bytes.ensures in
+    rw (p.1, p.2) (stopped_then (v.boot.image ∷ v.boot.schedule ∷ []) (v.file ∷ []) _ _ _ _
+    (are_both (v.boot.image ∷ []) _ _
+    (one_got _ (files g.S.Shelf c.args.shelf.now) (files g.S.Shelf c.get.new.self) c.in_ok-image.image sink disk
+    (record { files = a.files; bytes = a.bytes; all = a.all; most = a.most; long = a.long; told_long = a.told_long; count = a.count })) (v.boot.schedule ∷ []) _
+    (one_got _ (files g.S.Shelf c.get.new.self) (files g.S.Shelf c.get-2.new.self) c.in_ok-schedule.schedule sink disk
+    (record { files = b.files; bytes = b.bytes; all = b.all; most = b.most; long = b.long; told_long = b.told_long; count = b.count })))
+    (one_stopped _ [] (files g.S.Shelf c.get-2.new.self) (files g.S.Shelf c.get-3.new.self) c.in_err-bytes.field-0.0 sink disk
+    (record { files = e.files; bytes = e.bytes; all = e.all; most = e.most; long = e.long; told_long = e.told_long; count = e.count })))
+
+pub returns-in_err-ready-clause-gets : goal.returns-in_err-ready-clause-gets
+returns-in_err-ready-clause-gets g c = λ sink disk.
+    let p = err_from_is_err_and c.from_residual-in_err-ready.result c.from_residual-in_err-ready.ensures.1 in
+    let v = save_view c.args.resume.now in
+    let a = c.in_ok-image.ensures in
+    let b = c.in_ok-schedule.ensures in
+    let d = c.in_ok-bytes.ensures in
+    rw (p.1, p.2) (stop_behind (v.boot.image ∷ v.boot.schedule ∷ v.file ∷ []) _ _ c.in_err-ready.field-0.0
+    (are_both (v.boot.image ∷ v.boot.schedule ∷ []) _ _ (are_both (v.boot.image ∷ []) _ _
+    (one_got _ (files g.S.Shelf c.args.shelf.now) (files g.S.Shelf c.get.new.self) c.in_ok-image.image sink disk
+    (record { files = a.files; bytes = a.bytes; all = a.all; most = a.most; long = a.long; told_long = a.told_long; count = a.count })) (v.boot.schedule ∷ []) _
+    (one_got _ (files g.S.Shelf c.get.new.self) (files g.S.Shelf c.get-2.new.self) c.in_ok-schedule.schedule sink disk
+    (record { files = b.files; bytes = b.bytes; all = b.all; most = b.most; long = b.long; told_long = b.told_long; count = b.count }))) (v.file ∷ []) _
+    (one_got _ (files g.S.Shelf c.get-2.new.self) (files g.S.Shelf c.get-3.new.self) c.in_ok-bytes.bytes sink disk
+    (record { files = d.files; bytes = d.bytes; all = d.all; most = d.most; long = d.long; told_long = d.told_long; count = d.count })))
+    c.in_err-ready.ensures.inside (λ s. c.in_err-ready.ensures.short (ap (λ (x : Stop). Err x) s)))
+
+pub returns-clause-gets : goal.returns-clause-gets
+returns-clause-gets g c = λ sink disk.
+    let v = save_view c.args.resume.now in
+    let a = c.in_ok-image.ensures in
+    let b = c.in_ok-schedule.ensures in
+    let d = c.in_ok-bytes.ensures in
+    are_both (v.boot.image ∷ v.boot.schedule ∷ []) _ _ (are_both (v.boot.image ∷ []) _ _
+    (one_got _ (files g.S.Shelf c.args.shelf.now) (files g.S.Shelf c.get.new.self) c.in_ok-image.image sink disk
+    (record { files = a.files; bytes = a.bytes; all = a.all; most = a.most; long = a.long; told_long = a.told_long; count = a.count })) (v.boot.schedule ∷ []) _
+    (one_got _ (files g.S.Shelf c.get.new.self) (files g.S.Shelf c.get-2.new.self) c.in_ok-schedule.schedule sink disk
+    (record { files = b.files; bytes = b.bytes; all = b.all; most = b.most; long = b.long; told_long = b.told_long; count = b.count }))) (v.file ∷ []) _
+    (one_got _ (files g.S.Shelf c.get-2.new.self) (files g.S.Shelf c.get-3.new.self) c.in_ok-bytes.bytes sink disk
+    (record { files = d.files; bytes = d.bytes; all = d.all; most = d.most; long = d.long; told_long = d.told_long; count = d.count }))

@@ -3,7 +3,8 @@ use Rattle.kernel_linker.specs.Accept.{system_of}
 use Rattle.real_layer.specs.Image.{layer_image}
 use Rattle.cvm_shell.specs.Command.{save_session}
 use Rattle.cvm_shell.specs.Views.{save_view}
-use Rattle.cvm_shell.proofs.SavePlans.{save_stopped, save_no_room, save_short}
+use Rattle.cvm_shell.proofs.SavePlans.{save_stopped, save_no_room, save_short, no_room_stops}
+use Rattle.cvm_shell.proofs.GotCalls.{stop_behind}
 use Rattle.cvm_shell.proofs.saving.plan_save.Goals as goal
 
 pub returns-in_err-ready-clause-comes : goal.returns-in_err-ready-clause-comes
@@ -21,3 +22,17 @@ pub returns-clause-comes : goal.returns-clause-comes
 returns-clause-comes g c =
     save_short layer_image (g.S.Shelf.file c.args.shelf.now) (save_view c.args.save.now) (system_of c.in_ok-ready.ready.boot) c.in_ok-ready.ready.schedule
     (c.in_ok-ready.ensures.comes (save_session (save_view c.args.save.now))) c.in_ok-room.ensures.short
+
+pub returns-in_err-ready-clause-gets : goal.returns-in_err-ready-clause-gets
+returns-in_err-ready-clause-gets g c = λ sink disk.
+    let p = err_from_is_err_and c.from_residual.result c.from_residual.ensures.1 in
+    rw (p.1, p.2) (c.in_err-ready.ensures.gets sink disk)
+
+pub returns-in_err-room-clause-gets : goal.returns-in_err-room-clause-gets
+returns-in_err-room-clause-gets g c = λ sink disk.
+    let p = err_from_is_err_and c.from_residual-in_err-room.result c.from_residual-in_err-room.ensures.1 in
+    let n = no_room_stops (system_of c.in_ok-ready.ready.boot) c.in_err-room.field-0.0 c.in_err-room.ensures.stops in
+    rw (p.1, p.2) (stop_behind _ _ _ c.in_err-room.field-0.0 (c.in_ok-ready.ensures.gets sink disk) n.0 n.1)
+
+pub returns-clause-gets : goal.returns-clause-gets
+returns-clause-gets g c = λ sink disk. c.in_ok-ready.ensures.gets sink disk

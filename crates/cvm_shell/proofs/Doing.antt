@@ -1,0 +1,160 @@
+-- How a command ends, by the gets of its stage and by what was done behind them.
+use Rattle.std.proofs.Common.{◌≡◌, ◌≢◌, ℕ, List, [], ◌∷◌, ◌++◌, refl, sym, ap, ap₂, ◌∙◌, subst, Some, None, Ok, Err}
+use Rattle.std.specs.Prelude.{Option, Result, OnOk, OnErr, IsErrOf}
+use Rattle.std.specs.Io.KnownBytes.{append_known}
+use Rattle.cvm_outside.specs.Causes.{Counts, ShelfCounts}
+use Rattle.cvm_outside.specs.Told.{AppendsPart, IsCutOff, retold}
+use Rattle.cvm_outside.specs.Outside.{Outside, Files, Output, Drive}
+use Rattle.cvm_outside.specs.Script.{Call, Stored, TheShelf, Performs, done as all_done, breaks, goes_on, blame, of_sink}
+use Rattle.cvm_outside.specs.declared.shelf.ShelfFault.{ShelfFault}
+use Rattle.cvm_outside.specs.declared.shelf.ShelfFault.TheVariants.{Failed, TooLong as Long, Memory as NoMemory}
+use Rattle.cvm_outside.specs.declared.sink.SinkFault.{SinkFault}
+use Rattle.cvm_outside.proofs.Putting.{put_once, performed}
+use Rattle.boot_run.specs.Closing.{says}
+use Rattle.cvm_shell.specs.declared.exit_status.Status.{Status}
+use Rattle.cvm_shell.specs.declared.exit_status.Status.TheVariants.{Done, Shelf, Memory}
+use Rattle.cvm_shell.specs.declared.boot.Stop.TheVariants as Stops
+use Rattle.cvm_shell.specs.declared.refusal.Refusal.{Refusal as ByCode}
+use Rattle.cvm_shell.specs.declared.refusal.Refusal.TheVariants as by
+use Rattle.cvm_shell.specs.Command.{Command, IsCommand}
+use Rattle.cvm_shell.specs.Plan.{Plan, bad_words, refuses, puts, prints}
+use Rattle.cvm_shell.specs.Refusal.{too_long}
+use Rattle.cvm_shell.specs.Views.{refusal_view, stated_row, stated_status}
+use Rattle.cvm_shell.specs.Ends.{Ends, done, no_file, no_memory, GetsFor, all, up_to, CommandGets, files_of, gets, Wants, answered}
+use Rattle.cvm_shell.specs.Does.{AreGot, IsNotGot, StopGets, Acts, DoesPlan}
+use Rattle.cvm_shell.proofs.Endings.{FilesPlan, plan_of}
+use Rattle.cvm_shell.proofs.GotCalls.{beside}
+use Rattle.cvm_shell.proofs.OneCommand.{one_command}
+
+-- SAYING: one call of the sink
+pub said : {T : Type 0} (text : List ℕ) (due : Status) (shelf : Files) (disk : Drive) (old new : Output) (r : Result T SinkFault) → OnOk r (new.text ≡ append_known old.text text)
+    → OnErr r (AppendsPart old.text new.text text) → Counts old.faults new.faults r → Acts (says text) due (beside old disk shelf) (beside new disk shelf) (answered due (blame of_sink r))
+said text due shelf disk old new r whole part count = record {
+  blamed = blame of_sink r;
+  performs = performed (Some text) text shelf disk old new (blame of_sink r) refl (put_once text old new r whole part count);
+  status_is = refl;
+}
+
+-- PUTTING: one call of the shelf, by what it says
+pub record OnePut (name bytes : List ℕ) (old new : Files) (r : Result (Unit {0}) ShelfFault) : Type 0 where
+  pub others : (n : List ℕ) → n ≢ name → new.file n ≡ old.file n
+  pub whole : OnOk r (new.file name ≡ retold (old.file name) bytes)
+  pub part : OnErr r (IsCutOff (old.file name) bytes (new.file name))
+  pub few : (IsErrOf r Long → ⊥) × (IsErrOf r NoMemory → ⊥)
+  pub taken : new.taken ≡ old.taken
+  pub count : ShelfCounts old.faults new.faults r
+
+-- the status of its answer
+abbrev pub put_status : Result (Unit {0}) ShelfFault → Status
+put_status (Ok x) = Done
+put_status (Err f) = Shelf
+
+pub was_put : (name bytes : List ℕ) (sink : Output) (disk : Drive) (old new : Files) (r : Result (Unit {0}) ShelfFault) → OnePut name bytes old new r →
+    DoesPlan (puts name bytes) (beside sink disk old) (beside sink disk new) (put_status r)
+was_put name bytes sink disk old new (Ok x) p = record {
+  script = Stored name bytes ∷ [];
+  due = Done;
+  asks = (refl, refl);
+  blamed = None;
+  performs = goes_on (Stored name bytes) [] _ _ _ None (p.others, p.whole, p.count.cases, ap₂ (λ (t n : ℕ). beside sink disk (record new { taken = t; faults = n })) p.taken p.count.cases) (all_done _);
+  joins = tt;
+  status_is = refl;
+}
+was_put name bytes sink disk old new (Err Failed) p = record {
+  script = Stored name bytes ∷ [];
+  due = Done;
+  asks = (refl, refl);
+  blamed = Some TheShelf;
+  performs = breaks (Stored name bytes) [] _ _
+      (p.others, p.part, record { later = p.count.later; rose = p.count.cases }, ap (λ (t : ℕ). beside sink disk (record new { taken = t })) p.taken);
+  joins = tt;
+  status_is = refl;
+}
+was_put name bytes sink disk old new (Err Long) p = absurd (p.few.0 refl)
+was_put name bytes sink disk old new (Err NoMemory) p = absurd (p.few.1 refl)
+
+-- THE GETS of a command, of which there is one
+its_gets : (words : List (List ℕ)) (file : List ℕ → Option (List ℕ)) (c : Command) (p : Plan) (taken : ℕ) (got : List Call) → IsCommand words c → p ≢ bad_words
+    → GetsFor file (files_of c) taken p got → CommandGets words file taken p got
+its_gets words file c p taken got is some h =
+    (λ d other. let P : Command → Type 0 = λ x. GetsFor file (files_of x) taken p got in subst P (one_command words c d is other) h, λ e. absurd (some e))
+
+-- A PLAN WAS DONE behind all gets
+pub plan_done : (words : List (List ℕ)) (c : Command) (p : Plan) (old mid new : Outside) (status : Status) → IsCommand words c → FilesPlan old.shelf.file c p → p ≢ bad_words → p ≢ refuses too_long
+    → AreGot (files_of c) old mid → new.shelf.taken ≡ mid.shelf.taken → DoesPlan p mid new status → Ends words old new status
+plan_done words c p old mid new status is plan some short got taken d = done status (record {
+  plan = p;
+  is_plan = plan_of words old.shelf.file c p is plan;
+  got = gets (files_of c);
+  gets = its_gets words old.shelf.file c p new.shelf.taken (gets (files_of c)) is some (all p short (λ named h. got.few (sym taken ∙ h)));
+  mid = mid;
+  files = got.performs;
+  script = d.script;
+  due = d.due;
+  asks = d.asks;
+  blamed = d.blamed;
+  performs = d.performs;
+  joins = d.joins;
+  status_is = d.status_is;
+})
+
+-- what is refused is no command, and not too long
+pub refusal_plan : (r : ByCode) (old new : Outside) (status : Status) → Acts (says (stated_row r)) (stated_status r) old new status → DoesPlan (refuses (refusal_view r)) old new status
+refusal_plan r old new status acts =
+    record { script = says (stated_row r); due = stated_status r; asks = (refl, refl); blamed = acts.blamed; performs = acts.performs; joins = tt; status_is = acts.status_is }
+
+-- A FAULT WAS REFUSED behind all gets, or behind those up to a file that is too long
+record Refusable (names : List (List ℕ)) (r : ByCode) (old mid : Outside) (taken : ℕ) : Type 0 where
+  pub got : List Call
+  pub gets : GetsFor old.shelf.file names taken (refuses (refusal_view r)) got
+  pub performs : Performs got old mid None
+
+refusable : (names : List (List ℕ)) (r : ByCode) (old mid : Outside) (taken : ℕ) → taken ≡ mid.shelf.taken → StopGets names old mid (Stops.Refused r) → Refusable names r old mid taken
+refusable names by.TooLong old mid taken e h =
+    record { got = gets (h.before ++ h.name ∷ []); gets = up_to h.before h.after h.name h.all h.short h.long (e ∙ h.taken); performs = h.performs }
+refusable names other old mid taken e h =
+    record { got = gets names; gets = all (refuses (refusal_view other)) (λ d. cc) (λ named d. h.few (sym e ∙ d)); performs = h.performs }
+
+pub refused_done : (words : List (List ℕ)) (c : Command) (r : ByCode) (old mid new : Outside) (status : Status) → IsCommand words c → FilesPlan old.shelf.file c (refuses (refusal_view r))
+    → StopGets (files_of c) old mid (Stops.Refused r) → new.shelf.taken ≡ mid.shelf.taken → Acts (says (stated_row r)) (stated_status r) mid new status → Ends words old new status
+refused_done words c r old mid new status is plan stops taken acts =
+    let h = refusable (files_of c) r old mid new.shelf.taken taken stops in
+    let d = refusal_plan r mid new status acts in
+    done status (record {
+      plan = refuses (refusal_view r);
+      is_plan = plan_of words old.shelf.file c (refuses (refusal_view r)) is plan;
+      got = h.got;
+      gets = its_gets words old.shelf.file c (refuses (refusal_view r)) new.shelf.taken h.got is (λ e. cc) h.gets;
+      mid = mid;
+      files = h.performs;
+      script = d.script;
+      due = d.due;
+      asks = d.asks;
+      blamed = d.blamed;
+      performs = d.performs;
+      joins = d.joins;
+      status_is = d.status_is;
+    })
+
+-- a text was printed
+pub told_done : (words : List (List ℕ)) (c : Command) (text : List ℕ) (old mid new : Outside) (status : Status) → IsCommand words c → FilesPlan old.shelf.file c (prints text)
+    → AreGot (files_of c) old mid → new.shelf.taken ≡ mid.shelf.taken → Acts (says text) Done mid new status → Ends words old new status
+told_done words c text old mid new status is plan got taken acts =
+    plan_done words c (prints text) old mid new status is plan (λ e. cc) (λ e. cc) got taken
+    (record { script = says text; due = Done; asks = (refl, refl); blamed = acts.blamed; performs = acts.performs; joins = tt; status_is = acts.status_is })
+
+-- what was made was put
+pub put_done : (words : List (List ℕ)) (c : Command) (name put bytes : List ℕ) (r : Result (Unit {0}) ShelfFault) (sink : Output) (disk : Drive) (old mid new : Files) → IsCommand words c
+    → FilesPlan old.file c (puts name bytes) → put ≡ bytes → AreGot (files_of c) (beside sink disk old) (beside sink disk mid) → OnePut name put mid new r
+    → Ends words (beside sink disk old) (beside sink disk new) (put_status r)
+put_done words c name put bytes r sink disk old mid new is plan e got p =
+    let h : OnePut name bytes mid new r = subst (λ (bs : List ℕ). OnePut name bs mid new r) e p in
+    plan_done words c (puts name bytes) (beside sink disk old) (beside sink disk mid) (beside sink disk new) (put_status r) is plan (λ d. cc) (λ d. cc) got p.taken (was_put name bytes sink disk mid new r h)
+
+-- a file could not be got
+pub shelf_done : (words : List (List ℕ)) (c : Command) (old new : Outside) → IsCommand words c → IsNotGot (files_of c) old new → Ends words old new Shelf
+shelf_done words c old new is h = no_file c is h.performs h.few
+
+-- or there was no memory
+pub memory_done : (words : List (List ℕ)) (c : Command) (old new : Outside) → IsCommand words c → Wants (files_of c) old new → Ends words old new Memory
+memory_done words c old new is h = no_memory c is h

@@ -1,0 +1,78 @@
+-- Only for the contracts inside the crate: what the stages of a command do, by their scripts.
+use Rattle.std.specs.Prelude.{◌≡◌, ◌≢◌, ℕ, List, [], ◌∷◌, ◌++◌, Option, None, Some, Result, MatchResult}
+use Rattle.cvm_outside.specs.Told.{TOO_LONG}
+use Rattle.cvm_outside.specs.Outside.{Outside, Files, Output, Drive, files, output}
+use Rattle.cvm_outside.specs.Script.{Call, Who, TheShelf, Performs}
+use Rattle.cvm_outside.specs.declared.shelf.Shelf as shelf_of
+use Rattle.cvm_outside.specs.declared.sink.Sink as sink_of
+use Rattle.boot_run.specs.Closing.{says}
+use Rattle.cvm_shell.specs.declared.exit_status.Status.{Status}
+use Rattle.cvm_shell.specs.declared.boot.Stop.{Stop}
+use Rattle.cvm_shell.specs.declared.boot.Stop.TheVariants as stop
+use Rattle.cvm_shell.specs.declared.refusal.Refusal.TheVariants as refusal
+use Rattle.cvm_shell.specs.Command.{Command, IsCommand}
+use Rattle.cvm_shell.specs.Plan.{Plan}
+use Rattle.cvm_shell.specs.Ends.{Ends, PlanAsks, Joins, Wants, AreShort, MayBeLong, answered, gets}
+
+-- FILES WERE GOT, one after the other, and none is too long
+pub record AreGot (names : List (List ℕ)) (old new : Outside) : Type 0 where
+  pub performs : Performs (gets names) old new None
+  pub short : AreShort old.shelf.file names
+  pub few : new.shelf.taken ≢ TOO_LONG
+
+-- one is too long: those up to it were got, and the last took 67,108,865 bytes
+pub record IsLong (names : List (List ℕ)) (old new : Outside) : Type 0 where
+  pub before : List (List ℕ)
+  pub name : List ℕ
+  pub after : List (List ℕ)
+  pub all : before ++ name ∷ after ≡ names
+  pub short : AreShort old.shelf.file before
+  pub long : MayBeLong (old.shelf.file name)
+  pub performs : Performs (gets (before ++ name ∷ [])) old new None
+  pub taken : new.shelf.taken ≡ TOO_LONG
+
+-- one could not be got: those before it were
+pub record IsNotGot (names : List (List ℕ)) (old new : Outside) : Type 0 where
+  pub performs : Performs (gets names) old new (Some TheShelf)
+  pub few : new.shelf.taken ≢ TOO_LONG
+
+-- which gets were made where a stage stops: all, where a fault of what they hold is refused
+abbrev pub StopGets : (names : List (List ℕ)) → (old new : Outside) → Stop → Type 0
+StopGets names old new (stop.Refused refusal.TooLong) = IsLong names old new
+StopGets names old new (stop.Refused other) = AreGot names old new
+StopGets names old new stop.Shelf = IsNotGot names old new
+StopGets names old new stop.Memory = Wants names old new
+
+abbrev pub AnswerGets : {T : Type 0} → (names : List (List ℕ)) → (old new : Outside) → Result T Stop → Type 0
+AnswerGets names old new result = MatchResult result (λ _. AreGot names old new) (StopGets names old new)
+
+-- THE GETS of a stage, whatever stands beside its shelf
+abbrev pub Gets : {S T : Type 0} → shelf_of.Ghosts S → (names : List (List ℕ)) → (old new : S) → Result T Stop → Type 0
+Gets told names old new result = (sink : Output) (disk : Drive) →
+    AnswerGets names (record { shelf = files told old; sink = sink; disk = disk }) (record { shelf = files told new; sink = sink; disk = disk }) result
+
+-- a script was performed, up to a call that failed, and the status is the one that was due, or that of the object that failed
+pub record Acts (script : List Call) (due : Status) (old new : Outside) (status : Status) : Type 0 where
+  pub blamed : Option Who
+  pub performs : Performs script old new blamed
+  pub status_is : status ≡ answered due blamed
+
+-- A TEXT IS SAID beside a status, whatever stands beside the sink
+abbrev pub SaysAs : {O : Type 0} → sink_of.Ghosts O → (due : Status) → (text : List ℕ) → (old new : O) → Status → Type 0
+SaysAs told due text old new status = (shelf : Files) (disk : Drive) →
+    Acts (says text) due (record { shelf = shelf; sink = output told old; disk = disk }) (record { shelf = shelf; sink = output told new; disk = disk }) status
+
+-- WHAT WAS DONE of a plan, behind the gets
+pub record DoesPlan (p : Plan) (old new : Outside) (status : Status) : Type 0 where
+  pub script : List Call
+  pub due : Status
+  pub asks : PlanAsks p old script due
+  pub blamed : Option Who
+  pub performs : Performs script old new blamed
+  pub joins : Joins p old new blamed due
+  pub status_is : status ≡ answered due blamed
+
+-- how a command ends over a shelf and a sink, whatever the disk, which it leaves alone
+abbrev pub CommandDoes : {S O : Type 0} → shelf_of.Ghosts S → sink_of.Ghosts O → Command → Status → (old new : S × O) → Type 0
+CommandDoes shelf sink c status (s, o) (s', o') = (words : List (List ℕ)) (disk : Drive) → IsCommand words c → Ends words
+    (record { shelf = files shelf s; sink = output sink o; disk = disk }) (record { shelf = files shelf s'; sink = output sink o'; disk = disk }) status
