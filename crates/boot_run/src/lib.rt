@@ -4,6 +4,7 @@
 mod load;
 mod next;
 mod pages;
+mod pasts;
 mod places;
 mod report;
 mod resuming;
@@ -15,6 +16,7 @@ mod whole;
 pub use boot_turns::{RunFault, Turn, View};
 pub use cvm_model::{Next, Row};
 pub use load::LoadFault;
+pub use pasts::pasts_exist;
 pub use places::frames_of;
 pub use resuming::{run_on, saved_boots_are_of_runs};
 pub use run::Run;

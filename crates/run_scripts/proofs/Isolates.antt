@@ -18,7 +18,8 @@ use Rattle.boot_run.specs.RunEnds.{SeesUser}
 use Rattle.cvm_shell.specs.SessionRuns.{run_of}
 use Rattle.run_scripts.specs.Headline.{TracesIsolate}
 use Rattle.run_scripts.proofs.Keys.{RunLaws, known}
-use Rattle.run_scripts.proofs.Pasts.{Known, not_ended}
+use Rattle.boot_run.proofs.AbstractRuns.{not_ended}
+use Rattle.run_scripts.proofs.Pasts.{Known}
 
 true_false : (b : Bool) → b ≡ true → b ≡ false → ⊥
 true_false b e f = cc

@@ -20,7 +20,8 @@ use Rattle.cvm_shell.specs.SessionRuns.{pages_loaded, run_of}
 use Rattle.cvm_shell.specs.Ends.{load_of}
 use Rattle.run_scripts.specs.Headline.{Asked, text_at}
 use Rattle.run_scripts.specs.Keys.{RunsStart, PastsExist, PastsAgree, TextsGrow, ScriptsTellTheText, ScriptsStoreTheSectors, LoadsStoreTheStart, SectorsBehindStay, EndsAreOver}
-use Rattle.run_scripts.proofs.Pasts.{Known, past_of, turns_up_to}
+use Rattle.boot_run.proofs.AbstractRuns.{past_of, turns_up_to}
+use Rattle.run_scripts.proofs.Pasts.{Known, founded}
 use Rattle.run_scripts.proofs.Tells.{quiet_load, step_tells}
 use Rattle.run_scripts.proofs.Reports.{run_tells}
 use Rattle.run_scripts.proofs.StartSectors.{load_makes}
@@ -56,7 +57,7 @@ module _ (law : RunLaws) where
       }
 
   pub pasts_exist : PastsExist
-  pasts_exist words plan session s rows before old a = past_of (run_of session s rows old.disk.size before) (known words plan session s rows before old a)
+  pasts_exist words plan session s rows before old a = past_of (run_of session s rows old.disk.size before) (founded _ (known words plan session s rows before old a))
 
   pub ends_are_over : EndsAreOver
   ends_are_over words plan session s rows before old a p is e =

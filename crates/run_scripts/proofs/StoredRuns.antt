@@ -10,7 +10,7 @@ use Rattle.boot_turns.specs.StepScript.{rows_script, step_script, steps_script}
 use Rattle.boot_run.specs.Closing.{opening_script, closing_script}
 use Rattle.boot_run.specs.RunScript.{rest_script, run_script}
 use Rattle.run_scripts.proofs.MadeOf.{Closed, of_if, of_opening, of_report, of_rows}
-use Rattle.run_scripts.proofs.Pasts.{on_before}
+use Rattle.boot_run.proofs.AbstractRuns.{on_before}
 use Rattle.run_scripts.proofs.Stores.{stored-append, quiet_stores, stored_scripts, step_stores}
 
 -- WHAT WRITES no sector
