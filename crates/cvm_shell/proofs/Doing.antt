@@ -1,28 +1,32 @@
 -- How a command ends, by the gets of its stage and by what was done behind them.
-use Rattle.std.proofs.Common.{◌≡◌, ◌≢◌, ℕ, List, [], ◌∷◌, ◌++◌, refl, sym, ap, ap₂, ◌∙◌, subst, Some, None, Ok, Err}
+use Rattle.std.proofs.Common.{◌≡◌, ◌≢◌, ◌⊎◌, inl, inr, ℕ, List, [], ◌∷◌, ◌++◌, append-nil, refl, sym, ap, ap₂, ◌∙◌, subst, Some, None, Ok, Err}
 use Rattle.std.specs.Prelude.{Option, Result, OnOk, OnErr, IsErrOf}
 use Rattle.std.specs.Io.KnownBytes.{append_known}
 use Rattle.cvm_outside.specs.Causes.{Counts, ShelfCounts}
-use Rattle.cvm_outside.specs.Told.{AppendsPart, IsCutOff, retold}
+use Rattle.cvm_outside.specs.Told.{AppendsPart, IsCutOff, TOO_LONG, retold}
 use Rattle.cvm_outside.specs.Outside.{Outside, Files, Output, Drive}
 use Rattle.cvm_outside.specs.Script.{Call, Stored, TheShelf, Performs, done as all_done, breaks, goes_on, blame, of_sink}
 use Rattle.cvm_outside.specs.declared.shelf.ShelfFault.{ShelfFault}
 use Rattle.cvm_outside.specs.declared.shelf.ShelfFault.TheVariants.{Failed, TooLong as Long, Memory as NoMemory}
 use Rattle.cvm_outside.specs.declared.sink.SinkFault.{SinkFault}
 use Rattle.cvm_outside.proofs.Putting.{put_once, performed}
+use Rattle.real_layer.specs.Image.{layer_image}
 use Rattle.boot_run.specs.Closing.{says}
+use Rattle.boot_turns.specs.declared.answers.View.{View}
+use Rattle.boot_turns.specs.declared.answers.View.TheVariants as view
 use Rattle.cvm_shell.specs.declared.exit_status.Status.{Status}
 use Rattle.cvm_shell.specs.declared.exit_status.Status.TheVariants.{Done, Shelf, Memory}
 use Rattle.cvm_shell.specs.declared.boot.Stop.TheVariants as Stops
 use Rattle.cvm_shell.specs.declared.refusal.Refusal.{Refusal as ByCode}
 use Rattle.cvm_shell.specs.declared.refusal.Refusal.TheVariants as by
-use Rattle.cvm_shell.specs.Command.{Command, IsCommand}
+use Rattle.cvm_shell.specs.Command.{Boot, Sample, Command, boot, sample, IsCommand, IsSample, command_of}
 use Rattle.cvm_shell.specs.Plan.{Plan, bad_words, refuses, puts, prints}
 use Rattle.cvm_shell.specs.Refusal.{too_long}
 use Rattle.cvm_shell.specs.Views.{refusal_view, stated_row, stated_status}
-use Rattle.cvm_shell.specs.Ends.{Ends, done, no_file, no_memory, GetsFor, all, up_to, CommandGets, files_of, gets, Wants, answered}
-use Rattle.cvm_shell.specs.Does.{AreGot, IsNotGot, StopGets, Acts, DoesPlan}
-use Rattle.cvm_shell.proofs.Endings.{FilesPlan, plan_of}
+use Rattle.cvm_shell.specs.Stages.{IsSamplePlan}
+use Rattle.cvm_shell.specs.Ends.{Ends, done, no_file, no_memory, GetsFor, all, up_to, CommandGets, files_of, gets, Wants, behind, answered}
+use Rattle.cvm_shell.specs.Does.{AreGot, IsNotGot, StopGets, Acts, DoesPlan, DoesOrWants}
+use Rattle.cvm_shell.proofs.Endings.{FilesPlan, plan_of, which, one_refusal}
 use Rattle.cvm_shell.proofs.GotCalls.{beside}
 use Rattle.cvm_shell.proofs.OneCommand.{one_command}
 
@@ -80,15 +84,15 @@ its_gets words file c p taken got is some h =
     (λ d other. let P : Command → Type 0 = λ x. GetsFor file (files_of x) taken p got in subst P (one_command words c d is other) h, λ e. absurd (some e))
 
 -- A PLAN WAS DONE behind all gets
-pub plan_done : (words : List (List ℕ)) (c : Command) (p : Plan) (old mid new : Outside) (status : Status) → IsCommand words c → FilesPlan old.shelf.file c p → p ≢ bad_words → p ≢ refuses too_long
-    → AreGot (files_of c) old mid → new.shelf.taken ≡ mid.shelf.taken → DoesPlan p mid new status → Ends words old new status
-plan_done words c p old mid new status is plan some short got taken d = done status (record {
+behind_gets : (words : List (List ℕ)) (c : Command) (p : Plan) (old mid new : Outside) (status : Status) → IsCommand words c → FilesPlan old.shelf.file c p → p ≢ bad_words → p ≢ refuses too_long
+    → Performs (gets (files_of c)) old mid None → (files_of c ≢ [] → new.shelf.taken ≢ TOO_LONG) → DoesPlan p mid new status → Ends words old new status
+behind_gets words c p old mid new status is plan some short got few d = done status (record {
   plan = p;
   is_plan = plan_of words old.shelf.file c p is plan;
   got = gets (files_of c);
-  gets = its_gets words old.shelf.file c p new.shelf.taken (gets (files_of c)) is some (all p short (λ named h. got.few (sym taken ∙ h)));
+  gets = its_gets words old.shelf.file c p new.shelf.taken (gets (files_of c)) is some (all p short few);
   mid = mid;
-  files = got.performs;
+  files = got;
   script = d.script;
   due = d.due;
   asks = d.asks;
@@ -97,6 +101,29 @@ plan_done words c p old mid new status is plan some short got taken d = done sta
   joins = d.joins;
   status_is = d.status_is;
 })
+
+pub plan_done : (words : List (List ℕ)) (c : Command) (p : Plan) (old mid new : Outside) (status : Status) → IsCommand words c → FilesPlan old.shelf.file c p → p ≢ bad_words → p ≢ refuses too_long
+    → AreGot (files_of c) old mid → new.shelf.taken ≡ mid.shelf.taken → DoesPlan p mid new status → Ends words old new status
+plan_done words c p old mid new status is plan some short got taken d =
+    behind_gets words c p old mid new status is plan some short got.performs (λ named h. got.few (sym taken ∙ h)) d
+
+-- or there was no memory for it
+pub run_done : (words : List (List ℕ)) (c : Command) (p : Plan) (old mid new : Outside) (status : Status) → IsCommand words c → FilesPlan old.shelf.file c p → p ≢ bad_words → p ≢ refuses too_long
+    → AreGot (files_of c) old mid → new.shelf.taken ≡ mid.shelf.taken → DoesOrWants p mid new status → Ends words old new status
+run_done words c p old mid new status is plan some short got taken (inl d) = plan_done words c p old mid new status is plan some short got taken d
+run_done words c p old mid new status is plan some short got taken (inr (m, e)) =
+    subst (Ends words old new) (sym m)
+    (no_memory c is (behind (files_of c) [] (append-nil (files_of c)) (subst (λ (at : Outside). Performs (gets (files_of c)) old at None) (sym e) got.performs) (λ named h. got.few (sym taken ∙ h))))
+
+-- A COMMAND THAT GETS NO FILE
+pub nothing_got : (words : List (List ℕ)) (c : Command) (p : Plan) (old new : Outside) (status : Status) → files_of c ≡ [] → IsCommand words c → FilesPlan old.shelf.file c p → p ≢ bad_words → p ≢ refuses too_long
+    → DoesPlan p old new status → Ends words old new status
+nothing_got words c p old new status none is plan some short d =
+    behind_gets words c p old old new status is plan some short (subst (λ (names : List (List ℕ)). Performs (gets names) old old None) (sym none) (all_done old)) (λ named. absurd (named none)) d
+
+pub nothing_wanted : (words : List (List ℕ)) (c : Command) (old new : Outside) → files_of c ≡ [] → IsCommand words c → new ≡ old → Ends words old new Memory
+nothing_wanted words c old new none is e =
+    no_memory c is (behind [] (files_of c) refl (subst (λ (at : Outside). Performs [] old at None) (sym e) (all_done old)) (λ named. absurd (named none)))
 
 -- what is refused is no command, and not too long
 pub refusal_plan : (r : ByCode) (old new : Outside) (status : Status) → Acts (says (stated_row r)) (stated_status r) old new status → DoesPlan (refuses (refusal_view r)) old new status
@@ -158,3 +185,23 @@ shelf_done words c old new is h = no_file c is h.performs h.few
 -- or there was no memory
 pub memory_done : (words : List (List ℕ)) (c : Command) (old new : Outside) → IsCommand words c → Wants (files_of c) old new → Ends words old new Memory
 memory_done words c old new is h = no_memory c is h
+
+-- what holds of the files of a boot holds of those of the command with its view
+pub viewed : (P : List (List ℕ) → Type 0) (b : Boot) (v : View) → P (files_of (boot b)) → P (files_of (command_of b v))
+viewed P b view.Boot h = h
+viewed P b (view.Trace u) h = h
+
+-- THE SAMPLE of a number
+pub sample_done : (words : List (List ℕ)) (x : Sample) (p : Plan) (old new : Outside) (status : Status) → IsSample words x → IsSamplePlan layer_image x.number p → p ≢ bad_words → p ≢ refuses too_long
+    → DoesOrWants p old new status → Ends words old new status
+sample_done words x p old new status is plan some short (inl d) = nothing_got words (sample x) p old new status refl is plan some short d
+sample_done words x p old new status is plan some short (inr (m, e)) = subst (Ends words old new) (sym m) (nothing_wanted words (sample x) old new refl is e)
+
+pub sample_refused : (words : List (List ℕ)) (x : Sample) (r : ByCode) (old new : Outside) (status : Status) → IsSample words x → IsSamplePlan layer_image x.number (refuses (refusal_view r)) → r ≢ by.TooLong
+    → Acts (says (stated_row r)) (stated_status r) old new status → Ends words old new status
+sample_refused words x r old new status is plan short acts =
+    nothing_got words (sample x) (refuses (refusal_view r)) old new status refl is plan (λ e. cc) (other (which r)) (refusal_plan r old new status acts)
+  where
+    other : (r ≡ by.TooLong) ⊎ (refusal_view r ≢ too_long) → refuses (refusal_view r) ≢ refuses too_long
+    other (inl e) h = short e
+    other (inr named) h = named (one_refusal (refusal_view r) too_long h)

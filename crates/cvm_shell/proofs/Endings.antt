@@ -135,7 +135,7 @@ pub memory_long : (s : Stop) (taken : ℕ) → s ≡ Stops.Memory → Long s tak
 memory_long s taken e long h = let d : Stops.Memory ≡ Stops.Refused by.TooLong = sym e ∙ long.1 h in absurd cc
 
 -- a refusal is that of a file that is too long, or another
-which : (r : ByCode) → (r ≡ by.TooLong) ⊎ (refusal_view r ≢ too_long)
+pub which : (r : ByCode) → (r ≡ by.TooLong) ⊎ (refusal_view r ≢ too_long)
 which (by.BadText fault) = inr (λ e. cc)
 which (by.BadSource fault) = inr (λ e. cc)
 which (by.BadProgram fault) = inr (λ e. cc)
@@ -149,7 +149,7 @@ which (by.SmallDisk need have) = inr (λ e. cc)
 which (by.NoSuchUser user users) = inr (λ e. cc)
 which by.TooLong = inl refl
 
-one_refusal : (r s : Refusal) → refuses r ≡ refuses s → r ≡ s
+pub one_refusal : (r s : Refusal) → refuses r ≡ refuses s → r ≡ s
 one_refusal r s h = cc
 
 one_stop : (r s : ByCode) → Stops.Refused r ≡ Stops.Refused s → r ≡ s

@@ -30,6 +30,7 @@ mod SavePlans
 mod ResumeEndings
 mod SaveWords
 mod SourceStops
+mod SystemCalls
 mod StackOut
 mod ProgramJournals
 mod StackTexts

@@ -45,7 +45,7 @@ pub record Called (b : Booted) (session : Session) (need : ℕ) (answer : Result
   pub rose : IsDiskFault answer → Rose old.disk.faults new.disk.faults
 
 -- a run of this session but for its start
-abbrev from : StartPoint → Session → Session
+abbrev pub from : StartPoint → Session → Session
 from start session = record { start = start; view = session.view; turns = session.turns; steps = session.steps }
 
 if_done : {A E : Type 0} (answer : Result A E) (P Q : Type 0) → (P → Q) → IfOk answer (λ e. P) → IfOk answer (λ e. Q)

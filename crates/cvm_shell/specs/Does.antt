@@ -1,18 +1,30 @@
 -- Only for the contracts inside the crate: what the stages of a command do, by their scripts.
-use Rattle.std.specs.Prelude.{◌≡◌, ◌≢◌, ℕ, List, [], ◌∷◌, ◌++◌, Option, None, Some, Result, MatchResult}
+use Rattle.std.specs.Prelude.{◌≡◌, ◌≢◌, ◌⊎◌, ◌≤◌, ℕ, List, [], ◌∷◌, ◌++◌, length, Option, None, Some, Result, MatchResult}
 use Rattle.cvm_outside.specs.Told.{TOO_LONG}
-use Rattle.cvm_outside.specs.Outside.{Outside, Files, Output, Drive, files, output}
+use Rattle.cvm_outside.specs.Outside.{Outside, Files, Output, Drive, files, output, drive}
 use Rattle.cvm_outside.specs.Script.{Call, Who, TheShelf, Performs}
 use Rattle.cvm_outside.specs.declared.shelf.Shelf as shelf_of
 use Rattle.cvm_outside.specs.declared.sink.Sink as sink_of
+use Rattle.cvm_outside.specs.declared.sectors.Sectors as sectors_of
+use Rattle.boot_turns.specs.Runs.{Past, IsPast}
+use Rattle.boot_run.specs.declared.load.LoadFault.{LoadFault}
+use Rattle.boot_run.specs.declared.whole.RunEnd.{RunEnd}
 use Rattle.boot_run.specs.Closing.{says}
+use Rattle.boot_run.specs.RunCalls.{WholeScript}
+use Rattle.boot_run.specs.RunEnds.{SeesUser}
+use Rattle.kernel_linker.specs.Accept.{system_of}
 use Rattle.cvm_shell.specs.declared.exit_status.Status.{Status}
+use Rattle.cvm_shell.specs.declared.exit_status.Status.TheVariants.{Memory}
+use Rattle.cvm_shell.specs.declared.boot.Ready.{Ready}
+use Rattle.cvm_shell.specs.declared.boot.Session.{Session}
 use Rattle.cvm_shell.specs.declared.boot.Stop.{Stop}
 use Rattle.cvm_shell.specs.declared.boot.Stop.TheVariants as stop
 use Rattle.cvm_shell.specs.declared.refusal.Refusal.TheVariants as refusal
-use Rattle.cvm_shell.specs.Command.{Command, IsCommand}
+use Rattle.cvm_shell.specs.Command.{Command, IsCommand, IsSample}
 use Rattle.cvm_shell.specs.Plan.{Plan}
-use Rattle.cvm_shell.specs.Ends.{Ends, PlanAsks, Joins, Wants, AreShort, MayBeLong, answered, gets}
+use Rattle.cvm_shell.specs.Boot.{booted, first_state, sectors_needed}
+use Rattle.cvm_shell.specs.SessionRuns.{run_of}
+use Rattle.cvm_shell.specs.Ends.{Ends, PlanAsks, Joins, Wants, AreShort, MayBeLong, answered, gets, load_of, seen}
 
 -- FILES WERE GOT, one after the other, and none is too long
 pub record AreGot (names : List (List ℕ)) (old new : Outside) : Type 0 where
@@ -76,3 +88,34 @@ pub record DoesPlan (p : Plan) (old new : Outside) (status : Status) : Type 0 wh
 abbrev pub CommandDoes : {S O : Type 0} → shelf_of.Ghosts S → sink_of.Ghosts O → Command → Status → (old new : S × O) → Type 0
 CommandDoes shelf sink c status (s, o) (s', o') = (words : List (List ℕ)) (disk : Drive) → IsCommand words c → Ends words
     (record { shelf = files shelf s; sink = output sink o; disk = disk }) (record { shelf = files shelf s'; sink = output sink o'; disk = disk }) status
+
+-- and over a disk
+abbrev pub RunDoes : {S O D : Type 0} → shelf_of.Ghosts S → sink_of.Ghosts O → sectors_of.Ghosts D → Command → Status → (old new : S × O × D) → Type 0
+RunDoes shelf sink disk c status (s, o, d) (s', o', d') = (words : List (List ℕ)) → IsCommand words c →
+    Ends words (seen shelf sink disk s o d) (seen shelf sink disk s' o' d') status
+
+-- a plan is done; or there was no memory, and nothing is called
+abbrev pub DoesOrWants : Plan → (old new : Outside) → Status → Type 0
+DoesOrWants p old new status = DoesPlan p old new status ⊎ ((status ≡ Memory) × (new ≡ old))
+
+-- what is done of a plan over a sink and a disk, whatever the files, which it leaves alone
+abbrev pub SystemDoes : {O D : Type 0} → sink_of.Ghosts O → sectors_of.Ghosts D → Plan → Status → (old new : O × D) → Type 0
+SystemDoes sink disk p status (o, d) (o', d') = (shelf : Files) → DoesOrWants p
+    (record { shelf = shelf; sink = output sink o; disk = drive disk d }) (record { shelf = shelf; sink = output sink o'; disk = drive disk d' }) status
+
+-- how a sample ends, whatever the files
+abbrev pub SampleDoes : {O D : Type 0} → sink_of.Ghosts O → sectors_of.Ghosts D → (number : ℕ) → Status → (old new : O × D) → Type 0
+SampleDoes sink disk number status (o, d) (o', d') = (words : List (List ℕ)) (shelf : Files) → IsSample words (record { number = number }) → Ends words
+    (record { shelf = shelf; sink = output sink o; disk = drive disk d }) (record { shelf = shelf; sink = output sink o'; disk = drive disk d' }) status
+
+-- THE CALLS of a session's run, over a sink and a disk
+abbrev pub SessionCalls : {O D : Type 0} → sink_of.Ghosts O → sectors_of.Ghosts D → Ready → Session → Result RunEnd LoadFault → (old new : O × D) → Type 0
+SessionCalls text told r session answer old new =
+    WholeScript text told (booted (system_of r.boot) r.schedule) r.schedule (first_state session (system_of r.boot) r.schedule)
+    session.view session.turns session.steps (load_of session (system_of r.boot) r.schedule) old new answer
+
+-- the abstract machine says something of each run of a session over a disk of so many sectors, where they are told
+abbrev pub SessionPasts : Ready → Session → (size : ℕ) → (told : Option (List (List ℕ))) → Type 0
+SessionPasts r session size told = (sectors : List (List ℕ)) → told ≡ Some sectors → SeesUser session.view (length (system_of r.boot).users) →
+    sectors_needed session (system_of r.boot) r.schedule ≤ size →
+    (p : Past) × IsPast (run_of session (system_of r.boot) r.schedule size sectors) p

@@ -6,7 +6,7 @@ ghost use Rattle.real_layer.specs.Image.{layer_image};
 ghost use Rattle.boot_run.specs.RunEnds.{ending_of_end};
 ghost use Rattle.cvm_shell.specs.Boot.{ended_as};
 ghost use Rattle.cvm_shell.specs.Command.{boot as of_boot};
-ghost use Rattle.cvm_shell.specs.Does.{Gets};
+ghost use Rattle.cvm_shell.specs.Does.{Gets, SystemDoes};
 ghost use Rattle.cvm_shell.specs.Ends.{files_of};
 ghost use Rattle.cvm_shell.specs.Host.{within};
 ghost use Rattle.cvm_shell.specs.Plan.{AfterFiles, IsPlan};
@@ -150,6 +150,7 @@ pub fn run_system<O: Sink, D: Sectors>(
     requires follows { SystemFollows ready }
     requires some { 1 ≤ session.turns }
     ensures ends { RunsAs ready session (within O.Sink D.Sectors) result (out.old, disk.old) (out.new, disk.new) }
+    ensures does { SystemDoes O.Sink D.Sectors (ready_for session ready) result (out.old, disk.old) (out.new, disk.new) }
     ensures rose { result ≡ Status.Sink → Rose (O.faults out.old) (O.faults out.new) }
     ensures same { result ≢ Status.Sink → O.faults out.new ≡ O.faults out.old }
     ensures disk_same { result ≢ Status.Disk → D.faults disk.new ≡ D.faults disk.old }

@@ -5,7 +5,7 @@ ghost use Rattle.std.specs.Prelude.{◌≤◌};
 ghost use Rattle.cvm_shell.specs.Command as command;
 ghost use Rattle.cvm_shell.specs.Command.{texts};
 ghost use Rattle.cvm_shell.specs.CommandEnds.{RunOutcome, Caused, Causes, Headlines, RunCompletes, SavesComplete, ResumesComplete, Isolates};
-ghost use Rattle.cvm_shell.specs.Does.{CommandDoes};
+ghost use Rattle.cvm_shell.specs.Does.{CommandDoes, RunDoes, SampleDoes};
 ghost use Rattle.cvm_shell.specs.Host.{Drive, Files, seen, beside, within};
 ghost use Rattle.cvm_shell.specs.Resumes.{Resumes};
 ghost use Rattle.cvm_shell.specs.Saves.{Saves};
@@ -169,6 +169,8 @@ fn run_boot<S: Shelf, O: Sink, D: Sectors>(
     requires { 1 ≤ (boot_view boot.now).turns }
     ensures ends { BootEndsAs (boot_view boot.now) view (seen S.Shelf O.Sink D.Sectors) result (shelf.old, out.old, disk.old) (shelf.new, out.new, disk.new) }
     ensures causes { Causes (seen S.Shelf O.Sink D.Sectors) result (shelf.old, out.old, disk.old) (shelf.new, out.new, disk.new) }
+    ensures does { RunDoes S.Shelf O.Sink D.Sectors (command.command_of (boot_view boot.now) view) result
+        (shelf.old, out.old, disk.old) (shelf.new, out.new, disk.new) }
 {
     let session = Session {
         start: boot.start,
@@ -275,6 +277,7 @@ fn migrate_image<S: Shelf, O: Sink>(
 fn run_sample<O: Sink, D: Sectors>(alloc: Global, number: u32, out: &mut O, disk: &mut D) -> Status
     ensures ends { SampleEndsAs number (within O.Sink D.Sectors) result (out.old, disk.old) (out.new, disk.new) }
     ensures causes { (shelf : Files) → Causes (within O.Sink D.Sectors shelf) result (out.old, disk.old) (out.new, disk.new) }
+    ensures does { SampleDoes O.Sink D.Sectors number result (out.old, disk.old) (out.new, disk.new) }
 {
     let session = Session {
         start: StartPoint::Loaded,

@@ -6,12 +6,13 @@ ghost use Rattle.boot_run.specs.Loading.{system_of};
 ghost use Rattle.boot_run.specs.LoadEnds.{LoadFails, rom_needed};
 ghost use Rattle.boot_run.specs.RunEnds.{SeesUser};
 ghost use Rattle.boot_run.specs.Whole.{IsDiskFault, IsSinkFault};
+ghost use Rattle.cvm_shell.specs.Does.{SessionCalls, SessionPasts};
 ghost use Rattle.cvm_shell.specs.Host.{within};
 ghost use Rattle.cvm_shell.specs.Stages.{AnswersAs, SystemFollows};
 
 use crate::boot::{Ready, Session, StartPoint};
 use boot_rom::rom_words;
-use boot_run::{LoadFault, RunEnd, View, run_rom, run_whole};
+use boot_run::{LoadFault, RunEnd, View, pasts_exist, run_rom, run_whole};
 use cvm_outside::{Sectors, Sink};
 use layer_contract::Layer;
 use std::alloc::Global;
@@ -27,6 +28,8 @@ pub(crate) fn load_and_run<O: Sink, D: Sectors>(
     requires follows { SystemFollows ready }
     requires some { 1 ≤ session.turns }
     ensures answers { AnswersAs ready session (within O.Sink D.Sectors) result (out.old, disk.old) (out.new, disk.new) }
+    ensures calls { SessionCalls O.Sink D.Sectors ready session result (out.old, disk.old) (out.new, disk.new) }
+    ensures pasts { SessionPasts ready session (D.size disk.old) (D.sectors disk.old) }
     ensures unprinted { IfErr result (λ _. out.new ≡ out.old) }
     ensures still { result ≢ Err LoadFault.Disk → OnErr result (disk.new ≡ disk.old) }
     ensures disk_same { (IsDiskFault result → ⊥) → D.faults disk.new ≡ D.faults disk.old }
@@ -51,12 +54,15 @@ fn run_loaded<O: Sink, D: Sectors>(
     requires some { 1 ≤ session.turns }
     requires start { session.start ≡ StartPoint.Loaded }
     ensures answers { AnswersAs ready session (within O.Sink D.Sectors) result (out.old, disk.old) (out.new, disk.new) }
+    ensures calls { SessionCalls O.Sink D.Sectors ready session result (out.old, disk.old) (out.new, disk.new) }
+    ensures pasts { SessionPasts ready session (D.size disk.old) (D.sectors disk.old) }
     ensures unprinted { IfErr result (λ _. out.new ≡ out.old) }
     ensures still { result ≢ Err LoadFault.Disk → OnErr result (disk.new ≡ disk.old) }
     ensures disk_same { (IsDiskFault result → ⊥) → D.faults disk.new ≡ D.faults disk.old }
     ensures sink { IsSinkFault result → Rose (O.faults out.old) (O.faults out.new) }
     ensures sink_same { (IsSinkFault result → ⊥) → O.faults out.new ≡ O.faults out.old }
 {
+    pasts_exist(&ready.layer, &ready.boot, &ready.schedule, disk);
     run_whole(
         alloc,
         ready.layer,
@@ -82,12 +88,15 @@ fn run_from_rom<O: Sink, D: Sectors>(
     requires some { 1 ≤ session.turns }
     requires start { session.start ≡ StartPoint.Rom }
     ensures answers { AnswersAs ready session (within O.Sink D.Sectors) result (out.old, disk.old) (out.new, disk.new) }
+    ensures calls { SessionCalls O.Sink D.Sectors ready session result (out.old, disk.old) (out.new, disk.new) }
+    ensures pasts { SessionPasts ready session (D.size disk.old) (D.sectors disk.old) }
     ensures unprinted { IfErr result (λ _. out.new ≡ out.old) }
     ensures still { result ≢ Err LoadFault.Disk → OnErr result (disk.new ≡ disk.old) }
     ensures disk_same { (IsDiskFault result → ⊥) → D.faults disk.new ≡ D.faults disk.old }
     ensures sink { IsSinkFault result → Rose (O.faults out.old) (O.faults out.new) }
     ensures sink_same { (IsSinkFault result → ⊥) → O.faults out.new ≡ O.faults out.old }
 {
+    pasts_exist(&ready.layer, &ready.boot, &ready.schedule, disk);
     let rom = rom_for(alloc, &ready, session.view, disk.count())?;
     run_rom(
         alloc,

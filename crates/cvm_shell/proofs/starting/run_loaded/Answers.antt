@@ -1,4 +1,5 @@
 use Rattle.cvm_shell.proofs.StartAnswers.{loaded_answers}
+use Rattle.cvm_shell.proofs.SystemCalls.{loaded_calls, loaded_pasts}
 use Rattle.cvm_shell.proofs.starting.run_loaded.Goals as goal
 
 pub returns-clause-answers : goal.returns-clause-answers
@@ -10,3 +11,9 @@ returns-clause-answers g c = λ before after.
       size = c.run_whole.ensures.loads.leaves.same_size;
       rose = c.run_whole.ensures.blame.disk_rose;
     })
+
+pub returns-clause-calls : goal.returns-clause-calls
+returns-clause-calls g c = loaded_calls g.O.Sink g.D.Sectors c.args.ready c.args.session c.run_whole.result _ _ c.requires.start c.run_whole.ensures.script
+
+pub returns-clause-pasts : goal.returns-clause-pasts
+returns-clause-pasts g c = loaded_pasts c.args.ready c.args.session _ _ c.requires.start c.pasts_exist.ensures.loaded
