@@ -2,3 +2,4 @@ pub mod Asked
 pub mod Premises
 pub mod Resumed
 pub mod Stopped
+pub mod SaveCalls

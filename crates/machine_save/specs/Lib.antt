@@ -3,3 +3,4 @@ pub mod Resume
 pub mod SavedBoots
 pub mod SaveRun
 pub mod ResumeRun
+pub mod SaveCalls

@@ -8,16 +8,23 @@ ghost use Rattle.cvm_model.specs.Cvm.{map_of};
 ghost use Rattle.layer_contract.specs.Boots.{BootFollows, boot_of};
 ghost use Rattle.boot_turns.specs.declared.answers.View.TheVariants.{Boot as OfBoot};
 ghost use Rattle.boot_report.specs.Blames.{Blames};
+ghost use Rattle.layer_contract.specs.Follows.{loaded};
 ghost use Rattle.boot_run.specs.LoadEnds.{LoadsRun, pages_needed};
+ghost use Rattle.boot_run.specs.LoadScript.{load_script};
+ghost use Rattle.boot_run.specs.LoadedPages.{user_pages};
+ghost use Rattle.boot_run.specs.Loading.{system_of};
 ghost use Rattle.boot_run.specs.Whole.{WholeGoesOn, WholeStopped};
 ghost use Rattle.machine_save.specs.Room.{most_words};
+ghost use Rattle.machine_save.specs.SaveCalls.{PutCalls, RowCalls, SavedScript};
 ghost use Rattle.machine_save.specs.SaveRun.{IfUnput, IsSavedDiskFault, IsSavedShelfFault, IsSavedSinkFault, PutsState, SavesRun, ShowsSaved};
 
 use crate::laws::boots_hold;
 use crate::space::Room;
 use boot_run::{LoadFault, Run, RunEnd, SaveEnd, run_to_save};
+use boot_turns::machines_run;
 use cvm_outside::{Sectors, Shelf, Sink};
 use layer_contract::{Boot, Layer};
+use mips_table::runs::turns_are_counted;
 use schedule_file::Schedule;
 use std::alloc::Global;
 
@@ -68,7 +75,11 @@ pub fn save_run<L: Layer + Drop, S: Shelf, D: Sectors, O: Sink>(
     ensures blame { Blames (IsSavedDiskFault result) (IsSavedSinkFault result) D.faults disk.old disk.new O.faults out.old out.new }
     ensures shelf { IsSavedShelfFault result → Rose (S.faults shelf.old) (S.faults shelf.new) }
     ensures shelf_same { (IsSavedShelfFault result → ⊥) → S.faults shelf.new ≡ S.faults shelf.old }
+    ensures script { SavedScript S.Shelf O.Sink D.Sectors (system_of boot schedule) schedule (loaded (system_of boot schedule)) turns steps
+        (load_script (user_pages (system_of boot schedule)) (pages_needed boot)) name.now (shelf.old, out.old, disk.old) (shelf.new, out.new, disk.new) result }
 {
+    machines_run();
+    turns_are_counted();
     boots_hold(&layer, &boot, &schedule, disk);
     let (run, end) = run_to_save(alloc, layer, boot, schedule, turns, steps, disk, out)?;
     match end {
@@ -93,6 +104,7 @@ fn put_state<L: Layer + Drop, S: Shelf, O: Sink>(
     ensures shelf_same { result ≢ SavedEnd.ShelfFault → S.faults shelf.new ≡ S.faults shelf.old }
     ensures sink { result ≡ SavedEnd.RowFault → Rose (O.faults out.old) (O.faults out.new) }
     ensures sink_same { result ≢ SavedEnd.RowFault → O.faults out.new ≡ O.faults out.old }
+    ensures script { PutCalls S.Shelf O.Sink run.now room.words name.now (shelf.old, out.old) (shelf.new, out.new) result }
 {
     room.fill(run);
     match shelf.put(name, room.bytes()) {
@@ -107,6 +119,7 @@ fn put_row<O: Sink>(out: &mut O) -> SavedEnd
     ensures put { result ≢ SavedEnd.ShelfFault }
     ensures sink { result ≡ SavedEnd.RowFault → Rose (O.faults out.old) (O.faults out.new) }
     ensures sink_same { result ≢ SavedEnd.RowFault → O.faults out.new ≡ O.faults out.old }
+    ensures script { RowCalls O.Sink out.old out.new result }
 {
     match out.put(b"saved\n") {
         Ok(()) => SavedEnd::Saved,

@@ -1,0 +1,208 @@
+-- The script of a save, by that of its run and by the put of its file.
+use Rattle.std.proofs.Common.{◌≡◌, ◌≢◌, ℕ, ◌*◌, ◌+◌, ◌≤◌, ◌<◌, ◌^◌, true, List, [], ◌++◌, length, append-nil, refl, sym, ap, ap₂, ◌∙◌, subst, arith, Some, None, Ok, Err}
+use Rattle.std.specs.Prelude.{Option, Result, OnOk, OnErr, IsErrOf, IsSome, slice_index}
+use Rattle.std.specs.List.{flat_map}
+use Rattle.cvm_words.specs.Bytes.{word}
+use Rattle.cvm_outside.specs.Causes.{ShelfCounts}
+use Rattle.cvm_outside.specs.Numbering.{Tally}
+use Rattle.cvm_outside.specs.Told.{IsCutOff, retold}
+use Rattle.cvm_outside.specs.Outside.{Outside, Files, Output, Drive, files, drive}
+use Rattle.cvm_outside.specs.Script.{Call, Stored, Who, TheDisk, Performs, Does, Fails}
+use Rattle.cvm_outside.specs.declared.shelf.Shelf as shelf_of
+use Rattle.cvm_outside.specs.declared.sink.Sink as sink_of
+use Rattle.cvm_outside.specs.declared.sectors.Sectors as sectors_of
+use Rattle.cvm_outside.specs.declared.shelf.ShelfFault.{ShelfFault}
+use Rattle.cvm_outside.specs.declared.shelf.ShelfFault.TheVariants.{Failed, TooLong, Memory as NoMemory}
+use Rattle.cvm_outside.proofs.Follow.{both, first}
+use Rattle.cvm_outside.proofs.Putting.{same_script}
+use Rattle.schedule_file.specs.Rows.{Rows}
+use Rattle.mips_table.specs.Device.{Outside as Surroundings}
+use Rattle.mips_table.specs.Machine.{State, run}
+use Rattle.mips_table.specs.Turns.{complete, end_within, lines_of, TurnLaws}
+use Rattle.mips_machine.specs.Saved.{saved}
+use Rattle.mips_machine.specs.Steps.{outside_of}
+use Rattle.layer_map.specs.Map.{memory_frames}
+use Rattle.c0_tree.specs.Tree.{CUnit}
+use Rattle.c0_tree.specs.View.{unit_view}
+use Rattle.c0_meaning.specs.TypedState.{IsTypedState}
+use Rattle.cvm_model.specs.Cvm.{System, Cvm, IsCvm, map_of}
+use Rattle.layer_contract.specs.declared.boot.Boot.{Boot as Booted}
+use Rattle.layer_contract.specs.Boots.{boot_of}
+use Rattle.layer_contract.specs.Follows.{loaded}
+use Rattle.layer_contract.specs.Starts.{user_sectors}
+use Rattle.boot_turns.specs.RunMachines.{RunMachines, MachinesRun}
+use Rattle.boot_turns.specs.Runs.{Run, Past, IsPast}
+use Rattle.boot_turns.specs.declared.answers.View.TheVariants.{Boot}
+use Rattle.saved_file.specs.Resumable.{CanBeResumed}
+use Rattle.boot_run.specs.declared.load.LoadFault.{LoadFault}
+use Rattle.boot_run.specs.declared.load.LoadFault.TheVariants as load
+use Rattle.boot_run.specs.declared.whole.RunEnd.{RunEnd}
+use Rattle.boot_run.specs.declared.saving.SaveEnd.{SaveEnd}
+use Rattle.boot_run.specs.declared.saving.SaveEnd.TheVariants.{Stopped, Ended as BootEnded}
+use Rattle.boot_run.specs.LoadEnds.{Kept, pages_needed}
+use Rattle.boot_run.specs.Loading.{system_of}
+use Rattle.boot_run.specs.RunCalls.{run_at, loads, of_end}
+use Rattle.boot_run.specs.RunScript.{saved_words}
+use Rattle.boot_run.specs.SaveCalls.{SaveScript, stop_script, due_stop}
+use Rattle.boot_run.specs.SavedFiles.{wanted_of}
+use Rattle.boot_run.specs.SavedRuns.{SavedAt, IsDisk}
+use Rattle.boot_run.specs.Saving.{saved_run, WholeSaveEnds}
+use Rattle.machine_save.specs.Room.{most_words}
+use Rattle.machine_save.specs.SaveCalls.{put_script, leave_script, of_put, saved_by, PutCalls, SomeLeft, SavedScript}
+use Rattle.machine_save.specs.SaveRun.{ShowsSaved}
+use Rattle.machine_save.specs.SavedBoots.{AreDisk, AreTakenUp, CanBoot}
+use Rattle.machine_save.specs.declared.saving.SavedEnd.{SavedEnd}
+use Rattle.machine_save.specs.declared.saving.SavedEnd.TheVariants.{Saved, ShelfFault as NotPut, RowFault, Ended}
+
+-- files beside a sink and a disk
+abbrev pub beside : Output → Drive → Files → Outside
+beside sink disk shelf = record { shelf = shelf; sink = sink; disk = disk }
+
+-- ONE PUT of a file, by what a shelf says of it
+pub record OnePut (name bytes : List ℕ) (old new : Files) (r : Result (Unit {0}) ShelfFault) : Type 0 where
+  pub others : (n : List ℕ) → n ≢ name → new.file n ≡ old.file n
+  pub whole : OnOk r (new.file name ≡ retold (old.file name) bytes)
+  pub part : OnErr r (IsCutOff (old.file name) bytes (new.file name))
+  pub few : (IsErrOf r TooLong → ⊥) × (IsErrOf r NoMemory → ⊥)
+  pub taken : new.taken ≡ old.taken
+  pub count : ShelfCounts old.faults new.faults r
+
+pub put_does : (name bytes : List ℕ) (sink : Output) (disk : Drive) (old new : Files) → OnePut name bytes old new (Ok tt) → Does (Stored name bytes) (beside sink disk old) (beside sink disk new)
+put_does name bytes sink disk old new p = (p.others, p.whole, p.count.cases, ap₂ (λ (t n : ℕ). beside sink disk (record new { taken = t; faults = n })) p.taken p.count.cases)
+
+pub put_fails : (name bytes : List ℕ) (sink : Output) (disk : Drive) (old new : Files) (f : ShelfFault) → OnePut name bytes old new (Err f) → Fails (Stored name bytes) (beside sink disk old) (beside sink disk new)
+put_fails name bytes sink disk old new Failed p =
+    (p.others, p.part, record { later = p.count.later; rose = p.count.cases }, ap (λ (t : ℕ). beside sink disk (record new { taken = t })) p.taken)
+put_fails name bytes sink disk old new TooLong p = absurd (p.few.0 refl)
+put_fails name bytes sink disk old new NoMemory p = absurd (p.few.1 refl)
+
+-- THE WORDS of a run that stopped are those of its machine at its last step
+module _ (counts : TurnLaws) (x : Surroundings) (y : System) (s : State) (late held : ℕ) (m : RunMachines x y s late held) (turns steps : ℕ) (p : Past) (past : IsPast (run_at x y s Boot turns steps) p) where
+  pub same_words : (words : List ℕ) (now : List (List ℕ)) (shown : List ℕ) → SavedAt x y s turns steps words now shown → words ≡ saved_words (run_at x y s Boot turns steps) p
+  same_words words now shown w =
+      let e : end_within x s turns steps ≡ w.at = counts.ends x s turns steps w.at w.end w.within in
+      let n : complete x s (end_within x s turns steps) ≡ turns = ap (complete x s) e ∙ w.stood.all in
+      let is : IsCvm y (lines_of x s) turns (p.cvm (complete x s (end_within x s turns steps))) =
+      subst (λ (k : ℕ). IsCvm y (lines_of x s) k (p.cvm (complete x s (end_within x s turns steps)))) n (past.turns (complete x s (end_within x s turns steps)) (omega arith)) in
+      let c : p.cvm (complete x s (end_within x s turns steps)) ≡ w.past = m.same turns (p.cvm (complete x s (end_within x s turns steps))) w.past is w.stood.cvm in
+      w.words_are ∙ sym (
+      ap (λ (t : ℕ). saved y.input (run x s t) (complete x s (end_within x s turns steps)) (p.cvm (complete x s (end_within x s turns steps))).core.current) e
+      ∙ ap (λ (k : ℕ). saved y.input (run x s w.at) k (p.cvm (complete x s (end_within x s turns steps))).core.current) n
+      ∙ ap (λ (q : Cvm). saved y.input (run x s w.at) turns q.core.current) c)
+
+-- and they have room
+pub has_room : {L : Type 0} (b : Booted) (rows : Rows) (count : ℕ) (old now : List (List ℕ)) (turns steps room : ℕ) (r : Kept L) (shown : List ℕ) → AreTakenUp b rows count → pages_needed b ≤ count → IsDisk count old → 1 ≤ turns → turns < 2 ^ 32 → steps < 2 ^ 64
+    → room ≡ most_words (memory_frames (map_of (boot_of b))) → SavedAt (outside_of rows count) (system_of b rows) (loaded (system_of b rows) old) turns steps (saved_run r) now shown → (length (saved_run r) ≤ room) × (r.turns < 2 ^ 32)
+has_room b rows count old now turns steps room r shown up enough disk some bits limit same at =
+    let can : CanBeResumed (wanted_of b rows turns) (saved_run r) = (up old now turns steps turns (saved_run r) shown enough disk at some (omega arith) bits limit).0 in
+    let whole : length (saved_run r) ≡ 1080 + slice_index (saved_run r) 55 + 1024 * memory_frames (map_of (boot_of b)) = can.saved.whole in
+    let log : slice_index (saved_run r) 55 ≤ 4096 = can.saved.log in
+    let told : r.turns ≡ turns = ap (λ (l : List ℕ). slice_index l 5) at.words_are in
+    (omega (arith, whole, log, same), omega (arith, told, bits))
+
+-- what is behind a script that nobody is blamed for is none, or it broke off
+behind : (a b : List Call) (old new : Outside) (blamed : Option Who) → (blamed ≡ None → b ≡ []) → Performs a old new blamed → Performs (a ++ b) old new blamed
+behind a b old new None none p = same_script a (a ++ b) old new None (sym (ap (λ (l : List Call). a ++ l) (none refl) ∙ append-nil a)) p
+behind a b old new (Some whom) none p = first a b old new whom p
+
+-- NO RUN IS LOADED
+module _ {S O D : Type 0} (shelf : shelf_of.Ghosts S) (text : sink_of.Ghosts O) (told : sectors_of.Ghosts D) (y : System) (rows : Rows) (start : List (List ℕ) → State) (turns steps : ℕ) (script : List Call) (name : List ℕ) (s : S) (o o1 : O) (d d1 : D) where
+  abbrev rn : List (List ℕ) → Run
+  rn sectors = run_at (outside_of rows (told.size d)) y (start sectors) Boot turns steps
+
+  unloaded : (f : LoadFault) → (loads {T = SavedEnd} (Err f) ≡ true → ⊥) → ◌≡◌ {A = O × D} (o1, d1) (o, d) → SavedScript shelf text told y rows start turns steps script name (s, o, d) (s, o1, d1) (Err f)
+  unloaded f none same = record {
+    exact = λ begun. absurd (none begun);
+    some = λ begun. absurd (none begun);
+    none = λ h. ap (λ (q : O × D). (s, q.0, q.1)) same;
+  }
+
+  pub save_refused : {L : Type 0} (f : LoadFault) → SaveScript {L = L} text told y rows start turns steps script (o, d) (o1, d1) (Err f) → SavedScript shelf text told y rows start turns steps script name (s, o, d) (s, o1, d1) (Err f)
+  save_refused load.Disk calls = record {
+    exact = λ begun sectors p is past. (
+      first (script ++ stop_script (rn sectors) p 0) (leave_script name (rn sectors) p (due_stop (rn sectors) p)) _ _ TheDisk ((calls.exact refl sectors p is past).0 (files shelf s)),
+      λ e. tt,
+    );
+    some = λ begun. let w = calls.some refl in (w.0, w.1, [], refl, first (script ++ w.0) [] _ _ TheDisk (w.2 (files shelf s)));
+    none = λ h. absurd (let e = h in cc);
+  }
+  save_refused load.Memory calls = unloaded load.Memory (λ e. cc) (calls.none refl)
+  save_refused (load.SmallDisk need have) calls = unloaded (load.SmallDisk need have) (λ e. cc) (calls.none refl)
+  save_refused (load.NoSuchUser user users) calls = unloaded (load.NoSuchUser user users) (λ e. cc) (calls.none refl)
+
+  -- A RUN HAS ENDED
+  pub save_ended : {L : Type 0} (r : Kept L) (end : SaveEnd) (e : RunEnd) → end ≡ BootEnded e → SaveScript {L = L} text told y rows start turns steps script (o, d) (o1, d1) (Ok (r, end)) →
+      SavedScript shelf text told y rows start turns steps script name (s, o, d) (s, o1, d1) (Ok (Ended e))
+  save_ended {L} r end e is_end given =
+      let calls : SaveScript {L = L} text told y rows start turns steps script (o, d) (o1, d1) (Ok (r, BootEnded e)) = subst (λ (q : SaveEnd). SaveScript {L = L} text told y rows start turns steps script (o, d) (o1, d1) (Ok (r, q))) is_end given in
+      record {
+        exact = λ begun sectors p is past.
+            let w = calls.exact refl sectors p is past in (
+              behind (script ++ stop_script (rn sectors) p 0) (leave_script name (rn sectors) p (due_stop (rn sectors) p)) _ _ (of_end e) (λ none. ap (leave_script name (rn sectors) p) (sym (w.1 none))) (w.0 (files shelf s)),
+              λ none. ap saved_by (w.1 none),
+            );
+        some = λ begun. let w = calls.some refl in (w.0, w.1, [], refl, behind (script ++ w.0) [] _ _ (of_end e) (λ none. refl) (w.2 (files shelf s)));
+        none = λ h. absurd (let q = h in cc);
+      }
+
+-- A RUN STOPPED, and its file was put, or was to be
+left_so : (name bytes : List ℕ) (rows after : Option (List ℕ)) (e : SavedEnd) → ShowsSaved rows after e → SomeLeft name (Ok e) (put_script name bytes)
+left_so name bytes rows after Saved shows = (bytes, refl)
+left_so name bytes rows after NotPut shows = (bytes, refl)
+left_so name bytes rows after RowFault shows = (bytes, refl)
+left_so name bytes rows after (Ended x) shows = absurd shows
+
+due_so : (rows after : Option (List ℕ)) (e : SavedEnd) → ShowsSaved rows after e → of_put e ≡ None → (due : SaveEnd) → Stopped ≡ due → e ≡ saved_by due
+due_so rows after Saved shows none due is = ap saved_by is
+due_so rows after NotPut shows none due is = absurd (let e = none in cc)
+due_so rows after RowFault shows none due is = absurd (let e = none in cc)
+due_so rows after (Ended x) shows none due is = absurd shows
+
+module _ {S O D : Type 0} (shelf : shelf_of.Ghosts S) (text : sink_of.Ghosts O) (told : sectors_of.Ghosts D) (y : System) (rows : Rows) (start : List (List ℕ) → State) (turns steps room : ℕ) (script : List Call) (name : List ℕ) (s s2 : S) (o o1 o2 : O) (d d1 : D) where
+  abbrev run_from : List (List ℕ) → Run
+  run_from sectors = run_at (outside_of rows (told.size d)) y (start sectors) Boot turns steps
+
+  pub save_stopped : {L : Type 0} (r : Kept L) (end : SaveEnd) (e : SavedEnd) → end ≡ Stopped → SaveScript {L = L} text told y rows start turns steps script (o, d) (o1, d1) (Ok (r, end)) →
+      ((sectors : List (List ℕ)) (p : Past) → told.sectors d ≡ Some sectors → IsPast (run_from sectors) p → (length (saved_run r) ≤ room) × (r.turns < 2 ^ 32) × (saved_run r ≡ saved_words (run_from sectors) p)) →
+      ShowsSaved (text.text o1) (text.text o2) e → PutCalls shelf text r room name (s, o1) (s2, o2) e → SavedScript shelf text told y rows start turns steps script name (s, o, d) (s2, o2, d1) (Ok e)
+  save_stopped {L} r end e is_end given words shows put =
+      let calls : SaveScript {L = L} text told y rows start turns steps script (o, d) (o1, d1) (Ok (r, Stopped)) = subst (λ (q : SaveEnd). SaveScript {L = L} text told y rows start turns steps script (o, d) (o1, d1) (Ok (r, q))) is_end given in
+      record {
+        exact = λ begun sectors p is past.
+            let w = calls.exact refl sectors p is past in
+            let fits = words sectors p is past in
+            let bytes : put.0 ≡ flat_map word (saved_words (run_from sectors) p) = put.1 fits.0 fits.1 ∙ ap (flat_map word) fits.2 in
+            let left : put_script name put.0 ≡ leave_script name (run_from sectors) p (due_stop (run_from sectors) p) = ap (put_script name) bytes ∙ ap (leave_script name (run_from sectors) p) (w.1 refl) in (
+              same_script ((script ++ stop_script (run_from sectors) p 0) ++ put_script name put.0) (script ++ stop_script (run_from sectors) p 0 ++ leave_script name (run_from sectors) p (due_stop (run_from sectors) p)) _ _ (of_put e)
+                  (ap (λ (l : List Call). (script ++ stop_script (run_from sectors) p 0) ++ l) left)
+                  (both (script ++ stop_script (run_from sectors) p 0) (put_script name put.0) _ _ _ (of_put e) (w.0 (files shelf s)) (put.2 (drive told d1))),
+              λ none. due_so (text.text o1) (text.text o2) e shows none (due_stop (run_from sectors) p) (w.1 refl),
+            );
+        some = λ begun.
+            let w = calls.some refl in (
+              w.0,
+              w.1,
+              put_script name put.0,
+              left_so name put.0 (text.text o1) (text.text o2) e shows,
+              both (script ++ w.0) (put_script name put.0) _ _ _ (of_put e) (w.2 (files shelf s)) (put.2 (drive told d1)),
+            );
+        none = λ h. absurd (let q = h in cc);
+      }
+
+-- what is known of the words of one that stopped, over told sectors
+some_of : {A : Type 0} (o : Option A) → IsSome o → (x : A) × (o ≡ Some x)
+some_of None h = absurd (cc)
+some_of (Some x) h = (x, refl)
+
+pub stopped_words : {L : Type 0} (b : Booted) (rows : Rows) (count turns steps room : ℕ) (told left : Option (List (List ℕ))) (made remade : Tally) (before mid : Option (List ℕ)) (r : Kept L) (end : SaveEnd) → end ≡ Stopped
+    → WholeSaveEnds b rows count turns steps told left made remade before mid (Ok (r, end)) → (IsSome told → IsSome left) → AreTakenUp b rows count → pages_needed b ≤ count → AreDisk count told → 1 ≤ turns → turns < 2 ^ 32 → steps < 2 ^ 64
+    → room ≡ most_words (memory_frames (map_of (boot_of b))) → CanBoot b rows count → ((u : CUnit) → MachinesRun (IsTypedState u)) → TurnLaws → (sectors : List (List ℕ)) (p : Past) → told ≡ Some sectors
+    → IsPast (run_at (outside_of rows count) (system_of b rows) (loaded (system_of b rows) sectors) Boot turns steps) p
+    → (length (saved_run r) ≤ room) × (r.turns < 2 ^ 32) × (saved_run r ≡ saved_words (run_at (outside_of rows count) (system_of b rows) (loaded (system_of b rows) sectors) Boot turns steps) p)
+stopped_words b rows count turns steps room told left made remade before mid r end is_end ends keeps up enough disk one bits limit same can machines counts sectors p is past =
+    let some = some_of left (keeps (subst (λ (o : Option (List (List ℕ))). IsSome o) (sym is) refl)) in
+    let w = subst (λ (q : SaveEnd). WholeSaveEnds b rows count turns steps told left made remade before mid (Ok (r, q))) is_end ends sectors some.0 is some.1 in
+    let fits = has_room b rows count sectors some.0 turns steps room r w.0 up enough (disk sectors is) one bits limit same w.2 in
+    let boot = can enough sectors (disk sectors is) in
+    let m = machines (unit_view b.unit) (outside_of rows count) (system_of b rows) (loaded (system_of b rows) sectors) 1 (user_sectors (system_of b rows)) boot.starts in
+    (fits.0, fits.1, same_words counts (outside_of rows count) (system_of b rows) (loaded (system_of b rows) sectors) 1 (user_sectors (system_of b rows)) m turns steps p past (saved_run r) some.0 w.0 w.2)
