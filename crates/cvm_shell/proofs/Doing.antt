@@ -1,17 +1,17 @@
 -- How a command ends, by the gets of its stage and by what was done behind them.
-use Rattle.std.proofs.Common.{◌≡◌, ◌≢◌, ◌⊎◌, inl, inr, ℕ, List, [], ◌∷◌, ◌++◌, append-nil, refl, sym, ap, ap₂, ◌∙◌, subst, Some, None, Ok, Err}
-use Rattle.std.specs.Prelude.{Option, Result, OnOk, OnErr, IsErrOf}
+use Rattle.std.proofs.Common.{◌≡◌, ◌≢◌, ◌⊎◌, inl, inr, ℕ, List, [], ◌∷◌, ◌++◌, append-nil, refl, sym, ◌∙◌, subst, Some, None, Ok, Err}
+use Rattle.std.specs.Prelude.{Option, Result, OnOk, OnErr}
 use Rattle.std.specs.Io.KnownBytes.{append_known}
-use Rattle.cvm_outside.specs.Causes.{Counts, ShelfCounts}
-use Rattle.cvm_outside.specs.Told.{AppendsPart, IsCutOff, TOO_LONG, retold}
+use Rattle.cvm_outside.specs.Causes.{Counts}
+use Rattle.cvm_outside.specs.Told.{AppendsPart, TOO_LONG}
 use Rattle.cvm_outside.specs.Outside.{Outside, Files, Output, Drive}
 use Rattle.cvm_outside.specs.Script.{Call, Stored, TheShelf, Performs, done as all_done, breaks, goes_on, blame, of_sink}
 use Rattle.cvm_outside.specs.declared.shelf.ShelfFault.{ShelfFault}
-use Rattle.cvm_outside.specs.declared.shelf.ShelfFault.TheVariants.{Failed, TooLong as Long, Memory as NoMemory}
 use Rattle.cvm_outside.specs.declared.sink.SinkFault.{SinkFault}
 use Rattle.cvm_outside.proofs.Putting.{put_once, performed}
 use Rattle.real_layer.specs.Image.{layer_image}
 use Rattle.boot_run.specs.Closing.{says}
+use Rattle.machine_save.proofs.SaveCalls.{OnePut, put_does, put_fails}
 use Rattle.boot_turns.specs.declared.answers.View.{View}
 use Rattle.boot_turns.specs.declared.answers.View.TheVariants as view
 use Rattle.cvm_shell.specs.declared.exit_status.Status.{Status}
@@ -39,16 +39,7 @@ said text due shelf disk old new r whole part count = record {
   status_is = refl;
 }
 
--- PUTTING: one call of the shelf, by what it says
-pub record OnePut (name bytes : List ℕ) (old new : Files) (r : Result (Unit {0}) ShelfFault) : Type 0 where
-  pub others : (n : List ℕ) → n ≢ name → new.file n ≡ old.file n
-  pub whole : OnOk r (new.file name ≡ retold (old.file name) bytes)
-  pub part : OnErr r (IsCutOff (old.file name) bytes (new.file name))
-  pub few : (IsErrOf r Long → ⊥) × (IsErrOf r NoMemory → ⊥)
-  pub taken : new.taken ≡ old.taken
-  pub count : ShelfCounts old.faults new.faults r
-
--- the status of its answer
+-- PUTTING: one call of the shelf, and the status of its answer
 abbrev pub put_status : Result (Unit {0}) ShelfFault → Status
 put_status (Ok x) = Done
 put_status (Err f) = Shelf
@@ -60,22 +51,19 @@ was_put name bytes sink disk old new (Ok x) p = record {
   due = Done;
   asks = (refl, refl);
   blamed = None;
-  performs = goes_on (Stored name bytes) [] _ _ _ None (p.others, p.whole, p.count.cases, ap₂ (λ (t n : ℕ). beside sink disk (record new { taken = t; faults = n })) p.taken p.count.cases) (all_done _);
+  performs = goes_on (Stored name bytes) [] _ _ _ None (put_does name bytes sink disk old new p) (all_done _);
   joins = tt;
   status_is = refl;
 }
-was_put name bytes sink disk old new (Err Failed) p = record {
+was_put name bytes sink disk old new (Err f) p = record {
   script = Stored name bytes ∷ [];
   due = Done;
   asks = (refl, refl);
   blamed = Some TheShelf;
-  performs = breaks (Stored name bytes) [] _ _
-      (p.others, p.part, record { later = p.count.later; rose = p.count.cases }, ap (λ (t : ℕ). beside sink disk (record new { taken = t })) p.taken);
+  performs = breaks (Stored name bytes) [] _ _ (put_fails name bytes sink disk old new f p);
   joins = tt;
   status_is = refl;
 }
-was_put name bytes sink disk old new (Err Long) p = absurd (p.few.0 refl)
-was_put name bytes sink disk old new (Err NoMemory) p = absurd (p.few.1 refl)
 
 -- THE GETS of a command, of which there is one
 its_gets : (words : List (List ℕ)) (file : List ℕ → Option (List ℕ)) (c : Command) (p : Plan) (taken : ℕ) (got : List Call) → IsCommand words c → p ≢ bad_words

@@ -27,6 +27,7 @@ mod SampleEndings
 mod SamplePlans
 mod SaveEndings
 mod SavePlans
+mod SavedCalls
 mod ResumeEndings
 mod SaveWords
 mod SourceStops

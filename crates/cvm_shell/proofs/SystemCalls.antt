@@ -33,7 +33,7 @@ use Rattle.cvm_shell.specs.declared.boot.StartPoint.TheVariants.{Loaded, Rom}
 use Rattle.cvm_shell.specs.Boot.{sectors_needed, ended_as}
 use Rattle.cvm_shell.specs.Host as Host
 use Rattle.cvm_shell.specs.Refusal.{small_disk, no_such_user, refusal_text}
-use Rattle.cvm_shell.specs.Plan.{boots}
+use Rattle.cvm_shell.specs.Plan.{boots, saves}
 use Rattle.cvm_shell.specs.SessionRuns.{run_of}
 use Rattle.cvm_shell.specs.RunStatus.{status_of, run_status}
 use Rattle.cvm_shell.specs.Ends.{no_user, small, over_told, over_untold, load_of, answered}
@@ -108,12 +108,12 @@ told_status (Err (load.SmallDisk need have)) begun run p due = absurd (cc)
 told_status (Err (load.NoSuchUser user users)) begun run p due = absurd (cc)
 
 -- over sectors that aren't told, what an answer tells of it
-record SomeStatus (answer : Result RunEnd LoadFault) : Type 0 where
+pub record SomeStatus (answer : Result RunEnd LoadFault) : Type 0 where
   pub due : Status
   pub one : due ≡ Done ⊎ (due ≡ KernelFault ⊎ due ≡ StepLimit)
   pub is : status_by answer ≡ answered due (of_answer answer)
 
-some_status : (answer : Result RunEnd LoadFault) → loads answer ≡ true → SomeStatus answer
+pub some_status : (answer : Result RunEnd LoadFault) → loads answer ≡ true → SomeStatus answer
 some_status (Ok ends.Done) begun = record { due = Done; one = inl refl; is = refl }
 some_status (Ok ends.KernelFaulted) begun = record { due = KernelFault; one = inr (inl refl); is = refl }
 some_status (Ok ends.OutOfSteps) begun = record { due = StepLimit; one = inr (inr refl); is = refl }
@@ -171,11 +171,16 @@ module _ {O D : Type 0} (text : sink_of.Ghosts O) (told : sectors_of.Ghosts D) (
           }
 
 -- A RUN WAS REFUSED: of a disk that is too small
+named : (session : Session) (s : ImageSystem) (rows : Rows) (need have : ℕ) (old new : Outside) (status : Status) → need ≡ sectors_needed session s rows → have ≡ old.disk.size
+    → Acts (says (refusal_text (small_disk need have))) Disk old new status → Acts (says (refusal_text (small_disk (sectors_needed session s rows) old.disk.size))) Disk old new status
+named session s rows need have old new status needed size acts =
+    let A : ℕ → ℕ → Type 0 = λ n h. Acts (says (refusal_text (small_disk n h))) Disk old new status in
+    subst (λ (n : ℕ). A n old.disk.size) needed (subst (A need) size acts)
+
 pub small_does : (session : Session) (s : ImageSystem) (rows : Rows) (need have : ℕ) (old new : Outside) (status : Status) → SeesUser session.view (length s.users) → need ≡ sectors_needed session s rows
     → have ≡ old.disk.size → have < sectors_needed session s rows → Acts (says (refusal_text (small_disk need have))) Disk old new status → DoesPlan (boots session s rows) old new status
 small_does session s rows need have old new status sees needed size less acts =
-    let A : ℕ → ℕ → Type 0 = λ n h. Acts (says (refusal_text (small_disk n h))) Disk old new status in
-    let given : A (sectors_needed session s rows) old.disk.size = subst (λ (n : ℕ). A n old.disk.size) needed (subst (A need) size acts) in
+    let given = named session s rows need have old new status needed size acts in
     record {
       script = says (refusal_text (small_disk (sectors_needed session s rows) old.disk.size));
       due = Disk;
@@ -200,4 +205,18 @@ user_does session s rows u users old new status count traced none acts =
       performs = given.1.performs;
       joins = tt;
       status_is = given.1.status_is;
+    }
+
+-- the same of a run that is to be saved
+pub small_save : (session : Session) (s : ImageSystem) (rows : Rows) (name : List ℕ) (need have : ℕ) (old new : Outside) (status : Status) → SeesUser session.view (length s.users) → need ≡ sectors_needed session s rows
+    → have ≡ old.disk.size → have < sectors_needed session s rows → Acts (says (refusal_text (small_disk need have))) Disk old new status → DoesPlan (saves session s rows name) old new status
+small_save session s rows name need have old new status sees needed size less acts =
+    record {
+      script = says (refusal_text (small_disk (sectors_needed session s rows) old.disk.size));
+      due = Disk;
+      asks = small sees (subst (λ (h : ℕ). h < sectors_needed session s rows) size less);
+      blamed = (named session s rows need have old new status needed size acts).blamed;
+      performs = (named session s rows need have old new status needed size acts).performs;
+      joins = tt;
+      status_is = (named session s rows need have old new status needed size acts).status_is;
     }

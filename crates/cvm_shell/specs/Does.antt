@@ -12,6 +12,8 @@ use Rattle.boot_run.specs.declared.whole.RunEnd.{RunEnd}
 use Rattle.boot_run.specs.Closing.{says}
 use Rattle.boot_run.specs.RunCalls.{WholeScript}
 use Rattle.boot_run.specs.RunEnds.{SeesUser}
+use Rattle.machine_save.specs.SaveCalls.{SavedScript}
+use Rattle.machine_save.specs.declared.saving.SavedEnd.{SavedEnd}
 use Rattle.kernel_linker.specs.Accept.{system_of}
 use Rattle.cvm_shell.specs.declared.exit_status.Status.{Status}
 use Rattle.cvm_shell.specs.declared.exit_status.Status.TheVariants.{Memory}
@@ -20,7 +22,7 @@ use Rattle.cvm_shell.specs.declared.boot.Session.{Session}
 use Rattle.cvm_shell.specs.declared.boot.Stop.{Stop}
 use Rattle.cvm_shell.specs.declared.boot.Stop.TheVariants as stop
 use Rattle.cvm_shell.specs.declared.refusal.Refusal.TheVariants as refusal
-use Rattle.cvm_shell.specs.Command.{Command, IsCommand, IsSample}
+use Rattle.cvm_shell.specs.Command.{Command, Save, IsCommand, IsSample, save_session}
 use Rattle.cvm_shell.specs.Plan.{Plan}
 use Rattle.cvm_shell.specs.Boot.{booted, first_state, sectors_needed}
 use Rattle.cvm_shell.specs.SessionRuns.{run_of}
@@ -103,6 +105,10 @@ abbrev pub SystemDoes : {O D : Type 0} → sink_of.Ghosts O → sectors_of.Ghost
 SystemDoes sink disk p status (o, d) (o', d') = (shelf : Files) → DoesOrWants p
     (record { shelf = shelf; sink = output sink o; disk = drive disk d }) (record { shelf = shelf; sink = output sink o'; disk = drive disk d' }) status
 
+-- and over a shelf
+abbrev pub SaveDoes : {S O D : Type 0} → shelf_of.Ghosts S → sink_of.Ghosts O → sectors_of.Ghosts D → Plan → Status → (old new : S × O × D) → Type 0
+SaveDoes shelf sink disk p status (s, o, d) (s', o', d') = DoesOrWants p (seen shelf sink disk s o d) (seen shelf sink disk s' o' d') status
+
 -- how a sample ends, whatever the files
 abbrev pub SampleDoes : {O D : Type 0} → sink_of.Ghosts O → sectors_of.Ghosts D → (number : ℕ) → Status → (old new : O × D) → Type 0
 SampleDoes sink disk number status (o, d) (o', d') = (words : List (List ℕ)) (shelf : Files) → IsSample words (record { number = number }) → Ends words
@@ -119,3 +125,10 @@ abbrev pub SessionPasts : Ready → Session → (size : ℕ) → (told : Option 
 SessionPasts r session size told = (sectors : List (List ℕ)) → told ≡ Some sectors → SeesUser session.view (length (system_of r.boot).users) →
     sectors_needed session (system_of r.boot) r.schedule ≤ size →
     (p : Past) × IsPast (run_of session (system_of r.boot) r.schedule size sectors) p
+
+-- THE CALLS of a run that is to be saved, over a shelf, a sink and a disk
+abbrev pub SavedCalls : {S O D : Type 0} → shelf_of.Ghosts S → sink_of.Ghosts O → sectors_of.Ghosts D → Ready → Save → Result SavedEnd LoadFault →
+    (old new : S × O × D) → Type 0
+SavedCalls shelf text told r c answer old new =
+    SavedScript shelf text told (booted (system_of r.boot) r.schedule) r.schedule (first_state (save_session c) (system_of r.boot) r.schedule)
+    c.boot.turns c.boot.steps (load_of (save_session c) (system_of r.boot) r.schedule) c.file old new answer

@@ -6,9 +6,9 @@ ghost use Rattle.kernel_linker.specs.Accept.{system_of};
 ghost use Rattle.machine_save.specs.Room.{most_words, FILE_ROOM};
 ghost use Rattle.machine_save.specs.SaveRun.{IsSavedDiskFault, IsSavedShelfFault, IsSavedSinkFault};
 ghost use Rattle.real_layer.specs.Image.{layer_image};
-ghost use Rattle.cvm_shell.specs.Command.{save as of_save};
+ghost use Rattle.cvm_shell.specs.Command.{save as of_save, save_session};
 ghost use Rattle.cvm_shell.specs.CommandEnds.{Causes};
-ghost use Rattle.cvm_shell.specs.Does.{Gets};
+ghost use Rattle.cvm_shell.specs.Does.{Gets, RunDoes, SaveDoes, SavedCalls, SessionPasts};
 ghost use Rattle.cvm_shell.specs.Ends.{files_of};
 ghost use Rattle.cvm_shell.specs.Host.{seen};
 ghost use Rattle.cvm_shell.specs.Plan.{frames_of, most_bytes};
@@ -21,7 +21,7 @@ use crate::exit_status::Status;
 use crate::refusal::Refusal;
 use crate::saving_words::Save;
 use crate::saying::refuse;
-use boot_run::{LoadFault, frames_of};
+use boot_run::{LoadFault, frames_of, pasts_exist};
 use cvm_outside::{Sectors, Shelf, Sink};
 use layer_contract::Layer;
 use machine_save::{Room, SaveFault, SavedEnd, boots_hold, save_run};
@@ -87,6 +87,7 @@ pub fn run_save<S: Shelf, O: Sink, D: Sectors>(
     requires { 1 ≤ (save_view save.now).boot.turns }
     ensures ends { SaveEndsAs (save_view save.now) (seen S.Shelf O.Sink D.Sectors) result (shelf.old, out.old, disk.old) (shelf.new, out.new, disk.new) }
     ensures causes { Causes (seen S.Shelf O.Sink D.Sectors) result (shelf.old, out.old, disk.old) (shelf.new, out.new, disk.new) }
+    ensures does { RunDoes S.Shelf O.Sink D.Sectors (of_save (save_view save.now)) result (shelf.old, out.old, disk.old) (shelf.new, out.new, disk.new) }
 {
     match plan_save(alloc, save, shelf) {
         Ok(saveable) => save_system(alloc, saveable, save, shelf, out, disk),
@@ -110,6 +111,8 @@ fn save_system<S: Shelf, O: Sink, D: Sectors>(
     requires short { most_bytes (system_of saveable.ready.boot) ≤ FILE_ROOM }
     requires some { 1 ≤ (save_view save.now).boot.turns }
     ensures ends { SavesAs saveable (save_view save.now) (seen S.Shelf O.Sink D.Sectors) result (shelf.old, out.old, disk.old) (shelf.new, out.new, disk.new) }
+    ensures does { SaveDoes S.Shelf O.Sink D.Sectors (saveable_for (save_view save.now) saveable) result
+        (shelf.old, out.old, disk.old) (shelf.new, out.new, disk.new) }
     ensures taken { S.taken shelf.new ≡ S.taken shelf.old }
     ensures disk_same { result ≢ Status.Disk → D.faults disk.new ≡ D.faults disk.old }
     ensures sink { result ≡ Status.Sink → Rose (O.faults out.old) (O.faults out.new) }
@@ -143,6 +146,9 @@ fn save_ready<S: Shelf, O: Sink, D: Sectors>(
     requires short { most_bytes (system_of saveable.ready.boot) ≤ FILE_ROOM }
     requires some { 1 ≤ (save_view save.now).boot.turns }
     ensures is { SaveIs saveable (save_view save.now) (seen S.Shelf O.Sink D.Sectors) result (shelf.old, out.old, disk.old) (shelf.new, out.new, disk.new) }
+    ensures calls { SavedCalls S.Shelf O.Sink D.Sectors saveable.ready (save_view save.now) result
+        (shelf.old, out.old, disk.old) (shelf.new, out.new, disk.new) }
+    ensures pasts { SessionPasts saveable.ready (save_session (save_view save.now)) (D.size disk.old) (D.sectors disk.old) }
     ensures taken { S.taken shelf.new ≡ S.taken shelf.old }
     ensures unprinted { IfErr result (λ _. out.new ≡ out.old) }
     ensures unput { IfErr result (λ _. shelf.new ≡ shelf.old) }
@@ -155,6 +161,7 @@ fn save_ready<S: Shelf, O: Sink, D: Sectors>(
 {
     let ready = &saveable.ready;
     boots_hold(&ready.layer, &ready.boot, &ready.schedule, disk);
+    pasts_exist(&ready.layer, &ready.boot, &ready.schedule, disk);
     is_in_range(save.boot.steps);
     save_run(
         alloc,

@@ -1,5 +1,9 @@
-use Rattle.std.proofs.Common.{ap}
+use Rattle.std.proofs.Common.{refl, ap}
+use Rattle.cvm_shell.specs.Command.{save_session}
+use Rattle.cvm_shell.specs.Views.{save_view}
 use Rattle.cvm_shell.proofs.SaveEndings.{unput_files, unput_err}
+use Rattle.cvm_shell.proofs.SystemCalls.{loaded_pasts}
+use Rattle.cvm_shell.proofs.SavedCalls.{ready_calls}
 use Rattle.cvm_shell.proofs.saving.save_ready.Goals as goal
 
 pub returns-clause-is : goal.returns-clause-is
@@ -23,3 +27,9 @@ returns-clause-is g c = record {
 
 pub returns-clause-unput : goal.returns-clause-unput
 returns-clause-unput g c = unput_err c.save_run.result _ c.save_run.ensures.unput
+
+pub returns-clause-calls : goal.returns-clause-calls
+returns-clause-calls g c = ready_calls g.S.Shelf g.O.Sink g.D.Sectors c.args.saveable.ready (save_view c.args.save.now) c.save_run.result _ _ c.save_run.ensures.script
+
+pub returns-clause-pasts : goal.returns-clause-pasts
+returns-clause-pasts g c = loaded_pasts c.args.saveable.ready (save_session (save_view c.args.save.now)) _ _ refl c.pasts_exist.ensures.loaded
