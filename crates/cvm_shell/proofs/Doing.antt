@@ -1,6 +1,6 @@
 -- How a command ends, by the gets of its stage and by what was done behind them.
 use Rattle.std.proofs.Common.{◌≡◌, ◌≢◌, ◌⊎◌, inl, inr, ℕ, List, [], ◌∷◌, ◌++◌, append-nil, refl, sym, ◌∙◌, subst, Some, None, Ok, Err}
-use Rattle.std.specs.Prelude.{Option, Result, OnOk, OnErr}
+use Rattle.std.specs.Prelude.{Option, Result, OnOk, OnErr, codes}
 use Rattle.std.specs.Io.KnownBytes.{append_known}
 use Rattle.cvm_outside.specs.Causes.{Counts}
 use Rattle.cvm_outside.specs.Told.{AppendsPart, TOO_LONG}
@@ -15,18 +15,18 @@ use Rattle.machine_save.proofs.SaveCalls.{OnePut, put_does, put_fails}
 use Rattle.boot_turns.specs.declared.answers.View.{View}
 use Rattle.boot_turns.specs.declared.answers.View.TheVariants as view
 use Rattle.cvm_shell.specs.declared.exit_status.Status.{Status}
-use Rattle.cvm_shell.specs.declared.exit_status.Status.TheVariants.{Done, Shelf, Memory}
+use Rattle.cvm_shell.specs.declared.exit_status.Status.TheVariants.{Done, Words, Shelf, Memory}
 use Rattle.cvm_shell.specs.declared.boot.Stop.TheVariants as Stops
 use Rattle.cvm_shell.specs.declared.refusal.Refusal.{Refusal as ByCode}
 use Rattle.cvm_shell.specs.declared.refusal.Refusal.TheVariants as by
-use Rattle.cvm_shell.specs.Command.{Boot, Sample, Command, boot, sample, IsCommand, IsSample, command_of}
-use Rattle.cvm_shell.specs.Plan.{Plan, bad_words, refuses, puts, prints}
+use Rattle.cvm_shell.specs.Command.{Boot, Sample, Command, boot, sample, IsCommand, IsNoCommand, IsSample, command_of}
+use Rattle.cvm_shell.specs.Plan.{Plan, bad_words, refuses, puts, prints, no_command}
 use Rattle.cvm_shell.specs.Refusal.{too_long}
 use Rattle.cvm_shell.specs.Views.{refusal_view, stated_row, stated_status}
 use Rattle.cvm_shell.specs.Stages.{IsSamplePlan}
 use Rattle.cvm_shell.specs.Ends.{Ends, done, no_file, no_memory, GetsFor, all, up_to, CommandGets, files_of, gets, Wants, behind, answered}
 use Rattle.cvm_shell.specs.Does.{AreGot, IsNotGot, StopGets, Acts, DoesPlan, DoesOrWants}
-use Rattle.cvm_shell.proofs.Endings.{FilesPlan, plan_of, which, one_refusal}
+use Rattle.cvm_shell.proofs.Endings.{FilesPlan, plan_of, only_none, which, one_refusal}
 use Rattle.cvm_shell.proofs.GotCalls.{beside}
 use Rattle.cvm_shell.proofs.OneCommand.{one_command}
 
@@ -173,6 +173,24 @@ shelf_done words c old new is h = no_file c is h.performs h.few
 -- or there was no memory
 pub memory_done : (words : List (List ℕ)) (c : Command) (old new : Outside) → IsCommand words c → Wants (files_of c) old new → Ends words old new Memory
 memory_done words c old new is h = no_memory c is h
+
+-- THE WORDS ARE NO COMMAND
+pub bad_words_done : (words : List (List ℕ)) (old new : Outside) (status : Status) → IsNoCommand words → Acts (says (codes "bad words\n")) Words old new status → Ends words old new status
+bad_words_done words old new status none acts = done status (record {
+  plan = bad_words;
+  is_plan = record { comes = no_command none; only = λ told q h. only_none words old.shelf.file none q h };
+  got = [];
+  gets = (λ c is. absurd (none c is), λ e. refl);
+  mid = old;
+  files = all_done old;
+  script = says (codes "bad words\n");
+  due = Words;
+  asks = (refl, refl);
+  blamed = acts.blamed;
+  performs = acts.performs;
+  joins = tt;
+  status_is = acts.status_is;
+})
 
 -- what holds of the files of a boot holds of those of the command with its view
 pub viewed : (P : List (List ℕ) → Type 0) (b : Boot) (v : View) → P (files_of (boot b)) → P (files_of (command_of b v))

@@ -78,7 +78,7 @@ its_plan words file c is q (check_plan d r other got) = its_command words file c
 only_plan : (words : List (List ℕ)) (file : List ℕ → Option (List ℕ)) (c : Command) (p : Plan) → IsCommand words c → ((r : Plan) → CommandPlan file c r → r ≡ p) → (q : Plan) → PlanComesTo words file q → q ≡ p
 only_plan words file c p is only q comes = only q (its_plan words file c is q comes)
 
-only_none : (words : List (List ℕ)) (file : List ℕ → Option (List ℕ)) → IsNoCommand words → (q : Plan) → PlanComesTo words file q → q ≡ bad_words
+pub only_none : (words : List (List ℕ)) (file : List ℕ → Option (List ℕ)) → IsNoCommand words → (q : Plan) → PlanComesTo words file q → q ≡ bad_words
 only_none words file none q (no_command also) = refl
 only_none words file none q (boot_plan b r other got) = absurd (none (boot b) other)
 only_none words file none q (trace_plan t r other got) = absurd (none (trace t) other)

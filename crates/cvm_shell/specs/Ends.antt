@@ -12,7 +12,7 @@ use Rattle.kernel_linker.specs.Accept.{ImageSystem}
 use Rattle.cvm_shell.specs.declared.exit_status.Status.{Status}
 use Rattle.cvm_shell.specs.declared.exit_status.Status.TheVariants.{Done, Words, Refused, KernelFault, StepLimit, Disk, Shelf, Sink, Memory}
 use Rattle.cvm_shell.specs.declared.boot.Session.{Session}
-use Rattle.cvm_shell.specs.Command.{Command, IsCommand, boot, trace, save, resume, compile_user, compile_kernel, compile_program, link, migrate, sample, check}
+use Rattle.cvm_shell.specs.Command.{Command, Save, IsCommand, boot, trace, save, resume, compile_user, compile_kernel, compile_program, link, migrate, sample, check}
 use Rattle.cvm_shell.specs.Refusal.{small_disk, no_such_user, too_long, refusal_text, refusal_status}
 use Rattle.cvm_shell.specs.Plan.{Plan, bad_words, refuses, puts, boots, saves, resumes, prints as tells, PlanComesTo, AllTold, IsPlan}
 use Rattle.cvm_outside.specs.Script.{Call, Printed, Got, Stored, Who, TheSink, TheDisk, TheShelf, Performs}
@@ -216,3 +216,11 @@ pub data Ends (words : List (List ℕ)) (old new : Outside) : Status → Type 0 
 -- the three objects of a command as one outside
 abbrev pub seen : {S O D : Type 0} → shelf_of.Ghosts S → sink_of.Ghosts O → sectors_of.Ghosts D → S → O → D → Outside
 seen shelf sink disk s o d = record { shelf = files shelf s; sink = output sink o; disk = drive disk d }
+
+-- the words are those of a resume
+abbrev pub IsResume : List (List ℕ) → Type 0
+IsResume words = (c : Save) × IsCommand words (resume c)
+
+-- HOW EVERY OTHER COMMAND ENDS, and words that are none
+abbrev pub EndsUnlessResume : (words : List (List ℕ)) → (old new : Outside) → Status → Type 0
+EndsUnlessResume words old new status = (IsResume words → ⊥) → Ends words old new status

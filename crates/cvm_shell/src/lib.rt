@@ -6,6 +6,7 @@ ghost use Rattle.cvm_shell.specs.Command as command;
 ghost use Rattle.cvm_shell.specs.Command.{texts};
 ghost use Rattle.cvm_shell.specs.CommandEnds.{RunOutcome, Caused, Causes, Headlines, RunCompletes, SavesComplete, ResumesComplete, Isolates};
 ghost use Rattle.cvm_shell.specs.Does.{CommandDoes, RunDoes, SampleDoes};
+ghost use Rattle.cvm_shell.specs.Ends.{EndsUnlessResume, seen as told_by};
 ghost use Rattle.cvm_shell.specs.Host.{Drive, Files, seen, beside, within};
 ghost use Rattle.cvm_shell.specs.Resumes.{Resumes};
 ghost use Rattle.cvm_shell.specs.Saves.{Saves};
@@ -107,6 +108,8 @@ pub fn run<S: Shelf, O: Sink, D: Sectors>(
     ensures resumes { Resumes (seen S.Shelf O.Sink D.Sectors) (texts words.now.items) result (shelf.old, out.old, disk.old) (shelf.new, out.new, disk.new) }
     ensures resumes_complete { ResumesComplete (seen S.Shelf O.Sink D.Sectors) (texts words.now.items) result
         (shelf.old, out.old, disk.old) (shelf.new, out.new, disk.new) }
+    ensures script { EndsUnlessResume (texts words.now.items) (told_by S.Shelf O.Sink D.Sectors shelf.old out.old disk.old)
+        (told_by S.Shelf O.Sink D.Sectors shelf.new out.new disk.new) result }
 {
     turns_are_counted();
     journals_replay();
@@ -137,6 +140,8 @@ fn run_command<S: Shelf, O: Sink, D: Sectors>(
 ) -> Status
     ensures ends { RunOutcome (seen S.Shelf O.Sink D.Sectors) (texts words.now.items) result (shelf.old, out.old, disk.old) (shelf.new, out.new, disk.new) }
     ensures causes { Causes (seen S.Shelf O.Sink D.Sectors) result (shelf.old, out.old, disk.old) (shelf.new, out.new, disk.new) }
+    ensures script { EndsUnlessResume (texts words.now.items) (told_by S.Shelf O.Sink D.Sectors shelf.old out.old disk.old)
+        (told_by S.Shelf O.Sink D.Sectors shelf.new out.new disk.new) result }
 {
     match read_command(words) {
         None => say(out, b"bad words\n", Status::Words),

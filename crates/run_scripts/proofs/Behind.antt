@@ -21,7 +21,7 @@ use Rattle.run_scripts.specs.Faults.{KeepsBehind, Stand, AfterDisk, in_load, in_
 use Rattle.run_scripts.specs.Faults as fault
 use Rattle.run_scripts.proofs.Broken.{AllOf, all_scripts, all_if, not_none}
 use Rattle.run_scripts.proofs.MadeOf.{of_report, of_row}
-use Rattle.run_scripts.proofs.Pasts.{on_before}
+use Rattle.boot_run.proofs.AbstractRuns.{on_before}
 use Rattle.run_scripts.proofs.StoredRuns.{quiet}
 use Rattle.mips_table.specs.Turns.{TurnLaws}
 

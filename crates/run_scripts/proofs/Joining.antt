@@ -17,7 +17,7 @@ use Rattle.boot_run.specs.RunScript.{rest_script, run_script}
 use Rattle.cvm_shell.specs.RunStatus.{save_script, leaving_script}
 use Rattle.run_scripts.specs.Saving.{AreJoined, ScriptsJoin}
 use Rattle.run_scripts.proofs.Keys.{pasts_agree}
-use Rattle.run_scripts.proofs.Pasts.{turns_up_to}
+use Rattle.boot_run.proofs.AbstractRuns.{turns_up_to}
 use Rattle.run_scripts.proofs.Skips.{no_later}
 
 -- A RUN FOR FEWER TURNS and steps of the same machine

@@ -27,7 +27,8 @@ use Rattle.run_scripts.proofs.Causes.{mid_disk}
 use Rattle.run_scripts.proofs.Joining.{made_fewer}
 use Rattle.run_scripts.proofs.Joins.{saved_joins}
 use Rattle.run_scripts.proofs.Keys.{known, ends_are_over, sectors_behind_stay}
-use Rattle.run_scripts.proofs.Pasts.{Known, past_of, turns_up_to}
+use Rattle.boot_run.proofs.AbstractRuns.{past_of, turns_up_to}
+use Rattle.run_scripts.proofs.Pasts.{Known, founded}
 use Rattle.run_scripts.proofs.Performed.{ScriptLaws, Says, says_text, leaves_sectors}
 use Rattle.run_scripts.proofs.Refusals.{none_blamed, status_due, no_file_failed}
 use Rattle.run_scripts.proofs.Reports.{rest_tells}
@@ -141,7 +142,7 @@ module _ (law : ScriptLaws) (c d : Save) (words : List (List ℕ)) (s : ImageSys
         }
 
   joined : (new : Outside) (status : Status) → NoneFailed old new → Does words old new status → IsBootBehind r (sectors_needed (save_session d) s rows) before (text_at q o (steps_made q)) old new status
-  joined new status none h = let w = past_of r its in behind w.0 w.1 new status none h
+  joined new status none h = let w = past_of r (founded r its) in behind w.0 w.1 new status none h
 
 pub saved_and_resumed_are_booted : ScriptLaws → SavedAndResumedAreBooted
 saved_and_resumed_are_booted law c d words s rows before left machine first mid old new made status disk w saved_so l is a none (done _ h) m =

@@ -18,7 +18,7 @@ use Rattle.boot_run.specs.RunScript.{AreReads, untold_steps}
 use Rattle.cvm_shell.specs.Ends.{GoesOn, ResumeAsks, SomeRunAsks, done, no_file, no_memory}
 use Rattle.run_scripts.specs.Saving.{ResumesGoOn}
 use Rattle.run_scripts.proofs.Causes.{mid_disk}
-use Rattle.run_scripts.proofs.Pasts.{on_before}
+use Rattle.boot_run.proofs.AbstractRuns.{on_before}
 use Rattle.run_scripts.proofs.Performed.{leaves_sectors}
 use Rattle.run_scripts.proofs.Refusals.{none_blamed, status_due, plan_asks, no_file_failed}
 use Rattle.run_scripts.proofs.Saves.{told_asks}

@@ -37,7 +37,8 @@ use Rattle.run_scripts.specs.Faults.{HasPrinted, PrintedWithin, Stand, closed_by
 use Rattle.run_scripts.specs.Faults as fault
 use Rattle.run_scripts.proofs.Broken.{AllOf, Broken, in_first, in_second, part, Within, within, not_none, blames, all_if, sink_stays, IsLoud, loud_both, loud_scripts, loud_disk, silent_stays}
 use Rattle.run_scripts.proofs.MadeOf.{of_opening, of_report, of_row, of_rows, of_scripts}
-use Rattle.run_scripts.proofs.Pasts.{Known, journal_grows, on_before, turns_up_to}
+use Rattle.boot_run.proofs.AbstractRuns.{on_before, turns_up_to}
+use Rattle.run_scripts.proofs.Pasts.{Known, journal_grows}
 use Rattle.run_scripts.proofs.Reports.{closing_tells, behind_last}
 use Rattle.run_scripts.proofs.StoredRuns.{quiet, steps_leave}
 use Rattle.run_scripts.proofs.Stores.{quiet_stores, step_stores, stored-append}

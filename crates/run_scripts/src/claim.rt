@@ -1,4 +1,4 @@
-// The contract that `cvm_shell::run` is to have.
+// The contract that `cvm_shell::run` is to have: today's has it of every command but `resume`.
 ghost use Rattle.cvm_shell.specs.Command.{texts};
 ghost use Rattle.cvm_shell.specs.Ends.{Ends, seen};
 

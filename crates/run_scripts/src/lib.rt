@@ -1,5 +1,5 @@
-//! The exact statement of what every run does outside, which `cvm_shell::run` does not carry yet: the scripts of runs and commands are definitions, and
-//! `claim` has the one clause that is to be its. What follows from that clause is proved here, as laws of definitions.
+//! The exact statement of what every run does outside (`Ends` of cvm_shell), which `cvm_shell::run` carries for every command but `resume`. What
+//! follows from it is proved here, as laws of definitions; `claim` has the clause as it is to stand for resumes, too.
 //!
 //! Each law is the contract of a function that does nothing.
 #![tactic(auto)]
