@@ -1,4 +1,5 @@
 """The tables of docs/, and what the pages of the examples say of their bounds."""
+import glob
 import os
 import re
 import unittest
@@ -47,3 +48,31 @@ class Pages(unittest.TestCase):
             self.assertIn('stack %s\n' % stack, stored('examples', name, 'params'))
             self.assertIn('== case the stack of the example %s\n== run compile kernel k o\nstatus 0\n== run check o %s\nyes %s\n%s\nstatus 0\n'
                           % (name, stack, words, chain), printed)
+
+
+class CitedLemmas(unittest.TestCase):
+    """The table of CONTRIBUTING of lemmas that proofs of other crates cite, beside the imports of the proofs."""
+
+    def test_each_row_has_the_crates_whose_proofs_cite_its_files(self):
+        cited, listed = imported(), set()
+        for crate, files, crates in rows_of_lemmas():
+            listed |= {(crate, name) for name in files}
+            self.assertEqual(set().union(*(cited.get((crate, name), set()) for name in files)), crates, '%s: %s' % (crate, files))
+        self.assertEqual(set(cited) - listed, set())
+
+
+def imported():
+    """Of each lemma file that a proof of another crate imports: these crates."""
+    cited = {}
+    for path in glob.glob(os.path.join(pages.TOP, 'crates', '*', 'proofs', '**', '*.antt'), recursive=True):
+        crate = os.path.relpath(path, pages.TOP).split(os.sep)[1]
+        for other, name in re.findall(r'Rattle\.(\w+)\.proofs\.(\w+)', stored(path)):
+            if other != crate and os.path.isdir(os.path.join(pages.TOP, 'crates', other)):
+                cited.setdefault((other, name), set()).add(crate)
+    return cited
+
+
+def rows_of_lemmas():
+    """Of each row of the table: whose lemmas they are, the files, and the crates that cite them."""
+    for crate, files, by in re.findall(r'^\| (\w+): ((?:`\w+`(?:, )?)+) \| (.*?) \|', stored('CONTRIBUTING.md'), re.MULTILINE):
+        yield crate, re.findall(r'\w+', files), set(re.split(', ', re.sub(r'(, and |^)whoever .*', '', by))) - {''}
