@@ -54,7 +54,7 @@ class Course(unittest.TestCase):
     def test_each_page_shows_what_is_expected(self):
         for name in NAMES:
             page = text(path(name, 'README.md'))
-            block = re.split(r'Of each of these kinds all rows are compared \(`expected`\)[^\n]*:\n\n', page)[1].partition('\n\n')[0]
+            block = re.split(r'Of each of these kinds all rows are compared \(`expected`\)[^:]*:\n\n', page)[1].partition('\n\n')[0]
             self.assertEqual([line[4:] for line in block.split('\n')], text(path(name, 'expected')).split('\n')[:-1], name)
             for part in ('## Task', './try exercises/%s/start' % name, './try MY_FOLDER --expect exercises/%s/expected' % name, '## Hints'):
                 self.assertIn(part, page)

@@ -50,6 +50,28 @@ class Pages(unittest.TestCase):
                           % (name, stack, words, chain), printed)
 
 
+class Prose(unittest.TestCase):
+    def test_lines_of_prose_have_at_most_120_characters(self):
+        for path in every_page():
+            for number, line in enumerate(prose(stored(path)), 1):
+                self.assertLessEqual(len(line), 120, '%s:%d' % (path, number))
+
+
+def every_page():
+    """All pages but the listings, which have lines of sources."""
+    for folder, folders, files in os.walk(pages.TOP):
+        folders[:] = [name for name in folders if name not in ('.git', 'out', 'listings')]
+        yield from (os.path.join(folder, name) for name in files if name.endswith('.md'))
+
+
+def prose(page):
+    """The lines of a page, with those of tables, blocks and pictures, which break no line, as empty ones."""
+    inside = False
+    for line in page.split('\n'):
+        inside ^= line.startswith('```')
+        yield '' if inside or re.match(r'\||    |!\[', line) else line
+
+
 class CitedLemmas(unittest.TestCase):
     """The table of CONTRIBUTING of lemmas that proofs of other crates cite, beside the imports of the proofs."""
 
