@@ -12,6 +12,7 @@ from running import guard
 MARK = re.compile(r'^<!-- tools/dev/listings: (code|names) (\S+)((?: \w+)*) -->\n(.*?)^<!-- tools/dev/listings: end -->$', re.S | re.M)
 LIST = r'(?:pub(?:\([\w ]+\))? )?const %s: \[Inst; \d+\] = code! \{$'
 BLOCK = r'(?:pub(?:\([\w ]+\))? )?fn %s(?:<[^>]*>)?\('
+PUSH = re.compile(r'code\.push\(instruction!\((.*)\)\);$')
 NUMBER = re.compile(r'((?:^/// .*\n)+)^pub const (\w+): u32 = ([^;]+);$', re.M)
 
 
@@ -39,12 +40,21 @@ def between(lines, first, last):
         return None
 
 
+def looped(lines):
+    """A block that a loop makes, with what the loop pushes as a line of a listing; None where the item has no loop."""
+    first = next((line for line in lines[:lines.index('}')] if re.match(r'    for .* \{$', line)), None) if '}' in lines else None
+    found = between(lines, first, '    }') if first else None
+    return found and [first] + [PUSH.sub(r'\1;', line) for line in found] + ['    }']
+
+
 def item(text, name):
     """A list or a block by its name: its comment and its lines, with four blanks before the outermost; None where there is none."""
     lines = text.split('\n')
-    for form, first, last in ((LIST, None, '};'), (BLOCK, '    block! {', '    }')):
+    for form, first, last in ((LIST, None, '};'), (BLOCK, '    block! {', '    }'), (BLOCK, None, None)):
         for at, line in enumerate(lines):
-            found = between(lines[at:], first, last) if re.match(form % re.escape(name), line) else None
+            found = None
+            if re.match(form % re.escape(name), line):
+                found = between(lines[at:], first, last) if last else looped(lines[at:])
             if found:
                 top = at
                 while top and lines[top - 1].startswith('//'):

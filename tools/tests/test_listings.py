@@ -31,6 +31,15 @@ pub fn two(map: &Map) -> Code
 fn three() -> u32 {
     3
 }
+
+// The fourth, by a loop.
+fn four() -> Block<31> {
+    let mut code = Block::<31>::new();
+    for n in 0..31u32 {
+        code.push(instruction!(sw n + 1, (VARIABLES + 4 * n)(ZERO)));
+    }
+    code
+}
 '''
 
 
@@ -39,9 +48,12 @@ class Listings(unittest.TestCase):
         self.assertEqual(listings.item(SOURCE, 'ONE'), ('The first.', ['    lw T0, 0(ZERO);     // a word', '    eret;']))
         self.assertEqual(listings.item(SOURCE, 'two'), ('The second, with another in it.', ['    code ONE;', '    when T0 {', '        eret;', '    }']))
 
+    def test_a_block_that_a_loop_makes(self):
+        self.assertEqual(listings.item(SOURCE, 'four'), ('The fourth, by a loop.', ['    for n in 0..31u32 {', '        sw n + 1, (VARIABLES + 4 * n)(ZERO);', '    }']))
+
     def test_what_is_no_block(self):
         self.assertIsNone(listings.item(SOURCE, 'three'))
-        self.assertIsNone(listings.item(SOURCE, 'four'))
+        self.assertIsNone(listings.item(SOURCE, 'five'))
 
     def test_the_page_shows_the_sources(self):
         page = pages.page('listings/LAYER.md')
