@@ -73,6 +73,12 @@ class Theorem(unittest.TestCase):
                     made[os.path.relpath(os.path.join(at, name), folder)] = file.read()
         return made, out.getvalue()
 
+    def test_help_says_the_words(self):
+        done = subprocess.run([sys.executable, 'tools/theorem', '--help'], cwd=TOP, stdin=subprocess.DEVNULL, stdout=subprocess.PIPE, text=True)
+        self.assertEqual(done.returncode, 0)
+        self.assertIn('usage: tools/theorem [--shaped] KERNEL.c0 [NAME]', done.stdout)
+        self.assertIn('With --shaped a proof may use', done.stdout)
+
     def test_the_shape_of_machines_is_an_option(self):
         plain, _ = self.written(self.kernel(KERNEL), 'plain')
         shaped, _ = self.written('--shaped', self.kernel(KERNEL), 'shaped')
