@@ -102,3 +102,19 @@ class Believed(unittest.TestCase):
         counted = [it for _, more in beside for it in more]
         self.assertEqual(len(counted), len(set(counted)))
         self.assertFalse(set(counted) & set(came))
+
+
+class Edits(unittest.TestCase):
+    """What docs/promises/tests.md says of the must-fail edits: which crates have none, and that no crate has more than six."""
+
+    def test_the_crates_without_edits_are_those_of_the_page(self):
+        said = re.search(r'- What the must-fail edits show:.*?\. Some are', ' '.join(pages.page('promises/tests.md').split())).group(0)
+        without = set()
+        for crate in re.findall(r'^([a-z0-9_]+):', stored('..', 'crates.txt'), re.MULTILINE):
+            folder = os.path.join(pages.TOP, 'crates', crate)
+            edits = os.listdir(os.path.join(folder, 'must-fail')) if os.path.isdir(os.path.join(folder, 'must-fail')) else []
+            self.assertLessEqual(len(edits), 6, crate)
+            # programs, and what only they stand on, have none
+            if not edits and crate != 'case_file' and not os.path.exists(os.path.join(folder, 'stdout')):
+                without.add(crate)
+        self.assertEqual(set(re.findall(r'[a-z0-9]+_\w+', said)), without)
