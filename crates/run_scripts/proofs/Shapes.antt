@@ -1,15 +1,16 @@
 -- Which calls a command makes.
 use Rattle.std.specs.Prelude.{Option, Some, None}
-use Rattle.std.proofs.Common.{◌≡◌, ℕ, List, [], ◌∷◌, ◌++◌, refl, ap, ◌∙◌, subst, append_assoc, append-nil}
+use Rattle.std.proofs.Common.{◌≡◌, ◌≢◌, ◌⊎◌, inl, inr, ℕ, List, [], ◌∷◌, ◌++◌, refl, ap, ◌∙◌, subst, append_assoc, append-nil}
+use Rattle.cvm_outside.specs.Told.{TOO_LONG}
 use Rattle.cvm_shell.specs.Command.{Command, IsCommand, save, resume}
 use Rattle.cvm_shell.specs.Plan.{Plan, bad_words}
 use Rattle.cvm_outside.specs.Outside.{Outside}
 use Rattle.cvm_outside.specs.Script.{Call, Who, TheShelf, Performs, done as all_done, breaks, goes_on, asks}
-use Rattle.cvm_shell.specs.Ends.{done, no_file, no_memory, GetsFor, all, up_to, behind, within, files_of, gets}
-use Rattle.run_scripts.specs.Shapes.{PlansHaveShape, OthersStay, NothingIsLoaded, GetsComeFirst, file_put, puts_in}
+use Rattle.cvm_shell.specs.Ends.{done, no_file, no_memory, GetsFor, all, up_to, Wants, files_of, gets}
+use Rattle.run_scripts.specs.Shapes.{PlansHaveShape, OthersStay, NothingIsLoaded, GetsComeFirst, EndsLong, were_got, ungot, wanting, file_put, puts_in}
 use Rattle.run_scripts.proofs.Calls.{shape_of, files_stay, disk_stays, quiet_plan}
 use Rattle.run_scripts.proofs.Joins.{got_keeps}
-use Rattle.run_scripts.proofs.Keeps.{gets_keep, wanted}
+use Rattle.run_scripts.proofs.Keeps.{wanted}
 use Rattle.run_scripts.proofs.OneCommand.{one_command}
 use Rattle.run_scripts.proofs.Outcomes.{Outcome, is_none, is_refused, is_booted, is_saved, is_resumed, is_put, is_told, outcome}
 
@@ -25,21 +26,28 @@ gets_ask : (names : List (List ℕ)) → asks (gets names) ≡ 0
 gets_ask [] = refl
 gets_ask (n ∷ names) = gets_ask names
 
-gets_sink : (names : List (List ℕ)) (old new : Outside) (b : Option Who) → Performs (gets names) old new b → new.sink ≡ old.sink
-gets_sink [] old new b (all_done _) = refl
-gets_sink (n ∷ names) old new b (breaks c rest _ _ f) = ap (λ (o : Outside). o.sink) f.2
-gets_sink (n ∷ names) old new b (goes_on c rest _ mid _ _ d p) = gets_sink names mid new b p ∙ ap (λ (o : Outside). o.sink) d.3
-
 gets_files : (names : List (List ℕ)) (old new : Outside) (b : Option Who) → Performs (gets names) old new b → (n : List ℕ) → new.shelf.file n ≡ old.shelf.file n
 gets_files [] old new b (all_done _) n = refl
 gets_files (m ∷ names) old new b (breaks c rest _ _ f) n = f.0 n
 gets_files (m ∷ names) old new b (goes_on c rest _ mid _ _ d p) n = gets_files names mid new b p n ∙ d.0 n
 
 -- what words got, as gets of some names
-pub got_names : (file : List ℕ → Option (List ℕ)) (names : List (List ℕ)) (taken : ℕ) (p : Plan) (got : List Call) → GetsFor file names taken p got →
-    (made : List (List ℕ)) × (rest : List (List ℕ)) × (made ++ rest ≡ names) × (got ≡ gets made)
-got_names file names taken p got (all _ n t) = (names, [], append-nil names, refl)
-got_names file names taken p got (up_to before after name e s l t) = (before ++ name ∷ [], after, append_assoc before (name ∷ []) after ∙ e, refl)
+record Names (file : List ℕ → Option (List ℕ)) (names : List (List ℕ)) (taken : ℕ) (got : List Call) : Type 0 where
+  pub made : List (List ℕ)
+  pub rest : List (List ℕ)
+  pub all : made ++ rest ≡ names
+  pub got_is : got ≡ gets made
+  pub which : ((rest ≡ []) × (made ≢ [] → taken ≢ TOO_LONG)) ⊎ EndsLong file made taken
+
+got_names : (file : List ℕ → Option (List ℕ)) (names : List (List ℕ)) (taken : ℕ) (p : Plan) (got : List Call) → GetsFor file names taken p got → Names file names taken got
+got_names file names taken p got (all _ n t) = record { made = names; rest = []; all = append-nil names; got_is = refl; which = inl (refl, t) }
+got_names file names taken p got (up_to before after name e s l t) = record {
+  made = before ++ name ∷ [];
+  rest = after;
+  all = append_assoc before (name ∷ []) after ∙ e;
+  got_is = refl;
+  which = inr (record { short = before; long = name; are = refl; are_short = s; is_long = l; taken_is = t });
+}
 
 pub others_stay : OthersStay
 others_stay words c old new status is (done _ h) n ne =
@@ -76,34 +84,12 @@ nothing_is_loaded words old new status never (no_memory d k w) = (wanted _ old n
 
 pub gets_come_first : GetsComeFirst
 gets_come_first words c old new status is (done _ h) =
-    let w = got_names _ _ _ _ _ (h.gets.0 c is) in
-    let k = got_keeps _ _ _ _ _ old h.mid (h.gets.0 c is) h.files in
-    record {
-      made = w.0;
-      rest = w.1;
-      all = w.2;
-      mid = h.mid;
-      blamed = None;
-      performs = subst (λ (s : List Call). Performs s old h.mid None) w.3 h.files;
-      disk = k.disk;
-      sink = k.sink;
-      then_ = λ ne. refl;
-    }
+    let w = got_names _ _ new.shelf.taken _ _ (h.gets.0 c is) in
+    let s = shape_of words c h.plan h.mid h.script h.due is (outcome words old.shelf.file h.plan h.is_plan.comes) h.asks in
+    were_got status h.due w.made w.rest h.mid h.script h.blamed w.all w.which (subst (λ (s : List Call). Performs s old h.mid None) w.got_is h.files) (record { gets = s.gets; puts = s.puts }) h.performs h.status_is
 gets_come_first words c old new status is (no_file d k g t) =
-    record {
-      made = files_of d;
-      rest = [];
-      all = append-nil (files_of d) ∙ ap files_of (one_command words d c k is);
-      mid = new;
-      blamed = Some TheShelf;
-      performs = g;
-      disk = disk_stays (gets (files_of d)) old new (Some TheShelf) (gets_ask (files_of d)) g;
-      sink = gets_sink (files_of d) old new (Some TheShelf) g;
-      then_ = λ ne. absurd (ne refl);
-    }
-gets_come_first words c old new status is (no_memory d k (behind made rest e p t)) =
-    let u = gets_keep made old new p in
-    record { made = made; rest = rest; all = e ∙ ap files_of (one_command words d c k is); mid = new; blamed = None; performs = p; disk = u.disk; sink = u.sink; then_ = λ ne. refl }
-gets_come_first words c old new status is (no_memory d k (within made rest name mid e p g)) =
-    let u = gets_keep made old mid p in
-    record { made = made; rest = name ∷ rest; all = e ∙ ap files_of (one_command words d c k is); mid = mid; blamed = None; performs = p; disk = u.disk; sink = u.sink; then_ = λ ne. refl }
+    let e : files_of d ≡ files_of c = ap files_of (one_command words d c k is) in
+    ungot (subst (λ (names : List (List ℕ)). Performs (gets names) old new (Some TheShelf)) e g) t
+gets_come_first words c old new status is (no_memory d k w) =
+    let e : files_of d ≡ files_of c = ap files_of (one_command words d c k is) in
+    wanting (subst (λ (names : List (List ℕ)). Wants names old new) e w)

@@ -1,12 +1,14 @@
 -- WHICH CALLS a command makes, as laws: its gets in their order and then no further one, at most one put, of the file that its words name, and no call of the
 -- disk where it loads nothing.
-use Rattle.std.specs.Prelude.{◌≡◌, ◌≢◌, ℕ, ⊤, List, [], ◌∷◌, ◌++◌, Option, Some, None}
+use Rattle.std.specs.Prelude.{◌≡◌, ◌≢◌, ◌⊎◌, ℕ, ⊤, List, [], ◌∷◌, ◌++◌, Option, Some, None}
+use Rattle.cvm_outside.specs.Told.{TOO_LONG}
 use Rattle.cvm_shell.specs.declared.exit_status.Status.{Status}
+use Rattle.cvm_shell.specs.declared.exit_status.Status.TheVariants.{Shelf, Memory}
 use Rattle.cvm_shell.specs.Command.{Command, IsCommand, boot, trace, save, resume, compile_user, compile_kernel, compile_program, link, migrate, sample}
 use Rattle.cvm_shell.specs.Plan.{Plan, PlanComesTo}
-use Rattle.cvm_outside.specs.Script.{Call, Got, Stored, Who, Performs}
+use Rattle.cvm_outside.specs.Script.{Call, Got, Stored, Who, TheShelf, Performs}
 use Rattle.cvm_outside.specs.Outside.{Outside}
-use Rattle.cvm_shell.specs.Ends.{Ends, PlanAsks, files_of, gets}
+use Rattle.cvm_shell.specs.Ends.{Ends, PlanAsks, Wants, AreShort, MayBeLong, answered, files_of, gets}
 
 -- the file that a command may put
 abbrev pub file_put : Command → Option (List ℕ)
@@ -62,18 +64,28 @@ abbrev pub NothingIsLoaded : Type 0
 NothingIsLoaded = (words : List (List ℕ)) (old new : Outside) (status : Status) → ((c : Command) → IsCommand words c → Loads c → ⊥) →
     Ends words old new status → new.disk ≡ old.disk
 
--- THE GETS come first, in the order of the words: whatever is done or fails behind them, those that were made begin their list
-pub record GotInOrder (c : Command) (old new : Outside) : Type 0 where
-  pub made : List (List ℕ)
-  pub rest : List (List ℕ)
-  pub all : made ++ rest ≡ files_of c
-  pub mid : Outside
-  pub blamed : Option Who
-  pub performs : Performs (gets made) old mid blamed
-  pub disk : mid.disk ≡ old.disk
-  pub sink : mid.sink ≡ old.sink
-  pub then_ : new ≢ mid → blamed ≡ None
+-- the last of these files is the first that is too long, of which 67,108,865 bytes were taken
+pub record EndsLong (file : List ℕ → Option (List ℕ)) (made : List (List ℕ)) (taken : ℕ) : Type 0 where
+  pub short : List (List ℕ)
+  pub long : List ℕ
+  pub are : made ≡ short ++ long ∷ []
+  pub are_short : AreShort file short
+  pub is_long : MayBeLong (file long)
+  pub taken_is : taken ≡ TOO_LONG
+
+-- all the files of a command, none of which is too long; or those up to one that is
+abbrev pub AreGot : (old new : Outside) → (made rest : List (List ℕ)) → Type 0
+AreGot old new made rest = ((rest ≡ []) × (made ≢ [] → new.shelf.taken ≢ TOO_LONG)) ⊎ EndsLong old.shelf.file made new.shelf.taken
+
+-- THE GETS come first, in the order of the words: these were got, and behind them calls are made of which none is a get; or a get failed, and no call was
+-- made behind it; or memory was wanted, with some of the gets made and nothing else
+pub data GotInOrder (c : Command) (old new : Outside) : Status → Type 0 where
+  were_got : (status due : Status) (made rest : List (List ℕ)) (mid : Outside) (script : List Call) (blamed : Option Who) → made ++ rest ≡ files_of c →
+      AreGot old new made rest → Performs (gets made) old mid None → Shape c script → Performs script mid new blamed → status ≡ answered due blamed →
+      GotInOrder c old new status
+  ungot : Performs (gets (files_of c)) old new (Some TheShelf) → new.shelf.taken ≢ TOO_LONG → GotInOrder c old new Shelf
+  wanting : Wants (files_of c) old new → GotInOrder c old new Memory
 
 abbrev pub GetsComeFirst : Type 0
 GetsComeFirst = (words : List (List ℕ)) (c : Command) (old new : Outside) (status : Status) → IsCommand words c → Ends words old new status →
-    GotInOrder c old new
+    GotInOrder c old new status

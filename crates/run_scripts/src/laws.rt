@@ -276,7 +276,8 @@ pub fn nothing_is_loaded()
     ensures { NothingIsLoaded }
 {}
 
-/// A law: the files are got in the order of the words, before all else.
+/// A law: the files are got in the order of the words, before all else: all of them, or those up to one that is too long; or a get failed, or found no
+/// memory, and nothing else is done.
 pub fn gets_come_first()
     ensures { GetsComeFirst }
 {}
