@@ -2,7 +2,7 @@
 use Rattle.std.specs.Prelude.{Option, Some, None, codes}
 use Rattle.std.specs.Io.KnownBytes.{append_known}
 use Rattle.std.proofs.Common.{◌≡◌, ◌⊎◌, inl, inr, ℕ, zero, suc, ◌<◌, Bool, true, false, List, [], length, refl, sym, ap, ◌∙◌, subst}
-use Rattle.cvm_outside.specs.Told.{TOO_LONG}
+use Rattle.cvm_outside.specs.Told.{AppendsPart, TOO_LONG}
 use Rattle.cvm_model.specs.Cvm.{Status as CvmStatus, Running, Halted, Faulted}
 use Rattle.boot_turns.specs.declared.answers.View.TheVariants.{Boot, Trace}
 use Rattle.kernel_linker.specs.Accept.{ImageSystem}
@@ -39,6 +39,13 @@ says_blames text old new b (goes_on c rest _ mid _ _ d p) = inl (nothing_blames 
 
 pub says_printed : (text : List ℕ) (old new : Outside) → Performs (says text) old new None → new.sink.text ≡ append_known old.sink.text text
 says_printed text old new (goes_on c rest _ mid _ _ d p) = ap (λ (o : Outside). o.sink.text) (nothing_changes mid new p) ∙ d.0
+
+pub says_part : (text : List ℕ) (old new : Outside) → Performs (says text) old new (Some TheSink) → AppendsPart old.sink.text new.sink.text text
+says_part text old new p = by (Some TheSink) refl p
+  where
+    by : (b : Option Who) → b ≡ Some TheSink → Performs (says text) old new b → AppendsPart old.sink.text new.sink.text text
+    by b e (breaks c rest _ _ f) = f.0
+    by b e (goes_on c rest _ mid _ _ d q) = absurd (let z : None ≡ Some TheSink = sym (nothing_blames mid new b q) ∙ e in cc)
 
 -- the status of a run where no call fails
 abbrev IsRunStatus : Status → Type 0

@@ -4,10 +4,11 @@ use Rattle.std.specs.Io.KnownBytes.{append_known}
 use Rattle.std.proofs.Common.{◌≡◌, ◌≢◌, ◌⊎◌, inl, inr, ℕ, ◌<◌, List, length, refl, sym, ap, ◌∙◌, subst, arith}
 use Rattle.boot_turns.specs.declared.answers.View.TheVariants.{Trace}
 use Rattle.cvm_shell.specs.declared.exit_status.Status.{Status}
-use Rattle.cvm_shell.specs.declared.exit_status.Status.TheVariants.{Done, Refused, KernelFault, StepLimit, Disk, Shelf, Sink, Memory}
+use Rattle.cvm_shell.specs.declared.exit_status.Status.TheVariants.{Done, Refused, KernelFault, StepLimit, Disk, Shelf, Memory}
 use Rattle.cvm_shell.specs.Command.{Command}
 use Rattle.cvm_shell.specs.Refusal.{Refusal, small_disk, no_such_user, too_long, refusal_status, refusal_text}
 use Rattle.cvm_shell.specs.Plan.{Plan, bad_words, refuses, puts, boots, saves, resumes, prints as tells, PlanComesTo, AllTold}
+use Rattle.cvm_outside.specs.Told.{AppendsPart}
 use Rattle.cvm_outside.specs.ScriptLaws.{ScriptsBlame, PrintedBy}
 use Rattle.cvm_outside.specs.Outside.{Outside, Drive, Output}
 use Rattle.cvm_outside.specs.Script.{Call, Who, TheSink, TheDisk, TheShelf, Performs}
@@ -15,9 +16,9 @@ use Rattle.cvm_shell.specs.Boot.{sectors_needed}
 use Rattle.boot_run.specs.Closing.{says}
 use Rattle.cvm_shell.specs.Ends.{Does, done, no_file, no_memory, GetsFor, all, up_to, behind, within, wants, PlanAsks, SessionAsks, no_user, small, over_told, over_untold, files_of, gets, answered}
 use Rattle.run_scripts.specs.Headline.{NoneFailed, IsOf, booted_so, saved_so, resumed_so}
-use Rattle.run_scripts.specs.Causes.{FilesAreRefused, HasNoUser, MissingUsersAreRefused, SmallDisksAreRefused, LongFilesAreRefused, WorkCompletes, IsWork}
+use Rattle.run_scripts.specs.Causes.{FilesAreRefused, HasNoUser, MissingUsersAreRefused, SmallDisksAreRefused, LongFilesAreRefused, RefusedAsLong, WorkCompletes, IsWork}
 use Rattle.run_scripts.proofs.OneCommand.{one_command}
-use Rattle.run_scripts.proofs.Causes.{Due, by_words, by_refusal, by_user, by_disk, by_run, says_printed, says_blames, not_blamed, of_done, of_no_file, mid_disk, done_due}
+use Rattle.run_scripts.proofs.Causes.{Due, by_words, by_refusal, by_user, by_disk, by_run, says_printed, says_part, says_blames, not_blamed, of_done, of_no_file, mid_disk, done_due}
 
 same_view : (u v : ℕ) → Trace u ≡ Trace v → u ≡ v
 same_view u v e = cc
@@ -134,20 +135,27 @@ module _ (blame : ScriptsBlame) where
   pub long_files_are_refused : LongFilesAreRefused
   long_files_are_refused words c old new status is some (done _ h) taken = by h.plan refl h.got (h.gets.0 c is)
     where
-      ends : (b : Option Who) → status ≡ answered Shelf b → (b ≡ None) ⊎ (b ≡ Some TheSink) → (status ≡ Shelf) ⊎ (status ≡ Sink)
-      ends b e (inl n) = inl (e ∙ ap (answered Shelf) n)
-      ends b e (inr n) = inr (e ∙ ap (answered Shelf) n)
+      sink : h.mid.sink ≡ old.sink
+      sink = (mid_disk blame words old new status h).1
 
-      refused : h.plan ≡ refuses too_long → (status ≡ Shelf) ⊎ (status ≡ Sink)
+      ends : (b : Option Who) → status ≡ answered Shelf b → (b ≡ None) ⊎ (b ≡ Some TheSink) → Performs (says (refusal_text too_long)) h.mid new b → RefusedAsLong old new status
+      ends b e (inl n) q =
+          let z = subst (λ (x : Option Who). Performs (says (refusal_text too_long)) h.mid new x) n q in
+          inl (e ∙ ap (answered Shelf) n, says_printed (refusal_text too_long) h.mid new z ∙ ap (λ (o : Output). append_known o.text (refusal_text too_long)) sink)
+      ends b e (inr n) q =
+          let z = subst (λ (x : Option Who). Performs (says (refusal_text too_long)) h.mid new x) n q in
+          inr (e ∙ ap (answered Shelf) n, subst (λ (o : Output). AppendsPart o.text new.sink.text (refusal_text too_long)) sink (says_part (refusal_text too_long) h.mid new z))
+
+      refused : h.plan ≡ refuses too_long → RefusedAsLong old new status
       refused e =
           let a = subst (λ (p : Plan). PlanAsks p h.mid h.script h.due) e h.asks in
-          ends h.blamed (h.status_is ∙ ap (λ (d : Status). answered d h.blamed) a.1)
-          (says_blames (refusal_text too_long) h.mid new h.blamed (subst (λ (x : List Call). Performs x h.mid new h.blamed) a.0 h.performs))
+          let q = subst (λ (x : List Call). Performs x h.mid new h.blamed) a.0 h.performs in
+          ends h.blamed (h.status_is ∙ ap (λ (d : Status). answered d h.blamed) a.1) (says_blames (refusal_text too_long) h.mid new h.blamed q) q
 
-      by : (p : Plan) → h.plan ≡ p → (got : List Call) → GetsFor old.shelf.file (files_of c) new.shelf.taken p got → (status ≡ Shelf) ⊎ (status ≡ Sink)
+      by : (p : Plan) → h.plan ≡ p → (got : List Call) → GetsFor old.shelf.file (files_of c) new.shelf.taken p got → RefusedAsLong old new status
       by p e got (all _ n t) = absurd (t some taken)
       by p e got (up_to before after name x s l t) = refused e
-  long_files_are_refused words c old new status is some (no_file d k g t) taken = inl refl
+  long_files_are_refused words c old new status is some (no_file d k g t) taken = absurd (t taken)
   long_files_are_refused words c old new status is some (no_memory d k (behind made rest e p t)) taken = absurd (t (λ n. some (ap files_of (one_command words c d is k) ∙ n)) taken)
   long_files_are_refused words c old new status is some (no_memory d k (within made rest name mid e p (wants x y t z))) taken = absurd (t taken)
 

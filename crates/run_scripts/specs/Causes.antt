@@ -8,7 +8,7 @@ use Rattle.cvm_shell.specs.declared.boot.Session.{Session}
 use Rattle.cvm_shell.specs.declared.exit_status.Status.{Status}
 use Rattle.cvm_shell.specs.declared.exit_status.Status.TheVariants.{Done, Words, Refused, Disk, Shelf, Sink, Memory}
 use Rattle.cvm_shell.specs.Command.{Command, IsCommand, IsNoCommand}
-use Rattle.cvm_shell.specs.Refusal.{Refusal, small_disk, no_such_user, refusal_status, refusal_text}
+use Rattle.cvm_shell.specs.Refusal.{Refusal, small_disk, no_such_user, too_long, refusal_status, refusal_text}
 use Rattle.cvm_shell.specs.Plan.{Plan, refuses, puts, boots, saves, resumes, prints as tells, PlanComesTo, AllTold, IsPlan}
 use Rattle.cvm_outside.specs.Script.{Who, TheSink, TheDisk, TheShelf}
 use Rattle.cvm_outside.specs.Outside.{Outside}
@@ -87,10 +87,14 @@ SmallDisksAreRefused = (words : List (List ℕ)) (plan : Plan) (session : Sessio
     old.disk.size < sectors_needed session s rows → NoneFailed old new → Ends words old new status → status ≢ Memory →
     (status ≡ Disk) × PrintedBy None old.sink.text new.sink.text (refusal_text (small_disk (sectors_needed session s rows) old.disk.size))
 
--- A FILE IS REFUSED AS TOO LONG where 67,108,865 bytes of it were taken, unless the row can't be printed
+-- A FILE IS REFUSED AS TOO LONG, with its row, where 67,108,865 bytes of it were taken; or its row can't be printed
+abbrev pub RefusedAsLong : (old new : Outside) → Status → Type 0
+RefusedAsLong old new status = ((status ≡ Shelf) × PrintedBy None old.sink.text new.sink.text (refusal_text too_long))
+    ⊎ ((status ≡ Sink) × PrintedBy (Some TheSink) old.sink.text new.sink.text (refusal_text too_long))
+
 abbrev pub LongFilesAreRefused : Type 0
 LongFilesAreRefused = (words : List (List ℕ)) (c : Command) (old new : Outside) (status : Status) → IsCommand words c → files_of c ≢ [] →
-    Ends words old new status → new.shelf.taken ≡ TOO_LONG → (status ≡ Shelf) ⊎ (status ≡ Sink)
+    Ends words old new status → new.shelf.taken ≡ TOO_LONG → RefusedAsLong old new status
 
 -- STATUS 4: a run that didn't come to its end made all its steps
 abbrev pub StepsAreSpent : Type 0

@@ -240,7 +240,7 @@ pub fn small_disks_are_refused()
     scripts_blame();
 }
 
-/// A law: a file is refused as too long where so many bytes of it were taken.
+/// A law: a file is refused as too long, with its row, where so many bytes of it were taken.
 pub fn long_files_are_refused()
     ensures { LongFilesAreRefused }
 {
