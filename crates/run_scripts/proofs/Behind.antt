@@ -121,11 +121,11 @@ module _ (count : TurnLaws) (r : Run) (held : ℕ) (before : List (List ℕ)) (s
       old.disk.sectors ≡ Some before → AfterDisk Reports r (load_script pages held) p old new → KeepsBehind held before new
   disk_behind pages torn R p old new e (in_load mid s q w) =
       keeps_behind held (load_script pages held) mid new (Some TheDisk) (load_below pages held held (omega arith)) q before (ap (λ (d : Drive). d.sectors) s ∙ e)
-  disk_behind pages torn R p old new e (in_transfer t mid lt s q w) =
+  disk_behind pages torn R p old new e (in_transfer t mid lt s n q w) =
       let h = torn_due r.around (state_at r t) mid new (on_before count r t lt) s q in
       record { sectors = h.sectors; are = h.are; beyond = torn t h.sectors (on_before count r t lt) h.torn }
-  disk_behind pages torn R p old new e (in_rows u t k mid v lt less s q w) =
+  disk_behind pages torn R p old new e (in_rows u t k mid v lt less s n q w) =
       stand_behind (suc t) new (omega (arith, lt))
       (unwritten (entry_script r p u t (length (p.shown t) + k)) mid new (Some TheDisk) (of_row IsQuiet quiet r p u t (length (p.shown t) + k)) q ∙ s)
-  disk_behind pages torn R p old new e (in_report mid g s h q w) =
+  disk_behind pages torn R p old new e (in_report mid g s n h q w) =
       stand_behind (steps_made r) new (omega arith) (unwritten (closing_script r p) mid new (Some TheDisk) (of_report IsQuiet quiet r.view r p (steps_made r)) q ∙ s)

@@ -4,9 +4,10 @@ use Rattle.std.proofs.Common.{◌≡◌, ◌⊎◌, inl, inr, ℕ, ◌≤◌, Bo
 use Rattle.std.proofs.lemmas.List.{take_all}
 use Rattle.std.specs.Io.KnownBytes.{append_known}
 use Rattle.cvm_outside.specs.Told.{IsCutOff, retold}
-use Rattle.cvm_outside.specs.Outside.{Outside, Output, Drive}
-use Rattle.cvm_outside.specs.Script.{Call, Who, TheSink, TheDisk, TheShelf, Performs, stored}
-use Rattle.cvm_outside.specs.ScriptLaws.{ScriptsTell, ScriptsStore, ScriptsBlame}
+use Rattle.cvm_outside.specs.Numbering.{called}
+use Rattle.cvm_outside.specs.Outside.{Outside, Output, Drive, counts}
+use Rattle.cvm_outside.specs.Script.{Call, Who, TheSink, TheDisk, TheShelf, Performs, asks, stored}
+use Rattle.cvm_outside.specs.ScriptLaws.{ScriptsTell, ScriptsStore, ScriptsBlame, ScriptsCount}
 use Rattle.cvm_outside.proofs.Parts.{append_known-nil}
 use Rattle.kernel_linker.specs.Accept.{ImageSystem}
 use Rattle.schedule_file.specs.Rows.{Rows}
@@ -26,7 +27,7 @@ use Rattle.boot_run.specs.RunScript.{run_script}
 use Rattle.cvm_shell.specs.RunStatus.{run_status, status_of, save_script, saved_bytes}
 use Rattle.cvm_shell.specs.Ends.{Does, done, no_file, no_memory, RunAsks, SaveAsks, SomeRunAsks, SomeSaveAsks, load_of, answered, files_of, gets}
 use Rattle.run_scripts.specs.Headline.{Asked, ended_text, text_at, whole_text}
-use Rattle.run_scripts.specs.Faults.{PrintedWithin, Stand, AfterSink, AfterBy, After, FaultsLeave, IsLeft, IsReported, UnsavedBy, SaveFaultsLeave}
+use Rattle.run_scripts.specs.Faults.{PrintedWithin, Stand, CalledBy, AfterSink, AfterBy, After, FaultsLeave, IsLeft, IsReported, UnsavedBy, SaveFaultsLeave}
 use Rattle.run_scripts.proofs.Behind.{load_calls_disk, stand_behind, sink_behind, disk_behind}
 use Rattle.run_scripts.proofs.Broken.{AllOf}
 use Rattle.run_scripts.proofs.Calls.{plain_load}
@@ -87,6 +88,15 @@ spent false Running status e w = (refl, e)
 spent false Halted status e w = (refl, e)
 spent false (Faulted f) status e w = (refl, e)
 
+-- the calls that were made of the disk, by the script that was performed
+called_by : ScriptsBlame → ScriptsCount → (old mid : Outside) → mid.disk ≡ old.disk → (a : List Call) (at : Outside) → Performs a mid at None → CalledBy a old at
+called_by blame count old mid disk a at q =
+    let c = count a mid at None q in
+    record {
+      faults = (blame a mid at None q TheDisk).same (λ e. cc) ∙ ap (λ (d : Drive). d.faults) disk;
+      calls = c.calls ∙ ap (λ (n : ℕ). called n (counts mid.disk)) c.which ∙ ap (λ (d : Drive). called (asks a) (counts d)) disk;
+    }
+
 -- OF A RUN that words ask for, from where its files were got
 module _ (tell : ScriptsTell) (store : ScriptsStore) (law : RunLaws) (words : List (List ℕ)) (plan : Plan) (session : Session) (s : ImageSystem) (rows : Rows) (before : List (List ℕ)) (old mid : Outside)
     (a : Asked words plan session s rows before old) (disk : mid.disk ≡ old.disk) (sink : mid.sink ≡ old.sink) where
@@ -135,8 +145,8 @@ module _ (tell : ScriptsTell) (store : ScriptsStore) (law : RunLaws) (words : Li
     abbrev Left : Status → Outside → Type 0
     Left status new = After r held before new (λ o. AfterBy (has_ended r ≡ true) status r (load_of session s rows) o old new × PrintedWithin old new [] (whole_text r o))
 
-    boot_left : (new : Outside) (status due : Status) (b : Option Who) → due ≡ run_status r p → status ≡ answered due b → Three status → Performs (run_script r (load_of session s rows) p) mid new b → Left status new
-    boot_left new status due None d e w q =
+    boot_left : ((a : List Call) (at : Outside) → Performs a mid at None → CalledBy a old at) → (new : Outside) (status due : Status) (b : Option Who) → due ≡ run_status r p → status ≡ answered due b → Three status → Performs (run_script r (load_of session s rows) p) mid new b → Left status new
+    boot_left counted new status due None d e w q =
         let h = spent (has_ended r) (cvm_at r p (steps_made r)).status status (e ∙ d) (of_three status w) in
         let all = more tell store old (run_script r (load_of session s rows) p) mid new [] (whole_text r p) before (state_at r (steps_made r)).device.sectors stood q tells
         (run_leaves law.count r (load_of session s rows) p before makes) in
@@ -151,12 +161,12 @@ module _ (tell : ScriptsTell) (store : ScriptsStore) (law : RunLaws) (words : Li
           );
           behind = stand_behind law.count r held before stays (steps_made r) new (omega arith) all.are;
         })
-    boot_left new status due (Some TheSink) d e w q =
+    boot_left counted new status due (Some TheSink) d e w q =
         let h = run_unsaid r k p is tell store old (load_of session s rows) before calls_disk mute makes mid new stood q in
         subst (λ (st : Status). Left st new) (sym e)
         (record { past = p; is_past = is; by = (h, begun new TheSink q); behind = sink_behind law.count r held before stays (has_ended r ≡ true) p old new h })
-    boot_left new status due (Some TheDisk) d e w q =
-        let h = run_undone r k p is tell store old (load_of session s rows) before calls_disk mute makes mid new disk stood q in
+    boot_left counted new status due (Some TheDisk) d e w q =
+        let h = run_undone r k p is tell store old (load_of session s rows) before calls_disk mute makes mid new counted disk stood q in
         subst (λ (st : Status). Left st new) (sym e)
         (record {
           past = p;
@@ -164,20 +174,20 @@ module _ (tell : ScriptsTell) (store : ScriptsStore) (law : RunLaws) (words : Li
           by = (h, begun new TheDisk q);
           behind = disk_behind law.count r held before stays (pages_loaded session.start (booted s rows)) torn_stays (has_ended r ≡ true) p old new a.sectors h;
         })
-    boot_left new status due (Some TheShelf) d e w q = absurd (not_shelf (subst Three e w))
+    boot_left counted new status due (Some TheShelf) d e w q = absurd (not_shelf (subst Three e w))
 
-pub faults_leave : ScriptsBlame → ScriptsTell → ScriptsStore → RunLaws → FaultsLeave
-faults_leave blame tell store law words session s rows before old new status a w (done _ h) =
+pub faults_leave : ScriptsBlame → ScriptsTell → ScriptsStore → ScriptsCount → RunLaws → FaultsLeave
+faults_leave blame tell store count law words session s rows before old new status a w (done _ h) =
     let two = mid_disk blame words old new status h in
     let t = told_asks words (boots session s rows) session s rows before old h.mid (λ size ss. RunAsks (run_of session s rows size ss) (load_of session s rows)) (SomeRunAsks (load_of session s rows))
     h.script h.due a two.0 (plan_asks blame words old new status h (boots session s rows) a.files a.is_plan) in
-    boot_left tell store law words (boots session s rows) session s rows before old h.mid a two.0 two.1 t.past t.is_past new status h.due h.blamed t.status_is h.status_is w
+    boot_left tell store law words (boots session s rows) session s rows before old h.mid a two.0 two.1 t.past t.is_past (called_by blame count old h.mid two.0) new status h.due h.blamed t.status_is h.status_is w
     (subst (λ (c : List Call). Performs c h.mid new h.blamed) t.script_is h.performs)
-faults_leave blame tell store law words session s rows before old new status a w (no_file c i f t) = absurd (not_shelf w)
-faults_leave blame tell store law words session s rows before old new status a w (no_memory c i m) = absurd (not_memory (of_three Memory w))
+faults_leave blame tell store count law words session s rows before old new status a w (no_file c i f t) = absurd (not_shelf w)
+faults_leave blame tell store count law words session s rows before old new status a w (no_memory c i m) = absurd (not_memory (of_three Memory w))
 
 -- A SAVE
-module _ (blame : ScriptsBlame) (tell : ScriptsTell) (store : ScriptsStore) (law : RunLaws) (words : List (List ℕ)) (c : Save) (s : ImageSystem) (rows : Rows) (before : List (List ℕ)) (old new : Outside) (status : Status)
+module _ (blame : ScriptsBlame) (tell : ScriptsTell) (store : ScriptsStore) (count : ScriptsCount) (law : RunLaws) (words : List (List ℕ)) (c : Save) (s : ImageSystem) (rows : Rows) (before : List (List ℕ)) (old new : Outside) (status : Status)
     (is : IsSave words c) (a : Asked words (saves (save_session c) s rows c.file) (save_session c) s rows before old) (w : Four status) (h : Does words old new status) where
   abbrev session : Session
   session = save_session c
@@ -255,7 +265,7 @@ module _ (blame : ScriptsBlame) (tell : ScriptsTell) (store : ScriptsStore) (law
   save_left (Some TheSink) e q =
       subst SaveLeft (sym e) (unsaid (save_unsaid run known_run t.past t.is_past tell store old load before disk silent made refl (plain_load session s rows) c.file h.mid start new q))
   save_left (Some TheDisk) e q =
-      let g = save_undone run known_run t.past t.is_past tell store old load before disk silent made refl (plain_load session s rows) c.file h.mid start new two.0 q in
+      let g = save_undone run known_run t.past t.is_past tell store old load before disk silent made refl (plain_load session s rows) c.file h.mid start new (called_by blame count old h.mid two.0) two.0 q in
       subst SaveLeft (sym e)
       (record {
         past = t.past;
@@ -274,10 +284,10 @@ module _ (blame : ScriptsBlame) (tell : ScriptsTell) (store : ScriptsStore) (law
         behind = stand_behind law.count run (sectors_needed session s rows) before behind (steps_made run) new (omega arith) g.2;
       })
 
-pub save_faults_leave : ScriptsBlame → ScriptsTell → ScriptsStore → RunLaws → SaveFaultsLeave
-save_faults_leave blame tell store law words c s rows before old new status is a w (done _ h) =
-    inr (save_left blame tell store law words c s rows before old new status is a w h h.blamed h.status_is
-    (subst (λ (x : List Call). Performs x h.mid new h.blamed) (t blame tell store law words c s rows before old new status is a w h).script_is h.performs))
-save_faults_leave blame tell store law words c s rows before old new status is a w (no_file d i f t) =
+pub save_faults_leave : ScriptsBlame → ScriptsTell → ScriptsStore → ScriptsCount → RunLaws → SaveFaultsLeave
+save_faults_leave blame tell store count law words c s rows before old new status is a w (done _ h) =
+    inr (save_left blame tell store count law words c s rows before old new status is a w h h.blamed h.status_is
+    (subst (λ (x : List Call). Performs x h.mid new h.blamed) (t blame tell store count law words c s rows before old new status is a w h).script_is h.performs))
+save_faults_leave blame tell store count law words c s rows before old new status is a w (no_file d i f t) =
     inl (refl, subst (λ (e : Command). Performs (gets (files_of e)) old new (Some TheShelf)) (one_command words d (save c) i is) f)
-save_faults_leave blame tell store law words c s rows before old new status is a w (no_memory d i m) = absurd (not_memory w)
+save_faults_leave blame tell store count law words c s rows before old new status is a w (no_memory d i m) = absurd (not_memory w)

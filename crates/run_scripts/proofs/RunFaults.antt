@@ -12,6 +12,7 @@ use Rattle.cvm_outside.specs.Outside.{Outside, Output}
 use Rattle.cvm_outside.specs.Script.{Call, Read, Who, TheSink, TheDisk, Performs, IsQuiet, scripts, spoken, stored}
 use Rattle.cvm_outside.specs.ScriptLaws.{ScriptsTell, ScriptsStore, PrintedBy}
 use Rattle.cvm_outside.proofs.Parts.{append_known-append}
+use Rattle.cvm_outside.proofs.Follow.{both}
 use Rattle.cvm_outside.proofs.Putting.{unwritten}
 use Rattle.layer_map.specs.Map.{Map}
 use Rattle.mips_table.specs.Device.{Outside as Around, Pending, Idle, Reading, Writing}
@@ -33,7 +34,7 @@ use Rattle.boot_run.specs.RunEnds.{SeesUser}
 use Rattle.boot_run.specs.Closing.{opening_script, user_script, boot_report, last_steps, trace_report, report_by, closing_script, says}
 use Rattle.boot_run.specs.RunScript.{rest_script, run_script}
 use Rattle.run_scripts.specs.Headline.{text_by, text_at, ended_text, whole_text}
-use Rattle.run_scripts.specs.Faults.{HasPrinted, PrintedWithin, Stand, closed_by, AfterDisk, in_load, in_transfer, in_rows, in_report, EndsTurn, AfterSink}
+use Rattle.run_scripts.specs.Faults.{HasPrinted, PrintedWithin, Stand, closed_by, CalledBy, up_to_step, up_to_row, AfterDisk, in_load, in_transfer, in_rows, in_report, EndsTurn, AfterSink}
 use Rattle.run_scripts.specs.Faults as fault
 use Rattle.run_scripts.proofs.Broken.{AllOf, Broken, in_first, in_second, part, Within, within, not_none, blames, all_if, sink_stays, IsLoud, loud_both, loud_scripts, loud_disk, silent_stays}
 use Rattle.run_scripts.proofs.MadeOf.{of_opening, of_report, of_row, of_rows, of_scripts}
@@ -248,10 +249,13 @@ module _ (r : Run) (k : Known r) (p : Past) (is : IsPast r p) where
             (unwritten (rows_script r.view r p t) at new (Some TheSink) (of_rows IsQuiet quiet r.view r p t) rows ∙ (due_done t mid at lt h z).are)
             (broken_within tell store old (step_script r p t) mid new TheSink (text_at r p t) [] (text_at r p t) (text_at r p (suc t)) [] (text_at r p (suc t)) h.text_is q w (sym (append-nil (text_at r p t))) (sym (append-nil (text_at r p (suc t)))))
 
-    -- THE DISK FAILED in a step
-    entries_unread : (R : Type 0) (load : List Call) (u t : ℕ) (at new : Outside) → r.view ≡ Trace u → 1 ≤ u → u ≤ length r.system.boot.users → t < steps_made r →
+    -- THE DISK FAILED in a step, with its calls counted from where the load began
+    abbrev Counting : Outside → Type 0
+    Counting begin = (a : List Call) (at : Outside) → Performs a begin at None → CalledBy a old at
+
+    entries_unread : (R : Type 0) (load : List Call) (begin : Outside) → Counting begin → (u t : ℕ) (at new : Outside) → Performs (up_to_step r load p t ++ due r.around (state_at r t)) begin at None → r.view ≡ Trace u → 1 ≤ u → u ≤ length r.system.boot.users → t < steps_made r →
         Stands old at (text_by (Trace u) r p t) (state_at r (suc t)).device.sectors → Performs (rows_script (Trace u) r p t) at new (Some TheDisk) → AfterDisk R r load p old new
-    entries_unread R load u t at new v some most lt h q = by (part (reads_of r p u t (length (p.shown t) + w.number)) (prints (row_behind (p.shown (suc t)) (length (p.shown t) + w.number))) w.mid new TheDisk w.breaks_off)
+    entries_unread R load begin count u t at new reached v some most lt h q = by (part (reads_of r p u t (length (p.shown t) + w.number)) (prints (row_behind (p.shown (suc t)) (length (p.shown t) + w.number))) w.mid new TheDisk w.breaks_off)
       where
         w : Within (λ i. entry_script r p u t (length (p.shown t) + i)) (length (p.shown (suc t)) - length (p.shown t)) at new TheDisk
         w = within (λ i. entry_script r p u t (length (p.shown t) + i)) (length (p.shown (suc t)) - length (p.shown t)) at new TheDisk q
@@ -286,24 +290,26 @@ module _ (r : Run) (k : Known r) (p : Past) (is : IsPast r p) where
 
         by : Broken (reads_of r p u t (length (p.shown t) + w.number)) (prints (row_behind (p.shown (suc t)) (length (p.shown t) + w.number))) w.mid new TheDisk → AfterDisk R r load p old new
         by (in_first z) =
-            in_rows u t w.number w.mid v lt less stand w.breaks_off (ap (λ (o : Output). o.text) (sink_stays (reads_of r p u t (length (p.shown t) + w.number)) w.mid new (Some TheDisk) (disk_reads r p u t (length (p.shown t) + w.number)) z) ∙ printed)
+            in_rows u t w.number w.mid v lt less stand
+            (count (up_to_row r load p u t w.number) w.mid
+            (both (up_to_step r load p t ++ due r.around (state_at r t)) (scripts (λ i. entry_script r p u t (length (p.shown t) + i)) w.number) begin at w.mid None reached w.before)) w.breaks_off (ap (λ (o : Output). o.text) (sink_stays (reads_of r p u t (length (p.shown t) + w.number)) w.mid new (Some TheDisk) (disk_reads r p u t (length (p.shown t) + w.number)) z) ∙ printed)
         by (in_second late z put) =
             absurd (not_disk (sym (blames TheSink (prints (row_behind (p.shown (suc t)) (length (p.shown t) + w.number))) late new TheDisk (sink_prints (row_behind (p.shown (suc t)) (length (p.shown t) + w.number))) put)))
 
-    step_undone : (R : Type 0) (load : List Call) (t : ℕ) (mid new : Outside) → t < steps_made r → At t mid → Performs (step_script r p t) mid new (Some TheDisk) → AfterDisk R r load p old new
-    step_undone R load t mid new lt h q = by (part (due r.around (state_at r t)) (rows_script r.view r p t) mid new TheDisk q)
+    step_undone : (R : Type 0) (load : List Call) (begin : Outside) → Counting begin → (t : ℕ) (mid new : Outside) → Performs (up_to_step r load p t) begin mid None → t < steps_made r → At t mid → Performs (step_script r p t) mid new (Some TheDisk) → AfterDisk R r load p old new
+    step_undone R load begin count t mid new reached lt h q = by (part (due r.around (state_at r t)) (rows_script r.view r p t) mid new TheDisk q)
       where
-        of_view : (v : View) → r.view ≡ v → SeesUser v (length r.system.boot.users) → (at : Outside) → Stands old at (text_by v r p t) (state_at r (suc t)).device.sectors → Performs (rows_script v r p t) at new (Some TheDisk) →
-            AfterDisk R r load p old new
-        of_view Boot e see at s rows =
+        of_view : (v : View) → r.view ≡ v → SeesUser v (length r.system.boot.users) → (at : Outside) → Performs (up_to_step r load p t ++ due r.around (state_at r t)) begin at None →
+            Stands old at (text_by v r p t) (state_at r (suc t)).device.sectors → Performs (rows_script v r p t) at new (Some TheDisk) → AfterDisk R r load p old new
+        of_view Boot e see at before s rows =
             let x : List ℕ = rows_text (drop (length (cvm_at r p t).rows) (cvm_at r p (suc t)).rows) in
             absurd (not_disk (sym (blames TheSink (prints x) at new TheDisk (sink_prints x) rows)))
-        of_view (Trace u) e see at s rows = entries_unread R load u t at new e see.0 see.1 lt s rows
+        of_view (Trace u) e see at before s rows = entries_unread R load begin count u t at new before e see.0 see.1 lt s rows
 
         by : Broken (due r.around (state_at r t)) (rows_script r.view r p t) mid new TheDisk → AfterDisk R r load p old new
         by (in_first z) =
-            in_transfer t mid lt h.are z (ap (λ (o : Output). o.text) (sink_stays (due r.around (state_at r t)) mid new (Some TheDisk) (disk_due r.around (state_at r t)) z) ∙ h.text_is)
-        by (in_second at z rows) = of_view r.view refl k.user at (due_done t mid at lt h z) rows
+            in_transfer t mid lt h.are (count (up_to_step r load p t) mid reached) z (ap (λ (o : Output). o.text) (sink_stays (due r.around (state_at r t)) mid new (Some TheDisk) (disk_due r.around (state_at r t)) z) ∙ h.text_is)
+        by (in_second at z rows) = of_view r.view refl k.user at (both (up_to_step r load p t) (due r.around (state_at r t)) begin mid at None reached z) (due_done t mid at lt h z) rows
 
     -- and in steps
     pub steps_unsaid : (R : Type 0) (t n : ℕ) (mid new : Outside) → t + n ≤ steps_made r → At t mid → Performs (steps_script r p t n) mid new (Some TheSink) → AfterSink R r p old new
@@ -312,11 +318,15 @@ module _ (r : Run) (k : Known r) (p : Past) (is : IsPast r p) where
         let l = w.less in
         step_unsaid R (t + w.number) w.mid new (omega (arith, le, l)) (steps_done t w.number mid w.mid (omega (arith, le, l)) h w.before) w.breaks_off
 
-    pub steps_undone : (R : Type 0) (load : List Call) (t n : ℕ) (mid new : Outside) → t + n ≤ steps_made r → At t mid → Performs (steps_script r p t n) mid new (Some TheDisk) → AfterDisk R r load p old new
-    steps_undone R load t n mid new le h q =
-        let w = within (λ i. step_script r p (t + i)) n mid new TheDisk q in
+    pub steps_undone : (R : Type 0) (load : List Call) (begin : Outside) → Counting begin → (n : ℕ) (mid new : Outside) → Performs (load ++ opening_script r.view r.system) begin mid None → n ≤ steps_made r → At 0 mid →
+        Performs (steps_script r p 0 n) mid new (Some TheDisk) → AfterDisk R r load p old new
+    steps_undone R load begin count n mid new reached le h q =
+        let w = within (λ i. step_script r p (0 + i)) n mid new TheDisk q in
         let l = w.less in
-        step_undone R load (t + w.number) w.mid new (omega (arith, le, l)) (steps_done t w.number mid w.mid (omega (arith, le, l)) h w.before) w.breaks_off
+        let e : w.number ≡ 0 + w.number = omega arith in
+        let before = both (load ++ opening_script r.view r.system) (steps_script r p 0 w.number) begin mid w.mid None reached w.before in
+        step_undone R load begin count (0 + w.number) w.mid new (subst (λ (m : ℕ). Performs (up_to_step r load p m) begin w.mid None) e before) (omega (arith, le, l))
+        (steps_done 0 w.number mid w.mid (omega (arith, le, l)) h w.before) w.breaks_off
 
     -- IN THE REPORT
     whole_is : has_ended r ≡ true → whole_text r p ≡ ended_text r.view r p (steps_made r) ++ []
@@ -370,8 +380,8 @@ module _ (r : Run) (k : Known r) (p : Past) (is : IsPast r p) where
             trace_closed mid new (state_at r (steps_made r)) (cvm_at r p (steps_made r)) u (start_row u (first_of r.system u)) (p.shown (steps_made r)) (ended_text (Trace u) r p (steps_made r)) (whole_text r p)
             (cvm_at r p (steps_made r)).status h w e q
 
-    pub report_undone : (R : Type 0) (load : List Call) (mid new : Outside) → R → has_ended r ≡ true → At (steps_made r) mid → Performs (closing_script r p) mid new (Some TheDisk) → AfterDisk R r load p old new
-    report_undone R load mid new g e h q = in_report mid g h.are h.text_is q (report_closed mid new e h.text_is q)
+    pub report_undone : (R : Type 0) (load : List Call) (mid new : Outside) → CalledBy (up_to_step r load p (steps_made r)) old mid → R → has_ended r ≡ true → At (steps_made r) mid → Performs (closing_script r p) mid new (Some TheDisk) → AfterDisk R r load p old new
+    report_undone R load mid new n g e h q = in_report mid g h.are n h.text_is q (report_closed mid new e h.text_is q)
 
     -- FROM A STEP ON
     steps_left : (t : ℕ) (mid at : Outside) → t ≤ steps_made r → At t mid → Performs (steps_script r p t (steps_made r - t)) mid at None → At (steps_made r) at
@@ -390,16 +400,26 @@ module _ (r : Run) (k : Known r) (p : Past) (is : IsPast r p) where
         by (in_first z) = steps_unsaid (has_ended r ≡ true) t (steps_made r - t) mid new (omega (arith, le)) h z
         by (in_second at z w) = end at (steps_left t mid at le h z) (has_ended r) refl w
 
-    pub rest_undone : (load : List Call) (t : ℕ) (mid new : Outside) → t ≤ steps_made r → At t mid → Performs (rest_script r p t) mid new (Some TheDisk) → AfterDisk (has_ended r ≡ true) r load p old new
-    rest_undone load t mid new le h q = by (part (steps_script r p t (steps_made r - t)) (if has_ended r then closing_script r p else []) mid new TheDisk q)
+    pub rest_undone : (load : List Call) (begin : Outside) → Counting begin → (mid new : Outside) → Performs (load ++ opening_script r.view r.system) begin mid None → At 0 mid →
+        Performs (rest_script r p 0) mid new (Some TheDisk) → AfterDisk (has_ended r ≡ true) r load p old new
+    rest_undone load begin count mid new reached h q = by (part (steps_script r p 0 (steps_made r - 0)) (if has_ended r then closing_script r p else []) mid new TheDisk q)
       where
-        end : (at : Outside) → At (steps_made r) at → (b : Bool) → has_ended r ≡ b → Performs (if b then closing_script r p else []) at new (Some TheDisk) → AfterDisk (has_ended r ≡ true) r load p old new
-        end at a true e z = report_undone (has_ended r ≡ true) load at new e e a z
-        end at a false e z = absurd (not_none at new TheDisk z)
+        all : steps_made r - 0 ≡ steps_made r
+        all = omega arith
 
-        by : Broken (steps_script r p t (steps_made r - t)) (if has_ended r then closing_script r p else []) mid new TheDisk → AfterDisk (has_ended r ≡ true) r load p old new
-        by (in_first z) = steps_undone (has_ended r ≡ true) load t (steps_made r - t) mid new (omega (arith, le)) h z
-        by (in_second at z w) = end at (steps_left t mid at le h z) (has_ended r) refl w
+        end : (at : Outside) → CalledBy (up_to_step r load p (steps_made r)) old at → At (steps_made r) at → (b : Bool) → has_ended r ≡ b → Performs (if b then closing_script r p else []) at new (Some TheDisk) →
+            AfterDisk (has_ended r ≡ true) r load p old new
+        end at n a true e z = report_undone (has_ended r ≡ true) load at new n e e a z
+        end at n a false e z = absurd (not_none at new TheDisk z)
+
+        counted : (at : Outside) → Performs (steps_script r p 0 (steps_made r - 0)) mid at None → CalledBy (up_to_step r load p (steps_made r)) old at
+        counted at z =
+            subst (λ (m : ℕ). CalledBy (up_to_step r load p m) old at) all
+            (count (up_to_step r load p (steps_made r - 0)) at (both (load ++ opening_script r.view r.system) (steps_script r p 0 (steps_made r - 0)) begin mid at None reached z))
+
+        by : Broken (steps_script r p 0 (steps_made r - 0)) (if has_ended r then closing_script r p else []) mid new TheDisk → AfterDisk (has_ended r ≡ true) r load p old new
+        by (in_first z) = steps_undone (has_ended r ≡ true) load begin count (steps_made r - 0) mid new reached (omega arith) h z
+        by (in_second at z w) = end at (counted at z) (steps_left 0 mid at (omega arith) h z) (has_ended r) refl w
 
     -- OF A LOAD, that calls the disk alone and makes the start
     module _ (load : List Call) (before : List (List ℕ)) (disk : AllOf TheDisk load) (mute : Tells load [] []) (makes : stored load before ≡ r.first.device.sectors) where
@@ -444,8 +464,8 @@ module _ (r : Run) (k : Known r) (p : Past) (is : IsPast r p) where
           by (in_first z) = first (part load (opening_script r.view r.system) mid new TheSink z)
           by (in_second at z w) = rest_unsaid 0 at new (omega arith) (opened mid at h z) w
 
-      pub run_undone : (mid new : Outside) → mid.disk ≡ old.disk → Stands old mid [] before → Performs (run_script r load p) mid new (Some TheDisk) → AfterDisk (has_ended r ≡ true) r load p old new
-      run_undone mid new s h q = by (part (load ++ opening_script r.view r.system) (rest_script r p 0) mid new TheDisk q)
+      pub run_undone : (mid new : Outside) → Counting mid → mid.disk ≡ old.disk → Stands old mid [] before → Performs (run_script r load p) mid new (Some TheDisk) → AfterDisk (has_ended r ≡ true) r load p old new
+      run_undone mid new count s h q = by (part (load ++ opening_script r.view r.system) (rest_script r p 0) mid new TheDisk q)
         where
           first : Broken load (opening_script r.view r.system) mid new TheDisk → AfterDisk (has_ended r ≡ true) r load p old new
           first (in_first z) = load_undone (has_ended r ≡ true) mid new s h z
@@ -453,4 +473,4 @@ module _ (r : Run) (k : Known r) (p : Past) (is : IsPast r p) where
 
           by : Broken (load ++ opening_script r.view r.system) (rest_script r p 0) mid new TheDisk → AfterDisk (has_ended r ≡ true) r load p old new
           by (in_first z) = first (part load (opening_script r.view r.system) mid new TheDisk z)
-          by (in_second at z w) = rest_undone load 0 at new (omega arith) (opened mid at h z) w
+          by (in_second at z w) = rest_undone load mid count at new z (opened mid at h z) w

@@ -15,7 +15,7 @@ use Rattle.boot_run.specs.Closing.{opening_script, closing_script}
 use Rattle.cvm_shell.specs.RunStatus.{saved_bytes, leaving_script, save_script}
 use Rattle.run_scripts.specs.Headline.{text_at}
 use Rattle.run_scripts.specs.Shapes.{gets_in, puts_in}
-use Rattle.run_scripts.specs.Faults.{HasPrinted, PrintedWithin, Stand, AfterDisk, AfterSink, IsLeft, IsReported}
+use Rattle.run_scripts.specs.Faults.{HasPrinted, PrintedWithin, Stand, AfterDisk, AfterSink, CalledBy, up_to_step, IsLeft, IsReported}
 use Rattle.run_scripts.proofs.Broken.{AllOf, Broken, in_first, in_second, both_done, part, nothing_blames, not_none}
 use Rattle.run_scripts.proofs.Calls.{Plain, plain, plain_both, plain_write, plain_stays}
 use Rattle.run_scripts.proofs.MadeOf.{of_report, of_steps}
@@ -109,27 +109,39 @@ module _ (r : Run) (k : Known r) (p : Past) (is : IsPast r p) (tell : ScriptsTel
         subst (λ (n : ℕ). Stands old at (text_at r p n) (state_at r n).device.sectors) none
         (steps_done r k p is tell store old 0 (steps_made r) two.0 at (omega arith) (start two.0 two.1) two.2)
 
+    -- what a boot does before its first step is its load alone
+    loads : (rest : List Call) (at : Outside) → Performs (load ++ rest) mid at None → Performs (load ++ opening_script r.view r.system ++ rest) mid at None
+    loads rest at z =
+        subst (λ (view : View). Performs (load ++ opening_script view r.system ++ rest) mid at None) (sym v) (subst (λ (a : List Call). Performs (a ++ rest) mid at None) (sym (append-nil load)) z)
+
+    opened : (at : Outside) → Performs load mid at None → Performs (load ++ opening_script r.view r.system) mid at None
+    opened at z =
+        subst (λ (view : View). Performs (load ++ opening_script view r.system) mid at None) (sym v) (subst (λ (a : List Call). Performs a mid at None) (sym (append-nil load)) z)
+
     -- THE DISK FAILED
-    pub save_undone : (new : Outside) → mid.disk ≡ old.disk → Performs (save_script name r load p) mid new (Some TheDisk) →
+    pub save_undone : (new : Outside) → ((a : List Call) (at : Outside) → Performs a mid at None → CalledBy a old at) → mid.disk ≡ old.disk → Performs (save_script name r load p) mid new (Some TheDisk) →
         AfterDisk (IsReported r p) r load p old new × ((n : List ℕ) → new.shelf.file n ≡ mid.shelf.file n)
-    save_undone new s q = by (part (load ++ steps_script r p 0 (steps_made r)) (if has_ended r then leaving_script name r p (cvm_at r p (steps_made r)).status else []) mid new TheDisk q)
+    save_undone new count s q = by (part (load ++ steps_script r p 0 (steps_made r)) (if has_ended r then leaving_script name r p (cvm_at r p (steps_made r)).status else []) mid new TheDisk q)
       where
         first : Broken load (steps_script r p 0 (steps_made r)) mid new TheDisk → AfterDisk (IsReported r p) r load p old new
         first (in_first z) = load_undone r k p is tell store old load before disk mute makes (IsReported r p) mid new s h z
-        first (in_second at z w) = steps_undone r k p is tell store old (IsReported r p) load 0 (steps_made r) at new (omega arith) (start at z) w
+        first (in_second at z w) = steps_undone r k p is tell store old (IsReported r p) load mid count (steps_made r) at new (opened at z) (omega arith) (start at z) w
 
-        end : (at : Outside) → Stands old at (text_at r p (steps_made r)) (state_at r (steps_made r)).device.sectors → (b : Bool) (st : CvmStatus) → has_ended r ≡ b → (cvm_at r p (steps_made r)).status ≡ st →
+        counted : (at : Outside) → Performs (load ++ steps_script r p 0 (steps_made r)) mid at None → CalledBy (up_to_step r load p (steps_made r)) old at
+        counted at z = count (up_to_step r load p (steps_made r)) at (loads (steps_script r p 0 (steps_made r)) at z)
+
+        end : (at : Outside) → CalledBy (up_to_step r load p (steps_made r)) old at → Stands old at (text_at r p (steps_made r)) (state_at r (steps_made r)).device.sectors → (b : Bool) (st : CvmStatus) → has_ended r ≡ b → (cvm_at r p (steps_made r)).status ≡ st →
             Performs (if b then leaving_script name r p st else []) at new (Some TheDisk) → AfterDisk (IsReported r p) r load p old new × ((n : List ℕ) → new.shelf.file n ≡ at.shelf.file n)
-        end at a false st e d z = absurd (not_none at new TheDisk z)
-        end at a true Running e d z = absurd (not_left name _ _ at new (Some TheDisk) (leaves name _ _ at new (Some TheDisk) z) refl)
-        end at a true Halted e d z = (report_undone r k p is tell store old (IsReported r p) load at new (e, λ x. absurd (let y = sym d ∙ x in cc)) e a z, plain_stays (closing_script r p) at new (Some TheDisk) plain_report z)
-        end at a true (Faulted f) e d z = (report_undone r k p is tell store old (IsReported r p) load at new (e, λ x. absurd (let y = sym d ∙ x in cc)) e a z, plain_stays (closing_script r p) at new (Some TheDisk) plain_report z)
+        end at n a false st e d z = absurd (not_none at new TheDisk z)
+        end at n a true Running e d z = absurd (not_left name _ _ at new (Some TheDisk) (leaves name _ _ at new (Some TheDisk) z) refl)
+        end at n a true Halted e d z = (report_undone r k p is tell store old (IsReported r p) load at new n (e, λ x. absurd (let y = sym d ∙ x in cc)) e a z, plain_stays (closing_script r p) at new (Some TheDisk) plain_report z)
+        end at n a true (Faulted f) e d z = (report_undone r k p is tell store old (IsReported r p) load at new n (e, λ x. absurd (let y = sym d ∙ x in cc)) e a z, plain_stays (closing_script r p) at new (Some TheDisk) plain_report z)
 
         by : Broken (load ++ steps_script r p 0 (steps_made r)) (if has_ended r then leaving_script name r p (cvm_at r p (steps_made r)).status else []) mid new TheDisk →
             AfterDisk (IsReported r p) r load p old new × ((n : List ℕ) → new.shelf.file n ≡ mid.shelf.file n)
         by (in_first z) = (first (part load (steps_script r p 0 (steps_made r)) mid new TheDisk z), plain_stays (load ++ steps_script r p 0 (steps_made r)) mid new (Some TheDisk) plain_front z)
         by (in_second at z w) =
-            let g = end at (through at z) (has_ended r) (cvm_at r p (steps_made r)).status refl refl w in
+            let g = end at (counted at z) (through at z) (has_ended r) (cvm_at r p (steps_made r)).status refl refl w in
             (g.0, λ n. g.1 n ∙ plain_stays (load ++ steps_script r p 0 (steps_made r)) mid at None plain_front z n)
 
     -- THE SINK FAILED, before the row or in it

@@ -2,6 +2,7 @@
 use Rattle.std.specs.Prelude.{◌≡◌, ◌≢◌, ◌⊎◌, ℕ, suc, ◌+◌, ◌<◌, ⊤, true, false, List, [], ◌∷◌, ◌++◌, length, take, Some}
 use Rattle.std.specs.Io.KnownBytes.{append_known}
 use Rattle.cvm_outside.specs.Told.{retold, IsCutOff}
+use Rattle.cvm_outside.specs.Numbering.{called}
 use Rattle.schedule_file.specs.Rows.{Rows}
 use Rattle.mips_table.specs.Turns.{IsEnd}
 use Rattle.mips_machine.specs.Steps.{due}
@@ -16,14 +17,14 @@ use Rattle.cvm_shell.specs.declared.exit_status.Status.TheVariants.{StepLimit, D
 use Rattle.cvm_shell.specs.declared.boot.Session.{Session}
 use Rattle.cvm_shell.specs.Command.{Save, IsSave, save_session}
 use Rattle.cvm_shell.specs.Plan.{boots, saves}
-use Rattle.cvm_outside.specs.Script.{Call, TheDisk, TheShelf, Performs}
-use Rattle.cvm_outside.specs.Outside.{Outside}
+use Rattle.cvm_outside.specs.Script.{Call, TheDisk, TheShelf, Performs, asks, scripts}
+use Rattle.cvm_outside.specs.Outside.{Outside, counts}
 use Rattle.boot_turns.specs.Runs.{Run, Past, IsPast, state_at, turns_at, steps_made, has_ended, cvm_at}
-use Rattle.boot_turns.specs.StepScript.{entry_script}
+use Rattle.boot_turns.specs.StepScript.{entry_script, steps_script}
 use Rattle.boot_turns.specs.TurnEnds.{first_of}
 use Rattle.cvm_shell.specs.Boot.{sectors_needed}
 use Rattle.cvm_shell.specs.Saves.{saved_row}
-use Rattle.boot_run.specs.Closing.{closing_script}
+use Rattle.boot_run.specs.Closing.{opening_script, closing_script}
 use Rattle.cvm_shell.specs.SessionRuns.{run_of}
 use Rattle.cvm_shell.specs.RunStatus.{saved_bytes}
 use Rattle.cvm_shell.specs.Ends.{Ends, load_of, gets}
@@ -54,19 +55,33 @@ closed_by Boot r p = rows_text (cvm_at r p (steps_made r)).rows ++ end_text (cvm
 closed_by (Trace u) r p =
     start_row u (first_of r.system u) ++ journal_rows (p.shown (steps_made r)) ++ end_text (cvm_at r p (steps_made r)).status
 
+-- no call of the disk failed up to here, and there are as many as this script makes
+pub record CalledBy (script : List Call) (old at : Outside) : Type 0 where
+  pub faults : at.disk.faults ≡ old.disk.faults
+  pub calls : at.disk.calls ≡ called (asks script) (counts old.disk)
+
+-- the script up to a step, and up to the row of an entry of that step
+abbrev pub up_to_step : Run → (load : List Call) → Past → (t : ℕ) → List Call
+up_to_step r load p t = load ++ opening_script r.view r.system ++ steps_script r p 0 t
+
+abbrev pub up_to_row : Run → (load : List Call) → Past → (u t k : ℕ) → List Call
+up_to_row r load p u t k =
+    up_to_step r load p t ++ due r.around (state_at r t) ++ scripts (λ i. entry_script r p u t (length (p.shown t) + i)) k
+
 -- THE DISK FAILED in the load, with nothing printed; in the transfer that was due in a step, with exactly the text before that step; in the read of a
 -- word that was copied to the user of a trace, with exactly the rows before that word's; or in the report, where there is one, with its end row and the
--- first of what stands behind that
+-- first of what stands behind that; each but the first with the count of the disk's calls before, so these tell the step
 pub data AfterDisk (Reports : Type 0) (r : Run) (load : List Call) (p : Past) (old new : Outside) : Type 0 where
   in_load : (mid : Outside) → mid.disk ≡ old.disk → Performs load mid new (Some TheDisk) → HasPrinted old new [] → AfterDisk Reports r load p old new
-  in_transfer : (t : ℕ) (mid : Outside) → t < steps_made r → Stand r t mid → Performs (due r.around (state_at r t)) mid new (Some TheDisk) →
-      HasPrinted old new (text_at r p t) → AfterDisk Reports r load p old new
+  in_transfer : (t : ℕ) (mid : Outside) → t < steps_made r → Stand r t mid → CalledBy (up_to_step r load p t) old mid →
+      Performs (due r.around (state_at r t)) mid new (Some TheDisk) → HasPrinted old new (text_at r p t) → AfterDisk Reports r load p old new
   in_rows : (u t k : ℕ) (mid : Outside) → r.view ≡ Trace u → t < steps_made r → length (p.shown t) + k < length (p.shown (suc t)) → Stand r (suc t) mid →
-      Performs (entry_script r p u t (length (p.shown t) + k)) mid new (Some TheDisk) →
+      CalledBy (up_to_row r load p u t k) old mid → Performs (entry_script r p u t (length (p.shown t) + k)) mid new (Some TheDisk) →
       HasPrinted old new (start_row u (first_of r.system u) ++ open_journal_rows (take (length (p.shown t) + k) (p.shown (suc t)))) →
       AfterDisk Reports r load p old new
-  in_report : (mid : Outside) → Reports → Stand r (steps_made r) mid → HasPrinted old mid (text_at r p (steps_made r)) →
-      Performs (closing_script r p) mid new (Some TheDisk) → PrintedWithin old new (closed_by r.view r p) (whole_text r p) → AfterDisk Reports r load p old new
+  in_report : (mid : Outside) → Reports → Stand r (steps_made r) mid → CalledBy (up_to_step r load p (steps_made r)) old mid →
+      HasPrinted old mid (text_at r p (steps_made r)) → Performs (closing_script r p) mid new (Some TheDisk) →
+      PrintedWithin old new (closed_by r.view r p) (whole_text r p) → AfterDisk Reports r load p old new
 
 -- the rows of a step are of a boot those of one turn, which that step completes: its end is the first moment at which so many turns are complete
 abbrev pub EndsTurn : View → Run → ℕ → Type 0

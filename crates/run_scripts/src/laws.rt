@@ -19,7 +19,7 @@ use c0_unit::laws::{trees_have_places, units_are_short, units_stand};
 use cvm_model::{
     units_are_kernels, units_dont_matter, units_replay, units_stay_typed, users_are_isolated,
 };
-use cvm_outside::script::{scripts_blame, scripts_store, scripts_tell};
+use cvm_outside::script::{scripts_blame, scripts_count, scripts_store, scripts_tell};
 use kernel_linker::laws::{
     accepted_systems_are_of_their_images, opened_units_are_their_sources, spelled_images_fit,
 };
@@ -369,6 +369,7 @@ pub fn faults_leave()
     scripts_blame();
     scripts_tell();
     scripts_store();
+    scripts_count();
 }
 
 /// A law: and what a save leaves, with its file.
@@ -383,6 +384,7 @@ pub fn save_faults_leave()
     scripts_blame();
     scripts_tell();
     scripts_store();
+    scripts_count();
 }
 
 /// A law: where a check said `yes`, no run of a system of the object's source with so much stack stops for want of it.

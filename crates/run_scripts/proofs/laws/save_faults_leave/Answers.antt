@@ -2,7 +2,7 @@ use Rattle.run_scripts.proofs.FaultLaws.{save_faults_leave}
 use Rattle.run_scripts.proofs.laws.save_faults_leave.Goals as goal
 
 pub returns : goal.returns
-returns c = save_faults_leave c.scripts_blame.ensures c.scripts_tell.ensures c.scripts_store.ensures (record {
+returns c = save_faults_leave c.scripts_blame.ensures c.scripts_tell.ensures c.scripts_store.ensures c.scripts_count.ensures (record {
   start = c.runs_start.ensures;
   machines = c.machines_run.ensures;
   traces = c.traces_grow.ensures;
