@@ -86,6 +86,9 @@ def guarded(name, main, words):
     except OSError as error:
         say("%s: %s%s" % (name, error.strerror or error, ": '%s'" % error.filename if error.filename else ''))
         return 70
+    except MemoryError:
+        say('%s: there is too little memory for this tool (ulimit -v)' % name)
+        return 70
     except Exception as error:  # a fault of the tool itself still ends in a sentence
         say('%s: this tool has a fault of its own (%s: %s)' % (name, type(error).__name__, error))
         return 70

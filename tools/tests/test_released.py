@@ -72,7 +72,7 @@ class Clones(unittest.TestCase):
     def run_it(self, *words, limit=None):
         words = [self.path(words[0]), *words[1:]]
         if limit:
-            words = [os.path.join(self.bin, 'sh'), '-c', 'ulimit -f 0; exec "$@"', 'sh', *words]
+            words = [os.path.join(self.bin, 'sh'), '-c', 'ulimit -%s; exec "$@"' % limit, 'sh', *words]
         ran = subprocess.run(words, env={'PATH': self.bin, 'TMPDIR': self.rooms}, cwd=self.rooms, stdin=subprocess.DEVNULL, stdout=subprocess.PIPE, stderr=subprocess.PIPE, text=True)
         self.assertNotIn('Traceback', ran.stderr)
         self.assertNotIn('RAN', ran.stdout)
@@ -205,7 +205,7 @@ class Run(Clones):
     def test_a_full_disk(self):
         for commands in (('python3', *COMMANDS), COMMANDS):
             self.commands(*commands)
-            status, text, said = self.run_it('cvm', 'sample', '3', limit=True)
+            status, text, said = self.run_it('cvm', 'sample', '3', limit='f 0')
             self.assertEqual((status, text, 'there is no room to unpack it' in said), (70, '', True), said)
             self.assertEqual(os.listdir(self.rooms), [])
         self.assertFalse(os.path.exists(self.kept()))
@@ -231,10 +231,26 @@ class Run(Clones):
         self.assertEqual(self.run_it('cvm', 'check', 'none', '64'), (2, 'refused 23 4\n', ''))
         self.assertEqual(self.run_it('cvm', '--version')[1].split(',')[0], 'cvm: the proved program of release/')
         put(self.path('crates', 'cvm/src/main.rt'), 'another')
-        self.assertEqual(self.run_it('cvm', 'sample', '3'), (70, '', "cvm: the released program isn't run: the sources changed since it was built; to build it there has to be Python 3\n"))
+        self.assertEqual(self.run_it('cvm', 'sample', '3'), (70, '', "cvm: the released program isn't run: the sources changed since it was built; to build it there has to be Python 3, with memory to start\n"))
         ran = subprocess.run([self.path('cvm'), 'sample'], env={'PATH': self.bin}, stderr=subprocess.PIPE, text=True, preexec_fn=lambda: os.close(1))
         self.assertEqual((ran.returncode, ran.stderr), (7, 'cvm: there is no standard output; nothing was done\n'))
         self.assertEqual(self.run_it('try', 'sample', '3'), (70, '', 'try: there has to be Python 3, as the command python3; ./cvm runs single commands without it\n'))
+
+    def test_with_little_memory(self):
+        """Down to where the commands of the scripts have no room, the program runs; each sentence is one of these tools."""
+        for limit in range(6000, 42000, 5000):
+            status, text, said = self.run_it('cvm', 'sample', '3', limit='v %d' % limit)
+            self.assertEqual((status, text, said), (0, 'ran sample 3\n', ''), limit)
+            status, text, said = self.run_it('try', 'sample', '3', limit='v %d' % limit)
+            self.assertIn((status, text), ((0, 'ran sample 3\n'), (70, '')), limit)
+            self.assertTrue(not said if status == 0 else said.startswith('try: there is too little memory'), said)
+
+    def test_with_few_descriptors(self):
+        for tool in ('cvm', 'try'):
+            self.assertEqual(self.run_it(tool, 'sample', '3', limit='n 15'), (
+                70, '', '%s: there are too few file descriptors (ulimit -n): 16 are enough; nothing was done\n' % tool))
+            shutil.rmtree(self.path('out'), ignore_errors=True)
+            self.assertEqual(self.run_it(tool, 'sample', '3', limit='n 16'), (0, 'ran sample 3\n', ''))
 
     def test_without_standard_output(self):
         for word in ('', '--version', '--sources'):
