@@ -7,6 +7,8 @@ word, and the row `KIND ..` says that other rows of that kind may come between t
 import itertools
 import re
 
+from running import only
+
 ENDS = ('halted', 'stopped', 'saved')
 JOURNAL = ('start', 'steps', 'trap', 'set', 'size', 'put')
 OF_A_USER = ('reg', 'hi', 'lo', 'mem')
@@ -16,6 +18,12 @@ MORE = '..'
 def rows(data):
     """The rows of a text that say something."""
     return [row.rstrip() for row in data.decode('utf-8', errors='replace').split('\n') if row.strip()]
+
+
+def plain(row):
+    """A row as the program prints it, where `--only` has printed it with its decimal and its letters."""
+    printed = row[:len('con 00000000')]
+    return printed if only.shown(printed) == row else row
 
 
 def kind_of(row, user):
@@ -127,7 +135,7 @@ def is_whole(status, wanted):
 
 def answer(wanted, had, status, said, is_within=False):
     """What is not as expected, in one line; None where all is."""
-    wanted, had = rows(wanted), rows(had)
+    wanted, had = list(map(plain, rows(wanted))), rows(had)
     if not is_whole(status, wanted):
         return one_line(ended(status, had, said))
     found = (within if is_within else exact)(wanted, had)

@@ -52,8 +52,11 @@ def put(name, data):
                 raise Bad("nobody reads from the pipe '%s'" % name, 70) from None
         time.sleep(0.05)
     os.set_blocking(number, True)
-    with open(number, 'wb') as file:
-        file.write(data)
+    try:
+        with open(number, 'wb') as file:
+            file.write(data)
+    except OSError as error:
+        raise Bad("'%s' could not be written to its end: %s" % (name, error.strerror), 70) from None
 
 
 def opening(process):

@@ -11,6 +11,7 @@ HELP = '''./try FOLDER..        compiles, links and boots the system of each fol
   --trace USER        prints what this user saw in place of the boot
   --turns N           so many turns at most, in place of 100000
   --steps N           so many steps of the machine at most, in place of 1000000000 (some five seconds), and of 1000000 with --checked (some four)
+                      or --clock; with --timer 100000 times its period at most
   --picture FILE      draws the run, too, as an SVG
   --page FILE         puts a page of the run, too, to step through in a browser: one file, which needs no network
   --from A, --to B    of the picture or the page: turns A to B alone

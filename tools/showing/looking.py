@@ -147,6 +147,8 @@ class Watch:
         else:
             if int(word) % 4:
                 raise Bad('--watch %s: an address of a word is a multiple of 4' % self.name)
+            if int(word) >= 4096 * self.replay.kernel.most:
+                raise Bad('--watch %s: with `pages %d` of the parameters no user has a word past %d' % (self.name, self.replay.kernel.most, 4096 * self.replay.kernel.most - 4))
             self.read = lambda: signed_text(flat.m[int(word) // 4]) if int(word) // 4 < len(flat.m) else 'past its memory'
 
     def of_global(self, name):

@@ -41,6 +41,11 @@ class Expected(unittest.TestCase):
         self.assertIn('is missing, or out of its order', answer(['global left 0', 'global total 3', 'global ..']))
         self.assertIn("row 1 of user 2: 'reg 4 00000002' is missing", answer(['user 2 ..', 'reg 4 00000002']))
 
+    def test_rows_that_only_has_printed(self):
+        self.assertIsNone(answer(['con 00000065 101 \'e\'', 'con fffffffe -2'], ['con 00000065', 'con fffffffe', 'halted']))
+        for row in ("con 00000065 102 'e'", "con 00000065 101 'f'", 'con 00000065 101'):
+            self.assertIn('row of con', answer([row], ['con 00000065', 'halted']))
+
     def test_rows_in_their_order(self):
         within = lambda wanted: answer(wanted, is_within=True)
         self.assertIsNone(within(['halted', 'con 00000002']))

@@ -8,7 +8,7 @@ import unittest
 from unittest import mock
 
 from explain import files, pages, status as explaining
-from running import guard, kept, program, released, try_main
+from running import guard, kept, pipes, program, released, try_main
 from running.folder import BadFolder, Folder
 
 
@@ -148,6 +148,11 @@ class Full(unittest.TestCase):
             with open('/dev/full', 'wb') as full:
                 ran = subprocess.run([sys.executable, *words], cwd=pages.TOP, stdout=full, stderr=subprocess.PIPE, text=True)
             self.assertEqual((ran.returncode, 'Traceback' in ran.stderr, 'standard output could not be written' in ran.stderr), (7, False, True))
+
+    def test_a_full_file_is_named(self):
+        with self.assertRaises(guard.Bad) as caught:
+            pipes.put('/dev/full', b'x')
+        self.assertEqual((str(caught.exception), caught.exception.status), ("'/dev/full' could not be written to its end: No space left on device", 70))
 
     def test_a_closed_output_changes_nothing(self):
         for words in (['try', 'sample', '5'], ['try', 'compile', 'user', 'examples/adder/user1.s', 'out.img'], ['tools/cvm', 'sample', '5'], ['cvm', 'sample', '5']):

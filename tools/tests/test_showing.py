@@ -115,7 +115,7 @@ class Rows(unittest.TestCase):
     def test_bad_words(self):
         given = given_of(FAULTY, [ASKS])
         for words, part in ((['--watch', 'tial'], "no global 'tial'"), (['--watch', 'queue[4]'], "no part '[4]'"), (['--watch', 'user2.r1'], 'there is 1 user'),
-                            (['--watch', 'user1.r32'], 'r1 to r31'), (['--watch', 'user1.mem[2]'], 'multiple of 4'), (['--break', 'kernel.c0:2'], 'nearest that is run is 5'),
+                            (['--watch', 'user1.r32'], 'r1 to r31'), (['--watch', 'user1.mem[2]'], 'multiple of 4'), (['--watch', 'user1.mem[4096000]'], 'no user has a word past'), (['--break', 'kernel.c0:2'], 'nearest that is run is 5'),
                             (['--break', 'user1.s:99'], 'nothing is run'), (['--break', 'k:1'], 'one of the sources: kernel.c0, user1.s'), (['--break', '12'], 'FILE:LINE'),
                             (['--show', '5..2'], 'ends before it begins'), (['--show', '..2'], 'a turn stands on either side'), (['--user', '2', '--show'], 'there is 1 user'), (['--watch', 'queue[9]'], 'its parts are [0] to [3]'),
                             (['--watch', 'user1.mem[64'], 'of a user it is user1.r4'), (['--watch', 'user1.r1x'], 'of a user it is user1.r4'), (['--watch', 'tail.x'], 'it is one word')):
