@@ -72,7 +72,7 @@ class Clones(unittest.TestCase):
     def run_it(self, *words, limit=None):
         words = [self.path(words[0]), *words[1:]]
         if limit:
-            words = [os.path.join(self.bin, 'sh'), '-c', 'ulimit -%s; exec "$@"' % limit, 'sh', *words]
+            words = [os.path.join(self.bin, 'sh'), '-c', 'ulimit -S -%s; exec "$@"' % limit, 'sh', *words]
         ran = subprocess.run(words, env={'PATH': self.bin, 'TMPDIR': self.rooms}, cwd=self.rooms, stdin=subprocess.DEVNULL, stdout=subprocess.PIPE, stderr=subprocess.PIPE, text=True)
         self.assertNotIn('Traceback', ran.stderr)
         self.assertNotIn('RAN', ran.stdout)
@@ -251,6 +251,12 @@ class Run(Clones):
                 70, '', '%s: there are too few file descriptors (ulimit -n): 16 are enough; nothing was done\n' % tool))
             shutil.rmtree(self.path('out'), ignore_errors=True)
             self.assertEqual(self.run_it(tool, 'sample', '3', limit='n 16'), (0, 'ran sample 3\n', ''))
+
+    def test_with_little_stack(self):
+        for tool in ('cvm', 'try'):
+            self.assertEqual(self.run_it(tool, 'sample', '3', limit='s 200'), (
+                70, '', '%s: there is too little stack (ulimit -s): 256 KiB are enough to start, and 512 for the deepest source; nothing was done\n' % tool))
+            self.assertEqual(self.run_it(tool, 'sample', '3', limit='s 256'), (0, 'ran sample 3\n', ''))
 
     def test_without_standard_output(self):
         for word in ('', '--version', '--sources'):
