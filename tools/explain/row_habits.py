@@ -1,6 +1,8 @@
 """What a row of parameters or of a schedule has that it may not have, beyond signs and blanks: words out of their order, letters, rows that were swapped."""
 import re
 
+from explain import words as command_words
+
 ORDER = ('pages', 'frames', 'heap', 'stack')
 RANGES = ('pages are 1 to 1,024', 'frames are 2 to 16,384', 'the heap has 0 to 1,048,576 words', 'the stack has 64 to 262,144 words')
 
@@ -33,6 +35,8 @@ def of_params(row, number, rows):
         return "the rows are in the order pages, frames, heap, stack: '%s' stands here%s" % (found or wanted + ' ' + wanted[0].upper(), '' if found else ', and is missing')
     if first == wanted and re.fullmatch(r'\d+', match.group(2)) and row != '%s %s' % (wanted, match.group(2)) and not row.endswith(' '):
         return "the row is '%s %d'" % (wanted, int(match.group(2)))
+    if match and first not in ORDER and command_words.nearest(first, [wanted]) and re.fullmatch(r'\d+', match.group(2)):
+        return "the row is '%s %d'" % (wanted, int(match.group(2)))
     if re.search(r'[ =:]-\d', row):
         return 'no number has a sign'
     if re.fullmatch(r'\d+', row):
@@ -64,4 +68,7 @@ def of_schedule(row):
         return "a row has a step and a line: 'line %s 0'" % words[1]
     if words[:1] in (['lines'], ['irq'], ['interrupt'], ['timer']):
         return "the row of a line is 'line T J': at step T line J is raised"
+    near = words and command_words.nearest(words[0], ['line', 'busy', 'input'])
+    if near and near != words[0].lower():
+        return "'%s' begins no row: did you mean '%s'?" % (words[0], near)
     return None
