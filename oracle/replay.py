@@ -141,7 +141,16 @@ class Recorder(Seen):
                    value=value, function=self.meaning.frames[-1].function.name)
 
     def tested(self, statement, answer):
-        self.event('tested', statement, text=self.text(statement), answer=answer)
+        self.event('tested', statement, text=self.text(statement), answer=answer, by_part=self.deciding(statement.parts[0], answer))
+
+    def deciding(self, test, answer):
+        """The part of a test that decided: the first false one of an `&&` that is false, the first true one of an `||` that is true; None of another test."""
+        units, part = self.meaning.units, test
+        while part.kind == 'bin' and part.parts[0] == ('||' if answer else '&&'):
+            left, right = part.parts[1:]
+            part = left if self.meaning.value(left)[1] == answer else right
+        self.meaning.units = units
+        return None if part is test else self.source.part(part.span)
 
     def primitive(self, statement, name, args, answer):
         why = getattr(self.meaning, 'refusal', None)

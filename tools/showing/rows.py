@@ -78,7 +78,8 @@ class Rows:
         self.statement(event, '%s is %s' % (event.name, event.answer))
 
     def tested(self, event):
-        self.statement(event, 'true' if event.answer else 'false')
+        answer = 'true' if event.answer else 'false'
+        self.statement(event, '%s, as `%s` is' % (answer, event.by_part) if event.by_part else answer)
 
     def stored(self, event):
         what = '%s = %s%s' % (event.name, event.new, ' (was %s)' % event.old if event.old != event.new else '')

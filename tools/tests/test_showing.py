@@ -105,6 +105,12 @@ class Rows(unittest.TestCase):
         rows = shown(given_of('int n; int f() { return 7; } int dispatch(int a, int b, int c) {\n n = f();\n return 0; }', []), '--watch', 'n')
         self.assertEqual(rows[0].split()[2:6], ['kernel.c0:2', 'n:', '0', '->'])
 
+    def test_the_part_of_a_test_that_decided(self):
+        source = 'int n; int dispatch(int a, int b, int c) {\n if (a == 0 && b == 0 && n == 3 && 1 / n == 1) { n = 1; }\n if (n == 5 || b == 0 || 1 / n == 1) { n = 2; }\n'
+        source += ' if (a == 0 && b == 0) { n = 4; }\n if (a == 1 || b == 1) { n = 5; }\n return 0; }'
+        answers = [row.partition(')  ')[2].strip() for row in shown(given_of(source, []), '--show') if ' if (' in row]
+        self.assertEqual(answers, ['false, as `n == 3` is', 'true, as `b == 0` is', 'true', 'false'])
+
     def test_lines_that_are_reached(self):
         rows = shown(given_of(FAULTY, [ASKS]), '--break', 'kernel.c0:6')
         self.assertEqual(rows[:5], ['turn 2  kernel.c0:6 is reached: tail = tail + 1;',
