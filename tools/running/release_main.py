@@ -18,7 +18,7 @@ BUILT = os.path.join('crates', 'cvm', 'out', 'cvm')
 # How many bytes the packed program has at most.
 MOST = 1000000
 
-USAGE = '''release/build                  proves and builds the program from nothing, which takes some 25 minutes of four processors
+USAGE = '''release/build                  proves and builds the program from nothing, some 100 minutes of work for a processor
 release/build --from PROGRAM   takes the program that a gate or `rt run` has just built: crates/cvm/out/cvm of a clone with these sources
 Either says `the same` where it is the stored one, and else stores it.
 release/build --same PROGRAM   stores nothing; its status is 1 where a program that was just built so is another than the stored one'''
@@ -85,7 +85,7 @@ def build_in(room, rt):
         rows = [row for row in file if row.partition(':')[0].split()[:1] and row.split(':')[0].split()[0] in below]
     with open(os.path.join(room, 'crates.txt'), 'w', encoding='utf-8') as file:
         file.writelines(rows)
-    say('release/build: proves and builds the program, which takes some 25 minutes of four processors.')
+    say('release/build: proves and builds the program, which is some 100 minutes of work for a processor.')
     with open(os.path.join(room, 'log'), 'w+', encoding='utf-8', errors='replace') as log:
         subprocess.run([rt, 'run'], cwd=os.path.join(room, 'crates', 'cvm'), stdin=subprocess.DEVNULL, stdout=subprocess.DEVNULL, stderr=log)
         log.seek(0)
