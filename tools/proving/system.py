@@ -63,7 +63,7 @@ use Rattle.std.specs.Prelude.{{ℕ, List, [], ◌∷◌}}
 PROPERTY = """-- What is proved of the system {name}: its kernel, with its users.
 use Rattle.std.specs.Prelude.{{◌≡◌, ◌≤◌, ℕ, suc, ◌+◌, ℤ, pos, Bool, false, List, [], ◌∷◌, length, Some}}
 {program_uses}use Rattle.c0_meaning.specs.Value.{{Value, Values, int, bool, null, group, empty, part}}
-use Rattle.c0_meaning.specs.State.{{State}}
+use Rattle.c0_meaning.specs.State.{{C0State}}
 use Rattle.cvm_model.specs.Kernel.{{Core}}
 use Rattle.cvm_model.specs.KernelMeaning.{{kernel_meaning}}
 use Rattle.cvm_model.specs.Cvm.{{System, Cvm, cvm, IsCvm}}
@@ -76,7 +76,7 @@ pub record Data : Type 0 where
 {fields}
 
 -- its data between dispatches, and at the start
-abbrev pub data_of : Data → State
+abbrev pub data_of : Data → C0State
 data_of x = record {{ global_values = {globals}; heap_values = group {heap}; heap_words = {used}; frames = [] }}
 
 abbrev pub first : Data
@@ -116,7 +116,7 @@ use Rattle.std.specs.Prelude.{{◌==◌, if◌then◌else◌, pos}}
 use Rattle.std.proofs.lemmas.Bool.{{le-ltb}}
 use Rattle.mips_table.specs.declared.cause.Cause.{{Cause}}
 use Rattle.mips_table.specs.declared.cause.Cause.TheVariants as causes
-use Rattle.mips_table.specs.Machine.{{number_of}}
+use Rattle.mips_table.specs.Machine.{{cause_number}}
 use Rattle.mips_table.specs.Flat.{{Flat}}
 {program_uses}use Rattle.c0_meaning.proofs.Rules as rules
 use Rattle.cvm_model.specs.Kernel.{{Core, KernelMeaning}}
@@ -125,7 +125,7 @@ use Rattle.cvm_model.specs.Cvm.{{System, Running, first_core, status_of}}
 use Rattle.cvm_model.specs.Invariant.{{Dispatch, IsTrapOf, with_machine, {fit}, IsSafe, RunsAreLawful}}
 use Rattle.cvm_model.specs.Systems.{{status_after, lines_taken, KeepsAll, IsSystemInvariant}}
 use Rattle.cvm_model.proofs.Systems.{{systems_hold, status_join, lines_join}}
-use Rattle.cvm_model.proofs.KeptAll.{{all_user, all_halt}}
+use Rattle.cvm_model.proofs.KeepsSystem.{{all_user, all_halt}}
 use Rattle.kernel_theorems.proofs.Histories.{{one_more}}
 use Rattle.kernel_theorems.proofs.OneKernel.{{DoesWithin, keeps_within}}
 use Rattle.{name}.specs.Tree.{{kernel_tree}}
@@ -176,7 +176,7 @@ module _ {params}(y : System) (r : Runs {args}y) where
   -- system call. The turn's trap is one more: `suc h.traps` in `made`. Where the user's program is known, `known_trap` of kernel_theorems/proofs/UserRuns
   -- says which trap it is. It ends with `all_halt y Between k CAUSE edata past at _ refl (made ..)` where nobody is next.
   trapped : (k : ℕ) (cause : Cause) (edata : ℕ) (past : List Dispatch) (before at : Core) → IsTrapOf before cause edata at → IsUser at at.current → status_after past ≡ Running → (h : Between k past before)
-      → Goes k (number_of cause) edata past at h.values
+      → Goes k (cause_number cause) edata past at h.values
   trapped k causes.Reset edata past before at came user on h = absurd came.is
   trapped k causes.External edata past before at came user on h = absurd came.is
   trapped k other edata past before at came user on h =
@@ -196,7 +196,7 @@ module _ {params}(y : System) (r : Runs {args}y) where
     start = λ fit. keeps_within y kernel_tree r.meaning_is {units} {pages} Between 0 0 0 [] (first_core y) (data_of first) tt (ap (λ (m : KernelMeaning). m.first) r.meaning_is) started;
     line = λ k mask past at some eight fit user on h. keeps_within y kernel_tree r.meaning_is {units} {pages} Between (suc k) 1 mask past at (data_of h.0.values) h.1 h.0.data_is
         (lined (suc k) mask past at some eight user on h.0);
-    trap = λ k cause edata past before at came fit user fits one on h. keeps_within y kernel_tree r.meaning_is {units} {pages} Between (suc k) (number_of cause) edata past at (data_of h.0.values) h.1
+    trap = λ k cause edata past before at came fit user fits one on h. keeps_within y kernel_tree r.meaning_is {units} {pages} Between (suc k) (cause_number cause) edata past at (data_of h.0.values) h.1
         (ap (λ (c : Core). c.c0) came.left ∙ h.0.data_is) (trapped (suc k) cause edata past before at came one on h.0);
     step = λ k past c f e fit user fits on h. (stepped (suc k) past c f h.0, h.1);
   }}
@@ -210,7 +210,7 @@ BOOTS_SPEC = """-- What each boot of the system {name} prints: of the kernel wit
 use Rattle.std.specs.Prelude.{{◌≡◌, ◌≢◌, ℕ, suc, ◌+◌, ◌≤◌, List, [], ◌∷◌, length}}
 use Rattle.std.specs.Io.KnownBytes.{{append_known}}
 use Rattle.schedule_file.specs.Rows.{{Rows}}
-use Rattle.mips_table.specs.Device.{{Outside}}
+use Rattle.mips_table.specs.Device.{{Environment}}
 use Rattle.mips_table.specs.Machine.{{State}}
 {boot_uses}use Rattle.boot_turns.specs.declared.answers.View.TheVariants.{{Boot}}
 use Rattle.cvm_model.specs.Cvm.{{System}}
@@ -237,7 +237,7 @@ most_dispatches lines = 1 + lines
 
 -- WHAT A RUN SHOWS: the state where it stands is such; its status is no kernel's fault; and with turns and steps enough it halted, and printed the report of
 -- its last state
-pub record Shown (x : Outside) (y : System) (s : State) (late raised turns steps : ℕ) (status : Status) (text : List ℕ) : Type 0 where
+pub record Shown (x : Environment) (y : System) (s : State) (late raised turns steps : ℕ) (status : Status) (text : List ℕ) : Type 0 where
   pub shown : SystemShown x y s late raised turns steps {units} ({fit} y) (Always y) status text
   pub no_fault : status ≢ KernelFault
   pub halts : most_turns raised ≤ turns → steps_for y (most_turns raised) (most_dispatches raised) {units} {pages} + late ≤ steps → HasHalted x y s turns steps status text shown.stands
@@ -261,7 +261,7 @@ use Rattle.run_bounds.specs.Steps.{{BoundsAreSmall}}
 use Rattle.kernel_linker.specs.Sources.{{AcceptedAreOfImages}}
 use Rattle.cvm_shell.specs.Boot.{{booted, around, first_state, steps_before}}
 use Rattle.kernel_theorems.specs.Text.{{Means{means_program}}}
-use Rattle.kernel_boots.specs.Systems.{{EndsWithin}}
+use Rattle.kernel_boots.specs.Systems.{{SystemEndsWithin}}
 use Rattle.kernel_boots.proofs.Systems.{{asks_source, asked_users, systems_boot}}
 use Rattle.{name}.specs.Tree.{{kernel_tree}}
 use Rattle.{name}.specs.Text.{{text as kernel_text}}
@@ -275,7 +275,7 @@ use Rattle.{name}.proofs.Property.{{invariant}}
 -- HOW LONG IT RUNS: `below` is that a state which is still running, with so many lines taken at most, stands before the last of its turns (k < most_turns
 -- lines), and `few` that its dispatches are few (length past ≤ most_dispatches lines). Each follows by `omega` from `turns_are` or `length_is` and your
 -- fields that bound steps and traps.
-ends : (y : System) (lines : ℕ) → EndsWithin y {units} (Always y) lines (most_turns lines) (most_dispatches lines) {pages}
+ends : (y : System) (lines : ℕ) → SystemEndsWithin y {units} (Always y) lines (most_turns lines) (most_dispatches lines) {pages}
 ends y lines = record {{
   some = omega arith;
   below = λ k past c h on few. let turns = h.0.turns_are in ?;

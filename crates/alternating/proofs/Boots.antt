@@ -1,7 +1,7 @@
 -- Each boot of the system shows what was proved of its run, and its report.
 use Rattle.std.proofs.Common.{◌≡◌, ℕ, zero, suc, ◌+◌, ◌*◌, ◌≤◌, List, [], ◌∷◌, ◌++◌, length, Bool, true, false, refl, sym, ap, ap₂, ◌∙◌, subst, arith}
 use Rattle.std.specs.Prelude.{◌==◌, if◌then◌else◌}
-use Rattle.mips_table.specs.Device.{Outside}
+use Rattle.mips_table.specs.Device.{Environment}
 use Rattle.mips_table.specs.Machine.{State, Console}
 use Rattle.mips_table.specs.Turns.{TurnLaws}
 use Rattle.cvm_model.specs.Kernel.{KernelMeaning}
@@ -17,13 +17,13 @@ use Rattle.cvm_shell.specs.Boot.{booted, around, first_state, steps_before}
 use Rattle.kernel_theorems.specs.Text.{Means}
 use Rattle.kernel_theorems.specs.Lines.{by_lines}
 use Rattle.kernel_theorems.proofs.Tests.{by_same}
-use Rattle.kernel_boots.specs.Systems.{EndsWithin, HasHalted, SystemShown}
+use Rattle.kernel_boots.specs.Systems.{SystemEndsWithin, HasHalted, SystemShown}
 use Rattle.kernel_boots.proofs.Boots.{asked_read}
 use Rattle.kernel_boots.proofs.Systems.{asks_source, asked_users, stopped, systems_boot}
 use Rattle.alternating.specs.Tree.{kernel_tree}
 use Rattle.alternating.specs.Text.{text as kernel_text}
 use Rattle.alternating.specs.Users.{user_1, user_2}
-use Rattle.alternating.specs.Property.{data_of, numbers, half, leg, steps_up_to, machines, status_behind, Alternating, Runs}
+use Rattle.alternating.specs.Property.{data_of, numbers, half, leg, steps_up_to, machines, status_behind, Alternating, RunsAlternating}
 use Rattle.alternating.specs.Boots.{report_lines, AlternatingShown, AlternatingBoots}
 use Rattle.alternating.proofs.Property.{still_few, always}
 use Rattle.alternating.proofs.Reports.{reported}
@@ -49,7 +49,7 @@ all_six : (calls : ℕ) → status_behind calls ≡ Halted → calls ≡ 6
 all_six calls over = by_same calls 6 (λ e same. same) (λ e other. absurd (let z : Running ≡ Halted = sym (ap (λ b. if b then Halted else Running) e) ∙ over in cc))
 
 -- HOW LONG IT RUNS
-ends : (y : System) (lines : ℕ) → EndsWithin y 300 (Alternating y) lines (17 + lines) (7 + lines) 0
+ends : (y : System) (lines : ℕ) → SystemEndsWithin y 300 (Alternating y) lines (17 + lines) (7 + lines) 0
 ends y lines = record {
   some = omega arith;
   below = λ k past c h on few.
@@ -62,7 +62,7 @@ ends y lines = record {
 }
 
 -- WHAT IT PRINTS, where it has halted
-module _ (x : Outside) (y : System) (r : Runs y) (s : State) (late raised turns steps : ℕ) (status : Status) (text : List ℕ)
+module _ (x : Environment) (y : System) (r : RunsAlternating y) (s : State) (late raised turns steps : ℕ) (status : Status) (text : List ℕ)
     (h : SystemShown x y s late raised turns steps 300 (HasUsers y) (Alternating y) status text) where
   abbrev Halts : Type 0
   Halts = (status ≡ Done) × (length h.stands.state.rows ≤ 7 + raised) × (text ≡ rows_text h.stands.state.rows ++ by_lines report_lines)
@@ -96,10 +96,10 @@ alternating_boots images laws counts small takes rise means words status old new
     let users : s.users ≡ user_1 ∷ user_2 ∷ [] = asked_users images kernel_text (user_1 ∷ user_2 ∷ []) words old.shelf.file session s rows h.asked system in
     let (text, printed, shows) = systems_boot images laws counts small takes rise kernel_text (λ s. s.users ≡ user_1 ∷ user_2 ∷ []) 300 (λ y. HasUsers y) (λ y. Alternating y)
     (λ s rows unit roomy is few.
-    let r : Runs (booted s rows) = record { meaning_is = means s.unit s.params unit; users_are = is; room = (let stack = roomy.stack in omega (arith, stack)) } in
+    let r : RunsAlternating (booted s rows) = record { meaning_is = means s.unit s.params unit; users_are = is; room = (let stack = roomy.stack in omega (arith, stack)) } in
     (laws.counted (booted s rows) kernel_tree r.meaning_is, always (booted s rows) r))
     words status old new headlines session s rows before h some view asks users in
     let y = booted s rows in
     let read = asked_read images kernel_text words old.shelf.file session s rows h.asked asks in
-    let r : Runs y = record { meaning_is = means s.unit s.params read.unit; users_are = users; room = (let stack = read.room.stack in omega (arith, stack)) } in
+    let r : RunsAlternating y = record { meaning_is = means s.unit s.params read.unit; users_are = users; room = (let stack = read.room.stack in omega (arith, stack)) } in
     (text, printed, shown (around rows old) y r (first_state session s rows before) (steps_before session.start y) (length rows.lines) session.turns session.steps status text shows)

@@ -6,15 +6,15 @@ use Rattle.std.proofs.lemmas.Bool.{le-ltb}
 use Rattle.mips_table.specs.Arith.{signed}
 use Rattle.mips_table.specs.declared.cause.Cause.{Cause}
 use Rattle.mips_table.specs.declared.cause.Cause.TheVariants as causes
-use Rattle.mips_table.specs.Machine.{number_of}
-use Rattle.mips_table.specs.Flat.{Flat, Next as Goes, vstep}
+use Rattle.mips_table.specs.Machine.{cause_number}
+use Rattle.mips_table.specs.Flat.{Flat, Goes, vstep}
 use Rattle.cvm_model.specs.Kernel.{Core, KernelMeaning}
 use Rattle.cvm_model.specs.Primitives.{user_of, with_user}
 use Rattle.cvm_model.specs.Cvm.{System, Running, Halted, first_flat, first_core, status_of}
 use Rattle.cvm_model.specs.Invariant.{Dispatch, IsTrapOf, with_machine, HasUsers, RunsAreLawful}
 use Rattle.cvm_model.specs.Systems.{SystemProperty, status_after, lines_taken, UsePages, KeepsAll, IsSystemInvariant}
 use Rattle.cvm_model.proofs.Systems.{systems_hold, status_join, lines_join}
-use Rattle.cvm_model.proofs.KeptAll.{all_user, all_halt}
+use Rattle.cvm_model.proofs.KeepsSystem.{all_user, all_halt}
 use Rattle.kernel_theorems.specs.UserRuns.{after, CallsAfter}
 use Rattle.kernel_theorems.proofs.UserRuns.{core_of_parts, known_step, known_trap, arrives}
 use Rattle.kernel_theorems.proofs.Histories.{one_more}
@@ -22,7 +22,7 @@ use Rattle.kernel_theorems.proofs.Tests.{by_same}
 use Rattle.kernel_theorems.proofs.OneKernel.{DoesWithin, keeps_within}
 use Rattle.alternating.specs.Tree.{kernel_tree}
 use Rattle.alternating.specs.Users.{user_1, user_2}
-use Rattle.alternating.specs.Property.{data_of, half, turn_of, steps_of_1, steps_of_2, leg, steps_up_to, behind, machines, status_behind, console_of, Alternates, Alternating, Runs, UsersAlternate}
+use Rattle.alternating.specs.Property.{data_of, half, turn_of, steps_of_1, steps_of_2, leg, steps_up_to, behind, machines, status_behind, console_of, Alternates, Alternating, RunsAlternating, UsersAlternate}
 use Rattle.alternating.proofs.Users.{brings_odd, brings_even}
 
 -- a state that is running is behind five calls at most
@@ -31,7 +31,7 @@ still_few calls few on = by_same calls 6
     (λ e six. absurd (let z : Halted ≡ Running = sym (ap (λ b. if b then Halted else Running) e) ∙ on in cc))
     (λ e other. omega (arith, few, other))
 
-module _ (y : System) (r : Runs y) (f g : Flat) (odd : (c : ℕ) → c ≤ 2 → CallsAfter (behind f c) (leg c) (suc (2 * c))) (even : (c : ℕ) → c ≤ 2 → CallsAfter (behind g c) (leg c) (suc (suc (2 * c))))
+module _ (y : System) (r : RunsAlternating y) (f g : Flat) (odd : (c : ℕ) → c ≤ 2 → CallsAfter (behind f c) (leg c) (suc (2 * c))) (even : (c : ℕ) → c ≤ 2 → CallsAfter (behind g c) (leg c) (suc (suc (2 * c))))
     (users_are : map first_flat y.boot.users ≡ f ∷ g ∷ []) where
   abbrev I : SystemProperty
   I = Alternates y.input f g
@@ -160,7 +160,7 @@ module _ (y : System) (r : Runs y) (f g : Flat) (odd : (c : ℕ) → c ≤ 2 →
 
   -- A TRAP is the call of the user whose turn it is
   trapped : (k : ℕ) (cause : Cause) (edata : ℕ) (past : List Dispatch) (before at : Core) → IsTrapOf before cause edata at → status_after past ≡ Running → UsePages y 300 0 past → (h : I k past before)
-      → KeepsAll y 300 J k (number_of cause) edata past at
+      → KeepsAll y 300 J k (cause_number cause) edata past at
   trapped k cause edata past before at came on touch h =
       let few : h.calls ≤ 5 = still_few h.calls h.few (sym h.status_is ∙ on) in
       let w : Turn h.calls = turn h.calls few in
@@ -205,7 +205,7 @@ module _ (y : System) (r : Runs y) (f g : Flat) (odd : (c : ℕ) → c ≤ 2 →
     step = λ k past c next e fit user fits on h. (stepped (suc k) past c next e on h.0, h.1);
   }
 
-pub always : (y : System) → Runs y → IsSystemInvariant y 300 (HasUsers y) (Alternating y)
+pub always : (y : System) → RunsAlternating y → IsSystemInvariant y 300 (HasUsers y) (Alternating y)
 always y r = invariant y r (first_flat user_1) (first_flat user_2) brings_odd brings_even (ap (map first_flat) r.users_are)
 
 pub users_alternate : RunsAreLawful → UsersAlternate

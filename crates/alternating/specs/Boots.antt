@@ -2,7 +2,7 @@
 use Rattle.std.specs.Prelude.{◌≡◌, ◌≢◌, ℕ, ◌+◌, ◌≤◌, List, [], ◌∷◌, ◌++◌, length, codes}
 use Rattle.std.specs.Io.KnownBytes.{append_known}
 use Rattle.schedule_file.specs.Rows.{Rows}
-use Rattle.mips_table.specs.Device.{Outside}
+use Rattle.mips_table.specs.Device.{Environment}
 use Rattle.mips_table.specs.Machine.{State}
 use Rattle.boot_turns.specs.declared.answers.View.TheVariants.{Boot}
 use Rattle.cvm_model.specs.Cvm.{System}
@@ -48,7 +48,7 @@ report_lines =
 
 -- WHAT A RUN SHOWS: the state where it stands is such; its status is no kernel's fault; and under a schedule of so many `line` rows, with 17 turns and as many
 -- more as these, and with the steps of the machine for them, it is done, has halted, and printed at most 7 rows and as many more, and then that report
-pub record AlternatingShown (x : Outside) (y : System) (s : State) (late raised turns steps : ℕ) (status : Status) (text : List ℕ) : Type 0 where
+pub record AlternatingShown (x : Environment) (y : System) (s : State) (late raised turns steps : ℕ) (status : Status) (text : List ℕ) : Type 0 where
   pub shown : SystemShown x y s late raised turns steps 300 (HasUsers y) (Alternating y) status text
   pub no_fault : status ≢ KernelFault
   pub halted : 17 + raised ≤ turns → steps_for y (17 + raised) (7 + raised) 300 0 + late ≤ steps

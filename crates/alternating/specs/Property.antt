@@ -4,7 +4,7 @@ use Rattle.std.specs.Prelude.{◌≡◌, ◌≤◌, ℕ, zero, suc, ◌+◌, ◌
 use Rattle.mips_table.specs.Flat.{Flat}
 use Rattle.mips_table.specs.Machine.{Console}
 use Rattle.c0_meaning.specs.Value.{int, group, empty, part}
-use Rattle.c0_meaning.specs.State.{State}
+use Rattle.c0_meaning.specs.State.{C0State}
 use Rattle.cvm_model.specs.Kernel.{Core}
 use Rattle.cvm_model.specs.KernelMeaning.{kernel_meaning}
 use Rattle.cvm_model.specs.Cvm.{System, Cvm, Status, Running, Halted, first_flat, cvm, IsCvm}
@@ -15,7 +15,7 @@ use Rattle.alternating.specs.Tree.{kernel_tree}
 use Rattle.alternating.specs.Users.{user_1, user_2}
 
 -- the kernel's data behind so many calls
-abbrev pub data_of : ℕ → State
+abbrev pub data_of : ℕ → C0State
 data_of calls = record { global_values = group (part (int (pos calls)) empty); heap_values = group empty; heap_words = 0; frames = [] }
 
 -- the numbers that were logged by so many calls: from 1 on
@@ -94,12 +94,12 @@ abbrev pub Alternating : System → SystemProperty
 Alternating y k past c = Alternates y.input (first_flat user_1) (first_flat user_2) k past c × UsePages y 300 0 past
 
 -- a system of this kernel and these users: its stack has room for the frame of `dispatch`
-pub record Runs (y : System) : Type 0 where
+pub record RunsAlternating (y : System) : Type 0 where
   pub meaning_is : y.boot.meaning ≡ kernel_meaning kernel_tree y.boot.params
   pub users_are : y.boot.users ≡ user_1 ∷ user_2 ∷ []
   pub room : 9 ≤ y.boot.params.stack
 
 -- THE THEOREM: whatever lines are raised, each turn ends within 300 units of its dispatch, and each state from the first turn on is such
 abbrev pub UsersAlternate : Type 0
-UsersAlternate = (y : System) → Runs y → (lines : ℕ → ℕ) → HasEight lines → (k : ℕ)
+UsersAlternate = (y : System) → RunsAlternating y → (lines : ℕ → ℕ) → HasEight lines → (k : ℕ)
     → ((c : Cvm) × (cvm y lines 300 k ≡ Some c)) × ((c : Cvm) → IsCvm y lines (suc k) c → SystemHolds (HasUsers y) (Alternating y) (suc k) (dispatches_of y lines 300 (suc k)) c)

@@ -1,7 +1,7 @@
 -- Each boot of the answering system shows its sum.
 use Rattle.std.proofs.Common.{◌≡◌, ℕ, ◌+◌, ◌^◌, ◌<◌, ◌≤◌, List, [], ◌∷◌, ◌++◌, length, refl, sym, ap, ◌∙◌, subst, arith}
 use Rattle.std.specs.Prelude.{codes, pos}
-use Rattle.mips_table.specs.Device.{Outside}
+use Rattle.mips_table.specs.Device.{Environment}
 use Rattle.mips_table.specs.Machine.{State, Console}
 use Rattle.mips_table.specs.Turns.{TurnLaws}
 use Rattle.mips_table.specs.Flat.{Flat}
@@ -18,18 +18,18 @@ use Rattle.cvm_shell.specs.declared.exit_status.Status.{Status}
 use Rattle.cvm_shell.specs.declared.exit_status.Status.TheVariants.{Done}
 use Rattle.cvm_shell.specs.Boot.{booted, around, first_state, steps_before}
 use Rattle.kernel_theorems.specs.Text.{Means}
-use Rattle.kernel_boots.specs.Systems.{EndsWithin, HasHalted, SystemShown}
+use Rattle.kernel_boots.specs.Systems.{SystemEndsWithin, HasHalted, SystemShown}
 use Rattle.kernel_boots.proofs.Boots.{asked_read}
 use Rattle.kernel_boots.proofs.Systems.{asks_source, asked_users, stopped, systems_boot}
 use Rattle.answering.specs.Tree.{kernel_tree}
 use Rattle.answering.specs.Text.{text as kernel_text}
 use Rattle.kernel_theorems.specs.UserRuns.{AsksAndEnds}
-use Rattle.answering.specs.Property.{Runs, data_of, Phase, FirstAsks, FirstEnds, SecondAsks, SecondEnds, Over, traps_of, total_of, status_of_phase, most_of, gone_by, first_at, second_at, IsAnswering, Answering}
+use Rattle.answering.specs.Property.{RunsAnswering, data_of, Phase, FirstAsks, FirstEnds, SecondAsks, SecondEnds, Over, traps_of, total_of, status_of_phase, most_of, gone_by, first_at, second_at, IsAnswering, Answering}
 use Rattle.answering.specs.Boots.{report_of, ended, AnswersShown, AnyUsersAnswered}
 use Rattle.answering.proofs.Property.{invariant}
 
 abbrev runs : (one two : List ℕ) (a b c d v w : ℕ) → AsksAndEnds (first_flat one) a b v v → AsksAndEnds (first_flat two) c d w (v + w) → v + w < 2 ^ 31
-    → (y : System) → y.boot.meaning ≡ kernel_meaning kernel_tree y.boot.params → y.boot.users ≡ one ∷ two ∷ [] → 9 ≤ y.boot.params.stack → Runs y a b c d v w
+    → (y : System) → y.boot.meaning ≡ kernel_meaning kernel_tree y.boot.params → y.boot.users ≡ one ∷ two ∷ [] → 9 ≤ y.boot.params.stack → RunsAnswering y a b c d v w
 runs one two a b c d v w first second small y means users room =
     record { meaning_is = means; one = one; two = two; users_are = users; first = first; second = second; small = small; room = room }
 
@@ -64,7 +64,7 @@ over_phase Over e = refl
 
 module _ (y : System) (a b c d v w : ℕ) (f g : Flat) (lines : ℕ) where
   -- how long it runs
-  ends : EndsWithin y 100 (Answering y a b c d v w f g) lines (5 + a + b + c + d + lines) (5 + lines) 0
+  ends : SystemEndsWithin y 100 (Answering y a b c d v w f g) lines (5 + a + b + c + d + lines) (5 + lines) 0
   ends = record {
     some = omega arith;
     below = λ k past at h on few.
@@ -81,7 +81,7 @@ reported : (names : List (List ℕ)) (at : Core) (total : ℕ) (users : List Fla
     → codes "halted\n" ++ report_text names at ≡ report_of total users
 reported names at total users named data_is none same = rw (named, data_is, none, same) refl
 
-module _ (y : System) (a b c d v w : ℕ) (r : Runs y a b c d v w) (f g : Flat) (past : List Dispatch) (k : ℕ) (at : Core) (h : IsAnswering y a b c d v w f g k past at) (over : status_after past ≡ Halted) where
+module _ (y : System) (a b c d v w : ℕ) (r : RunsAnswering y a b c d v w) (f g : Flat) (past : List Dispatch) (k : ℕ) (at : Core) (h : IsAnswering y a b c d v w f g k past at) (over : status_after past ≡ Halted) where
   phase : h.phase ≡ Over
   phase = over_phase h.phase (sym h.status_is ∙ over)
 
@@ -100,7 +100,7 @@ module _ (y : System) (a b c d v w : ℕ) (r : Runs y a b c d v w) (f g : Flat) 
   report : codes "halted\n" ++ report_text y.boot.meaning.names at ≡ report_of (v + w) (ended a b v f ∷ ended c d (v + w) g ∷ [])
   report = reported y.boot.meaning.names at (v + w) (ended a b v f ∷ ended c d (v + w) g ∷ []) names data_then log_then users_then
 
-module _ (x : Outside) (y : System) (a b c d v w : ℕ) (r : Runs y a b c d v w) (f g : Flat) (s : State) (late raised turns steps : ℕ) (status : Status) (text : List ℕ)
+module _ (x : Environment) (y : System) (a b c d v w : ℕ) (r : RunsAnswering y a b c d v w) (f g : Flat) (s : State) (late raised turns steps : ℕ) (status : Status) (text : List ℕ)
     (h : SystemShown x y s late raised turns steps 100 (HasUsers y) (Answering y a b c d v w f g) status text) where
   abbrev Halts : Type 0
   Halts = (status ≡ Done) × (h.stands.state.status ≡ Halted) × (length h.stands.state.rows ≤ 5 + raised)
@@ -134,12 +134,12 @@ any_users_answered images laws counts small takes rise means one two a b c d v w
     let g = first_flat two in
     let (text, printed, shows) = systems_boot images laws counts small takes rise kernel_text (λ s. s.users ≡ one ∷ two ∷ []) 100 (λ y. HasUsers y) (λ y. Answering y a b c d v w (first_flat one) (first_flat two))
     (λ s rows unit roomy is few.
-    let r : Runs (booted s rows) a b c d v w = runs one two a b c d v w first second fits (booted s rows) (means s.unit s.params unit) is (let room = roomy.stack in omega (arith, room)) in
+    let r : RunsAnswering (booted s rows) a b c d v w = runs one two a b c d v w first second fits (booted s rows) (means s.unit s.params unit) is (let room = roomy.stack in omega (arith, room)) in
     (laws.counted (booted s rows) kernel_tree r.meaning_is, invariant (booted s rows) a b c d v w r))
     words status old new headlines session s rows before h some view asks users in
     let y = booted s rows in
     let read = asked_read images kernel_text words old.shelf.file session s rows h.asked asks in
-    let r : Runs y a b c d v w = runs one two a b c d v w first second fits y (means s.unit s.params read.unit) users (let room = read.room.stack in omega (arith, room)) in (
+    let r : RunsAnswering y a b c d v w = runs one two a b c d v w first second fits y (means s.unit s.params read.unit) users (let room = read.room.stack in omega (arith, room)) in (
       text,
       printed,
       shown (around rows old) y a b c d v w r f g (first_state session s rows before) (steps_before session.start y) (length rows.lines) session.turns session.steps status text shows,

@@ -2,7 +2,7 @@
 use Rattle.std.specs.Prelude.{codes, pos, slice_get}
 use Rattle.std.specs.Fmt.{digits, signed_decimal}
 use Rattle.std.proofs.Common.{◌≡◌, ℕ, List, [], ◌∷◌, ◌++◌, length, Some, refl, sym, ap, ◌∙◌, subst, arith}
-use Rattle.mips_table.specs.Device.{Outside}
+use Rattle.mips_table.specs.Device.{Environment}
 use Rattle.mips_table.specs.Machine.{State}
 use Rattle.mips_table.specs.Flat.{Flat}
 use Rattle.c0_tree.specs.declared.primitive.Program.TheVariants.{User}
@@ -45,7 +45,7 @@ total = refl
 with_total : (users : List Flat) → report_of 265 users ≡ codes "halted\nglobal total 265\n" ++ users_text 1 users
 with_total users = rw total refl
 
-module _ (x : Outside) (y : System) (s : State) (late raised turns steps : ℕ) (status : Status) (text : List ℕ) where
+module _ (x : Environment) (y : System) (s : State) (late raised turns steps : ℕ) (status : Status) (text : List ℕ) where
   shown : (f g : Flat) → AnswersShown x y s late raised turns steps 123 8 223 8 55 210 f g status text → AddersAnswered x y s late raised turns steps f g status text
   shown f g h = record {
     shows = h;

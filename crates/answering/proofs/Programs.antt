@@ -1,6 +1,6 @@
 -- What is known of any two users that ask and end serves two programs, which ask and end within the steps of their units.
 use Rattle.std.proofs.Common.{ℕ, suc, ◌+◌, ◌≤◌, List, [], ◌∷◌, length, subst, arith}
-use Rattle.mips_table.specs.Device.{Outside}
+use Rattle.mips_table.specs.Device.{Environment}
 use Rattle.mips_table.specs.Machine.{State}
 use Rattle.mips_table.specs.declared.cause.Cause.TheVariants.{Syscall}
 use Rattle.mips_table.specs.Flat.{Flat}
@@ -21,7 +21,7 @@ use Rattle.answering.specs.Compiled.{ProgramsAnsweredShown, AnyProgramsAnswered,
 fewer : (a b c d n k raised : ℕ) → a + b ≤ n → c + d ≤ k → 5 + a + b + c + d + raised ≤ 5 + n + k + raised
 fewer a b c d n k raised la lb = omega (arith, la, lb)
 
-module _ (x : Outside) (y : System) (s : State) (late raised turns steps : ℕ) (one two : CUnit) (n k v w : ℕ) (first : AskedAndEnded (first_flat (image_words one)) (steps_of n) v v)
+module _ (x : Environment) (y : System) (s : State) (late raised turns steps : ℕ) (one two : CUnit) (n k v w : ℕ) (first : AskedAndEnded (first_flat (image_words one)) (steps_of n) v v)
     (second : AskedAndEnded (first_flat (image_words two)) (steps_of k) w (v + w)) (status : Status) (text : List ℕ)
     (h : AnswersShown x y s late raised turns steps first.steps first.rest second.steps second.rest v w (first_flat (image_words one)) (first_flat (image_words two)) status text) where
   shown : ProgramsAnsweredShown x y s late raised turns steps one two n k v w status text

@@ -4,25 +4,25 @@ use Rattle.std.specs.Prelude.{◌==◌, if◌then◌else◌, ℤ, pos, slice_ind
 use Rattle.std.specs.Int.{w32, cast_unsigned}
 use Rattle.std.proofs.lemmas.Bool.{le-ltb}
 use Rattle.mips_table.specs.Arith.{signed}
-use Rattle.mips_table.specs.Machine.{number_of, Console}
+use Rattle.mips_table.specs.Machine.{cause_number, Console}
 use Rattle.mips_table.specs.declared.cause.Cause.{Cause}
 use Rattle.mips_table.specs.declared.cause.Cause.TheVariants.{Syscall}
-use Rattle.mips_table.specs.Flat.{Flat, Next as Goes, vstep}
-use Rattle.c0_meaning.specs.State.{State}
+use Rattle.mips_table.specs.Flat.{Flat, Goes, vstep}
+use Rattle.c0_meaning.specs.State.{C0State}
 use Rattle.cvm_model.specs.Kernel.{Core, KernelMeaning}
 use Rattle.cvm_model.specs.Primitives.{user_of, with_register}
 use Rattle.cvm_model.specs.Cvm.{System, Running, Halted, first_flat, first_core, status_of}
 use Rattle.cvm_model.specs.Invariant.{Dispatch, IsTrapOf, with_machine, HasUsers, RunsAreLawful}
 use Rattle.cvm_model.specs.Systems.{SystemProperty, status_after, lines_taken, UsePages, KeepsAll, IsSystemInvariant}
 use Rattle.cvm_model.proofs.Systems.{systems_hold, status_join, lines_join}
-use Rattle.cvm_model.proofs.KeptAll.{all_user, all_halt}
+use Rattle.cvm_model.proofs.KeepsSystem.{all_user, all_halt}
 use Rattle.kernel_theorems.specs.UserRuns.{after, told}
 use Rattle.kernel_theorems.proofs.UserRuns.{core_of_parts, known_step, KnownTrap, known_trap, arrives}
 use Rattle.kernel_theorems.proofs.Histories.{one_more}
 use Rattle.kernel_theorems.proofs.Tests.{small_sum}
 use Rattle.kernel_theorems.proofs.OneKernel.{DoesWithin, keeps_within}
 use Rattle.answering.specs.Tree.{kernel_tree}
-use Rattle.answering.specs.Property.{Runs, data_of, Phase, FirstAsks, FirstEnds, SecondAsks, SecondEnds, Over, traps_of, total_of, status_of_phase, IsTurn, most_of, gone_by, first_at, second_at, IsAnswering, Answering, AnswersAreRight}
+use Rattle.answering.specs.Property.{RunsAnswering, data_of, Phase, FirstAsks, FirstEnds, SecondAsks, SecondEnds, Over, traps_of, total_of, status_of_phase, IsTurn, most_of, gone_by, first_at, second_at, IsAnswering, Answering, AnswersAreRight}
 
 turn_within : (p : Phase) (u : ℕ) → IsTurn p u → status_of_phase p ≡ Running → (1 ≤ u) × (u ≤ 2)
 turn_within FirstAsks u e on = (omega (arith, e), omega (arith, e))
@@ -31,7 +31,7 @@ turn_within SecondAsks u e on = (omega (arith, e), omega (arith, e))
 turn_within SecondEnds u e on = (omega (arith, e), omega (arith, e))
 turn_within Over u e on = absurd (cc)
 
-module _ (y : System) (a b c d v w : ℕ) (r : Runs y a b c d v w) where
+module _ (y : System) (a b c d v w : ℕ) (r : RunsAnswering y a b c d v w) where
   abbrev f1 : Flat
   f1 = first_flat r.one
 
@@ -77,7 +77,7 @@ module _ (y : System) (a b c d v w : ℕ) (r : Runs y a b c d v w) where
       }
 
   -- the code of a dispatch, from data that is known
-  abbrev Does : (k cause edata : ℕ) → List Dispatch → Core → State → Type 0
+  abbrev Does : (k cause edata : ℕ) → List Dispatch → Core → C0State → Type 0
   Does = DoesWithin y kernel_tree r.meaning_is 100 0 I
 
   -- THE START
@@ -142,14 +142,14 @@ module _ (y : System) (a b c d v w : ℕ) (r : Runs y a b c d v w) where
 
   -- a trap that is known
   arrive : {k t steps word edata : ℕ} {cause : Cause} {past : List Dispatch} {at there : Core} → KnownTrap at there steps t Syscall word cause edata → UsePages y 100 0 past → Does k 6 word past there there.c0
-      → KeepsAll y 100 J k (number_of cause) edata past at
+      → KeepsAll y 100 J k (cause_number cause) edata past at
   arrive {k} {t} {steps} {word} {edata} {cause} {past} {at} {there} h touch does = arrives h (keeps_within y kernel_tree r.meaning_is 100 0 I k 6 word past there there.c0 touch refl does)
 
-  trapped : (k : ℕ) (cause : Cause) (edata : ℕ) (past : List Dispatch) (before at : Core) → IsTrapOf before cause edata at → status_after past ≡ Running → UsePages y 100 0 past → (h : I (suc k) past before) → KeepsAll y 100 J (suc k) (number_of cause) edata past at
+  trapped : (k : ℕ) (cause : Cause) (edata : ℕ) (past : List Dispatch) (before at : Core) → IsTrapOf before cause edata at → status_after past ≡ Running → UsePages y 100 0 past → (h : I (suc k) past before) → KeepsAll y 100 J (suc k) (cause_number cause) edata past at
   trapped k cause edata past before at came on touch h = by h.phase h.few h.turn_is h.users_are h.turns_are h.length_is h.data_is h.status_is
     where
       by : (p : Phase) → h.steps ≤ most_of a b c d p → IsTurn p before.current → before.users ≡ users_at p h.steps → suc k ≡ 1 + gone_by a b c d p + h.steps + lines_taken past → length past ≡ 1 + traps_of p + lines_taken past
-          → before.c0 ≡ data_of (pos (total_of v w p)) → status_after past ≡ status_of_phase p → KeepsAll y 100 J (suc k) (number_of cause) edata past at
+          → before.c0 ≡ data_of (pos (total_of v w p)) → status_after past ≡ status_of_phase p → KeepsAll y 100 J (suc k) (cause_number cause) edata past at
       by FirstAsks few one users turns long data_is status =
           let t = known_trap before at (users_at FirstAsks h.steps) 1 f1 a Syscall r.first.asks 12 h.steps cause edata (data_of (pos 0)) o r.first.asks_by few users one refl data_is h.console_is came in
           let last = t.last in

@@ -2,7 +2,7 @@
 use Rattle.std.specs.Prelude.{◌≡◌, ◌≢◌, ℕ, ◌+◌, ◌^◌, ◌≤◌, ◌<◌, suc, pos, List, [], ◌∷◌, ◌++◌, length, codes}
 use Rattle.std.specs.Io.KnownBytes.{append_known}
 use Rattle.schedule_file.specs.Rows.{Rows}
-use Rattle.mips_table.specs.Device.{Outside}
+use Rattle.mips_table.specs.Device.{Environment}
 use Rattle.mips_table.specs.Machine.{State}
 use Rattle.mips_table.specs.Flat.{Flat}
 use Rattle.boot_turns.specs.declared.answers.View.TheVariants.{Boot}
@@ -34,7 +34,7 @@ ended steps rest answer f = after (suc rest) (told (after (suc steps) f) answer)
 -- WHAT A RUN SHOWS of two users that ask with v and w, are answered by v and by the sum, and end: the state where it stands has the invariant; its status is no
 -- kernel's fault; and under a schedule of so many `line` rows, with as many turns more as the users' steps and five, and with the steps of the machine for
 -- them, it is done, has halted, and printed at most five rows more than there are `line` rows, and then the report, in which each user stands behind its end
-pub record AnswersShown (x : Outside) (y : System) (s : State) (late raised turns steps a b c d v w : ℕ) (f g : Flat) (status : Status) (text : List ℕ) : Type 0 where
+pub record AnswersShown (x : Environment) (y : System) (s : State) (late raised turns steps a b c d v w : ℕ) (f g : Flat) (status : Status) (text : List ℕ) : Type 0 where
   pub shown : SystemShown x y s late raised turns steps 100 (HasUsers y) (Answering y a b c d v w f g) status text
   pub no_fault : status ≢ KernelFault
   pub halted : 5 + a + b + c + d + raised ≤ turns → steps_for y (5 + a + b + c + d + raised) (5 + raised) 100 0 + late ≤ steps

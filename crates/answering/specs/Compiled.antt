@@ -2,7 +2,7 @@
 use Rattle.std.specs.Prelude.{◌≡◌, ◌≢◌, ℕ, ◌+◌, ◌*◌, ◌^◌, ◌≤◌, ◌<◌, List, [], ◌∷◌, ◌++◌, length, codes}
 use Rattle.std.specs.Io.KnownBytes.{append_known}
 use Rattle.schedule_file.specs.Rows.{Rows, longest}
-use Rattle.mips_table.specs.Device.{Outside}
+use Rattle.mips_table.specs.Device.{Environment}
 use Rattle.mips_table.specs.Machine.{State}
 use Rattle.mips_table.specs.Flat.{Flat}
 use Rattle.layer_map.specs.Map.{Map}
@@ -33,7 +33,7 @@ use Rattle.program_systems.specs.AdderTexts.{text_ten, text_twenty}
 -- WHAT A RUN SHOWS of two programs that bring v within n units and w within k, and end where they are answered by v and by the sum: each within the steps of
 -- its units; the run shows what it shows of such users, so its status is no kernel's fault; and with as many turns as these steps, the schedule's `line` rows
 -- and five, and the steps of the machine for them, it is done, has halted, and reports the sum
-pub record ProgramsAnsweredShown (x : Outside) (y : System) (s : State) (late raised turns steps : ℕ) (one two : CUnit) (n k v w : ℕ) (status : Status) (text : List ℕ) : Type 0 where
+pub record ProgramsAnsweredShown (x : Environment) (y : System) (s : State) (late raised turns steps : ℕ) (one two : CUnit) (n k v w : ℕ) (status : Status) (text : List ℕ) : Type 0 where
   pub first : AskedAndEnded (first_flat (image_words one)) (steps_of n) v v
   pub second : AskedAndEnded (first_flat (image_words two)) (steps_of k) w (v + w)
   pub shows : AnswersShown x y s late raised turns steps first.steps first.rest second.steps second.rest v w (first_flat (image_words one)) (first_flat (image_words two)) status text
@@ -64,7 +64,7 @@ AnyCountedProgramsAnswered = (one two : CUnit) (n k v w a b c d : ℕ) → Bring
     a b c d v w (first_flat (image_words one)) (first_flat (image_words two)) status text
 
 -- THE TWO ADDERS of program_systems, answered and run to their ends: with 367 turns and L more for L `line` rows
-pub record AddersAnswered (x : Outside) (y : System) (s : State) (late raised turns steps : ℕ) (f g : Flat) (status : Status) (text : List ℕ) : Type 0 where
+pub record AddersAnswered (x : Environment) (y : System) (s : State) (late raised turns steps : ℕ) (f g : Flat) (status : Status) (text : List ℕ) : Type 0 where
   pub shows : AnswersShown x y s late raised turns steps 123 8 223 8 55 210 f g status text
   pub no_fault : status ≢ KernelFault
   pub halted : 367 + raised ≤ turns → steps_for y (367 + raised) (5 + raised) 100 0 + late ≤ steps

@@ -3,7 +3,7 @@
 use Rattle.std.specs.Prelude.{◌≡◌, ◌≤◌, ◌<◌, ◌^◌, ℕ, suc, ◌+◌, ℤ, pos, List, [], ◌∷◌, length, Some}
 use Rattle.mips_table.specs.Flat.{Flat}
 use Rattle.c0_meaning.specs.Value.{int, group, empty, part}
-use Rattle.c0_meaning.specs.State.{State}
+use Rattle.c0_meaning.specs.State.{C0State}
 use Rattle.cvm_model.specs.Kernel.{Core}
 use Rattle.cvm_model.specs.KernelMeaning.{kernel_meaning}
 use Rattle.cvm_model.specs.Cvm.{System, Cvm, Status, Running, Halted, first_flat, first_core, cvm, IsCvm}
@@ -13,7 +13,7 @@ use Rattle.kernel_theorems.specs.UserRuns.{after, AsksAndEnds, told}
 use Rattle.answering.specs.Tree.{kernel_tree}
 
 -- a system of this kernel: two users, which ask with v and w, whose sum is an int, and end; and its stack has room for a frame
-pub record Runs (y : System) (a b c d v w : ℕ) : Type 0 where
+pub record RunsAnswering (y : System) (a b c d v w : ℕ) : Type 0 where
   pub meaning_is : y.boot.meaning ≡ kernel_meaning kernel_tree y.boot.params
   pub one : List ℕ
   pub two : List ℕ
@@ -24,7 +24,7 @@ pub record Runs (y : System) (a b c d v w : ℕ) : Type 0 where
   pub room : 9 ≤ y.boot.params.stack
 
 -- the kernel's data
-abbrev pub data_of : ℤ → State
+abbrev pub data_of : ℤ → C0State
 data_of total = record { global_values = group (part (int total) empty); heap_values = group empty; heap_words = 0; frames = [] }
 
 -- how far the users are
@@ -108,6 +108,6 @@ Answering y a b c d v w f g k past at = IsAnswering y a b c d v w f g k past at 
 
 -- THE THEOREM: whatever lines are raised, each turn ends within 100 units of its dispatch, and each state from the first turn on is such
 abbrev pub AnswersAreRight : Type 0
-AnswersAreRight = (y : System) (a b c d v w : ℕ) (r : Runs y a b c d v w) (lines : ℕ → ℕ) → HasEight lines → (k : ℕ)
+AnswersAreRight = (y : System) (a b c d v w : ℕ) (r : RunsAnswering y a b c d v w) (lines : ℕ → ℕ) → HasEight lines → (k : ℕ)
     → ((m : Cvm) × (cvm y lines 100 k ≡ Some m))
     × ((m : Cvm) → IsCvm y lines (suc k) m → SystemHolds (HasUsers y) (Answering y a b c d v w (first_flat r.one) (first_flat r.two)) (suc k) (dispatches_of y lines 100 (suc k)) m)

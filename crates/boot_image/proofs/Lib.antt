@@ -2,11 +2,11 @@ pub mod Loops
 pub mod Answers
 pub mod Steps
 pub mod Spelled
-pub mod Given
+pub mod FormatWords
 mod Pieces
 mod Ranges
 mod Stops
-mod Only
+mod OneAnswer
 mod Readings
 mod Stopped
-mod Some
+mod AnswersAreSo

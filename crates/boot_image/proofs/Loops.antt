@@ -2,7 +2,7 @@
 use Rattle.std.proofs.Common.{◌≡◌, ℕ, suc, ◌+◌, ◌-◌, ◌*◌, ◌<◌, ◌≤◌, ltb, All, List, [], ◌∷◌, ◌++◌, length, get_or, take, drop, map, Result, Ok, Err, inl, inr, refl, sym, ap, subst, ◌∙◌, append_assoc, arith}
 use Rattle.std.specs.List.{flat_map}
 use Rattle.std.proofs.lemmas.Grind.{flat_map-append}
-use Rattle.cvm_words.specs.Bytes.{word, words_of}
+use Rattle.cvm_words.specs.Bytes.{word, words_of_bytes}
 use Rattle.std.proofs.lemmas.Bool.{lt-ltb, le-ltb, cond-true, cond-false, cases_lt}
 use Rattle.std.proofs.lemmas.List.{at_drop_more, at_drop_all, take_more, append-nil, length-map, get_or-map}
 use Rattle.boot_image.specs.declared.fault.ImageFault.{ImageFault}
@@ -74,7 +74,7 @@ first_whole at n counts bytes is =
 pub next_whole : (at k : ℕ) (counts bytes : List ℕ) → k < length counts → users_at at (drop k counts) bytes ≡ Ok tt → FirstWhole at (get_or counts k 0) (drop (k + 1) counts) bytes
 next_whole at k counts bytes lt is = first_whole at (get_or counts k 0) (drop (k + 1) counts) bytes (sym (at_drop_more (λ cs. users_at at cs bytes) counts k 0 lt) ∙ is)
 
-pub users_of_more : (k : ℕ) (counts bytes : List ℕ) → k < length counts → users_of (drop k counts) bytes ≡ words_of (take (4 * get_or counts k 0) bytes) ∷ users_of (drop (k + 1) counts) (drop (4 * get_or counts k 0) bytes)
+pub users_of_more : (k : ℕ) (counts bytes : List ℕ) → k < length counts → users_of (drop k counts) bytes ≡ words_of_bytes (take (4 * get_or counts k 0) bytes) ∷ users_of (drop (k + 1) counts) (drop (4 * get_or counts k 0) bytes)
 unfolding users_of
 users_of_more k counts bytes lt = at_drop_more (λ cs. users_of cs bytes) counts k 0 lt
 

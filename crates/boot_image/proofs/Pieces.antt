@@ -5,12 +5,12 @@ use Rattle.std.specs.Prelude.{codes}
 use Rattle.std.specs.List.{concat, flat_map}
 use Rattle.cvm_words.specs.Bytes.{word}
 use Rattle.cvm_words.proofs.BytesOfWords.{length-word}
-use Rattle.boot_image.specs.Parts.{Parts}
+use Rattle.boot_image.specs.Parts.{ImageParts}
 use Rattle.boot_image.specs.Format.{fields, spelling}
 use Rattle.boot_image.specs.Answer.{pieces}
 
 -- the source, the linked words, and the words of each user
-abbrev pub parts : Parts → List (List ℕ)
+abbrev pub parts : ImageParts → List (List ℕ)
 parts i = i.source ∷ flat_map word i.words ∷ map (flat_map word) i.users
 
 pub concat-append : (xs ys : List (List ℕ)) → concat (xs ++ ys) ≡ concat xs ++ concat ys
@@ -21,10 +21,10 @@ pub concat-map : {X : Type 0} (f : X → List ℕ) (xs : List X) → concat (map
 concat-map f [] = refl
 concat-map f (x ∷ xs) = ap (λ (l : List ℕ). f x ++ l) (concat-map f xs)
 
-pub parts_spell : (i : Parts) → concat (parts i) ≡ i.source ++ (flat_map word i.words ++ flat_map (flat_map word) i.users)
+pub parts_spell : (i : ImageParts) → concat (parts i) ≡ i.source ++ (flat_map word i.words ++ flat_map (flat_map word) i.users)
 parts_spell i = ap (λ (l : List ℕ). i.source ++ (flat_map word i.words ++ l)) (concat-map (flat_map word) i.users)
 
-pub pieces_spell : (i : Parts) → concat (pieces i) ≡ spelling i
+pub pieces_spell : (i : ImageParts) → concat (pieces i) ≡ spelling i
 pieces_spell i =
     ap (λ (l : List ℕ). codes "CVMI" ++ l)
     (concat-append (map word (fields i)) (parts i) ∙ ap (λ (l : List ℕ). l ++ concat (parts i)) (concat-map word (fields i))

@@ -8,7 +8,7 @@ use Rattle.std.proofs.lemmas.List.{length-append, length-map, length-replicate}
 use Rattle.std.proofs.lemmas.List.Elements.{All-from_recursion, recursion_from_All}
 use Rattle.layer_map.specs.declared.params.Params.{Params}
 use Rattle.layer_map.specs.Map.{ParamsInRange}
-use Rattle.boot_image.specs.Parts.{Parts}
+use Rattle.boot_image.specs.Parts.{ImageParts}
 use Rattle.boot_image.specs.Format.{fields, most_words, AreWords}
 use Rattle.boot_image.proofs.Steps.{system, sizes_of, Fits}
 
@@ -124,26 +124,26 @@ and_zeros most [] m all = none_above most m
 and_zeros most (c ∷ counts) m all = (all.0, and_zeros most counts m all.1)
 
 -- the fields of an image that fits
-pub record Example (IsFit : Parts → Type 0) (numbers : List ℕ) : Type 0 where
-  pub image : Parts
+pub record Example (IsFit : ImageParts → Type 0) (numbers : List ℕ) : Type 0 where
+  pub image : ImageParts
   pub fit : IsFit image
   pub is : fields image ≡ numbers
 
 -- these are the first numbers of an image that fits, behind its form, and it has so many more as the number of users says
-pub record Begun (IsFit : Parts → Type 0) (form : ℕ) (first : List ℕ) : Type 0 where
+pub record Begun (IsFit : ImageParts → Type 0) (form : ℕ) (first : List ℕ) : Type 0 where
   pub rest : List ℕ
   pub example : Example IsFit (form ∷ (first ++ rest))
   pub many : length (first ++ rest) ≡ 7 + get_or first 0 0
 
 -- the limits of a form
-pub record Limits (IsFit : Parts → Type 0) (form mu mp : ℕ) : Type 0 where
+pub record Limits (IsFit : ImageParts → Type 0) (form mu mp : ℕ) : Type 0 where
   pub other : nat_eq form 1 ≡ false
   pub users : mu ≤ 64
   pub a_page : 1 ≤ mp
   pub pages : mp ≤ 1024
   pub fit : (p : Params) (source words : List ℕ) (us : List (List ℕ)) → Fits mu mp p source words us → IsFit (system form p source words us)
 
-module _ (IsFit : Parts → Type 0) (form mu mp : ℕ) (limits : Limits IsFit form mu mp) where
+module _ (IsFit : ImageParts → Type 0) (form mu mp : ℕ) (limits : Limits IsFit form mu mp) where
   exemplified : (p : Params) (users n k : ℕ) (done : List ℕ) (m : ℕ) → ParamsInRange p → p.pages ≤ mp → users ≤ mu → n ≤ 1048576 → 16384 ≤ k → k ≤ 4194304 → length done + m ≡ users → AllByRecursion (λ c. c ≤ most_words p.pages) done → Example IsFit (form ∷ seven p users n k (done ++ replicate m 0))
   exemplified p users n k done m range pages few source least most many sizes =
       let counts : List ℕ = done ++ replicate m 0 in

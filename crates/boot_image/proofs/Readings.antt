@@ -10,9 +10,9 @@ use Rattle.std.proofs.lemmas.Slice.Eq.{bytes_eq-Decides}
 use Rattle.layer_map.specs.declared.params.Params.{Params}
 use Rattle.boot_image.specs.declared.fault.ImageFault.{ImageFault}
 use Rattle.boot_image.specs.declared.fault.ImageFault.TheVariants.{Magic, Truncated, Trailing, Parameter, Memory}
-use Rattle.boot_image.specs.Parts.{Parts}
+use Rattle.boot_image.specs.Parts.{ImageParts}
 use Rattle.boot_image.specs.Format.{fields, spelling, bare_params, AreWords, IsOldSystem, IsInRange, IsOldInRange}
-use Rattle.boot_image.specs.Answer.{pieces, IsAnswer}
+use Rattle.boot_image.specs.Answer.{pieces, IsImageAnswer}
 use Rattle.boot_image.specs.Reading.{mark_at, form_at, bare_at, header_of, old_header_of, answer, old_answer}
 use Rattle.cvm_words.specs.Bytes.{word}
 use Rattle.boot_image.proofs.Answers.{Found, answer_by, old_answer_by}
@@ -20,7 +20,7 @@ use Rattle.boot_image.proofs.Steps.{step, mark_whole, form_one, form_two, bare_w
 use Rattle.boot_image.proofs.Spelled.{number_short, number_out}
 use Rattle.boot_image.proofs.Ranges.{behind_form, Begun, Limits, begun}
 use Rattle.boot_image.proofs.Stops.{stop}
-use Rattle.boot_image.proofs.Only.{NoneHas, marked, Reads, Headed, cut_so, wrong_so, go_so, system_headed}
+use Rattle.boot_image.proofs.OneAnswer.{NoneHas, marked, Reads, Headed, cut_so, wrong_so, go_so, system_headed}
 
 -- ---- the mark
 
@@ -80,7 +80,7 @@ pub old_limits : Limits IsOldInRange 2 16 256
 old_limits = record { other = refl; users = omega arith; a_page = omega arith; pages = omega arith; fit = two_fit }
 
 -- a form that an image has is none that no image has
-has_form : (IsFit : Parts → Type 0) (form mu mp : ℕ) → Limits IsFit form mu mp → NoneHas IsFit [] form → ⊥
+has_form : (IsFit : ImageParts → Type 0) (form mu mp : ℕ) → Limits IsFit form mu mp → NoneHas IsFit [] form → ⊥
 has_form IsFit form mu mp l none =
     let b : Begun IsFit form [] = begun IsFit form mu mp l [] tt (omega arith) in
     none b.example.image b.example.fit (ap (take 1) b.example.is)
@@ -166,9 +166,9 @@ module _ (source : List ℕ) (few : length source ≤ 1048576) where
 -- ---- all images
 
 -- what is so of bytes that begin as an image is answered
-record IsSo (IsFit : Parts → Type 0) (read : List ℕ → Result Parts ImageFault) (i : Parts) : Type 0 where
+record IsSo (IsFit : ImageParts → Type 0) (read : List ℕ → Result ImageParts ImageFault) (i : ImageParts) : Type 0 where
   cut : (whole : ℕ) (left : List ℕ) → length left < length (get_or (pieces i) whole []) → read (concat (take whole (pieces i)) ++ left) ≡ Err (Truncated (length (concat (take whole (pieces i)))))
-  wrong : (before : ℕ) (left : List ℕ) (value : ℕ) → before < length (fields i) → value < 2 ^ 32 → ((other : Parts) → IsFit other → take (suc before) (fields other) ≢ take before (fields i) ++ value ∷ []) → read (codes "CVMI" ++ (flat_map word (take before (fields i)) ++ (word value ++ left))) ≡ Err (Parameter (suc before) value)
+  wrong : (before : ℕ) (left : List ℕ) (value : ℕ) → before < length (fields i) → value < 2 ^ 32 → ((other : ImageParts) → IsFit other → take (suc before) (fields other) ≢ take before (fields i) ++ value ∷ []) → read (codes "CVMI" ++ (flat_map word (take before (fields i)) ++ (word value ++ left))) ≡ Err (Parameter (suc before) value)
   go : (left : List ℕ) → 0 < length left → read (spelling i ++ left) ≡ Err (Trailing (length (spelling i)))
 
 bare_so : (source : List ℕ) → length source ≤ 1048576 → IsSo IsInRange answer (bare source)
@@ -184,7 +184,7 @@ bare_so source few =
 three_so : (p : Params) (source words : List ℕ) (us : List (List ℕ)) → Fits 64 1024 p source words us → IsSo IsInRange answer (system 3 p source words us)
 three_so p source words us s =
     let ns : List ℕ = 3 ∷ behind_form p source words us in
-    let i : Parts = system 3 p source words us in
+    let i : ImageParts = system 3 p source words us in
     let h : Headed IsInRange header_of ns i = system_headed IsInRange answer header_of reads 3 64 1024 limits header_three p source words us s in
     record {
       cut = cut_so IsInRange answer header_of reads ns i h;
@@ -195,7 +195,7 @@ three_so p source words us s =
 two_so : (p : Params) (source words : List ℕ) (us : List (List ℕ)) → Fits 16 256 p source words us → IsSo IsOldInRange old_answer (system 2 p source words us)
 two_so p source words us s =
     let ns : List ℕ = 2 ∷ behind_form p source words us in
-    let i : Parts = system 2 p source words us in
+    let i : ImageParts = system 2 p source words us in
     let h : Headed IsOldInRange old_header_of ns i = system_headed IsOldInRange old_answer old_header_of old_reads 2 16 256 old_limits header_two p source words us s in
     record {
       cut = cut_so IsOldInRange old_answer old_header_of old_reads ns i h;
@@ -203,7 +203,7 @@ two_so p source words us s =
       go = go_so IsOldInRange old_answer old_header_of old_reads ns i h;
     }
 
-all_so : (i : Parts) → IsInRange i → IsSo IsInRange answer i
+all_so : (i : ImageParts) → IsInRange i → IsSo IsInRange answer i
 all_so i fits =
     elim fits.spelled.form [
       | inl b ↦ subst (IsSo IsInRange answer) (sym (bare_same i b)) (bare_so i.source fits.spelled.source)
@@ -212,15 +212,15 @@ all_so i fits =
           subst (IsSo IsInRange answer) (sym (system_same 3 i s.form)) (three_so i.params i.source i.words i.users all)
     ]
 
-old_all_so : (i : Parts) → IsOldInRange i → IsSo IsOldInRange old_answer i
+old_all_so : (i : ImageParts) → IsOldInRange i → IsSo IsOldInRange old_answer i
 old_all_so i fits =
     let s : IsOldSystem i = fits.spelled.system in
     let all : Fits 16 256 i.params i.source i.words i.users = record { params = s.params; pages = s.pages; least = s.least; most = s.most; few = s.users; sizes = s.sizes; source = fits.spelled.source; bits = fits.bits; user_bits = fits.user_bits } in
     subst (IsSo IsOldInRange old_answer) (sym (system_same 2 i s.form)) (two_so i.params i.source i.words i.users all)
 
-module _ (IsFit : Parts → Type 0) (read : List ℕ → Result Parts ImageFault) (head : List ℕ → Found) (by : Reads IsFit read head) (back : (i : Parts) → IsFit i → read (spelling i) ≡ Ok i) (so : (i : Parts) → IsFit i → IsSo IsFit read i) where
+module _ (IsFit : ImageParts → Type 0) (read : List ℕ → Result ImageParts ImageFault) (head : List ℕ → Found) (by : Reads IsFit read head) (back : (i : ImageParts) → IsFit i → read (spelling i) ≡ Ok i) (so : (i : ImageParts) → IsFit i → IsSo IsFit read i) where
   -- what is so of bytes is answered
-  is_read : (bytes : List ℕ) (r : Result Parts ImageFault) → IsAnswer IsFit bytes r → read bytes ≡ r
+  is_read : (bytes : List ℕ) (r : Result ImageParts ImageFault) → IsImageAnswer IsFit bytes r → read bytes ≡ r
   is_read bytes (Ok i) is = ap read is.1 ∙ back i is.0
   is_read bytes (Err Magic) is = by.by bytes (Err Magic) (by.mark_other bytes is.0 is.1)
   is_read bytes (Err (Truncated at)) is = ap read is.spelled ∙ (so is.image is.fit).cut is.whole is.left is.short ∙ ap (λ (n : ℕ). Err (Truncated n)) (sym is.place)
@@ -228,8 +228,8 @@ module _ (IsFit : Parts → Type 0) (read : List ℕ → Result Parts ImageFault
   is_read bytes (Err (Trailing at)) is = ap read is.spelled ∙ (so is.image is.fit).go is.left is.more ∙ ap (λ (n : ℕ). Err (Trailing n)) (sym is.place)
   is_read bytes (Err Memory) is = absurd is
 
-pub answer_only : (bytes : List ℕ) (r : Result Parts ImageFault) → IsAnswer IsInRange bytes r → answer bytes ≡ r
+pub answer_only : (bytes : List ℕ) (r : Result ImageParts ImageFault) → IsImageAnswer IsInRange bytes r → answer bytes ≡ r
 answer_only = is_read IsInRange answer header_of reads read_back all_so
 
-pub old_answer_only : (bytes : List ℕ) (r : Result Parts ImageFault) → IsAnswer IsOldInRange bytes r → old_answer bytes ≡ r
+pub old_answer_only : (bytes : List ℕ) (r : Result ImageParts ImageFault) → IsImageAnswer IsOldInRange bytes r → old_answer bytes ≡ r
 old_answer_only = is_read IsOldInRange old_answer old_header_of old_reads old_read_back old_all_so

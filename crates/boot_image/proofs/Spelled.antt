@@ -12,8 +12,8 @@ use Rattle.layer_map.specs.Map.{ParamsInRange}
 use Rattle.boot_image.specs.declared.fault.ImageFault.{ImageFault}
 use Rattle.boot_image.specs.declared.fault.ImageFault.TheVariants.{Truncated, Parameter}
 use Rattle.boot_image.specs.declared.reading.Header.{Header}
-use Rattle.boot_image.specs.Parts.{Parts}
-use Rattle.cvm_words.specs.Bytes.{word, words_of}
+use Rattle.boot_image.specs.Parts.{ImageParts}
+use Rattle.cvm_words.specs.Bytes.{word, words_of_bytes}
 use Rattle.boot_image.specs.Format.{spelling, bare_params, most_words, AreWords, IsSystem, IsOldSystem, IsInRange, IsOldInRange}
 use Rattle.boot_image.specs.Reading.{◌>>=◌, mark_at, number_at, form_at, params_at, counts_at, bare_at, system_at, header_of, old_header_of, part_at, users_at, parts_of, image_of, users_of, answer, old_answer}
 use Rattle.cvm_words.proofs.BytesOfWords.{length-word, number-word, words_of-words, IsBytes, IsBytes-drop, IsBytes-take, Front, front, Made, made}
@@ -237,7 +237,7 @@ parts_are h counts bytes x got fits =
     let u : UsersAre counts b.x.1 = users_are (h.parts_at + h.source_length + 4 * h.word_count) counts b.x.1 c.is w.fits in
     let m : Made h.word_count b.x.0 = made h.word_count b.x.0 w.part w.many in
     let same : (a.x.0, (b.x.0, b.x.1)) ≡ x = one_is _ (a.x.0, (b.x.0, b.x.1)) x refl c.next in
-    let words : words_of b.x.0 ≡ m.words = ap words_of m.is ∙ words_of-words m.words m.small in
+    let words : words_of_bytes b.x.0 ≡ m.words = ap words_of_bytes m.is ∙ words_of-words m.words m.small in
     let users : users_of counts b.x.1 ≡ u.users = ap (λ (l : List ℕ). users_of l b.x.1) (sym u.many) ∙ ap (users_of (map length u.users)) u.is ∙ users_read u.users u.bits in
     subst (λ (y : List ℕ × (List ℕ × List ℕ)). PartsAre h counts bytes y) same
     (record {
@@ -363,7 +363,7 @@ pub sizes_back : (most : ℕ) (users : List (List ℕ)) → AllByRecursion (λ n
 sizes_back most [] fits = tt
 sizes_back most (u ∷ users) fits = (fits.0, sizes_back most users fits.1)
 
-abbrev IsSpelled : List ℕ → Parts → Type 0
+abbrev IsSpelled : List ℕ → ImageParts → Type 0
 IsSpelled bytes i = IsInRange i × (bytes ≡ spelling i)
 
 bare_spelled : (bytes source : List ℕ) → length source ≤ 1048576 → bytes ≡ codes "CVMI" ++ onto (1 ∷ length source ∷ []) (source ++ []) → IsSpelled bytes (bare source)
@@ -393,14 +393,14 @@ bare_from bytes x y b h =
     (p.is ∙ ap (λ (ws : List ℕ). p.source ++ (flat_map word ws ++ flat_map (flat_map word) p.users)) none ∙ ap (λ (us : List (List ℕ)). p.source ++ flat_map (flat_map word) us) alone) in
     subst (IsSpelled bytes) (sym image) (bare_spelled bytes p.source (omega (arith, p.source_many, b.few)) spelled)
 
-abbrev IsOldSpelled : List ℕ → Parts → Type 0
+abbrev IsOldSpelled : List ℕ → ImageParts → Type 0
 IsOldSpelled bytes i = IsOldInRange i × (bytes ≡ spelling i)
 
 abbrev system_bytes : ℕ → Params → ℕ → ℕ → ℕ → List ℕ → List ℕ → List ℕ
 system_bytes form p users n k counts rest = codes "CVMI" ++ (word form ++ (word users ++ onto (p.pages ∷ p.frames ∷ p.heap ∷ p.stack ∷ []) (word n ++ (word k ++ onto counts rest))))
 
 -- an image of a system of a form, with so many users and pages of a user at most, and the bytes that spell it
-record Whole (form most_users most_pages : ℕ) (bytes : List ℕ) (image : Parts) : Type 0 where
+record Whole (form most_users most_pages : ℕ) (bytes : List ℕ) (image : ImageParts) : Type 0 where
   params : Params
   source : List ℕ
   words : List ℕ
@@ -449,21 +449,21 @@ whole_from form users pages bytes x y b h =
           ∙ ap (λ (l : List ℕ). codes "CVMI" ++ l) (sym (words-onto numbers rest));
     }
 
-three_spelled : (bytes : List ℕ) (image : Parts) → Whole 3 64 1024 bytes image → IsSpelled bytes image
+three_spelled : (bytes : List ℕ) (image : ImageParts) → Whole 3 64 1024 bytes image → IsSpelled bytes image
 three_spelled bytes image w =
-    let i : Parts = system 3 w.params w.source w.words w.users in
+    let i : ImageParts = system 3 w.params w.source w.words w.users in
     let system_range : IsSystem i = record { form = refl; params = w.range; least = w.least; most = w.most; users = w.few_users; sizes = w.sizes } in
     let in_range : IsInRange i = record { spelled = record { source = w.few; form = inr system_range }; bits = w.bits; user_bits = w.user_bits } in
     subst (IsSpelled bytes) (sym w.is) (in_range, w.spelled)
 
-two_spelled : (bytes : List ℕ) (image : Parts) → Whole 2 16 256 bytes image → IsOldSpelled bytes image
+two_spelled : (bytes : List ℕ) (image : ImageParts) → Whole 2 16 256 bytes image → IsOldSpelled bytes image
 two_spelled bytes image w =
-    let i : Parts = system 2 w.params w.source w.words w.users in
+    let i : ImageParts = system 2 w.params w.source w.words w.users in
     let system_range : IsOldSystem i = record { form = refl; params = w.range; pages = w.pages; least = w.least; most = w.most; users = w.few_users; sizes = w.sizes } in
     let in_range : IsOldInRange i = record { spelled = record { source = w.few; system = system_range }; bits = w.bits; user_bits = w.user_bits } in
     subst (IsOldSpelled bytes) (sym w.is) (in_range, w.spelled)
 
-pub answer_spelled : (bytes : List ℕ) → IsBytes bytes → (image : Parts) → answer bytes ≡ Ok image → IsSpelled bytes image
+pub answer_spelled : (bytes : List ℕ) → IsBytes bytes → (image : ImageParts) → answer bytes ≡ Ok image → IsSpelled bytes image
 unfolding answer
 answer_spelled bytes fits image h =
     let a = went (header_of bytes) _ image h in
@@ -475,7 +475,7 @@ answer_spelled bytes fits image h =
       | inr system ↦ three_spelled bytes _ (whole_from 3 64 1024 bytes a.x b.x system b.is)
     ])
 
-pub old_answer_spelled : (bytes : List ℕ) → IsBytes bytes → (image : Parts) → old_answer bytes ≡ Ok image → IsOldSpelled bytes image
+pub old_answer_spelled : (bytes : List ℕ) → IsBytes bytes → (image : ImageParts) → old_answer bytes ≡ Ok image → IsOldSpelled bytes image
 unfolding old_answer
 old_answer_spelled bytes fits image h =
     let a = went (old_header_of bytes) _ image h in

@@ -12,8 +12,8 @@ use Rattle.layer_map.specs.Map.{ParamsInRange}
 use Rattle.boot_image.specs.declared.fault.ImageFault.{ImageFault}
 use Rattle.boot_image.specs.declared.fault.ImageFault.TheVariants.{Parameter}
 use Rattle.boot_image.specs.declared.reading.Header.{Header}
-use Rattle.boot_image.specs.Parts.{Parts}
-use Rattle.cvm_words.specs.Bytes.{word, words_of}
+use Rattle.boot_image.specs.Parts.{ImageParts}
+use Rattle.cvm_words.specs.Bytes.{word, words_of_bytes}
 use Rattle.boot_image.specs.Format.{spelling, bare_params, most_words, AreWords, IsBare, IsOldSystem, HasOldSpelling, IsInRange, IsOldInRange}
 use Rattle.boot_image.specs.Reading.{◌>>=◌, mark_at, number_at, form_at, params_at, counts_at, bare_at, system_at, header_of, old_header_of, part_at, users_at, parts_of, users_of, answer, old_answer}
 use Rattle.cvm_words.proofs.BytesOfWords.{length-word, number-word, length-words, words_of-words}
@@ -141,10 +141,10 @@ pub sizes_of : (most : ℕ) (users : List (List ℕ)) → AllByRecursion (λ u. 
 sizes_of most [] fits = tt
 sizes_of most (u ∷ users) fits = (fits.0, sizes_of most users fits.1)
 
-abbrev pub bare : List ℕ → Parts
+abbrev pub bare : List ℕ → ImageParts
 bare source = record { params = bare_params; form = 1; source = source; words = []; users = [] }
 
-pub bare_same : (i : Parts) → IsBare i → i ≡ bare i.source
+pub bare_same : (i : ImageParts) → IsBare i → i ≡ bare i.source
 bare_same i b =
     ap (λ (p : Params). record { params = p; form = i.form; source = i.source; words = i.words; users = i.users }) b.params
     ∙ ap (λ (n : ℕ). record { params = bare_params; form = n; source = i.source; words = i.words; users = i.users }) b.form
@@ -152,7 +152,7 @@ bare_same i b =
     ∙ ap (λ (us : List (List ℕ)). record { params = bare_params; form = 1; source = i.source; words = []; users = us }) b.users
 
 bare_read : (source : List ℕ) → length source ≤ 1048576 → answer (spelling (bare source)) ≡ Ok (bare source)
-unfolding words_of users_of
+unfolding words_of_bytes users_of
 bare_read source few =
     let h : Header = record { form = 1; params = bare_params; source_length = length source; word_count = 0; parts_at = 12 } in
     let rest : List ℕ = source ++ (flat_map word [] ++ flat_map (flat_map word) []) in
@@ -160,7 +160,7 @@ bare_read source few =
     ∙ answer_by (codes "CVMI" ++ onto (1 ∷ length source ∷ []) rest) (Ok (h, ([], rest))) (bare_whole (length source) rest few)
     ∙ answered_parts h [] rest (Ok (source, ([], []))) (parts_whole h source [] [] refl refl)
 
-abbrev pub system : ℕ → Params → List ℕ → List ℕ → List (List ℕ) → Parts
+abbrev pub system : ℕ → Params → List ℕ → List ℕ → List (List ℕ) → ImageParts
 system form p source words users = record { params = p; form = form; source = source; words = words; users = users }
 
 -- the spelling of a system of a form
@@ -168,7 +168,7 @@ abbrev pub system_spelling : ℕ → Params → List ℕ → List ℕ → List (
 system_spelling form p source words users =
     codes "CVMI" ++ (flat_map word (form ∷ length users ∷ p.pages ∷ p.frames ∷ p.heap ∷ p.stack ∷ length source ∷ length words ∷ map length users) ++ (source ++ (flat_map word words ++ flat_map (flat_map word) users)))
 
-pub system_same : (form : ℕ) (i : Parts) → i.form ≡ form → i ≡ system form i.params i.source i.words i.users
+pub system_same : (form : ℕ) (i : ImageParts) → i.form ≡ form → i ≡ system form i.params i.source i.words i.users
 system_same form i is = ap (λ (n : ℕ). record { params = i.params; form = n; source = i.source; words = i.words; users = i.users }) is
 
 -- what holds of a system with so many users and pages of a user at most
@@ -205,22 +205,22 @@ three_read p source words us s = answer_by (spelling (system 3 p source words us
 two_read : (p : Params) (source words : List ℕ) (us : List (List ℕ)) → Fits 16 256 p source words us → old_answer (spelling (system 2 p source words us)) ≡ Ok (system 2 p source words us)
 two_read p source words us s = old_answer_by (spelling (system 2 p source words us)) _ refl ∙ system_read 2 16 256 p source words us old_header_of (omega arith) s header_two
 
-pub read_back : (i : Parts) → IsInRange i → answer (spelling i) ≡ Ok i
+pub read_back : (i : ImageParts) → IsInRange i → answer (spelling i) ≡ Ok i
 read_back i fits =
     elim fits.spelled.form [
-      | inl b ↦ let same = bare_same i b in ap (λ (j : Parts). answer (spelling j)) same ∙ bare_read i.source fits.spelled.source ∙ ap (λ (j : Parts). Ok j) (sym same)
+      | inl b ↦ let same = bare_same i b in ap (λ (j : ImageParts). answer (spelling j)) same ∙ bare_read i.source fits.spelled.source ∙ ap (λ (j : ImageParts). Ok j) (sym same)
       | inr s ↦
           let same = system_same 3 i s.form in
           let all : Fits 64 1024 i.params i.source i.words i.users = record { params = s.params; pages = s.params.pages; least = s.least; most = s.most; few = s.users; sizes = s.sizes; source = fits.spelled.source; bits = fits.bits; user_bits = fits.user_bits } in
-          ap (λ (j : Parts). answer (spelling j)) same ∙ three_read i.params i.source i.words i.users all ∙ ap (λ (j : Parts). Ok j) (sym same)
+          ap (λ (j : ImageParts). answer (spelling j)) same ∙ three_read i.params i.source i.words i.users all ∙ ap (λ (j : ImageParts). Ok j) (sym same)
     ]
 
-pub old_read_back : (i : Parts) → IsOldInRange i → old_answer (spelling i) ≡ Ok i
+pub old_read_back : (i : ImageParts) → IsOldInRange i → old_answer (spelling i) ≡ Ok i
 old_read_back i fits =
     let s : IsOldSystem i = fits.spelled.system in
     let same = system_same 2 i s.form in
     let all : Fits 16 256 i.params i.source i.words i.users = record { params = s.params; pages = s.pages; least = s.least; most = s.most; few = s.users; sizes = s.sizes; source = fits.spelled.source; bits = fits.bits; user_bits = fits.user_bits } in
-    ap (λ (j : Parts). old_answer (spelling j)) same ∙ two_read i.params i.source i.words i.users all ∙ ap (λ (j : Parts). Ok j) (sym same)
+    ap (λ (j : ImageParts). old_answer (spelling j)) same ∙ two_read i.params i.source i.words i.users all ∙ ap (λ (j : ImageParts). Ok j) (sym same)
 
 two_refused : (p : Params) (source words : List ℕ) (us : List (List ℕ)) → answer (spelling (system 2 p source words us)) ≡ Err (Parameter 1 2)
 two_refused p source words us =
@@ -229,5 +229,5 @@ two_refused p source words us =
     ap (λ (l : List ℕ). answer (codes "CVMI" ++ l)) (words-onto (2 ∷ numbers) rest)
     ∙ answer_by (codes "CVMI" ++ onto (2 ∷ numbers) rest) (Err (Parameter 1 2)) (header_refused (onto numbers rest))
 
-pub old_refused : (i : Parts) → HasOldSpelling i → answer (spelling i) ≡ Err (Parameter 1 2)
-old_refused i fits = ap (λ (j : Parts). answer (spelling j)) (system_same 2 i fits.system.form) ∙ two_refused i.params i.source i.words i.users
+pub old_refused : (i : ImageParts) → HasOldSpelling i → answer (spelling i) ≡ Err (Parameter 1 2)
+old_refused i fits = ap (λ (j : ImageParts). answer (spelling j)) (system_same 2 i fits.system.form) ∙ two_refused i.params i.source i.words i.users

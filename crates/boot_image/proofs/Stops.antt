@@ -7,7 +7,7 @@ use Rattle.layer_map.specs.declared.params.Params.{Params}
 use Rattle.boot_image.specs.declared.fault.ImageFault.{ImageFault}
 use Rattle.boot_image.specs.declared.fault.ImageFault.TheVariants.{Truncated, Trailing}
 use Rattle.boot_image.specs.declared.reading.Header.{Header}
-use Rattle.boot_image.specs.Parts.{Parts}
+use Rattle.boot_image.specs.Parts.{ImageParts}
 use Rattle.boot_image.specs.Format.{most_words}
 use Rattle.boot_image.specs.Reading.{◌>>=◌, number_at, params_at, counts_at, system_at, users_at, parts_of}
 use Rattle.cvm_words.specs.Bytes.{word}
@@ -116,11 +116,11 @@ users_go at (u ∷ us) left more =
     (omega (arith, length-append (flat_map word u) others, length-words u))
 
 -- the sizes of an image's parts are those of a header
-pub record Sized (h : Header) (i : Parts) : Type 0 where
+pub record Sized (h : Header) (i : ImageParts) : Type 0 where
   pub source : length i.source ≡ h.source_length
   pub words : length i.words ≡ h.word_count
 
-pub parts_stop : (h : Header) (i : Parts) → Sized h i → (j : ℕ) (left : List ℕ) → length left < length (get_or (parts i) j []) → parts_of h (map length i.users) (concat (take j (parts i)) ++ left) ≡ Err (Truncated (h.parts_at + length (concat (take j (parts i)))))
+pub parts_stop : (h : Header) (i : ImageParts) → Sized h i → (j : ℕ) (left : List ℕ) → length left < length (get_or (parts i) j []) → parts_of h (map length i.users) (concat (take j (parts i)) ++ left) ≡ Err (Truncated (h.parts_at + length (concat (take j (parts i)))))
 unfolding parts_of
 parts_stop h i sized zero left short = truncated_at h.parts_at (h.parts_at + 0) (stop _ (part_short h.parts_at h.source_length left (omega (arith, short, sized.source)))) (omega arith)
 parts_stop h i sized (suc zero) left short =
@@ -139,10 +139,10 @@ parts_stop h i sized (suc (suc c)) left short =
     (omega (arith, sized.source, sized.words, length-words i.words, length-append i.source (words ++ front), length-append words front))
 
 -- the bytes of all parts
-abbrev pub behind : Parts → List ℕ
+abbrev pub behind : ImageParts → List ℕ
 behind i = i.source ++ (flat_map word i.words ++ flat_map (flat_map word) i.users)
 
-pub parts_go : (h : Header) (i : Parts) → Sized h i → (left : List ℕ) → 0 < length left → parts_of h (map length i.users) (behind i ++ left) ≡ Err (Trailing (h.parts_at + length (behind i)))
+pub parts_go : (h : Header) (i : ImageParts) → Sized h i → (left : List ℕ) → 0 < length left → parts_of h (map length i.users) (behind i ++ left) ≡ Err (Trailing (h.parts_at + length (behind i)))
 unfolding parts_of
 parts_go h i sized left more =
     let words : List ℕ = flat_map word i.words in

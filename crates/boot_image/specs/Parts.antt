@@ -3,7 +3,7 @@ use Rattle.std.specs.Prelude.{ℕ, List}
 use Rattle.layer_map.specs.declared.params.Params.{Params}
 
 -- the parameters, the form, the source byte by byte, the linked words, and the words of each user
-pub record Parts : Type 0 where
+pub record ImageParts : Type 0 where
   pub params : Params
   pub form : ℕ
   pub source : List ℕ

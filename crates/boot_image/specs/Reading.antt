@@ -4,11 +4,11 @@ use Rattle.std.specs.Prelude.{ℕ, zero, suc, ◌≡◌, ◌+◌, ◌*◌, ◌<�
 use Rattle.std.specs.Str.{bytes_eq}
 use Rattle.byteorder.specs.Endian.{little_number}
 use Rattle.layer_map.specs.declared.params.Params.{Params}
-use Rattle.cvm_words.specs.Bytes.{words_of}
+use Rattle.cvm_words.specs.Bytes.{words_of_bytes}
 use Rattle.boot_image.specs.declared.fault.ImageFault.{ImageFault}
 use Rattle.boot_image.specs.declared.fault.ImageFault.TheVariants.{Magic, Truncated, Trailing, Parameter, Memory}
 use Rattle.boot_image.specs.declared.reading.Header.{Header}
-use Rattle.boot_image.specs.Parts.{Parts}
+use Rattle.boot_image.specs.Parts.{ImageParts}
 use Rattle.boot_image.specs.Format.{bare_params, most_words, spelling}
 
 -- a step, and then another by its value
@@ -108,37 +108,37 @@ parts_of header counts bytes = do
 -- the words of each user
 unfoldable pub users_of : List ℕ → List ℕ → List (List ℕ)
 users_of [] bytes = []
-users_of (count ∷ counts) bytes = words_of (take (4 * count) bytes) ∷ users_of counts (drop (4 * count) bytes)
+users_of (count ∷ counts) bytes = words_of_bytes (take (4 * count) bytes) ∷ users_of counts (drop (4 * count) bytes)
 
 -- the image of a header and of parts
-abbrev pub image_of : Header → List ℕ → List ℕ → List ℕ → List ℕ → Parts
+abbrev pub image_of : Header → List ℕ → List ℕ → List ℕ → List ℕ → ImageParts
 image_of header counts source words users =
-    record { params = header.params; form = header.form; source = source; words = words_of words; users = users_of counts users }
+    record { params = header.params; form = header.form; source = source; words = words_of_bytes words; users = users_of counts users }
 
 -- what is answered of the bytes that follow a header
-abbrev pub image_at : Header → List ℕ → List ℕ → Result Parts ImageFault
+abbrev pub image_at : Header → List ℕ → List ℕ → Result ImageParts ImageFault
 image_at header counts bytes = parts_of header counts bytes >>= λ parts. Ok (image_of header counts parts.0 parts.1.0 parts.1.1)
 
 -- what is answered of bytes
-unfoldable pub answer : List ℕ → Result Parts ImageFault
+unfoldable pub answer : List ℕ → Result ImageParts ImageFault
 answer bytes = do
   header ← header_of bytes
   image_at header.0 header.1.0 header.1.1
 
 -- what is answered of bytes where form 2 is read
-unfoldable pub old_answer : List ℕ → Result Parts ImageFault
+unfoldable pub old_answer : List ℕ → Result ImageParts ImageFault
 old_answer bytes = do
   header ← old_header_of bytes
   image_at header.0 header.1.0 header.1.1
 
 -- an image may also be answered by want of memory, a fault may not
-abbrev pub Gives : Result Parts ImageFault → Result Parts ImageFault → Type 0
+abbrev pub Gives : Result ImageParts ImageFault → Result ImageParts ImageFault → Type 0
 Gives result (Ok i) = MatchResult result (λ p. p ≡ i) (λ e. e ≡ Memory)
 Gives result (Err fault) = result ≡ Err fault
 
 -- laws of a reading: bytes that are answered by an image are its spelling, and the spelling of each image is answered by it
-abbrev pub AnswersAreSpelled : (List ℕ → Result Parts ImageFault) → (IsFit : Parts → Type 0) → Type 0
-AnswersAreSpelled read IsFit = (bytes : List ℕ) → ((i : ℕ) → slice_index bytes i < 256) → (image : Parts) → read bytes ≡ Ok image → IsFit image × (bytes ≡ spelling image)
+abbrev pub AnswersAreSpelled : (List ℕ → Result ImageParts ImageFault) → (IsFit : ImageParts → Type 0) → Type 0
+AnswersAreSpelled read IsFit = (bytes : List ℕ) → ((i : ℕ) → slice_index bytes i < 256) → (image : ImageParts) → read bytes ≡ Ok image → IsFit image × (bytes ≡ spelling image)
 
-abbrev pub SpellingsAreAnswered : (List ℕ → Result Parts ImageFault) → (IsFit : Parts → Type 0) → Type 0
-SpellingsAreAnswered read IsFit = (image : Parts) → IsFit image → read (spelling image) ≡ Ok image
+abbrev pub SpellingsAreAnswered : (List ℕ → Result ImageParts ImageFault) → (IsFit : ImageParts → Type 0) → Type 0
+SpellingsAreAnswered read IsFit = (image : ImageParts) → IsFit image → read (spelling image) ≡ Ok image

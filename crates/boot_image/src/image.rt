@@ -21,9 +21,9 @@ pub struct Image {
 
 impl Model for Image {
     ghost use Rattle.std.specs.Prelude.{map};
-    ghost use Rattle.boot_image.specs.Parts.{Parts};
+    ghost use Rattle.boot_image.specs.Parts.{ImageParts};
 
-    ghost Value = { Parts };
+    ghost Value = { ImageParts };
 
     ghost view = { λ i. record { params = i.params; form = i.form; source = i.source.items; words = i.words.items; users = map (λ u. u.items) i.users.items } };
 }

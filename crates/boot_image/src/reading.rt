@@ -2,9 +2,9 @@
 
 ghost use Rattle.std.specs.Prelude.{◌≡◌, ◌+◌, ◌*◌, ◌≤◌, ◌<◌, ◌%◌, ◌↔◌, ℕ, [], ◌++◌, List, length, slice_index, map, Result, IfOk, Ok, Err};
 ghost use Rattle.std.specs.List.{concat};
-ghost use Rattle.boot_image.specs.Parts.{Parts};
+ghost use Rattle.boot_image.specs.Parts.{ImageParts};
 ghost use Rattle.boot_image.specs.Format.{IsInRange, IsOldInRange, spelling, most_words};
-ghost use Rattle.cvm_words.specs.Bytes.{words_of};
+ghost use Rattle.cvm_words.specs.Bytes.{words_of_bytes};
 ghost use Rattle.boot_image.specs.Reading.{Comes, Gives, AnswersAreSpelled, SpellingsAreAnswered, image_at, answer, old_answer};
 ghost use Rattle.boot_image.specs.Answer.{AnswersAreSo, NothingElseIsSo, pieces};
 ghost use Rattle.boot_image.specs.Reading.{mark_at, number_at, form_at, params_at, counts_at, bare_at, system_at, header_of, old_header_of, part_at, users_at};
@@ -38,7 +38,7 @@ pub fn read(alloc: Global, bytes: &[u8]) -> Result<Image, ImageFault>
     // An image is answered where the bytes are its spelling,
     ensures spelled { IfOk result (λ i. IsInRange i × (bytes.now ≡ spelling i)) }
     // and where they are, it is, or want of memory.
-    ensures only { (i : Parts) → IsInRange i → bytes.now ≡ spelling i → Gives result (Ok i) }
+    ensures only { (i : ImageParts) → IsInRange i → bytes.now ≡ spelling i → Gives result (Ok i) }
 {
     let (header, counts, rest) = fields(bytes)?;
     image_in(alloc, &header, &counts, rest)
@@ -49,7 +49,7 @@ pub fn read(alloc: Global, bytes: &[u8]) -> Result<Image, ImageFault>
 pub fn read_old(alloc: Global, bytes: &[u8]) -> Result<Image, ImageFault>
     ensures is { Gives result (old_answer bytes.now) }
     ensures spelled { IfOk result (λ i. IsOldInRange i × (bytes.now ≡ spelling i)) }
-    ensures only { (i : Parts) → IsOldInRange i → bytes.now ≡ spelling i → Gives result (Ok i) }
+    ensures only { (i : ImageParts) → IsOldInRange i → bytes.now ≡ spelling i → Gives result (Ok i) }
 {
     let (header, counts, rest) = old_fields(bytes)?;
     image_in(alloc, &header, &counts, rest)
@@ -70,7 +70,7 @@ pub fn old_images_are_their_spellings()
 /// A law: of each list of bytes there is one answer in the format's own words, and that is what is answered. So each fault comes exactly
 /// where it stands first, with its numbers.
 pub fn bytes_have_one_answer()
-    ensures pieces { (i : Parts) → concat (pieces i) ≡ spelling i }
+    ensures pieces { (i : ImageParts) → concat (pieces i) ≡ spelling i }
     ensures so { AnswersAreSo answer IsInRange }
     ensures only { NothingElseIsSo answer IsInRange }
 {}

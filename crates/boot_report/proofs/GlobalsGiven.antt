@@ -11,18 +11,18 @@ use Rattle.c0_meaning.specs.Ty.{Ty}
 use Rattle.c0_meaning.specs.Ty as ty
 use Rattle.c0_meaning.specs.Env.{Shape, Typed, typed_of}
 use Rattle.c0_meaning.specs.Form.{ty_view}
-use Rattle.c0_meaning.specs.Words.{Holds, fields_named, words, all_words, WordsAreThose}
+use Rattle.c0_meaning.specs.Words.{StructHolds, fields_named, words, all_words, WordsAreThose}
 use Rattle.c0_meaning.specs.Offsets.{offsets_from}
 use Rattle.c0_meaning.specs.RunLaws.{scalars, all_scalars}
 use Rattle.c0_meaning.specs.Sound.{shapes}
-use Rattle.c0_meaning.specs.State.{State as C0, region_value}
+use Rattle.c0_meaning.specs.State.{C0State, region_value}
 use Rattle.c0_meaning.specs.Value as value
 use Rattle.c0_meaning.specs.Value.{Region, Location, Value, int, bool, null, at, group, Values, empty, part}
-use Rattle.c0_meaning.specs.TypedState.{Layout, layout_of, types_of, PointsTo, Fits, AllFit, AreParts}
+use Rattle.c0_meaning.specs.TypedState.{StoreTyping, store_typing, types_of, PointsTo, Fits, AllFit, AreParts}
 use Rattle.c0_meaning.specs.Unit.{IsWellFormed}
 use Rattle.c0_meaning.proofs.OpenTy.{well_formed_loose}
 use Rattle.layer_map.specs.Map.{Map, globals_at}
-use Rattle.cvm_model.specs.Kernel.{offset, flat, flats, parts_of}
+use Rattle.cvm_model.specs.Kernel.{part_offset, flat, flats, parts_of}
 use Rattle.cvm_model.specs.Stands.{region_at, address_of, HoldsWords}
 use Rattle.cvm_model.specs.Text.{global_row, globals_text}
 use Rattle.boot_report.specs.Globals.{value_end, named_row, globals_rows, GlobalsTell}
@@ -43,7 +43,7 @@ declared_words structs [] = refl
 declared_words structs (d ∷ rest) = ap (λ n. words structs d.ty + n) (declared_words structs rest)
 
 -- as in a well formed unit
-are_opened : WordsAreThose → (u : CUnit) → (loose : (x : List ℕ) → Holds (shapes u) x x → ⊥) → AreOpened (shapes u)
+are_opened : WordsAreThose → (u : CUnit) → (loose : (x : List ℕ) → StructHolds (shapes u) x x → ⊥) → AreOpened (shapes u)
 unfolding AreOpened
 are_opened those u loose x = those.fields (shapes u) x (loose x) ∙ declared_words (shapes u) (fields_named (shapes u) x)
 
@@ -61,7 +61,7 @@ mutual
   flats_length address (part v vs) = let a = flat_length address v in let b = flats_length address vs in omega (arith, length-append (flat address v) (flats address vs), a, b)
 
 -- and as many as its type
-module _ (structs : List Shape) (opened : AreOpened structs) (lay : Layout) where
+module _ (structs : List Shape) (opened : AreOpened structs) (lay : StoreTyping) where
   replicated : (n : ℕ) (t : Ty) → type_words structs (replicate n t) ≡ n * words structs t
   unfolding type_words
   replicated zero t = omega arith
@@ -94,15 +94,15 @@ right_holds memory a xs ys h i lt =
     ap (slice_index memory) d ∙ h (length xs + i) (omega (arith, lt, length-append xs ys)) ∙ get_or-append-add xs ys i 0
 
 -- no target of a pointer stands at 0
-far_from : (structs : List Shape) (lay : Layout) (m : Map) (s : C0) (l : Location) (t : Ty) → PointsTo structs lay l.region l.path t → address_of m s l ≢ 0
+far_from : (structs : List Shape) (lay : StoreTyping) (m : Map) (s : C0State) (l : Location) (t : Ty) → PointsTo structs lay l.region l.path t → address_of m s l ≢ 0
 far_from structs lay m s l t p = by l.region l.path p
   where
-    by : (region : Region) (path : List ℕ) → PointsTo structs lay region path t → 4 * (region_at m region + offset path (region_value region s)) ≢ 0
+    by : (region : Region) (path : List ℕ) → PointsTo structs lay region path t → 4 * (region_at m region + part_offset path (region_value region s)) ≢ 0
     by value.globals path p = λ e. omega (arith, e)
     by value.heap path p = λ e. omega (arith, e)
     by value.locals path p = absurd p
 
-module _ (tell : GlobalsTell) (structs : List Shape) (opened : AreOpened structs) (lay : Layout) (m : Map) (s : C0) (memory : List ℕ) where
+module _ (tell : GlobalsTell) (structs : List Shape) (opened : AreOpened structs) (lay : StoreTyping) (m : Map) (s : C0State) (memory : List ℕ) where
   abbrev address : Location → ℕ
   address = address_of m s
 
@@ -141,13 +141,13 @@ module _ (tell : GlobalsTell) (structs : List Shape) (opened : AreOpened structs
       ap₂ (λ a b. a ++ b) (row_told (ty_view e.ty) v e.name.bytes.items (first + place) f.0 (left_holds memory (first + place) (flat address v) (flats address vs) h))
       (rows_told rest vs first (place + words structs (ty_view e.ty)) f.1 behind)
 
-region_told : GlobalsTell → WordsAreThose → (u : Source) (m : Map) (memory : List ℕ) (s : C0) (objects : List Ty) (v : Value) → IsWellFormed kernel_primitives (unit_view u) →
-    AreParts (shapes (unit_view u)) (layout_of (unit_view u) objects) (types_of (map typed_of (unit_view u).globals)) v → HoldsWords memory (globals_at m) (flat (address_of m s) v) →
+region_told : GlobalsTell → WordsAreThose → (u : Source) (m : Map) (memory : List ℕ) (s : C0State) (objects : List Ty) (v : Value) → IsWellFormed kernel_primitives (unit_view u) →
+    AreParts (shapes (unit_view u)) (store_typing (unit_view u) objects) (types_of (map typed_of (unit_view u).globals)) v → HoldsWords memory (globals_at m) (flat (address_of m s) v) →
     globals_rows u.globals.items memory (globals_at m) (places_of (unit_view u)) ≡ globals_text (map (λ d. d.name.text) (unit_view u).globals) (parts_of v)
 region_told tell those u m memory s objects (group vs) formed are h =
     let opened = are_opened those (unit_view u) (well_formed_loose kernel_primitives (unit_view u) formed) in
     let e : globals_at m ≡ globals_at m + 0 = omega arith in
-    rows_told tell (shapes (unit_view u)) opened (layout_of (unit_view u) objects) m s memory u.globals.items vs (globals_at m) 0 are
+    rows_told tell (shapes (unit_view u)) opened (store_typing (unit_view u) objects) m s memory u.globals.items vs (globals_at m) 0 are
     (subst (λ n. HoldsWords memory n (flats (address_of m s) vs)) e h)
 region_told tell those u m memory s objects _ formed are h = absurd are
 

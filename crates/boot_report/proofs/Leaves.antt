@@ -8,7 +8,7 @@ use Rattle.cvm_outside.proofs.Parts.{puts-both, part-back}
 use Rattle.mips_machine.specs.Machine.{Held}
 use Rattle.boot_report.specs.declared.fault.ReportFault.{ReportFault}
 use Rattle.boot_report.specs.declared.fault.ReportFault.TheVariants.{Disk, Sink}
-use Rattle.boot_report.specs.Leaves.{Asks, AsksFor, OnlyViews, PrintsAll, Puts}
+use Rattle.boot_report.specs.Leaves.{CallsDisk, AsksFor, OnlyViews, PrintsAll, PutsRows}
 use Rattle.boot_report.specs.Texts.{SameButViewed}
 
 on_ok : {T E P Q : Type 0} (r : Result T E) → (P → Q) → OnOk r P → OnOk r Q
@@ -21,25 +21,25 @@ on_err (Err e) f h = f h
 
 module _ {T E O : Type 0} (text : O → Option (List ℕ)) (broke : O → ℕ) (out mid reout : O) (rows : List ℕ) where
   -- rows are put
-  pub done : (v : T) → text reout ≡ append_known (text out) rows → broke reout ≡ broke out → Puts {T = T} {E = E} text broke out reout rows (Ok v)
+  pub done : (v : T) → text reout ≡ append_known (text out) rows → broke reout ≡ broke out → PutsRows {T = T} {E = E} text broke out reout rows (Ok v)
   done v all same = record { ok = all; err = tt; count = record { later = omega (arith, same); rose = tt; same = same } }
 
   -- a part of them is put, where the last call failed and none before it
-  pub fails : (r : Result T E) (e : E) → r ≡ Err e → broke mid ≡ broke out → broke mid ≤ broke reout → Rose (broke mid) (broke reout) → AppendsPart (text out) (text reout) rows → Puts text broke out reout rows r
+  pub fails : (r : Result T E) (e : E) → r ≡ Err e → broke mid ≡ broke out → broke mid ≤ broke reout → Rose (broke mid) (broke reout) → AppendsPart (text out) (text reout) rows → PutsRows text broke out reout rows r
   fails r e is same later rose part =
-      let left : Puts {T = T} {E = E} text broke out reout rows (Err e) = record { ok = tt; err = part; count = record { later = omega (arith, same, later); rose = subst (λ n. Rose n (broke reout)) same rose; same = tt } } in
-      subst (λ (r : Result T E). Puts text broke out reout rows r) (sym is) left
+      let left : PutsRows {T = T} {E = E} text broke out reout rows (Err e) = record { ok = tt; err = part; count = record { later = omega (arith, same, later); rose = subst (λ n. Rose n (broke reout)) same rose; same = tt } } in
+      subst (λ (r : Result T E). PutsRows text broke out reout rows r) (sym is) left
 
 -- what is put of bytes that are these rows
 pub puts : {T E O : Type 0} (text : O → Option (List ℕ)) (broke : O → ℕ) (out reout : O) (bytes rows : List ℕ) (r : Result T E) → bytes ≡ rows → OnOk r (text reout ≡ append_known (text out) bytes) →
-    OnErr r (AppendsPart (text out) (text reout) bytes) → Counts (broke out) (broke reout) r → Puts text broke out reout rows r
+    OnErr r (AppendsPart (text out) (text reout) bytes) → Counts (broke out) (broke reout) r → PutsRows text broke out reout rows r
 puts text broke out reout bytes rows r is all part count =
-    let left : Puts text broke out reout bytes r = record { ok = all; err = part; count = count } in
-    subst (λ w. Puts text broke out reout w r) is left
+    let left : PutsRows text broke out reout bytes r = record { ok = all; err = part; count = count } in
+    subst (λ w. PutsRows text broke out reout w r) is left
 
 -- and rows that are put after others
 pub then_puts : {T E O : Type 0} (text : O → Option (List ℕ)) (broke : O → ℕ) (out mid reout : O) (first rows : List ℕ) (r : Result T E) → text mid ≡ append_known (text out) first → broke mid ≡ broke out →
-    Puts text broke mid reout rows r → Puts text broke out reout (first ++ rows) r
+    PutsRows text broke mid reout rows r → PutsRows text broke out reout (first ++ rows) r
 then_puts text broke out mid reout first rows r put same last = record {
   ok = on_ok r (puts-both (text out) (text mid) (text reout) first rows put) last.ok;
   err = on_err r (part-back (text out) (text mid) (text reout) first rows put) last.err;
@@ -67,11 +67,11 @@ called_behind zero q x y same e = e ∙ ap (λ k. called k x) (let z : q ≡ 0 +
 called_behind (suc p) q x y same e = ap₂ until_fault same (called_behind p q x y same e) ∙ ap (λ k. called k x) (let z : suc (p + q) ≡ suc p + q = omega arith in z)
 
 -- nothing was asked of the disk
-pub asks_none : (P : Type 0) (x : Tally) → (P → ⊥) → Asks P x x
+pub asks_none : (P : Type 0) (x : Tally) → (P → ⊥) → CallsDisk P x x
 asks_none P x never = record { made = 0; calls = refl; some = λ h. absurd (never h) }
 
 -- what was asked of it in two parts, where the first met no fault
-pub asks_twice : (O P : Type 0) (x y z : Tally) → y.faults ≡ x.faults → Asks O x y → Asks P y z → Asks P x z
+pub asks_twice : (O P : Type 0) (x y z : Tally) → y.faults ≡ x.faults → CallsDisk O x y → CallsDisk P y z → CallsDisk P x z
 asks_twice O P x y z same first then = record {
   made = then.made + first.made;
   calls = then.calls ∙ called_behind then.made first.made x y same first.calls;
@@ -79,11 +79,11 @@ asks_twice O P x y z same first then = record {
 }
 
 -- what was asked of it, where another answer says whose fault that was
-pub asks_as : (O P : Type 0) (x y : Tally) → (P → O) → Asks O x y → Asks P x y
+pub asks_as : (O P : Type 0) (x y : Tally) → (P → O) → CallsDisk O x y → CallsDisk P x y
 asks_as O P x y of a = record { made = a.made; calls = a.calls; some = λ h. a.some (of h) }
 
 -- and where it was called just so often
-pub asks_for : (n : ℕ) (P : Type 0) (x y : Tally) → AsksFor n P x y → Asks P x y
+pub asks_for : (n : ℕ) (P : Type 0) (x y : Tally) → AsksFor n P x y → CallsDisk P x y
 asks_for n P x y a = record { made = n; calls = a.calls; some = λ h. let e = a.some h in omega (arith, e) }
 
 pub asks_one : (n : ℕ) (P : Type 0) (x y : Tally) → n ≡ 1 → y.calls ≡ until_fault x.faults x.calls → AsksFor n P x y

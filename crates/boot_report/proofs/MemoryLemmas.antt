@@ -7,7 +7,7 @@ use Rattle.mips_table.specs.Machine.{State}
 use Rattle.mips_machine.specs.Machine.{Held, state_of}
 use Rattle.layer_map.specs.Map.{Map}
 use Rattle.cvm_outside.specs.Outside.{Files, Output, Drive}
-use Rattle.cvm_outside.specs.Script.{Read, Who, Puts, Performs, IsQuiet}
+use Rattle.cvm_outside.specs.Script.{Read, Who, Puts, Performs, WritesNoSector}
 use Rattle.cvm_outside.proofs.Follow.{both}
 use Rattle.cvm_outside.proofs.Putting.{performed}
 use Rattle.boot_report.specs.Texts.{texts, memory_row, page_text, page_word}
@@ -24,10 +24,10 @@ line_is page i n words e = texts-same _ _ 64 (λ j l.
     ap₂ memory_row place (get_or-take n (drop (64 * i) words) j 0 inside ∙ get_or-drop (64 * i) words j 0))
 
 -- reading a page writes no sector
-pub reads_quiet : (m : Map) (s : State) (q : ℕ) → IsQuiet (page_reads m s q)
+pub reads_quiet : (m : Map) (s : State) (q : ℕ) → WritesNoSector (page_reads m s q)
 reads_quiet m s q = by (is_resident m s q)
   where
-    by : (b : Bool) → IsQuiet (if b then [] else Read q ∷ [])
+    by : (b : Bool) → WritesNoSector (if b then [] else Read q ∷ [])
     by true = tt
     by false = tt
 

@@ -5,7 +5,7 @@ use Rattle.std.proofs.Math.Nat.{mul-le-mul_right}
 use Rattle.cvm_outside.specs.Causes.{Counts}
 use Rattle.cvm_outside.specs.Numbering.{called}
 use Rattle.cvm_outside.specs.Outside.{Outside, Output, no_files, no_output, counts, output, drive}
-use Rattle.cvm_outside.specs.Script.{Call, Read, Who, TheSink, TheDisk, Performs, done, Prints, Asks, Makes, IsQuiet, spoken, blame, of_disk}
+use Rattle.cvm_outside.specs.Script.{Call, Read, Who, TheSink, TheDisk, Performs, done, Prints, Asks, Makes, WritesNoSector, spoken, blame, of_disk}
 use Rattle.cvm_outside.specs.ScriptLaws.{Blamed, Counted, PrintedBy}
 use Rattle.cvm_outside.specs.declared.sink.Sink as sink_of
 use Rattle.cvm_outside.specs.declared.sink.SinkFault.{SinkFault}
@@ -22,7 +22,7 @@ use Rattle.cvm_model.specs.Paged.{paged_of}
 use Rattle.boot_report.specs.declared.fault.ReportFault.{ReportFault}
 use Rattle.boot_report.specs.declared.fault.ReportFault.TheVariants.{Disk, Sink}
 use Rattle.boot_report.specs.Blames.{Blames}
-use Rattle.boot_report.specs.Leaves.{AsksFor, PrintsAll, Puts, Reads, ReadsFor}
+use Rattle.boot_report.specs.Leaves.{AsksFor, PrintsAll, PutsRows, Reads, ReadsFor}
 use Rattle.boot_report.specs.Resident.{is_resident, page_of_word, word_reads, word_calls, word_told}
 use Rattle.boot_report.specs.Scripts.{of_report}
 use Rattle.boot_report.specs.Stand.{WordStands}
@@ -31,7 +31,7 @@ use Rattle.boot_report.proofs.MemoryLemmas.{reads_quiet}
 use Rattle.boot_report.proofs.Spoken.{shown_is}
 
 -- rows that a sink was given
-pub prints_puts : {O T : Type 0} (told : sink_of.Ghosts O) (old new : O) (rows : List ℕ) (r : Result T SinkFault) → Prints told old new rows r → Puts told.text told.faults old new rows r
+pub prints_puts : {O T : Type 0} (told : sink_of.Ghosts O) (old new : O) (rows : List ℕ) (r : Result T SinkFault) → Prints told old new rows r → PutsRows told.text told.faults old new rows r
 prints_puts told old new rows (Ok v) p =
     let same = ap (λ (o : Output). o.faults) p.by in
     record { ok = ap (λ (o : Output). o.text) p.by; err = tt; count = record { later = omega (arith, same); rose = tt; same = same } }
@@ -79,7 +79,7 @@ module _ {O D T : Type 0} (text : sink_of.Ghosts O) (told : sectors_of.Ghosts D)
   }
 
   -- what it leaves, where it writes no sector
-  pub only_reads : (held : Held) → IsQuiet script → Reads held held told.sectors told.size told.faults told.calls disk redisk text.faults out reout r
+  pub only_reads : (held : Held) → WritesNoSector script → Reads held held told.sectors told.size told.faults told.calls disk redisk text.faults out reout r
   only_reads held quiet =
       let counted = count script before after (blame of_report r) (made no_files) in record {
         view = record { same = refl; sectors = unwritten script before after (blame of_report r) quiet (made no_files); size = same_size script before after (blame of_report r) (made no_files) };

@@ -4,19 +4,19 @@ use Rattle.std.specs.Prelude.{◌==◌, nat_lt, slice_index}
 use Rattle.std.proofs.lemmas.Bool.{cases_eq, cases_Bool}
 use Rattle.std.proofs.Math.Nat.{mul-le-mul_right, mul-add-mod_self_right, mod-eq_of_lt}
 use Rattle.std.proofs.lemmas.Nat.{div-mul-add}
-use Rattle.mips_table.specs.Device.{Outside}
+use Rattle.mips_table.specs.Device.{Environment}
 use Rattle.mips_table.specs.Processor.{Cpu}
 use Rattle.mips_table.specs.Flat.{Flat}
 use Rattle.mips_table.specs.Machine.{State}
 use Rattle.mips_machine.specs.Machine.{Held, state_of}
 use Rattle.layer_map.specs.Map.{MapInRange, block_at}
 use Rattle.page_model.specs.Paging.{Paged, IsFrame, shown_word}
-use Rattle.page_model.specs.Places.{layout_of}
+use Rattle.page_model.specs.Places.{page_layout}
 use Rattle.cvm_model.specs.Kernel.{Core}
 use Rattle.cvm_model.specs.Primitives.{user_of, pages_of, no_flat}
 use Rattle.cvm_model.specs.Cvm.{Status}
 use Rattle.cvm_model.specs.Paged.{paged_of, pages_by}
-use Rattle.cvm_model.specs.Stands.{Site, Stands, UserFits, runs_user}
+use Rattle.cvm_model.specs.Stands.{Site, RunningRelation, UserFits, runs_user}
 use Rattle.cvm_model.specs.Text.{hex_row, nonzero_row, regs_text, memory_text, user_text, users_text, log_text}
 use Rattle.boot_report.specs.Texts.{texts, register_row, memory_row, register_rows, processor_rows, pages_rows, rows_of_one, rows_of_user, users_rows, user_head, log_rows, cpu_of, pages_in, EntriesFit}
 use Rattle.boot_report.proofs.Spoken.{shown_is, user_spoken, users_spoken}
@@ -64,7 +64,7 @@ memory_told words a q n long h =
 false_true : (b : Bool) → b ≡ false → b ≡ true → ⊥
 false_true b e f = cc
 
-module _ (x : Outside) (y : Site) (held : Held) (ss : List (List ℕ)) (status : Status) (c : Core) (running : ℕ) (range : MapInRange y.map) (st : Stands x y (state_of held ss) status c) (run : IsRunning held ss c running) where
+module _ (x : Environment) (y : Site) (held : Held) (ss : List (List ℕ)) (status : Status) (c : Core) (running : ℕ) (range : MapInRange y.map) (st : RunningRelation x y (state_of held ss) status c) (run : IsRunning held ss c running) where
   abbrev s : State
   s = state_of held ss
 
@@ -146,7 +146,7 @@ module _ (x : Outside) (y : Site) (held : Held) (ss : List (List ℕ)) (status :
 
   entries_told : EntriesFit y.map (state_of held ss)
   entries_told q lt valid =
-      let n : IsFrame (layout_of y.map) ((paged_of y.map (state_of held ss)).entry q / 4096) = st.pages.named q ((paged_of y.map (state_of held ss)).entry q / 4096) lt (omega (arith, valid)) in
+      let n : IsFrame (page_layout y.map) ((paged_of y.map (state_of held ss)).entry q / 4096) = st.pages.named q ((paged_of y.map (state_of held ss)).entry q / 4096) lt (omega (arith, valid)) in
       let most = n.1 in
       omega (arith, most)
 

@@ -5,7 +5,7 @@ use Rattle.mips_table.specs.Machine.{State}
 use Rattle.mips_machine.specs.Machine.{Held, state_of}
 use Rattle.layer_map.specs.Map.{Map}
 use Rattle.cvm_outside.specs.Outside.{Outside, Files, Output, Drive}
-use Rattle.cvm_outside.specs.Script.{Printed, Who, Puts, Performs, IsQuiet}
+use Rattle.cvm_outside.specs.Script.{Printed, Who, Puts, Performs, WritesNoSector}
 use Rattle.cvm_outside.proofs.Follow.{both, first}
 use Rattle.cvm_outside.proofs.Putting.{performed, same_script, quiet_both, quiet_scripts}
 use Rattle.boot_report.specs.Texts.{cpu_of, pages_in, processor_rows}
@@ -41,10 +41,10 @@ module _ (m : Map) (held : Held) (told : Option (List (List ℕ))) (runs : Bool)
       (first (Printed (Some (processor_rows u pages (cpu_of held runs u))) ∷ []) _ _ _ whom (performed (Some (processor_rows u pages (cpu_of held runs u))) _ shelf disk sink mid (Some whom) refl puts))
 
 -- reports write no sector
-pub page_quiet : (m : Map) (s : State) (told : Option (List (List ℕ))) (q p : ℕ) → IsQuiet (page_script m s told q p)
+pub page_quiet : (m : Map) (s : State) (told : Option (List (List ℕ))) (q p : ℕ) → WritesNoSector (page_script m s told q p)
 page_quiet m s told q p = quiet_both (page_reads m s q) _ (reads_quiet m s q) tt
 
-pub user_quiet : (m : Map) (held : Held) (told : Option (List (List ℕ))) (runs : Bool) (u : ℕ) → IsQuiet (user_script m held told runs u)
+pub user_quiet : (m : Map) (held : Held) (told : Option (List (List ℕ))) (runs : Bool) (u : ℕ) → WritesNoSector (user_script m held told runs u)
 user_quiet m held told runs u = quiet_scripts (λ p. page_script m (state_of held []) told ((u - 1) * m.params.pages + p) p) (λ p. page_quiet m (state_of held []) told ((u - 1) * m.params.pages + p) p) (pages_in m held.hardware.memory u)
 
 -- the same sectors are told

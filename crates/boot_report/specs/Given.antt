@@ -7,7 +7,7 @@ use Rattle.c0_tree.specs.View.{unit_view}
 use Rattle.c0_meaning.specs.Env.{typed_of}
 use Rattle.c0_meaning.specs.Offsets.{offsets}
 use Rattle.c0_meaning.specs.Sound.{shapes}
-use Rattle.c0_meaning.specs.State.{State as C0}
+use Rattle.c0_meaning.specs.State.{C0State}
 use Rattle.c0_meaning.specs.TypedState.{types_of, IsTypedState}
 use Rattle.c0_meaning.specs.Unit.{IsWellFormed}
 use Rattle.layer_map.specs.Map.{Map, globals_at}
@@ -22,7 +22,7 @@ places_of u = offsets (shapes u) (types_of (map typed_of u.globals))
 
 -- in memory that holds the words of a typed state's globals their rows are those of their values
 abbrev pub GlobalRowsTell : Type 0
-GlobalRowsTell = (u : Source) (m : Map) (memory : List ℕ) (s : C0) → IsWellFormed kernel_primitives (unit_view u) → IsTypedState (unit_view u) s →
+GlobalRowsTell = (u : Source) (m : Map) (memory : List ℕ) (s : C0State) → IsWellFormed kernel_primitives (unit_view u) → IsTypedState (unit_view u) s →
     HoldsWords memory (globals_at m) (flat (address_of m s) s.global_values) →
     globals_rows u.globals.items memory (globals_at m) (places_of (unit_view u))
     ≡ globals_text (map (λ d. d.name.text) (unit_view u).globals) (parts_of s.global_values)

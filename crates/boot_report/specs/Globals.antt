@@ -7,7 +7,7 @@ use Rattle.c0_meaning.specs.Ty.{Ty, int, bool, pointer}
 use Rattle.c0_meaning.specs.Form.{ty_view}
 use Rattle.c0_meaning.specs.Env.{Shape}
 use Rattle.c0_meaning.specs.Value.{Value, Location}
-use Rattle.c0_meaning.specs.TypedState.{Layout, PointsTo, Fits}
+use Rattle.c0_meaning.specs.TypedState.{StoreTyping, PointsTo, Fits}
 use Rattle.layer_map.specs.Map.{Map, globals_at, memory_words}
 use Rattle.cvm_model.specs.Kernel.{flat}
 use Rattle.cvm_model.specs.Text.{global_row}
@@ -30,7 +30,7 @@ global_word_row d word = named_row d.name.bytes.items (value_end (Some (ty_view 
 
 -- A global that has the shape of its type has the row of its first word, where no address of a pointer's target is 0.
 abbrev pub GlobalsTell : Type 0
-GlobalsTell = (structs : List Shape) (layout : Layout) (t : Ty) (v : Value) (name : List ℕ) (address : Location → ℕ) → Fits structs layout t v →
+GlobalsTell = (structs : List Shape) (layout : StoreTyping) (t : Ty) (v : Value) (name : List ℕ) (address : Location → ℕ) → Fits structs layout t v →
     ((l : Location) (u : Ty) → PointsTo structs layout l.region l.path u → address l ≢ 0) →
     named_row name (value_end (Some t) (slice_index (flat address v) 0)) ≡ global_row name v
 

@@ -8,18 +8,18 @@ use Rattle.page_model.specs.Paging.{Paged}
 use Rattle.boot_report.specs.Blames.{Blames}
 use Rattle.boot_report.specs.declared.fault.ReportFault.{ReportFault}
 use Rattle.boot_report.specs.declared.fault.ReportFault.TheVariants.{Disk, Sink}
-use Rattle.boot_report.specs.Prints.{Prints, PrintsPart}
+use Rattle.boot_report.specs.Prints.{PrintsRows, PrintsPart}
 use Rattle.boot_report.specs.Texts.{SameButViewed}
 use Rattle.boot_report.specs.Told.{WherePaged}
 
 -- these rows are in the text of a sink, or where there is an error a part of them
 pub record PrintsAll {T E : Type 0} (old new : Option (List ℕ)) (rows : List ℕ) (result : Result T E) : Type 0 where
-  pub ok : Prints old new rows result
+  pub ok : PrintsRows old new rows result
   pub err : PrintsPart old new rows result
 
 -- and each error is a fault of the sink, which has a text and a count of faults; by the sink before and after
-pub record Puts {T E O : Type 0} (text : O → Option (List ℕ)) (broke : O → ℕ) (out reout : O) (rows : List ℕ) (result : Result T E) : Type 0 where
-  pub ok : Prints (text out) (text reout) rows result
+pub record PutsRows {T E O : Type 0} (text : O → Option (List ℕ)) (broke : O → ℕ) (out reout : O) (rows : List ℕ) (result : Result T E) : Type 0 where
+  pub ok : PrintsRows (text out) (text reout) rows result
   pub err : PrintsPart (text out) (text reout) rows result
   pub count : Counts (broke out) (broke reout) result
 
@@ -30,7 +30,7 @@ pub record OnlyViews {D : Type 0} (old new : Held) (told : D → Option (List (L
   pub size : large redisk ≡ large disk
 
 -- a disk was called so often, at least once where it is blamed; by what an answer says that blames it, and the disk's counts before and after
-pub record Asks (OfDisk : Type 0) (before after : Tally) : Type 0 where
+pub record CallsDisk (OfDisk : Type 0) (before after : Tally) : Type 0 where
   pub made : ℕ
   pub calls : after.calls ≡ called made before
   pub some : OfDisk → 1 ≤ made
@@ -55,7 +55,7 @@ pub record Reads {T D O : Type 0} (old new : Held) (told : D → Option (List (L
     (out reout : O) (result : Result T ReportFault) : Type 0 where
   pub view : OnlyViews old new told large disk redisk
   pub blame : Blames (result ≡ Err Disk) (result ≡ Err Sink) broke disk redisk cut out reout
-  pub asks : Asks (result ≡ Err Disk) (tally broke calls disk) (tally broke calls redisk)
+  pub asks : CallsDisk (result ≡ Err Disk) (tally broke calls disk) (tally broke calls redisk)
 
 -- what a call does that prints rows, as `For` tells which: these rows are put, or a part of them, and no more is left than what reads leave
 pub record Reports {T D O : Type 0} (For : (List ℕ → Result T ReportFault → Type 0) → Result T ReportFault → Type 0) (old new : Held)

@@ -4,8 +4,8 @@ use Rattle.std.specs.Io.KnownBytes.{append_known}
 use Rattle.cvm_outside.specs.Told.{AppendsPart}
 
 -- where there is no error these rows are printed
-abbrev pub Prints : {T E : Type 0} → (old new : Option (List ℕ)) → (rows : List ℕ) → Result T E → Type 0
-Prints old new rows result = OnOk result (new ≡ append_known old rows)
+abbrev pub PrintsRows : {T E : Type 0} → (old new : Option (List ℕ)) → (rows : List ℕ) → Result T E → Type 0
+PrintsRows old new rows result = OnOk result (new ≡ append_known old rows)
 
 -- and where there is one a part of them
 abbrev pub PrintsPart : {T E : Type 0} → (old new : Option (List ℕ)) → (rows : List ℕ) → Result T E → Type 0

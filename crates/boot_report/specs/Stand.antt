@@ -3,7 +3,7 @@ use Rattle.std.specs.Prelude.{ℕ, ◌+◌, ◌*◌, ◌<◌, ◌≤◌}
 use Rattle.layer_map.specs.Map.{Map, memory_words}
 
 -- the pages of all users can be read, from so many words of memory and a disk of so many sectors
-pub record PagesStand (m : Map) (words count : ℕ) : Type 0 where
+pub record PagesReadable (m : Map) (words count : ℕ) : Type 0 where
   pub memory : memory_words m ≤ words
   pub small : memory_words m ≤ 30000000
   pub all : m.users * m.params.pages ≤ 65536
@@ -12,13 +12,13 @@ pub record PagesStand (m : Map) (words count : ℕ) : Type 0 where
 -- page q, by its number of all, can be read from as many
 pub record CanReadPage (m : Map) (q words count : ℕ) : Type 0 where
   pub page : q < m.users * m.params.pages
-  pub pages : PagesStand m words count
+  pub pages : PagesReadable m words count
 
 -- so can so many pages from this one on, at most as many as one user has
 pub record CanReadPages (m : Map) (first n words count : ℕ) : Type 0 where
   pub few : n ≤ 1024
   pub inside : first + n ≤ m.users * m.params.pages
-  pub pages : PagesStand m words count
+  pub pages : PagesReadable m words count
 
 -- word k is one of a user of this map
 pub record WordStands (m : Map) (user k : ℕ) : Type 0 where
@@ -29,10 +29,10 @@ pub record WordStands (m : Map) (user k : ℕ) : Type 0 where
 -- and it can be read
 pub record CanReadWord (m : Map) (user k words count : ℕ) : Type 0 where
   pub word : WordStands m user k
-  pub pages : PagesStand m words count
+  pub pages : PagesReadable m words count
 
 -- the control block of this user lies in so many words of memory
-pub record BlockStands (user words : ℕ) : Type 0 where
+pub record BlockReadable (user words : ℕ) : Type 0 where
   pub some : 1 ≤ user
   pub most : user ≤ 64
   pub layer : 16384 ≤ words
@@ -52,8 +52,8 @@ pub record UserStands (m : Map) (user words : ℕ) : Type 0 where
 -- the rows of this user can be read, and those of all users
 pub record CanReadUser (m : Map) (u words count : ℕ) : Type 0 where
   pub user : UserStands m u words
-  pub pages : PagesStand m words count
+  pub pages : PagesReadable m words count
 
 pub record CanReadUsers (m : Map) (words count : ℕ) : Type 0 where
   pub users : BlocksStand m words
-  pub pages : PagesStand m words count
+  pub pages : PagesReadable m words count

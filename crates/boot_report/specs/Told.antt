@@ -1,6 +1,6 @@
 -- What is printed of the users is what the abstract machine's text says of them, where the machine stands for its state.
 use Rattle.std.specs.Prelude.{◌≡◌, ℕ, ◌+◌, ◌-◌, ◌*◌, ◌/◌, ◌%◌, ◌<◌, ◌≤◌, Bool, true, false, Option, Some, List, length, slice_index}
-use Rattle.mips_table.specs.Device.{Outside}
+use Rattle.mips_table.specs.Device.{Environment}
 use Rattle.mips_machine.specs.Machine.{Held, state_of}
 use Rattle.mips_table.specs.Machine.{State}
 use Rattle.layer_map.specs.Map.{Map, MapInRange}
@@ -9,7 +9,7 @@ use Rattle.cvm_model.specs.Kernel.{Core}
 use Rattle.cvm_model.specs.Primitives.{user_of}
 use Rattle.cvm_model.specs.Cvm.{Status}
 use Rattle.cvm_model.specs.Paged.{paged_of}
-use Rattle.cvm_model.specs.Stands.{Site, Stands, IsUser, runs_user}
+use Rattle.cvm_model.specs.Stands.{Site, RunningRelation, IsUser, runs_user}
 use Rattle.cvm_model.specs.Text.{user_text, users_text, log_text}
 use Rattle.boot_report.specs.Texts.{rows_of_one, rows_of_user, users_rows, log_rows, EntriesFit}
 
@@ -35,15 +35,15 @@ pub record IsRunning (held : Held) (ss : List (List ℕ)) (c : Core) (running : 
   pub none : runs_user (state_of held ss) ≡ false → running ≡ 0
 
 -- the rows of the users, and of the log
-pub record RowsAreTold (x : Outside) (y : Site) (held : Held) (ss : List (List ℕ)) (c : Core) (running : ℕ) : Type 0 where
+pub record RowsAreTold (x : Environment) (y : Site) (held : Held) (ss : List (List ℕ)) (c : Core) (running : ℕ) : Type 0 where
   pub entries : EntriesFit y.map (state_of held ss)
   pub users : users_rows y.map held (paged_of y.map (state_of held ss)) running y.map.users ≡ users_text 1 c.users
   pub log : log_rows held.hardware.console.log ≡ log_text c.console.log
 
 -- of every machine that stands for a state
 abbrev pub RowsTell : Type 0
-RowsTell = (x : Outside) (y : Site) (held : Held) (ss : List (List ℕ)) (status : Status) (c : Core) (running : ℕ) →
-    MapInRange y.map → Stands x y (state_of held ss) status c → IsRunning held ss c running → RowsAreTold x y held ss c running
+RowsTell = (x : Environment) (y : Site) (held : Held) (ss : List (List ℕ)) (status : Status) (c : Core) (running : ℕ) →
+    MapInRange y.map → RunningRelation x y (state_of held ss) status c → IsRunning held ss c running → RowsAreTold x y held ss c running
 
 -- the rows of user u alone
 pub record UserIsTold (m : Map) (held : Held) (ss : List (List ℕ)) (c : Core) (running u : ℕ) : Type 0 where
@@ -52,8 +52,8 @@ pub record UserIsTold (m : Map) (held : Held) (ss : List (List ℕ)) (c : Core) 
 
 -- of every machine that stands for a state
 abbrev pub UserRowsTell : Type 0
-UserRowsTell = (x : Outside) (y : Site) (held : Held) (ss : List (List ℕ)) (status : Status) (c : Core) (running u : ℕ) →
-    MapInRange y.map → Stands x y (state_of held ss) status c → IsRunning held ss c running → IsUser c u → UserIsTold y.map held ss c running u
+UserRowsTell = (x : Environment) (y : Site) (held : Held) (ss : List (List ℕ)) (status : Status) (c : Core) (running u : ℕ) →
+    MapInRange y.map → RunningRelation x y (state_of held ss) status c → IsRunning held ss c running → IsUser c u → UserIsTold y.map held ss c running u
 
 -- word k of user u, as the machine shows it by pages
 abbrev pub user_word : Map → Paged → (u k : ℕ) → ℕ
@@ -67,5 +67,5 @@ pub record WordsAreTold (m : Map) (s : State) (u : ℕ) (words : List ℕ) : Typ
 
 -- of every machine that stands for a state
 abbrev pub WordsTell : Type 0
-WordsTell = (x : Outside) (y : Site) (held : Held) (ss : List (List ℕ)) (status : Status) (c : Core) (u : ℕ) →
-    MapInRange y.map → Stands x y (state_of held ss) status c → IsUser c u → WordsAreTold y.map (state_of held ss) u (user_of c.users u).words
+WordsTell = (x : Environment) (y : Site) (held : Held) (ss : List (List ℕ)) (status : Status) (c : Core) (u : ℕ) →
+    MapInRange y.map → RunningRelation x y (state_of held ss) status c → IsUser c u → WordsAreTold y.map (state_of held ss) u (user_of c.users u).words

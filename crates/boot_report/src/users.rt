@@ -5,7 +5,7 @@ ghost use Rattle.layer_map.specs.Map.{block_at};
 ghost use Rattle.boot_report.specs.Texts.{cpu_of, register_rows, processor_rows, log_rows};
 ghost use Rattle.boot_report.specs.Scripts.{of_report, user_script, users_script};
 ghost use Rattle.cvm_outside.specs.Script.{Prints, Makes};
-ghost use Rattle.boot_report.specs.Stand.{BlockStands, CanReadUser, CanReadUsers};
+ghost use Rattle.boot_report.specs.Stand.{BlockReadable, CanReadUser, CanReadUsers};
 
 use crate::fault::ReportFault;
 use crate::memory::put_memory;
@@ -16,7 +16,7 @@ use mips_machine::Machine;
 
 // A word of a user's control block, by its number in the block.
 fn block_word(machine: &Machine, user: u32, number: u32) -> u32
-    requires user { BlockStands user (length machine.now.hardware.memory) }
+    requires user { BlockReadable user (length machine.now.hardware.memory) }
     requires number { number < 64 }
     ensures { result ≡ slice_index machine.now.hardware.memory (block_at user + number) }
 {
@@ -25,7 +25,7 @@ fn block_word(machine: &Machine, user: u32, number: u32) -> u32
 
 // A user's pc.
 fn pc_of(machine: &Machine, runs: bool, user: u32) -> u32
-    requires user { BlockStands user (length machine.now.hardware.memory) }
+    requires user { BlockReadable user (length machine.now.hardware.memory) }
     ensures { result ≡ (cpu_of machine.now runs user).pc }
 {
     if runs {
@@ -36,7 +36,7 @@ fn pc_of(machine: &Machine, runs: bool, user: u32) -> u32
 
 // A register of a user, from 1 to 31.
 fn register_of(machine: &Machine, runs: bool, user: u32, register: u32) -> u32
-    requires user { BlockStands user (length machine.now.hardware.memory) }
+    requires user { BlockReadable user (length machine.now.hardware.memory) }
     requires some { 1 ≤ register }
     requires few { register ≤ 31 }
     ensures { result ≡ slice_index (cpu_of machine.now runs user).regs register }
@@ -49,7 +49,7 @@ fn register_of(machine: &Machine, runs: bool, user: u32, register: u32) -> u32
 
 // A user's hi.
 fn hi_of(machine: &Machine, runs: bool, user: u32) -> u32
-    requires user { BlockStands user (length machine.now.hardware.memory) }
+    requires user { BlockReadable user (length machine.now.hardware.memory) }
     ensures { result ≡ (cpu_of machine.now runs user).hi }
 {
     if runs {
@@ -60,7 +60,7 @@ fn hi_of(machine: &Machine, runs: bool, user: u32) -> u32
 
 // A user's lo.
 fn lo_of(machine: &Machine, runs: bool, user: u32) -> u32
-    requires user { BlockStands user (length machine.now.hardware.memory) }
+    requires user { BlockReadable user (length machine.now.hardware.memory) }
     ensures { result ≡ (cpu_of machine.now runs user).lo }
 {
     if runs {
@@ -76,7 +76,7 @@ fn put_registers<O: Sink>(
     user: u32,
     out: &mut O,
 ) -> Result<(), SinkFault>
-    requires user { BlockStands user (length machine.now.hardware.memory) }
+    requires user { BlockReadable user (length machine.now.hardware.memory) }
     ensures { Prints O.Sink out.old out.new (register_rows (cpu_of machine.now runs user) 31) result }
 {
     for i in 0..31u32 {
@@ -93,7 +93,7 @@ fn put_processor<O: Sink>(
     pages: u32,
     out: &mut O,
 ) -> Result<(), SinkFault>
-    requires user { BlockStands user (length machine.now.hardware.memory) }
+    requires user { BlockReadable user (length machine.now.hardware.memory) }
     ensures { Prints O.Sink out.old out.new (processor_rows user pages (cpu_of machine.now runs user)) result }
 {
     put_user(user, pages, pc_of(machine, runs, user), out)?;

@@ -2,7 +2,7 @@
 use Rattle.std.specs.Prelude.{Option, Some, None, is_some, not, ◌||◌, ◌==◌}
 use Rattle.std.proofs.Common.{◌≡◌, ℕ, zero, suc, ◌<◌, ◌≤◌, Bool, true, false, List, [], ◌++◌, length, refl, sym, ap, ◌∙◌, subst, arith, ⊎_elim, inl, inr, ◌⊎◌}
 use Rattle.std.proofs.lemmas.Bool.{cases_lt}
-use Rattle.mips_table.specs.Device.{Outside}
+use Rattle.mips_table.specs.Device.{Environment}
 use Rattle.mips_table.specs.Machine.{State}
 use Rattle.mips_table.specs.Turns.{complete, is_end, end_within, TurnLaws}
 use Rattle.c0_tree.specs.Tree.{CUnit}
@@ -11,7 +11,7 @@ use Rattle.cvm_model.specs.Cvm.{System, Cvm, IsCvm, cvm, turn}
 use Rattle.cvm_model.specs.Kernel.{JournalEntry}
 use Rattle.boot_turns.specs.Entries.{TraceGrows, TracesGrow, step_entries}
 use Rattle.boot_turns.specs.Premises.{StartsFrom}
-use Rattle.boot_turns.specs.RunMachines.{IsDefined, MachinesRun}
+use Rattle.boot_turns.specs.RunMachines.{RunIsDefined, MachinesRun}
 use Rattle.boot_turns.specs.Trace.{Shown}
 use Rattle.boot_turns.specs.declared.answers.View.{View}
 use Rattle.boot_turns.specs.declared.answers.View.TheVariants.{Boot, Trace}
@@ -21,13 +21,13 @@ use Rattle.boot_run.specs.RunEnds.{SeesUser}
 
 -- what a past is made of
 pub record Founded (r : Run) : Type 0 where
-  pub defined : IsDefined r.around r.system r.first
+  pub defined : RunIsDefined r.around r.system r.first
   pub traces : (u : ℕ) → 1 ≤ u → u ≤ length r.system.boot.users → TraceGrows r.around r.system r.first u
   pub user : SeesUser r.view (length r.system.boot.users)
   pub count : TurnLaws
 
 -- BEFORE ITS END a run hasn't ended, and the machine is on
-module _ (count : TurnLaws) (x : Outside) (s : State) (k n : ℕ) where
+module _ (count : TurnLaws) (x : Environment) (s : State) (k n : ℕ) where
   pub not_ended : (t : ℕ) → t < end_within x s k n → is_end x s k t ≡ false
   not_ended t lt = by (is_end x s k (end_within x s k n)) refl
     where
@@ -106,7 +106,7 @@ past_of r k = by r.view refl k.user
         )
 
 -- so it is of a run from a start
-pub past_from : (u : CUnit) (x : Outside) (y : System) (s : State) (late held : ℕ) (view : View) (turns steps : ℕ) → MachinesRun (IsTypedState u) → TracesGrow (IsTypedState u) → TurnLaws
+pub past_from : (u : CUnit) (x : Environment) (y : System) (s : State) (late held : ℕ) (view : View) (turns steps : ℕ) → MachinesRun (IsTypedState u) → TracesGrow (IsTypedState u) → TurnLaws
     → StartsFrom (IsTypedState u) x y s late held → SeesUser view (length y.boot.users) → (p : Past) × IsPast (run_at x y s view turns steps) p
 past_from u x y s late held view turns steps machines traces count starts sees = past_of (run_at x y s view turns steps) (record {
   defined = (machines x y s late held starts).defined;

@@ -2,7 +2,7 @@
 use Rattle.std.proofs.Common.{◌≡◌, ◌≢◌, ℕ, suc, ◌+◌, ◌<◌, ◌≤◌, ◌==◌, Bool, true, false, Option, Some, None, List, Result, Ok, Err, refl, sym, ap, ◌∙◌, subst, ⊎_elim, arith}
 use Rattle.std.specs.Prelude.{IsSome, is_some, if◌then◌else◌, slice_index, MatchResult}
 use Rattle.std.proofs.lemmas.Bool.{cases_lt}
-use Rattle.mips_table.specs.Device.{Outside}
+use Rattle.mips_table.specs.Device.{Environment}
 use Rattle.mips_table.specs.Machine.{State, run}
 use Rattle.schedule_file.specs.Rows.{Rows}
 use Rattle.mips_machine.specs.Steps.{outside_of}
@@ -10,7 +10,7 @@ use Rattle.cvm_model.specs.declared.row.Next.{Next}
 use Rattle.cvm_model.specs.declared.row.Next.TheVariants.{Halt, Fault}
 use Rattle.boot_turns.specs.AnyTurns.{BrokeOff}
 use Rattle.boot_turns.specs.Sooner.{NoSooner, ComesTo}
-use Rattle.boot_turns.specs.Completes.{seen}
+use Rattle.boot_turns.specs.Completes.{state_seen}
 use Rattle.boot_turns.specs.declared.completion.Begun.{Begun}
 use Rattle.boot_turns.specs.declared.answers.Turn.{Turn}
 use Rattle.boot_turns.specs.declared.answers.View.{View}
@@ -26,11 +26,11 @@ use Rattle.boot_run.specs.TurnParts.{Counted, Moved, Views}
 use Rattle.boot_run.proofs.Turned.{seen_parts}
 
 -- fewer turns at an earlier step
-pub sooner_than : (x : Outside) (s : State) (k m t : ℕ) → k ≤ m → NoSooner x s k t → NoSooner x s m t
+pub sooner_than : (x : Environment) (s : State) (k m t : ℕ) → k ≤ m → NoSooner x s k t → NoSooner x s m t
 sooner_than x s k m t le n = record { before = λ j l. let b = n.before j l in omega (arith, b, le); on = n.on }
 
 -- more turns are complete no earlier
-no_earlier : (x : Outside) (s : State) (k t i u : ℕ) → ComesTo x s k t → ComesTo x s (k + i) u → t ≤ u
+no_earlier : (x : Environment) (s : State) (k t i u : ℕ) → ComesTo x s k t → ComesTo x s (k + i) u → t ≤ u
 no_earlier x s k t i u c d = ⊎_elim
     (λ (lt : u < t). let less = c.sooner.before u lt in let all = (d.here (c.sooner.on u lt)).1 in absurd (omega (arith, less, all)))
     (λ (ge : t ≤ u). ge)
@@ -75,10 +75,10 @@ module _ {L : Type 0} (r new : Kept L) (views : Views r) (count most : ℕ) (tol
   -- the turns were broken off
   pub any_broke_off : (f : RunFault) → Moved count r new most told retold mid late budget left (Err f) → AnyTurnsRun count r most (around r told budget text) (around new retold left retext) (Err f)
   any_broke_off f w = λ s k t c on is none.
-      subst (λ b. BrokeOff (outside_of r.machine.rows count) s b (k + most) t (seen retold new.machine) budget left f) (traced_by r.tracer ∙ sym (ap is_traced views.view)) (w.anyhow s k t c on is)
+      subst (λ b. BrokeOff (outside_of r.machine.rows count) s b (k + most) t (state_seen retold new.machine) budget left f) (traced_by r.tracer ∙ sym (ap is_traced views.view)) (w.anyhow s k t c on is)
 
   module _ (made skipped : ℕ) (b : Begun) (answer : Turn) (number : made ≡ skipped + 1) (w : Moved count r new most told retold mid late budget left (Ok (skipped, b))) (counted : Counted r new skipped b answer) where
-    came : (s : State) (k t : ℕ) → ComesTo (outside_of r.machine.rows count) s k t → (run (outside_of r.machine.rows count) s t).off ≡ None → seen told r.machine ≡ Some (run (outside_of r.machine.rows count) s t) →
+    came : (s : State) (k t : ℕ) → ComesTo (outside_of r.machine.rows count) s k t → (run (outside_of r.machine.rows count) s t).off ≡ None → state_seen told r.machine ≡ Some (run (outside_of r.machine.rows count) s t) →
         CameTo (outside_of r.machine.rows count) s (k + made) t (around r told budget text) (around new retold left retext)
     came s k t c on is =
         let x = outside_of r.machine.rows count in
@@ -107,7 +107,7 @@ pub any_passed : {L : Type 0} (count : ℕ) (r : Kept L) (most : ℕ) (before af
 any_passed count r most before after f e result is same w = subst (AnyTurnsRun count r most before after) (ap (λ g. Err g) same ∙ sym is) w
 
 -- what a broken call comes to doesn't hang on the kept fault
-cut_kept : (x : Outside) (s : State) (v : View) (k t : ℕ) (before after : Around) (f : RunFault) (kept : Option RunFault) → WasCut x s v k t before after f → WasCut x s v k t before (record after { fault = kept }) f
+cut_kept : (x : Environment) (s : State) (v : View) (k t : ℕ) (before after : Around) (f : RunFault) (kept : Option RunFault) → WasCut x s v k t before after f → WasCut x s v k t before (record after { fault = kept }) f
 cut_kept x s v k t before after StepLimit kept w = w
 cut_kept x s v k t before after Disk kept w = w
 cut_kept x s v k t before after Sink kept w = w
@@ -121,7 +121,7 @@ any_kept a b e count r most before told budget text f w =
     any_faulted count r most before (around a told budget text) f (Some f) (subst (λ (q : Kept _). AnyTurnsRun count r most before (around q told budget text) (Err f)) (sym e) w)
 
 -- THE LOOP. A call's turns come behind those that were made
-joins : (x : Outside) (s : State) (k m t : ℕ) (before mid after : Around) → (c : CameTo x s k t before mid) → CameTo x s m c.at mid after → CameTo x s m t before after
+joins : (x : Environment) (s : State) (k m t : ℕ) (before mid after : Around) → (c : CameTo x s k t before mid) → CameTo x s m c.at mid after → CameTo x s m t before after
 joins x s k m t before mid after c d = record {
   at = d.at;
   comes = d.comes;
@@ -131,7 +131,7 @@ joins x s k m t before mid after c d = record {
 }
 
 -- the budget that is spent is that of the first call
-cut_later : (x : Outside) (s : State) (traced : Bool) (k t u : ℕ) (now : Option State) (budget mid left : ℕ) → t ≤ u → mid + u ≡ budget + t → (f : RunFault) → BrokeOff x s traced k u now mid left f → BrokeOff x s traced k t now budget left f
+cut_later : (x : Environment) (s : State) (traced : Bool) (k t u : ℕ) (now : Option State) (budget mid left : ℕ) → t ≤ u → mid + u ≡ budget + t → (f : RunFault) → BrokeOff x s traced k u now mid left f → BrokeOff x s traced k t now budget left f
 cut_later x s traced k t u now budget mid left le sum StepLimit (none, sooner, is) =
     let at : u + mid ≡ t + budget = omega (arith, sum) in
     (none, subst (λ i. NoSooner x s k (suc i)) at sooner, subst (λ i. now ≡ Some (run x s i)) at is)

@@ -1,13 +1,13 @@
 -- How a run of any machine ends, by its loop and what closes it.
 use Rattle.std.proofs.Common.{◌≡◌, ◌≢◌, inl, inr, ℕ, suc, ◌+◌, Bool, true, false, Option, Some, List, Ok, Err, refl, sym, ap, ◌∙◌, subst, arith}
 use Rattle.std.specs.Option.{option_map}
-use Rattle.mips_table.specs.Device.{Outside}
+use Rattle.mips_table.specs.Device.{Environment}
 use Rattle.mips_table.specs.Machine.{State, run}
 use Rattle.mips_machine.specs.Machine.{Held}
 use Rattle.mips_machine.specs.Steps.{outside_of}
 use Rattle.boot_turns.specs.AnyTurns.{BrokeOff}
 use Rattle.boot_turns.specs.Sooner.{NoSooner}
-use Rattle.boot_turns.specs.Completes.{seen, SeenTorn, DiskLeaves}
+use Rattle.boot_turns.specs.Completes.{state_seen, SeenTorn, DiskLeaves}
 use Rattle.boot_turns.specs.declared.answers.View.{View}
 use Rattle.boot_turns.specs.declared.answers.View.TheVariants.{Boot, Trace}
 use Rattle.boot_turns.specs.declared.answers.RunFault.{RunFault}
@@ -23,7 +23,7 @@ use Rattle.boot_run.specs.Pieces.{end_of_fault}
 use Rattle.boot_run.proofs.Ending.{stand_told}
 
 -- the sectors that are told are those of the machine
-told_at : (x : Outside) (s : State) (t : ℕ) (told : Option (List (List ℕ))) (held : Held) → seen told held ≡ Some (run x s t) → SectorsTold x s t told
+told_at : (x : Environment) (s : State) (t : ℕ) (told : Option (List (List ℕ))) (held : Held) → state_seen told held ≡ Some (run x s t) → SectorsTold x s t told
 told_at x s t told held is = stand_told told held (run x s t).device.sectors (ap (option_map (λ (z : State). z.device.sectors)) is)
 
 -- only a kernel's fault is a fault
@@ -39,7 +39,7 @@ limit_is Disk e = absurd (cc)
 limit_is Sink e = absurd (cc)
 
 -- an end that hangs on no view
-at_view : (x : Outside) (s : State) (v : View) (k total : ℕ) (told : Option (List (List ℕ))) (e : RunEnd) → AnyEnds x s k total told e → AnyRunEnds x s v k total told e
+at_view : (x : Environment) (s : State) (v : View) (k total : ℕ) (told : Option (List (List ℕ))) (e : RunEnd) → AnyEnds x s k total told e → AnyRunEnds x s v k total told e
 at_view x s Boot k total told e w = w
 at_view x s (Trace u) k total told ends.Done w = w
 at_view x s (Trace u) k total told ends.KernelFaulted w = w
@@ -48,7 +48,7 @@ at_view x s (Trace u) k total told ends.DiskFault w = inl w
 at_view x s (Trace u) k total told ends.SinkFault w = w
 
 -- THE LOOP came to the end of the turns, and the run was closed
-module _ (x : Outside) (s : State) (k t : ℕ) (before mid : Around) (g : CameTo x s k t before mid) (told : Option (List (List ℕ))) (at_end : SectorsTold x s g.at told) where
+module _ (x : Environment) (s : State) (k t : ℕ) (before mid : Around) (g : CameTo x s k t before mid) (told : Option (List (List ℕ))) (at_end : SectorsTold x s g.at told) where
   ended : (b : Bool) → has_faulted mid.ended ≡ b → ComesWithin x s k (before.budget + t) b told
   ended b how = record { at = g.at; comes = g.comes; within = let a = g.spent in omega (arith, a); how = sym (ap has_faulted g.ended) ∙ how; sectors = at_end }
 
@@ -69,17 +69,17 @@ module _ {L : Type 0} (count : ℕ) (r : Kept L) (turns : ℕ) (before : Around)
       (closed_as x s (k + turns) t before (around mid mid_told left text) g retold (same ∙ told_at x s g.at mid_told mid.machine g.state) e how other)
 
 -- or was broken off
-module _ (x : Outside) (s : State) (k t : ℕ) (told : Option (List (List ℕ))) (held : Held) (budget left : ℕ) where
-  torn_as : (at : ℕ) → NoSooner x s k (suc at) → left + suc at ≡ budget + t → SeenTorn x (run x s at) (seen told held) → StepFailsWithin x s k (budget + t) told
+module _ (x : Environment) (s : State) (k t : ℕ) (told : Option (List (List ℕ))) (held : Held) (budget left : ℕ) where
+  torn_as : (at : ℕ) → NoSooner x s k (suc at) → left + suc at ≡ budget + t → SeenTorn x (run x s at) (state_seen told held) → StepFailsWithin x s k (budget + t) told
   torn_as at sooner spent (now, is, torn) = record { at = at; sooner = sooner; less = omega (arith, spent); now = now; told_is = stand_told told held now is; torn = torn }
 
   -- by the disk in a step, of a trace in one that is done, too
-  read_as : (v : View) (at : ℕ) → NoSooner x s k (suc at) → left + suc at ≡ budget + t → DiskLeaves x s at (is_traced v) (seen told held) → AnyRunEnds x s v k (budget + t) told ends.DiskFault
+  read_as : (v : View) (at : ℕ) → NoSooner x s k (suc at) → left + suc at ≡ budget + t → DiskLeaves x s at (is_traced v) (state_seen told held) → AnyRunEnds x s v k (budget + t) told ends.DiskFault
   read_as Boot at sooner spent (torn, ports) = inl (torn_as at sooner spent torn)
   read_as (Trace u) at sooner spent (inl (torn, ports)) = inl (inl (torn_as at sooner spent torn))
   read_as (Trace u) at sooner spent (inr done) = inr (at, sooner, omega (arith, spent), told_at x s (suc at) told held done)
 
-  broke_as : (v : View) (f : RunFault) → BrokeOff x s (is_traced v) k t (seen told held) budget left f → AnyRunEnds x s v k (budget + t) told (end_of_fault f)
+  broke_as : (v : View) (f : RunFault) → BrokeOff x s (is_traced v) k t (state_seen told held) budget left f → AnyRunEnds x s v k (budget + t) told (end_of_fault f)
   broke_as v StepLimit (none, sooner, is) =
       let sum : t + budget ≡ budget + t = omega arith in
       at_view x s v k (budget + t) told ends.OutOfSteps

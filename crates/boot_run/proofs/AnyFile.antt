@@ -2,12 +2,12 @@
 -- It serves `run_on` alone.
 use Rattle.std.proofs.Common.{◌≡◌, ◌⊎◌, inl, inr, ℕ, ◌+◌, ◌-◌, false, Option, Some, None, List, refl, ap, subst, arith}
 use Rattle.std.specs.Prelude.{IsSome}
-use Rattle.mips_table.specs.Device.{Outside}
+use Rattle.mips_table.specs.Device.{Environment}
 use Rattle.mips_table.specs.Machine.{State}
 use Rattle.mips_machine.specs.Machine.{state_of}
 use Rattle.mips_machine.specs.Steps.{outside_of}
 use Rattle.boot_turns.specs.Sooner.{ComesTo}
-use Rattle.boot_turns.specs.Completes.{seen}
+use Rattle.boot_turns.specs.Completes.{state_seen}
 use Rattle.boot_turns.specs.declared.answers.View.{View}
 use Rattle.boot_run.specs.AnyRun.{AnyRunEnds, AnyRunsToEnd}
 use Rattle.boot_run.specs.AnyEnds.{AnyEnds, ComesWithin, StepFailsWithin}
@@ -18,7 +18,7 @@ use Rattle.boot_run.specs.declared.whole.RunEnd.{RunEnd}
 use Rattle.boot_run.specs.declared.whole.RunEnd.TheVariants as ends
 
 -- before any step no turn is complete
-first : (x : Outside) (z : State) → ComesTo x z 0 0
+first : (x : Environment) (z : State) → ComesTo x z 0 0
 first x z = record {
   sooner = record { before = λ j h. absurd (omega (arith, h)); on = λ j h. absurd (omega (arith, h)) };
   here = λ on. (refl, refl);
@@ -29,7 +29,7 @@ pub anyhow : {L : Type 0} (count : ℕ) (r : Kept L) (more turns steps budget : 
 anyhow count r more turns steps budget told retold had e left spent runs = λ sectors resumed is.
     let x = outside_of r.machine.rows count in
     let z = state_of r.machine sectors in
-    let ends = runs z 0 0 (first x z) (resumed.ready sectors).on (ap (λ o. seen o r.machine) is) resumed.ended in
+    let ends = runs z 0 0 (first x z) (resumed.ready sectors).on (ap (λ o. state_seen o r.machine) is) resumed.ended in
     let wanted : 0 + more ≡ turns - r.turns = omega (arith, left) in
     let total : budget + 0 ≡ steps - r.machine.time = omega (arith, spent) in
     subst (λ (v : View). AnyRunEnds x z v (turns - r.turns) (steps - r.machine.time) retold e) resumed.view
@@ -39,12 +39,12 @@ is_told : (o : Option (List (List ℕ))) (now : List (List ℕ)) → o ≡ Some 
 is_told None now h = absurd (cc)
 is_told (Some x) now h = refl
 
-disk_told : (x : Outside) (z : State) (k total : ℕ) (told : Option (List (List ℕ))) → StepFailsWithin x z k total told ⊎ ComesWithin x z k total false told → IsSome told
+disk_told : (x : Environment) (z : State) (k total : ℕ) (told : Option (List (List ℕ))) → StepFailsWithin x z k total told ⊎ ComesWithin x z k total false told → IsSome told
 disk_told x z k total told (inl h) = is_told told _ h.told_is
 disk_told x z k total told (inr h) = is_told told _ h.sectors
 
 -- however it ends, the sectors are told
-ends_told : (x : Outside) (z : State) (k total : ℕ) (told : Option (List (List ℕ))) (e : RunEnd) → AnyEnds x z k total told e → IsSome told
+ends_told : (x : Environment) (z : State) (k total : ℕ) (told : Option (List (List ℕ))) (e : RunEnd) → AnyEnds x z k total told e → IsSome told
 ends_told x z k total told ends.Done h = is_told told _ h.sectors
 ends_told x z k total told ends.KernelFaulted h = is_told told _ h.sectors
 ends_told x z k total told ends.OutOfSteps h = is_told told _ h.1

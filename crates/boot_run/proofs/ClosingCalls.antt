@@ -15,9 +15,9 @@ use Rattle.cvm_outside.specs.declared.sink.Sink as sink_of
 use Rattle.cvm_outside.specs.declared.sectors.Sectors as sectors_of
 use Rattle.cvm_outside.specs.Script.{Call, Printed, Read, Performs, done, Makes, blame, scripts}
 use Rattle.cvm_outside.proofs.Putting.{same_script, scripts-none, scripts-suc}
-use Rattle.mips_table.specs.Device.{Outside}
+use Rattle.mips_table.specs.Device.{Environment}
 use Rattle.mips_table.specs.Machine.{State, run}
-use Rattle.mips_table.specs.Turns.{complete, lines_of}
+use Rattle.mips_table.specs.Turns.{complete, lines_of_turn}
 use Rattle.mips_machine.specs.Machine.{Held, state_of}
 use Rattle.mips_machine.specs.Steps.{outside_of}
 use Rattle.layer_map.specs.Map.{Map}
@@ -57,7 +57,7 @@ use Rattle.boot_run.specs.RunCalls.{run_at, report_script, TellsFrom, ReportCall
 use Rattle.boot_run.specs.Shown.{has_faulted}
 use Rattle.boot_run.specs.Sink.{Base}
 use Rattle.boot_run.specs.TurnCalls.{ended_of, around, Ready, Traces}
-use Rattle.boot_run.proofs.Fitting.{user_there}
+use Rattle.boot_run.proofs.TraceRoom.{user_there}
 use Rattle.boot_run.proofs.ReportScripts.{user_script_is, users_script_is}
 use Rattle.boot_run.proofs.Reporting.{its_told, its_map, stands, halting, running, told_rows, told_globals}
 use Rattle.boot_run.proofs.ScriptParts.{at}
@@ -88,7 +88,7 @@ pub of_trace : (halted : Bool) (current : ℕ) (held : Held) (told : Option (Lis
 of_trace halted current held told m kept = of_user m held told (kept.user == runs_now halted current) kept.user
 
 -- the report of a run that hasn't faulted, by what the abstract machine says of it
-boot_script : (x : Outside) (y : System) (s : State) (turns steps : ℕ) (p : Past) (t : ℕ) (c : Cvm) → cvm_at (run_at x y s Boot turns steps) p t ≡ c → (st : Status) → c.status ≡ st → has_faulted (ended_of st) ≡ false →
+boot_script : (x : Environment) (y : System) (s : State) (turns steps : ℕ) (p : Past) (t : ℕ) (c : Cvm) → cvm_at (run_at x y s Boot turns steps) p t ≡ c → (st : Status) → c.status ≡ st → has_faulted (ended_of st) ≡ false →
     report_script Boot (run_at x y s Boot turns steps) p t st ≡
     says (end_text st ++ globals_text y.boot.meaning.names (parts_of c.core.c0.global_values) ++ log_text c.core.console.log)
     ++ scripts (λ i. user_script (map_of y.boot) (run x s t) (i + 1) (user_of c.core.users (i + 1))) (length c.core.users)
@@ -96,7 +96,7 @@ boot_script x y s turns steps p t c e Running is fine = ap (λ (z : Cvm). boot_r
 boot_script x y s turns steps p t c e Halted is fine = ap (λ (z : Cvm). boot_report y (run x s t) z z.status) e ∙ ap (boot_report y (run x s t) c) is
 boot_script x y s turns steps p t c e (Faulted f) is fine = absurd (let h = fine in cc)
 
-trace_script : (x : Outside) (y : System) (s : State) (u turns steps : ℕ) (p : Past) (t : ℕ) (c : Cvm) → cvm_at (run_at x y s (Trace u) turns steps) p t ≡ c → (st : Status) → c.status ≡ st → has_faulted (ended_of st) ≡ false →
+trace_script : (x : Environment) (y : System) (s : State) (u turns steps : ℕ) (p : Past) (t : ℕ) (c : Cvm) → cvm_at (run_at x y s (Trace u) turns steps) p t ≡ c → (st : Status) → c.status ≡ st → has_faulted (ended_of st) ≡ false →
     report_script (Trace u) (run_at x y s (Trace u) turns steps) p t st ≡ says (last_steps (p.shown t) ++ end_text st) ++ user_script (map_of y.boot) (run x s t) u (user_of c.core.users u)
 trace_script x y s u turns steps p t c e Running is fine = ap (λ (z : Cvm). trace_report y (run x s t) z u (p.shown t) z.status) e ∙ ap (trace_report y (run x s t) c u (p.shown t)) is
 trace_script x y s u turns steps p t c e Halted is fine = ap (λ (z : Cvm). trace_report y (run x s t) z u (p.shown t) z.status) e ∙ ap (trace_report y (run x s t) c u (p.shown t)) is
@@ -125,14 +125,14 @@ kept_report text told r o o1 d d1 result f is = record {
 
 module _ {L O D : Type 0} (text : sink_of.Ghosts O) (told : sectors_of.Ghosts D) (r : Kept L) (o o1 : O) (d d1 : D) (fine : has_faulted r.ended ≡ false) (places : Places)
     (placed : PlacesHold r.boot places.map places.offsets.items r.machine.hardware.memory r.count) (law : (u : CUnit) → MachinesRun (IsTypedState u)) where
-  abbrev x : Outside
+  abbrev x : Environment
   x = outside_of r.machine.rows (told.size d)
 
   -- what the abstract machine says between turns
   its_cvm : (y : System) (s : State) (late held : ℕ) → RunMachines x y s late held → (v : View) (base : Base) (k t : ℕ) (c : Cvm) (budget : ℕ) → Ready x y s v base (suc k) t c (around r (told.sectors d) budget (text.text o)) → (turns steps : ℕ) (p : Past) →
       TellsFrom (run_at x y s v turns steps) p t t → cvm_at (run_at x y s v turns steps) p t ≡ c
   its_cvm y s late held m v base k t c budget ready turns steps p tells =
-      m.same (complete x s t) (cvm_at (run_at x y s v turns steps) p t) c (tells.turns t (omega arith) (omega arith)) (subst (λ n. IsCvm y (lines_of x s) n c) (sym ready.stood.all) ready.stood.cvm)
+      m.same (complete x s t) (cvm_at (run_at x y s v turns steps) p t) c (tells.turns t (omega arith) (omega arith)) (subst (λ n. IsCvm y (lines_of_turn x s) n c) (sym ready.stood.all) ready.stood.cvm)
 
   -- of a boot
   module _ (view : r.view ≡ Boot) (typed : (u : CUnit) → RunsStayTyped (IsTypedState u)) (rows : RowsTell) (globals : GlobalRowsTell) (formed : IsWellFormed kernel_primitives (unit_view r.boot.unit)) where

@@ -9,7 +9,7 @@ use Rattle.cvm_outside.proofs.Follow.{both, first}
 use Rattle.cvm_outside.proofs.Putting.{same_script}
 use Rattle.mips_table.specs.Device as device
 use Rattle.mips_table.specs.Machine.{State, run}
-use Rattle.mips_table.specs.Turns.{complete, lines_of, is_end, end_within, TurnLaws}
+use Rattle.mips_table.specs.Turns.{complete, lines_of_turn, is_end, end_within, TurnLaws}
 use Rattle.schedule_file.specs.Rows.{Rows}
 use Rattle.mips_machine.specs.Steps.{outside_of}
 use Rattle.c0_tree.specs.Tree.{CUnit}
@@ -118,11 +118,11 @@ rest_parts true begin steps fault report all none is =
     append_assoc (begin ++ steps) fault report ∙ ap (λ (l : List Call). begin ++ steps ++ l) (sym (is refl)) ∙ append_assoc begin steps all
 
 -- THE REST OF A RUN is its turns, and behind them the report of one that hasn't faulted
-module _ (counts : TurnLaws) (x : device.Outside) (y : System) (s : State) (late held : ℕ) (m : RunMachines x y s late held) (v : View) (turns steps : ℕ) (p : Past) (past : IsPast (run_at x y s v turns steps) p) where
+module _ (counts : TurnLaws) (x : device.Environment) (y : System) (s : State) (late held : ℕ) (m : RunMachines x y s late held) (v : View) (turns steps : ℕ) (p : Past) (past : IsPast (run_at x y s v turns steps) p) where
   abbrev end : ℕ
   end = end_within x s turns steps
 
-  pub now_is : IsCvm y (lines_of x s) (complete x s (end_within x s turns steps)) (cvm_at (run_at x y s v turns steps) p (end_within x s turns steps))
+  pub now_is : IsCvm y (lines_of_turn x s) (complete x s (end_within x s turns steps)) (cvm_at (run_at x y s v turns steps) p (end_within x s turns steps))
   now_is = past.turns (complete x s (end_within x s turns steps)) (omega arith)
 
   rests_so : is_end x s turns (end_within x s turns steps) ≡ true → (f : KernelFault) → (cvm_at (run_at x y s v turns steps) p (end_within x s turns steps)).status ≡ Faulted f → (run x s (end_within x s turns steps)).off ≡ Some (power_of f)
@@ -131,7 +131,7 @@ module _ (counts : TurnLaws) (x : device.Outside) (y : System) (s : State) (late
       none : (st : Status) → st ≡ Running → st ≡ Faulted f → ⊥
       none st a b = let h : Running ≡ Faulted f = sym a ∙ b in cc
 
-      by : (n : ℕ) (c : Cvm) → IsCvm y (lines_of x s) n c → RestsAfter x y s n (end_within x s turns steps) c → c.status ≡ Faulted f → (run x s (end_within x s turns steps)).off ≡ Some (power_of f)
+      by : (n : ℕ) (c : Cvm) → IsCvm y (lines_of_turn x s) n c → RestsAfter x y s n (end_within x s turns steps) c → c.status ≡ Faulted f → (run x s (end_within x s turns steps)).off ≡ Some (power_of f)
       by zero c h rests is = absurd (none c.status (ap (λ (q : Cvm). q.status) (m.same 0 c (first_cvm y) h (record { units = 0; is = refl }))) is)
       by (suc n) c h rests is = subst (λ (st : Status). Rests st (run x s (end_within x s turns steps))) is rests.0
 
@@ -231,7 +231,7 @@ rest_closes text told r mid o o1 o2 d d1 d2 turns budget left law counts e kept 
       let low : t ≤ end_within x s wanted steps = no_sooner counts x s wanted steps t (omega (arith, sum)) (λ j lt. goes_before x s k t wanted starts (omega (arith, more)) j lt) in
       let now : cvm_at rn past (end_within x s wanted steps) ≡ g.past =
       m.same (complete x s (end_within x s wanted steps)) (cvm_at rn past (end_within x s wanted steps)) g.past (now_is counts x y s late held m r.view wanted steps past is)
-      (subst (λ q. IsCvm y (lines_of x s) q g.past) (sym (ap (complete x s) end ∙ g.ready.stood.all)) g.ready.stood.cvm) in
+      (subst (λ q. IsCvm y (lines_of_turn x s) q g.past) (sym (ap (complete x s) end ∙ g.ready.stood.all)) g.ready.stood.cvm) in
       let w = closes_at left y s late held base g.count g.at g.past p.same p.starts g.ready wanted steps past (past_tells counts rn past g.at g.at is (omega (arith, end))) in
       record {
         made = λ shelf. rest_made counts x y s late held m r.view wanted steps past is (closing_script (run_at x y s r.view wanted steps) past) (report_script r.view (run_at x y s r.view wanted steps) past (end_within x s wanted steps) (cvm_at (run_at x y s r.view wanted steps) past (end_within x s wanted steps)).status)

@@ -10,7 +10,7 @@ use Rattle.cvm_outside.proofs.Follow.{both, first}
 use Rattle.cvm_outside.proofs.Putting.{same_script, scripts-none}
 use Rattle.mips_table.specs.Device as device
 use Rattle.mips_table.specs.Machine.{State, run}
-use Rattle.mips_table.specs.Turns.{complete, lines_of, is_end, end_within, TurnLaws}
+use Rattle.mips_table.specs.Turns.{complete, lines_of_turn, is_end, end_within, TurnLaws}
 use Rattle.schedule_file.specs.Rows.{Rows}
 use Rattle.mips_machine.specs.Steps.{outside_of}
 use Rattle.c0_tree.specs.Tree.{CUnit}
@@ -36,7 +36,7 @@ use Rattle.boot_run.specs.Pieces.{Bootable, FirstAt, GoRuns}
 use Rattle.boot_run.specs.RunCalls.{run_at, begin_script, fault_script, turns_script, TellsFrom, TurnsCall, GoCalls}
 use Rattle.boot_run.specs.Sink.{Base}
 use Rattle.boot_run.specs.TurnCalls.{ended_of, Around, around, Ready, TurnsEnd, TurnsRun, KeepsLoad}
-use Rattle.boot_run.proofs.Going.{Going, Goes, came_on, goes_on, goes_on_to, end_most, no_end}
+use Rattle.boot_run.proofs.TurnToTurn.{Going, Goes, came_on, goes_on, goes_on_to, end_most, no_end}
 use Rattle.boot_run.proofs.Looping.{KeepsGoing, machines, turns_end}
 use Rattle.boot_run.proofs.ScriptParts.{at}
 use Rattle.boot_run.proofs.Scripting.{goes_none}
@@ -47,7 +47,7 @@ is_false true o e = absurd (cc)
 is_false false None e = refl
 is_false false (Some v) e = absurd (cc)
 
-module _ (counts : TurnLaws) (x : device.Outside) (s : State) (turns steps : ℕ) where
+module _ (counts : TurnLaws) (x : device.Environment) (s : State) (turns steps : ℕ) where
   not_ended : (t : ℕ) → t < end_within x s turns steps → is_end x s turns t ≡ false
   not_ended t lt = by (is_end x s turns (end_within x s turns steps)) refl
     where
@@ -71,7 +71,7 @@ module _ (counts : TurnLaws) (x : device.Outside) (s : State) (turns steps : ℕ
       (cases_lt (end_within x s turns steps) u)
 
 -- nor before turns are complete for the first time
-pub goes_before : (x : device.Outside) (s : State) (k t turns : ℕ) → FirstAt x s k t → k ≤ turns → (j : ℕ) → j < t → is_end x s turns j ≡ false
+pub goes_before : (x : device.Environment) (s : State) (k t turns : ℕ) → FirstAt x s k t → k ≤ turns → (j : ℕ) → j < t → is_end x s turns j ≡ false
 goes_before x s k t turns starts le j lt =
     let less = starts.before j lt in
     no_end x s turns j (λ e. omega (arith, less, e, le)) (starts.on j lt)
@@ -136,7 +136,7 @@ made_first text told r o d budget (suc i) now none y s late held old base k t st
 -- a run of which turns were made, and its next call
 module _ {L O D : Type 0} (text : sink_of.Ghosts O) (told : sectors_of.Ghosts D) (r now : Kept L) (o o1 o2 : O) (d d1 d2 : D) (budget left i : ℕ) (kept : KeepsLoad r now) (size : told.size d1 ≡ told.size d)
     (going : KeepsGoing (told.size d) r (around r (told.sectors d) budget (text.text o)) i (around now (told.sectors d1) left (text.text o1))) (so : KeepsMade text told r o d o1 d1 budget i now.machine.time) where
-  abbrev x : device.Outside
+  abbrev x : device.Environment
   x = outside_of r.machine.rows (told.size d)
 
   turns_at : (n : ℕ) (blamed : Option Who) → TurnsAt text told now now.boot now.machine.rows now.view (told.size d1) left o1 d1 o2 d2 n blamed → TurnsAt text told now r.boot r.machine.rows r.view (told.size d) left o1 d1 o2 d2 n blamed
@@ -184,7 +184,7 @@ module _ {L O D : Type 0} (text : sink_of.Ghosts O) (told : sectors_of.Ghosts D)
         let time : now.machine.time ≡ u = stands.steps in
         let low = later in
         let goes : past_c.status ≡ Running = goes_on x y s r.view base (k + i) u past_c (around now (told.sectors d1) left (text.text o1)) stands on in
-        let is : cvm_at rn past u ≡ past_c = m.same (complete x s u) (cvm_at rn past u) past_c (tells.turns u low (omega (arith, there, time))) (subst (λ q. IsCvm y (lines_of x s) q past_c) (sym stands.stood.all) stands.stood.cvm) in
+        let is : cvm_at rn past u ≡ past_c = m.same (complete x s u) (cvm_at rn past u) past_c (tells.turns u low (omega (arith, there, time))) (subst (λ q. IsCvm y (lines_of_turn x s) q past_c) (sym stands.stood.all) stands.stood.cvm) in
         let none : (off : Option ℕ) → fault_script r.view rn past u off (cvm_at rn past u).status ≡ [] = λ off. goes_none r.view rn past u off (cvm_at rn past u).status (ap (λ (q : Cvm). q.status) is ∙ goes) in
         same_script (made_script rn past k i t (now.machine.time - t) ++ turns_script rn past (k + i) u n) (turns_script rn past k t all) (at text told shelf o d) (at text told shelf o2 d2) blamed
         (made_join rn past k i i t u (now.machine.time - t) n all (omega (arith, time, low)) (omega (arith, there, time, low)) (λ z. (let high = no_later z in omega (arith, high, time))) none)
@@ -205,7 +205,7 @@ module _ {L O D : Type 0} (text : sink_of.Ghosts O) (told : sectors_of.Ghosts D)
       (tells_part (run_at x y s r.view turns steps) past t after t (t + (after - t)) (omega arith) (omega (arith, there)) tells) shelf
 
 -- what a past tells up to the end of its run
-up_to : (counts : TurnLaws) (x : device.Outside) (s : State) (t u : ℕ) → t ≤ u → complete x s t ≤ complete x s u
+up_to : (counts : TurnLaws) (x : device.Environment) (s : State) (t u : ℕ) → t ≤ u → complete x s t ≤ complete x s u
 up_to counts x s t zero le = let e : t ≡ 0 = omega (arith, le) in subst (λ (i : ℕ). complete x s i ≤ complete x s 0) (sym e) (omega arith)
 up_to counts x s t (suc u) le = ⊎_elim
     (λ (lt : t < suc u). let a = up_to counts x s t u (omega (arith, lt)) in let b = counts.grows x s u in omega (arith, a, b))
@@ -219,7 +219,7 @@ past_tells counts r p a b past most = record {
 }
 
 -- where turns broke off the whole script does
-broken_on : (counts : TurnLaws) (x : device.Outside) (y : System) (s : State) (v : View) (turns steps : ℕ) (p : Past) (k t n : ℕ) → t + n ≤ end_within x s turns steps → (old new : Outside) (whom : Who) →
+broken_on : (counts : TurnLaws) (x : device.Environment) (y : System) (s : State) (v : View) (turns steps : ℕ) (p : Past) (k t n : ℕ) → t + n ≤ end_within x s turns steps → (old new : Outside) (whom : Who) →
     Performs (turns_script (run_at x y s v turns steps) p k t n) old new (Some whom) → Performs (turns_script (run_at x y s v turns steps) p k t (end_within x s turns steps - t)) old new (Some whom)
 broken_on counts x y s v turns steps p k t n le old new whom made = ⊎_elim
     (λ (lt : t + n < end_within x s turns steps).
@@ -243,7 +243,7 @@ broken_on counts x y s v turns steps p k t n le old new whom made = ⊎_elim
     (cases_lt (t + n) (end_within x s turns steps))
 
 -- HOW FAR TURNS CAME THAT FAILED: to no later step than the headline's, and where they are out of steps just to that
-module _ (counts : TurnLaws) (x : device.Outside) (y : System) (s : State) (v : View) (base : Base) (turns steps i t : ℕ) (c : Cvm) (most : ℕ) (before after : Around) (room : i + most ≤ turns) (g : Going x y s v base steps i t c before) where
+module _ (counts : TurnLaws) (x : device.Environment) (y : System) (s : State) (v : View) (base : Base) (turns steps i t : ℕ) (c : Cvm) (most : ℕ) (before after : Around) (room : i + most ≤ turns) (g : Going x y s v base steps i t c before) where
   fail_end : (f : RunFault) → TurnsEnd x y s v base i t c most before after (Err f) → (of_run f ≡ None → after.steps ≡ end_within x s turns steps) × (after.steps ≤ end_within x s turns steps)
   fail_end StepLimit (n, lt, le, w, fails) =
       let spent = g.came.spent in
@@ -301,7 +301,7 @@ module _ {L O D : Type 0} (text : sink_of.Ghosts O) (told : sectors_of.Ghosts D)
     );
   }
     where
-      by : (f' : RunFault) → f' ≡ f → (x : device.Outside) (y : System) (s : State) (wanted steps : ℕ) → (of_run f' ≡ None → new.machine.time ≡ end_within x s wanted steps) → (past : Past) (k t n : ℕ) → t + n ≡ new.machine.time → t + n ≤ end_within x s wanted steps → (shelf : Files) →
+      by : (f' : RunFault) → f' ≡ f → (x : device.Environment) (y : System) (s : State) (wanted steps : ℕ) → (of_run f' ≡ None → new.machine.time ≡ end_within x s wanted steps) → (past : Past) (k t n : ℕ) → t + n ≡ new.machine.time → t + n ≤ end_within x s wanted steps → (shelf : Files) →
           Performs (turns_script (run_at x y s r.view wanted steps) past k t n) (at text told shelf o d) (at text told shelf o2 d2) (of_run f') →
           Performs (turns_script (run_at x y s r.view wanted steps) past k t (end_within x s wanted steps - t)) (at text told shelf o d) (at text told shelf o2 d2) (of_run f')
       by StepLimit e x y s wanted steps limit past k t n time within shelf made =
@@ -334,8 +334,8 @@ module _ {L O D : Type 0} (text : sink_of.Ghosts O) (told : sectors_of.Ghosts D)
       no_some None e h = cc
       no_some (Some n) e h = absurd (cc)
 
-      by : (i : ℕ) → (i ≡ 0 → (turns ≡ 0) × (new.machine.time ≡ r.machine.time)) → (x : device.Outside) (y : System) (s : State) (late held : ℕ) → RunMachines x y s late held → (wanted steps : ℕ) (past : Past) (k t : ℕ) (c : Cvm) → IsCvm y (lines_of x s) k c → complete x s t ≡ k → c.status ≡ Running → k + turns ≡ wanted → 1 ≤ wanted → r.machine.time ≡ t →
-          ((j : ℕ) → t ≤ j → j ≤ end_within x s wanted steps → IsCvm y (lines_of x s) (complete x s j) (past.cvm (complete x s j))) → (n : ℕ) → n ≡ end_within x s wanted steps - t → end_within x s wanted steps ≡ new.machine.time →
+      by : (i : ℕ) → (i ≡ 0 → (turns ≡ 0) × (new.machine.time ≡ r.machine.time)) → (x : device.Environment) (y : System) (s : State) (late held : ℕ) → RunMachines x y s late held → (wanted steps : ℕ) (past : Past) (k t : ℕ) (c : Cvm) → IsCvm y (lines_of_turn x s) k c → complete x s t ≡ k → c.status ≡ Running → k + turns ≡ wanted → 1 ≤ wanted → r.machine.time ≡ t →
+          ((j : ℕ) → t ≤ j → j ≤ end_within x s wanted steps → IsCvm y (lines_of_turn x s) (complete x s j) (past.cvm (complete x s j))) → (n : ℕ) → n ≡ end_within x s wanted steps - t → end_within x s wanted steps ≡ new.machine.time →
           made_script (run_at x y s r.view wanted steps) past k i t n ≡ turns_script (run_at x y s r.view wanted steps) past k t (end_within x s wanted steps - t)
       by zero h x y s late held m wanted steps past k t c cvm all running more some found tells n is end =
           let rn : Run = run_at x y s r.view wanted steps in
@@ -344,7 +344,7 @@ module _ {L O D : Type 0} (text : sink_of.Ghosts O) (told : sectors_of.Ghosts D)
           let one : k ≡ suc (k - 1) = omega (arith, z, more, some) in
           let none : end_within x s wanted steps - t ≡ 0 = omega (arith, end, still, found) in
           let here : t + (end_within x s wanted steps - t) ≡ t = omega (arith, none) in
-          let same : cvm_at rn past t ≡ c = m.same k (cvm_at rn past t) c (subst (λ q. IsCvm y (lines_of x s) q (cvm_at rn past t)) all (tells t (omega arith) (omega (arith, end, still, found)))) cvm in
+          let same : cvm_at rn past t ≡ c = m.same k (cvm_at rn past t) c (subst (λ q. IsCvm y (lines_of_turn x s) q (cvm_at rn past t)) all (tells t (omega arith) (omega (arith, end, still, found)))) cvm in
           sym (ap₂ (λ (a b : List Call). a ++ b ++ fault_script r.view rn past (t + (end_within x s wanted steps - t)) (run x s (t + (end_within x s wanted steps - t))).off (cvm_at rn past (t + (end_within x s wanted steps - t))).status) (no_begin rn k (k - 1) one)
           (ap (steps_script rn past t) none ∙ scripts-none (λ j. step_script rn past (t + j)))
           ∙ ap (λ q. fault_script r.view rn past q (run x s q).off (cvm_at rn past q).status) here

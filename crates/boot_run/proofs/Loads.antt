@@ -10,13 +10,13 @@ use Rattle.cvm_outside.specs.Numbering.{Tally}
 use Rattle.schedule_file.specs.Rows.{Rows}
 use Rattle.layer_map.specs.Map.{memory_frames, memory_words}
 use Rattle.mips_table.specs.Device.{sector_of}
-use Rattle.mips_table.specs.Machine.{start}
+use Rattle.mips_table.specs.Machine.{power_on}
 use Rattle.mips_machine.specs.Machine.{Held, started}
 use Rattle.cvm_model.specs.Cvm.{map_of}
 use Rattle.layer_contract.specs.declared.boot.Boot.{Boot as Booted}
 use Rattle.layer_contract.specs.Boots.{boot_of}
 use Rattle.layer_contract.specs.Follows.{loaded, loaded_memory, loaded_sector}
-use Rattle.boot_turns.specs.Completes.{seen}
+use Rattle.boot_turns.specs.Completes.{state_seen}
 use Rattle.boot_run.specs.Loading.{system_of, pages_of_users, written, with_words, TornAmong}
 use Rattle.boot_run.specs.LoadedPages.{calls_made, disk_pages, first_pages, user_pages}
 use Rattle.boot_run.specs.LoadEnds.{pages_needed}
@@ -72,11 +72,11 @@ module _ (b : Booted) (rows : Rows) where
       (λ q ge. kept_behind some old q (subst (λ n. n ≤ q) (sym needed_is) ge))
 
   fresh : 1 ≤ b.params.pages → (told : Option (List (List ℕ))) (count : ℕ) → IfSome told (λ ss. length ss ≡ count) → needed ≤ count →
-      seen (option_map (written (disk_pages b.params.pages lists []) needed) told) (with_words (started (memory_frames (map_of (boot_of b))) rows) 0 b.words.items) ≡ option_map (loaded (system_of b rows)) told
+      state_seen (option_map (written (disk_pages b.params.pages lists []) needed) told) (with_words (started (memory_frames (map_of (boot_of b))) rows) 0 b.words.items) ≡ option_map (loaded (system_of b rows)) told
   fresh some None count sized le = refl
   fresh some (Some old) count sized le =
       let le2 : needed ≤ length old = omega (arith, sized, le) in
-      ap Some (ap₂ (λ memory sectors. start memory sectors rows.inputs) memory_is (sectors_are some old le2))
+      ap Some (ap₂ (λ memory sectors. power_on memory sectors rows.inputs) memory_is (sectors_are some old le2))
 
 -- its memory has room for the map
 pub loaded_long : (b : Booted) (rows : Rows) (held : Held) → held ≡ with_words (started (memory_frames (map_of (boot_of b))) rows) 0 b.words.items → memory_words (map_of (boot_of b)) ≤ length held.hardware.memory
@@ -101,10 +101,10 @@ loaded_whole b rows held e =
 pub stands_loaded : (b : Booted) (rows : Rows) (held : Held) (told retold : Option (List (List ℕ))) (count : ℕ) → 1 ≤ b.params.pages →
     held ≡ with_words (started (memory_frames (map_of (boot_of b))) rows) 0 b.words.items →
     retold ≡ option_map (written (disk_pages b.params.pages (map (λ words. words.items) b.users.items) []) (length b.users.items * b.params.pages)) told →
-    IfSome told (λ ss. length ss ≡ count) → length b.users.items * b.params.pages ≤ count → seen retold held ≡ option_map (loaded (system_of b rows)) told
+    IfSome told (λ ss. length ss ≡ count) → length b.users.items * b.params.pages ≤ count → state_seen retold held ≡ option_map (loaded (system_of b rows)) told
 stands_loaded b rows held told retold count some e h sized le =
-    subst (λ (m : Held). seen retold m ≡ option_map (loaded (system_of b rows)) told) (sym e)
-    (ap (λ r. seen r (with_words (started (memory_frames (map_of (boot_of b))) rows) 0 b.words.items)) h ∙ fresh b rows some told count sized le)
+    subst (λ (m : Held). state_seen retold m ≡ option_map (loaded (system_of b rows)) told) (sym e)
+    (ap (λ r. state_seen r (with_words (started (memory_frames (map_of (boot_of b))) rows) 0 b.words.items)) h ∙ fresh b rows some told count sized le)
 
 -- where the writing was broken off, the sectors become those of the start
 pub torn_becomes : (most : ℕ) (f g : List (List ℕ) → List (List ℕ)) (told retold : Option (List (List ℕ))) (live : ℕ → Bool) (made remade : Tally) → ((ss : List (List ℕ)) → most ≤ length ss → f ss ≡ g ss) →

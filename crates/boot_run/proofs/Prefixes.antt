@@ -3,14 +3,14 @@ use Rattle.std.proofs.Common.{◌≡◌, ◌⊎◌, inl, inr, ℕ, zero, suc, �
 use Rattle.std.specs.Prelude.{⊤, ◌||◌, is_some, IsSome, if◌then◌else◌}
 use Rattle.std.proofs.lemmas.Grind.{common_steps}
 use Rattle.std.proofs.lemmas.Bool.{cases_lt}
-use Rattle.mips_table.specs.Device.{Outside}
+use Rattle.mips_table.specs.Device.{Environment}
 use Rattle.mips_table.specs.Machine.{State, run}
-use Rattle.mips_table.specs.Turns.{complete, lines_of, is_end, end_within, TurnLaws}
+use Rattle.mips_table.specs.Turns.{complete, lines_of_turn, is_end, end_within, TurnLaws}
 use Rattle.cvm_model.specs.Kernel.{JournalEntry}
 use Rattle.cvm_model.specs.Primitives.{user_of}
 use Rattle.cvm_model.specs.Cvm.{System, Status, Running, Halted, Faulted, Cvm, IsCvm}
 use Rattle.cvm_model.specs.Text.{steps_row, journal_rows_after, journal_rows, open_journal_rows, start_row, trace_end}
-use Rattle.c0_meaning.specs.State.{State as C0}
+use Rattle.c0_meaning.specs.State.{C0State}
 use Rattle.boot_turns.specs.Headline as headline
 use Rattle.layer_contract.specs.Starts.{Beyond}
 use Rattle.boot_turns.specs.Headline.{Ending, RanFrom, TextAt, ArePut, TraceBroken, TurnPutFails, EndCalls, IsBegun, EndBroken, SinkBroken, ending, ending_of}
@@ -23,7 +23,7 @@ use Rattle.boot_turns.specs.TurnEnds.{Printed, Whole, Prefix, first_of}
 use Rattle.boot_turns.specs.declared.answers.View.{View}
 use Rattle.boot_turns.specs.declared.answers.View.TheVariants.{Boot, Trace}
 use Rattle.boot_run.specs.RunEnds.{SeesUser}
-use Rattle.boot_run.proofs.Going.{is_off}
+use Rattle.boot_run.proofs.TurnToTurn.{is_off}
 
 -- A PREFIX of a text is one of a longer text
 take_more : (n : ℕ) (a b : List ℕ) → take n a ≡ take (min n (length a)) (a ++ b)
@@ -42,7 +42,7 @@ on_of true o e = absurd (cc)
 on_of false None e = refl
 on_of false (Some v) e = absurd (cc)
 
-pub on_at : (x : Outside) (y : System) (s0 : State) (turns t : ℕ) → is_end x s0 turns t ≡ false → (run x s0 t).off ≡ None
+pub on_at : (x : Environment) (y : System) (s0 : State) (turns t : ℕ) → is_end x s0 turns t ≡ false → (run x s0 t).off ≡ None
 on_at x y s0 turns t e = on_of _ (run x s0 t).off e
 
 bool_cases : (b : Bool) → (b ≡ true) ⊎ (b ≡ false)
@@ -52,7 +52,7 @@ bool_cases false = inr refl
 both : (b : Bool) → b ≡ true → b ≡ false → ⊥
 both b e f = cc
 
-module _ (counts : TurnLaws) (x : Outside) (y : System) (s0 : State) (turns steps : ℕ) where
+module _ (counts : TurnLaws) (x : Environment) (y : System) (s0 : State) (turns steps : ℕ) where
   -- the run hasn't ended before the headline's step
   pub goes_to_end : (j : ℕ) → j < end_within x s0 turns steps → is_end x s0 turns j ≡ false
   goes_to_end j h = ⊎_elim
@@ -68,7 +68,7 @@ module _ (counts : TurnLaws) (x : Outside) (y : System) (s0 : State) (turns step
       (cases_lt (end_within x s0 turns steps) at)
 
 -- THE JOURNAL of a later step begins with that of an earlier one
-grown : (x : Outside) (y : System) (s0 : State) (u : ℕ) → TraceGrows x y s0 u → (n t end : ℕ) (j : List JournalEntry) → end ≡ t + n → ((i : ℕ) → i < end → (run x s0 i).off ≡ None) →
+grown : (x : Environment) (y : System) (s0 : State) (u : ℕ) → TraceGrows x y s0 u → (n t end : ℕ) (j : List JournalEntry) → end ≡ t + n → ((i : ℕ) → i < end → (run x s0 i).off ≡ None) →
     Shown x s0 y u t j → (d : List JournalEntry) × Shown x s0 y u end (j ++ d)
 grown x y s0 u grows zero t end j same on s =
     let there : t ≡ end = omega (arith, same) in
@@ -84,7 +84,7 @@ pub stays_beyond : (bound : ℕ) (old mid now : List (List ℕ)) → Beyond boun
 stays_beyond bound old mid now h k = λ q le. k q le ∙ h q le
 
 -- a whole text, by the status of the run
-text_whole : (x : Outside) (y : System) (s0 : State) (v : View) (t : ℕ) (s : Status) (text : List ℕ) → Whole x y s0 v t text → TextAt x y s0 v t (ending_of s) text
+text_whole : (x : Environment) (y : System) (s0 : State) (v : View) (t : ℕ) (s : Status) (text : List ℕ) → Whole x y s0 v t text → TextAt x y s0 v t (ending_of s) text
 text_whole x y s0 v t Running text w = w
 text_whole x y s0 v t Halted text w = w
 text_whole x y s0 v t (Faulted f) text w = w
@@ -108,10 +108,10 @@ front_cut follow start j d rest whole text is p =
     let front : Prefix [] (start ++ open_journal_rows j) text = subst (λ w. Prefix [] w text) is p in
     subst (λ w. Prefix [] w text) (front_is follow start j d rest) (prefix_more (start ++ open_journal_rows j) (journal_rows_after false (pending_steps j) d ++ rest) text front)
 
-module _ (follow : RowsFollow) (x : Outside) (y : System) (s0 : State) (delay bound : ℕ) (old : List (List ℕ)) (m : RunMachines x y s0 delay bound) (first : Beyond bound old s0.device.sectors)
+module _ (follow : RowsFollow) (x : Environment) (y : System) (s0 : State) (delay bound : ℕ) (old : List (List ℕ)) (m : RunMachines x y s0 delay bound) (first : Beyond bound old s0.device.sectors)
     (u turns steps : ℕ) where
   -- what is printed with no failed call, by whether the run has ended
-  text_by : (t : ℕ) (b : Bool) (c : Cvm) (j : List JournalEntry) → IsCvm y (lines_of x s0) (complete x s0 t) c → Shown x s0 y u t j →
+  text_by : (t : ℕ) (b : Bool) (c : Cvm) (j : List JournalEntry) → IsCvm y (lines_of_turn x s0) (complete x s0 t) c → Shown x s0 y u t j →
       (rest : List ℕ) × TextAt x y s0 (Trace u) t (if b then ending_of c.status else headline.OutOfSteps) ((start_row u (first_of y u) ++ open_journal_rows j) ++ rest)
   text_by t true c j cvm s = (
     steps_row (pending_steps j) ++ trace_end u (user_of c.core.users u) c.status,
@@ -154,11 +154,11 @@ module _ (follow : RowsFollow) (x : Outside) (y : System) (s0 : State) (delay bo
           whole,
           record {
             past = c;
-            cvm = subst (λ n. IsCvm y (lines_of x s0) (complete x s0 n) c) (sym here) cvm;
+            cvm = subst (λ n. IsCvm y (lines_of_turn x s0) (complete x s0 n) c) (sym here) cvm;
             sectors = refl;
             beyond = stays_beyond bound old s0.device.sectors _ first (m.beyond (end_within x s0 turns steps));
             status = refl;
-            over = m.ends turns steps c (subst (λ n. IsCvm y (lines_of x s0) (complete x s0 n) c) (sym here) cvm);
+            over = m.ends turns steps c (subst (λ n. IsCvm y (lines_of_turn x s0) (complete x s0 n) c) (sym here) cvm);
             text_is = subst (λ (b : Bool). TextAt x y s0 (Trace u) (end_within x s0 turns steps) (if b then ending_of c.status else headline.OutOfSteps) whole) (sym end_here)
                 (text_whole x y s0 (Trace u) (end_within x s0 turns steps) c.status whole w);
           },
@@ -172,23 +172,23 @@ module _ (follow : RowsFollow) (x : Outside) (y : System) (s0 : State) (delay bo
     cut grows part (inr (inr (w, v, (power, off)))) = whole_cut v (is_off x s0 turns at (subst (λ (o : Option ℕ). IsSome o) (sym off) refl))
 
 -- THE SINK'S FAULT IN A TURN of a trace
-pub trace_cut : TurnLaws → RowsFollow → (x : Outside) (y : System) (s0 : State) (delay bound : ℕ) (old : List (List ℕ)) → RunMachines x y s0 delay bound → Beyond bound old s0.device.sectors → (u turns steps : ℕ) → TraceGrows x y s0 u → (now : List (List ℕ)) (calls : ℕ → State → Type 0) (at n : ℕ) (text : List ℕ) →
+pub trace_cut : TurnLaws → RowsFollow → (x : Environment) (y : System) (s0 : State) (delay bound : ℕ) (old : List (List ℕ)) → RunMachines x y s0 delay bound → Beyond bound old s0.device.sectors → (u turns steps : ℕ) → TraceGrows x y s0 u → (now : List (List ℕ)) (calls : ℕ → State → Type 0) (at n : ℕ) (text : List ℕ) →
     TraceBroken x y s0 now u turns steps at n text → calls n (run x s0 at) → SinkBroken x y s0 bound old now (Trace u) turns steps calls text
 trace_cut counts follow x y s0 delay bound old m first u turns steps grows now calls at n text w fit =
     (cut follow x y s0 delay bound old m first u turns steps counts at w.most w.goes_on w.whole text (prefix_any w.part w.whole text w.printed) grows w.part w.are_put, inl (at, n, w, fit))
 
 -- BY THE VIEW: what is known of the journals of what is viewed
-abbrev pub GrowsFor : Outside → System → State → View → Type 0
+abbrev pub GrowsFor : Environment → System → State → View → Type 0
 GrowsFor x y s0 Boot = ⊤
 GrowsFor x y s0 (Trace u) = TraceGrows x y s0 u
 
-pub grows_for : (Typed : C0 → Type 0) → TracesGrow Typed → (x : Outside) (y : System) (s0 : State) (delay bound : ℕ) → StartsFrom Typed x y s0 delay bound →
+pub grows_for : (Typed : C0State → Type 0) → TracesGrow Typed → (x : Environment) (y : System) (s0 : State) (delay bound : ℕ) → StartsFrom Typed x y s0 delay bound →
     (v : View) → SeesUser v (length y.boot.users) → GrowsFor x y s0 v
 grows_for Typed law x y s0 delay bound lawful Boot sees = tt
 grows_for Typed law x y s0 delay bound lawful (Trace u) sees = law x y s0 delay bound u lawful sees.0 sees.1
 
 -- the sink failed in a turn
-pub put_ends : TurnLaws → RowsFollow → (x : Outside) (y : System) (s0 : State) (delay bound : ℕ) (old : List (List ℕ)) → RunMachines x y s0 delay bound → Beyond bound old s0.device.sectors → (v : View) → GrowsFor x y s0 v → (turns steps : ℕ) (now : List (List ℕ)) (calls : ℕ → State → Type 0) (at n : ℕ) (text : List ℕ) →
+pub put_ends : TurnLaws → RowsFollow → (x : Environment) (y : System) (s0 : State) (delay bound : ℕ) (old : List (List ℕ)) → RunMachines x y s0 delay bound → Beyond bound old s0.device.sectors → (v : View) → GrowsFor x y s0 v → (turns steps : ℕ) (now : List (List ℕ)) (calls : ℕ → State → Type 0) (at n : ℕ) (text : List ℕ) →
     TurnPutFails x y s0 now v turns steps at n text → calls n (run x s0 at) → Beyond bound old now × SinkBroken x y s0 bound old now v turns steps calls text
 put_ends counts follow x y s0 delay bound old m first Boot grows turns steps now calls at n text w fit =
     (subst (Beyond bound old) (sym w.0.sectors) (stays_beyond bound old s0.device.sectors _ first (m.beyond at)), inl (at, n, w, fit))
@@ -196,7 +196,7 @@ put_ends counts follow x y s0 delay bound old m first (Trace u) grows turns step
     (subst (Beyond bound old) (sym w.sectors) (stays_beyond bound old s0.device.sectors _ first (m.beyond at)), trace_cut counts follow x y s0 delay bound old m first u turns steps grows now calls at n text w fit)
 
 -- or in the report
-pub report_ends : (x : Outside) (y : System) (s0 : State) (bound : ℕ) (old now : List (List ℕ)) (v : View) (turns steps : ℕ) (calls : ℕ → State → Type 0) (text : List ℕ) →
+pub report_ends : (x : Environment) (y : System) (s0 : State) (bound : ℕ) (old now : List (List ℕ)) (v : View) (turns steps : ℕ) (calls : ℕ → State → Type 0) (text : List ℕ) →
     (w : EndBroken x y s0 now v turns steps (Printed x y s0 v (end_within x s0 turns steps)) text) → EndCalls x y s0 v (end_within x s0 turns steps) calls →
     RanFrom x y s0 bound old now v turns steps headline.Done w.whole → SinkBroken x y s0 bound old now v turns steps calls text
 report_ends x y s0 bound old now Boot turns steps calls text w fit ran = inr (w, fit)

@@ -2,7 +2,7 @@
 use Rattle.std.proofs.Common.{◌≡◌, ℕ, zero, suc, ◌+◌, ◌-◌, ◌≤◌, Option, Some, None, List, length, refl, sym, ap, ◌∙◌, subst, arith}
 use Rattle.std.specs.Prelude.{slice_index}
 use Rattle.cvm_outside.specs.Numbering.{Tally}
-use Rattle.mips_table.specs.Device.{Outside}
+use Rattle.mips_table.specs.Device.{Environment}
 use Rattle.mips_table.specs.Machine.{State, run}
 use Rattle.mips_table.specs.Steady.{StartSteady}
 use Rattle.c0_tree.specs.Tree.{CUnit}
@@ -13,7 +13,7 @@ use Rattle.cvm_model.specs.Cvm.{System}
 use Rattle.cvm_model.specs.declared.row.Next.{Next}
 use Rattle.layer_contract.specs.Follows.{loaded, loaded_memory}
 use Rattle.layer_contract.specs.Starts.{user_sectors}
-use Rattle.boot_turns.specs.Completes.{seen}
+use Rattle.boot_turns.specs.Completes.{state_seen}
 use Rattle.boot_turns.specs.Headline as headline
 use Rattle.boot_turns.specs.RunMachines.{MachinesRun}
 use Rattle.boot_turns.specs.Tracing.{reads_of}
@@ -50,10 +50,10 @@ found state steps budget text turns current ended fault tracer = record {
 around_is : {L : Type 0} (r : Kept L) → IsResumed r → (told : Option (List (List ℕ))) (left : List (List ℕ)) (budget : ℕ) (had : Option (List ℕ)) → told ≡ Some left →
     taken_up (state_of r.machine left) budget had r.turns r.current ≡ around r told budget had
 around_is r h told left budget had is =
-    ap (λ o. found (seen o r.machine) r.machine.time budget had r.turns r.current None None None) (sym is)
-    ∙ ap (λ e. found (seen told r.machine) r.machine.time budget had r.turns r.current e None None) (sym h.ended)
-    ∙ ap (λ f. found (seen told r.machine) r.machine.time budget had r.turns r.current r.ended f None) (sym h.fault)
-    ∙ ap (λ o. found (seen told r.machine) r.machine.time budget had r.turns r.current r.ended r.fault o) (sym h.tracer)
+    ap (λ o. found (state_seen o r.machine) r.machine.time budget had r.turns r.current None None None) (sym is)
+    ∙ ap (λ e. found (state_seen told r.machine) r.machine.time budget had r.turns r.current e None None) (sym h.ended)
+    ∙ ap (λ f. found (state_seen told r.machine) r.machine.time budget had r.turns r.current r.ended f None) (sym h.fault)
+    ∙ ap (λ o. found (state_seen told r.machine) r.machine.time budget had r.turns r.current r.ended r.fault o) (sym h.tracer)
 
 one_list : (o : Option (List (List ℕ))) (a b : List (List ℕ)) → o ≡ Some a → o ≡ Some b → a ≡ b
 one_list None a b e f = absurd (cc)
@@ -66,7 +66,7 @@ first_of steady y old = record { time = refl; steady = steady (loaded_memory y.b
 module _ {L : Type 0} (run_is : (u : CUnit) → MachinesRun (IsTypedState u)) (steady : StartSteady) (takes : TakesUp) (join : SavedRunsJoin) (count : ℕ) (r : Kept L) (more turns steps budget : ℕ)
     (told retold : Option (List (List ℕ))) (made remade : Tally) (had has : Option (List ℕ)) (e : RunEnd) (sum : r.turns + more ≡ turns) (spent : budget ≡ steps - r.machine.time)
     (runs : RunsToEnd count r more budget (around r told budget had) retold made remade has e) where
-  abbrev x : Outside
+  abbrev x : Environment
   x = outside_of r.machine.rows count
 
   abbrev y : System

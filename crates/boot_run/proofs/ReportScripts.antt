@@ -6,7 +6,7 @@ use Rattle.std.proofs.lemmas.List.{length-take-le}
 use Rattle.std.proofs.Math.Nat.{mul-le-mul_right, mul-add-mod_self_right, mod-eq_of_lt}
 use Rattle.std.proofs.lemmas.Nat.{div-mul-add}
 use Rattle.cvm_outside.specs.Script.{Call, Printed, Read, scripts}
-use Rattle.mips_table.specs.Device.{Outside}
+use Rattle.mips_table.specs.Device.{Environment}
 use Rattle.mips_table.specs.Processor.{Cpu}
 use Rattle.mips_table.specs.Flat.{Flat}
 use Rattle.mips_machine.specs.Machine.{Held, state_of}
@@ -16,7 +16,7 @@ use Rattle.cvm_model.specs.Kernel.{Core}
 use Rattle.cvm_model.specs.Primitives.{user_of, pages_of, no_flat}
 use Rattle.cvm_model.specs.Cvm.{Status}
 use Rattle.cvm_model.specs.Paged.{paged_of, pages_by}
-use Rattle.cvm_model.specs.Stands.{Site, Stands, UserFits, runs_user}
+use Rattle.cvm_model.specs.Stands.{Site, RunningRelation, UserFits, runs_user}
 use Rattle.cvm_model.specs.Text.{nonzero_row, regs_text, memory_text}
 use Rattle.boot_report.specs.Texts.{texts, register_row, memory_row, register_rows, processor_rows, page_text, user_head, cpu_of, pages_in, EntriesFit}
 use Rattle.boot_report.specs.Told.{IsRunning}
@@ -55,7 +55,7 @@ reads_same m held ss q fit lt =
     by true false h = let e : false ≡ true = h refl in absurd (cc)
     by false l h = refl
 
-module _ (x : Outside) (y : Site) (held : Held) (ss : List (List ℕ)) (status : Status) (c : Core) (running : ℕ) (st : Stands x y (state_of held ss) status c) (run : IsRunning held ss c running) (entries : EntriesFit y.map (state_of held ss)) where
+module _ (x : Environment) (y : Site) (held : Held) (ss : List (List ℕ)) (status : Status) (c : Core) (running : ℕ) (st : RunningRelation x y (state_of held ss) status c) (run : IsRunning held ss c running) (entries : EntriesFit y.map (state_of held ss)) where
   -- the user of an index
   module _ (i : ℕ) (lt : i < length c.users) where
     abbrev f : Flat

@@ -11,14 +11,14 @@ use Rattle.layer_map.specs.Map.{Map, memory_frames, memory_words}
 use Rattle.mips_table.specs.Device.{sector_of}
 use Rattle.mips_table.specs.Encoding.{encoding}
 use Rattle.mips_table.specs.declared.inst.Inst.TheVariants.{J}
-use Rattle.mips_table.specs.Machine.{start}
+use Rattle.mips_table.specs.Machine.{power_on}
 use Rattle.mips_machine.specs.Machine.{Held}
 use Rattle.cvm_model.specs.Cvm.{map_of}
 use Rattle.layer_contract.specs.declared.boot.Boot.{Boot as Booted}
 use Rattle.layer_contract.specs.Boots.{boot_of}
 use Rattle.layer_contract.specs.Follows.{loaded_sector}
 use Rattle.boot_rom.specs.Boots.{rom_memory}
-use Rattle.boot_turns.specs.Completes.{seen}
+use Rattle.boot_turns.specs.Completes.{state_seen}
 use Rattle.boot_turns.specs.Rom.{page_of, rom_loaded, rom_sector, rom_sectors}
 use Rattle.boot_run.specs.Loading.{system_of, pages_of_users, written, with_rom, TornAmong}
 use Rattle.boot_run.specs.LoadedPages.{calls_made, disk_pages, rom_pages}
@@ -93,16 +93,16 @@ module _ (b : Booted) (rows : Rows) where
 
   pub stands_from_rom : (rom : List ℕ) → length rom ≤ 1024 → 1 ≤ frames → (held : Held) (told retold : Option (List (List ℕ))) (count : ℕ) → 1 ≤ b.params.pages → held ≡ with_rom frames rom rows →
       retold ≡ option_map (written (disk_pages b.params.pages (lists b rows) b.words.items) (rom_needed b)) told → IfSome told (λ ss. length ss ≡ count) → rom_needed b ≤ count →
-      seen retold held ≡ option_map (rom_loaded (system_of b rows) rom) told
+      state_seen retold held ≡ option_map (rom_loaded (system_of b rows) rom) told
   stands_from_rom rom few some held told retold count pages e h sized le =
-      ap₂ (λ (r : Option (List (List ℕ))) (m : Held). seen r m) h e ∙ by told sized
+      ap₂ (λ (r : Option (List (List ℕ))) (m : Held). state_seen r m) h e ∙ by told sized
     where
       by : (o : Option (List (List ℕ))) → IfSome o (λ ss. length ss ≡ count) →
-          seen (option_map (written (disk_pages b.params.pages (lists b rows) b.words.items) (rom_needed b)) o) (with_rom frames rom rows) ≡ option_map (rom_loaded (system_of b rows) rom) o
+          state_seen (option_map (written (disk_pages b.params.pages (lists b rows) b.words.items) (rom_needed b)) o) (with_rom frames rom rows) ≡ option_map (rom_loaded (system_of b rows) rom) o
       by None sized = refl
       by (Some old) sized =
           let enough : rom_needed b ≤ length old = omega (arith, sized, le) in
-          ap Some (ap₂ (λ memory sectors. start memory sectors rows.inputs) (memory_is frames rom rows some few) (rom_sectors_are pages old enough))
+          ap Some (ap₂ (λ memory sectors. power_on memory sectors rows.inputs) (memory_is frames rom rows some few) (rom_sectors_are pages old enough))
 
   pub rom_torn : (rom : List ℕ) (told retold : Option (List (List ℕ))) (made remade : Tally) (count : ℕ) → 1 ≤ b.params.pages →
       TornAmong (rom_needed b) (written (rom_pages (system_of b rows)) (rom_needed b)) told retold (rom_pages (system_of b rows)).live made remade → IfSome told (λ ss. length ss ≡ count) → rom_needed b ≤ count →

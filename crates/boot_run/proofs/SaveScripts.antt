@@ -8,7 +8,7 @@ use Rattle.cvm_outside.specs.Script.{Call, TheDisk, Performs, done}
 use Rattle.cvm_outside.proofs.Follow.{both, first}
 use Rattle.cvm_outside.proofs.Putting.{same_script}
 use Rattle.mips_table.specs.Machine.{State, run}
-use Rattle.mips_table.specs.Turns.{complete, lines_of, is_end, end_within, TurnLaws}
+use Rattle.mips_table.specs.Turns.{complete, lines_of_turn, is_end, end_within, TurnLaws}
 use Rattle.schedule_file.specs.Rows.{Rows}
 use Rattle.mips_machine.specs.Steps.{outside_of}
 use Rattle.c0_tree.specs.Tree.{CUnit}
@@ -39,7 +39,7 @@ use Rattle.boot_run.specs.SaveCalls.{unless_on, stop_script, of_stop, stop_by, d
 use Rattle.boot_run.specs.Sink.{Base, behind}
 use Rattle.boot_run.specs.TurnCalls.{ended_of, around, Ready, StandsReady, KeepsLoad}
 use Rattle.boot_run.proofs.EndScripts.{blames_so, late_none, now_is, closing_is, rest_made, rest_broke}
-use Rattle.boot_run.proofs.Going.{running_of}
+use Rattle.boot_run.proofs.TurnToTurn.{running_of}
 use Rattle.boot_run.proofs.GoScripts.{no_sooner, goes_before, past_tells}
 use Rattle.boot_run.proofs.Looping.{machines}
 use Rattle.boot_run.proofs.ScriptParts.{at}
@@ -144,7 +144,7 @@ stop_comes text told r mid o o1 o2 d d1 d2 turns budget left law counts e kept s
       let low : t ≤ end_within x s wanted steps = no_sooner counts x s wanted steps t (omega (arith, sum)) (λ j lt. goes_before x s k t wanted starts (omega (arith, more)) j lt) in
       let now : cvm_at rn past (end_within x s wanted steps) ≡ g.past =
       m.same (complete x s (end_within x s wanted steps)) (cvm_at rn past (end_within x s wanted steps)) g.past (now_is counts x y s late held m r.view wanted steps past is)
-      (subst (λ q. IsCvm y (lines_of x s) q g.past) (sym (ap (complete x s) end ∙ g.ready.stood.all)) g.ready.stood.cvm) in
+      (subst (λ q. IsCvm y (lines_of_turn x s) q g.past) (sym (ap (complete x s) end ∙ g.ready.stood.all)) g.ready.stood.cvm) in
       let w = stops_at left y s late held base g.count g.at g.past p.same p.starts g.ready wanted steps past (past_tells counts rn past g.at g.at is (omega (arith, end))) in
       record {
         made = λ shelf. rest_made counts x y s late held m r.view wanted steps past is (unless_on st (closing_script rn past)) (unless_on st rep)

@@ -3,18 +3,18 @@ use Rattle.std.proofs.Common.{◌≡◌, ℕ, zero, suc, ◌+◌, ◌-◌, ◌*�
 use Rattle.std.specs.Prelude.{is_some, ◌&&◌, ◌||◌, nat_lt, nat_le, Option}
 use Rattle.std.proofs.lemmas.Bool.{cases_lt}
 use Rattle.std.proofs.lemmas.List.{length-map, length-replicate}
-use Rattle.mips_table.specs.Device.{Outside}
+use Rattle.mips_table.specs.Device.{Environment}
 use Rattle.mips_table.specs.Machine.{State, run}
 use Rattle.mips_table.specs.Turns.{is_on, SumLaws}
 use Rattle.mips_table.specs.Steady.{StartSteady, StaysSteady}
 use Rattle.mips_machine.specs.Steps.{outside_of}
 use Rattle.layer_map.specs.Map.{Map, MapInRange, PartsInOrder, MemoryIsWhole, block_at, layer_words, memory_words, memory_frames}
 use Rattle.c0_tree.specs.View.{unit_view}
-use Rattle.c0_meaning.specs.State.{State as C0}
+use Rattle.c0_meaning.specs.State.{C0State}
 use Rattle.c0_meaning.specs.TypedState.{IsTypedState}
 use Rattle.cvm_model.specs.Cvm.{Boot, System, Status, map_of}
 use Rattle.cvm_model.specs.Primitives.{no_flat}
-use Rattle.cvm_model.specs.Stands.{Stands, is_own}
+use Rattle.cvm_model.specs.Stands.{RunningRelation, is_own}
 use Rattle.layer_contract.specs.Boots.{boot_of}
 use Rattle.layer_contract.specs.Layer.{Rests}
 use Rattle.layer_contract.specs.Follows.{site_of, loaded, loaded_memory}
@@ -93,7 +93,7 @@ pub record MachineLaws : Type 0 where
   pub whole : (m : Map) → MapInRange m → MemoryIsWhole m
 
 -- THE MACHINE that was saved of a run of a system is one of its run
-module _ (law : MachineLaws) (Typed : C0 → Type 0) (x : Outside) (y : System) (old : List (List ℕ)) (late held : ℕ) (starts : StartsFrom Typed x y (loaded y old) late held) where
+module _ (law : MachineLaws) (Typed : C0State → Type 0) (x : Environment) (y : System) (old : List (List ℕ)) (late held : ℕ) (starts : StartsFrom Typed x y (loaded y old) late held) where
   abbrev s0 : State
   s0 = loaded y old
 
@@ -102,7 +102,7 @@ module _ (law : MachineLaws) (Typed : C0 → Type 0) (x : Outside) (y : System) 
   of_system few spent turns words left shown a more bits limit =
       let first : IsFirst y s0 = first_of law.begins y old in
       let fits = starts.boots.fits in
-      let st : Stands x (site_of y.boot) (run x s0 a.at) a.past.status a.past.core = stands law.stays x y s0 few spent words left shown first a in
+      let st : RunningRelation x (site_of y.boot) (run x s0 a.at) a.past.status a.past.core = stands law.stays x y s0 few spent words left shown first a in
       let on : is_on (run x s0 a.at) ≡ true = ap (λ (o : Option ℕ). not (is_some o)) a.on in
       let begun = first.time in
       let time = law.sums.time x s0 a.at on in

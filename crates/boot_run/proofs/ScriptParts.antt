@@ -13,10 +13,10 @@ use Rattle.cvm_outside.proofs.Parts.{append_known-nil}
 use Rattle.cvm_outside.proofs.Putting.{put_once, performed, same_script}
 use Rattle.mips_table.specs.Device as device
 use Rattle.mips_table.specs.Machine.{State}
-use Rattle.mips_table.specs.Turns.{lines_of}
+use Rattle.mips_table.specs.Turns.{lines_of_turn}
 use Rattle.cvm_model.specs.Cvm.{System, Status, Running, Halted, Faulted, Cvm, IsCvm, Begin, Steps, Traps, Interrupts, begin, turn, turn_by, cvm}
 use Rattle.cvm_model.specs.declared.row.Row.{Row}
-use Rattle.boot_report.specs.Leaves.{Puts as PutsRows}
+use Rattle.boot_report.specs.Leaves.{PutsRows}
 use Rattle.boot_turns.specs.RunMachines.{RunMachines, RowsGrow}
 use Rattle.boot_turns.specs.StepScript.{prints}
 use Rattle.boot_run.specs.Closing.{says}
@@ -79,11 +79,11 @@ no_more a d e h = none d (let n = ap (λ (l : List Row). length l) h in omega (a
     none [] h = refl
     none (r ∷ d) h = absurd (omega (arith, h))
 
-module _ (x : device.Outside) (y : System) (s : State) (late held : ℕ) (m : RunMachines x y s late held) where
-  one_more : (n : ℕ) (c after : Cvm) → IsCvm y (lines_of x s) n c → IsCvm y (lines_of x s) (suc n) after → (d : List Row) × (after.rows ≡ c.rows ++ d)
+module _ (x : device.Environment) (y : System) (s : State) (late held : ℕ) (m : RunMachines x y s late held) where
+  one_more : (n : ℕ) (c after : Cvm) → IsCvm y (lines_of_turn x s) n c → IsCvm y (lines_of_turn x s) (suc n) after → (d : List Row) × (after.rows ≡ c.rows ++ d)
   one_more n c after a b = by c.status refl
     where
-      stays : IsCvm y (lines_of x s) (suc n) c → (d : List Row) × (after.rows ≡ c.rows ++ d)
+      stays : IsCvm y (lines_of_turn x s) (suc n) c → (d : List Row) × (after.rows ≡ c.rows ++ d)
       stays h = ([], ap (λ (z : Cvm). z.rows) (m.same (suc n) after c b h) ∙ sym (append-nil c.rows))
 
       grown : (w : Begin) → RowsGrow n c after w → (d : List Row) × (after.rows ≡ c.rows ++ d)
@@ -92,32 +92,32 @@ module _ (x : device.Outside) (y : System) (s : State) (late held : ℕ) (m : Ru
       grown (Interrupts cause edata at pending) h = (_, h.rows)
 
       by : (st : Status) → c.status ≡ st → (d : List Row) × (after.rows ≡ c.rows ++ d)
-      by Running e = grown (begin n c.core (bit_or c.pending (lines_of x s n))) (m.rows n c after a e b)
-      by Halted e = stays (record { units = a.units; is = ap (turn y a.units n (lines_of x s n)) a.is ∙ ap (turn_by y a.units n (lines_of x s n) c) e })
-      by (Faulted f) e = stays (record { units = a.units; is = ap (turn y a.units n (lines_of x s n)) a.is ∙ ap (turn_by y a.units n (lines_of x s n) c) e })
+      by Running e = grown (begin n c.core (bit_or c.pending (lines_of_turn x s n))) (m.rows n c after a e b)
+      by Halted e = stays (record { units = a.units; is = ap (turn y a.units n (lines_of_turn x s n)) a.is ∙ ap (turn_by y a.units n (lines_of_turn x s n) c) e })
+      by (Faulted f) e = stays (record { units = a.units; is = ap (turn y a.units n (lines_of_turn x s n)) a.is ∙ ap (turn_by y a.units n (lines_of_turn x s n) c) e })
 
-  rows_behind : (a b : ℕ) (ca cb : Cvm) → a ≤ b → IsCvm y (lines_of x s) a ca → IsCvm y (lines_of x s) b cb → (d : List Row) × (cb.rows ≡ ca.rows ++ d)
+  rows_behind : (a b : ℕ) (ca cb : Cvm) → a ≤ b → IsCvm y (lines_of_turn x s) a ca → IsCvm y (lines_of_turn x s) b cb → (d : List Row) × (cb.rows ≡ ca.rows ++ d)
   rows_behind a zero ca cb le ia ib =
       let e : a ≡ 0 = omega (arith, le) in
-      ([], ap (λ (z : Cvm). z.rows) (m.same 0 cb ca ib (subst (λ n. IsCvm y (lines_of x s) n ca) e ia)) ∙ sym (append-nil ca.rows))
+      ([], ap (λ (z : Cvm). z.rows) (m.same 0 cb ca ib (subst (λ n. IsCvm y (lines_of_turn x s) n ca) e ia)) ∙ sym (append-nil ca.rows))
   rows_behind a (suc b) ca cb le ia ib = ⊎_elim
       (λ (lt : a < suc b).
-      let h = before (cvm y (lines_of x s) ib.units b) ib.is in
-      let mid : IsCvm y (lines_of x s) b h.0 = record { units = ib.units; is = h.1 } in
+      let h = before (cvm y (lines_of_turn x s) ib.units b) ib.is in
+      let mid : IsCvm y (lines_of_turn x s) b h.0 = record { units = ib.units; is = h.1 } in
       let p = rows_behind a b ca h.0 (omega (arith, lt)) ia mid in
       let q = one_more b h.0 cb mid ib in
       (p.0 ++ q.0, q.1 ∙ ap (λ (l : List Row). l ++ q.0) p.1 ∙ append_assoc ca.rows p.0 q.0))
       (λ (ge : suc b ≤ a).
       let e : a ≡ suc b = omega (arith, le, ge) in
-      ([], ap (λ (z : Cvm). z.rows) (m.same (suc b) cb ca ib (subst (λ n. IsCvm y (lines_of x s) n ca) e ia)) ∙ sym (append-nil ca.rows)))
+      ([], ap (λ (z : Cvm). z.rows) (m.same (suc b) cb ca ib (subst (λ n. IsCvm y (lines_of_turn x s) n ca) e ia)) ∙ sym (append-nil ca.rows)))
       (cases_lt a (suc b))
     where
-      before : (o : Option Cvm) → turn y ib.units b (lines_of x s b) o ≡ Some cb → (c : Cvm) × (o ≡ Some c)
+      before : (o : Option Cvm) → turn y ib.units b (lines_of_turn x s b) o ≡ Some cb → (c : Cvm) × (o ≡ Some c)
       before None e = absurd (cc)
       before (Some c) e = (c, refl)
 
   -- between two turns that have the same each has those
-  pub same_rows : (a i b : ℕ) (ca ci cb : Cvm) → a ≤ i → i ≤ b → IsCvm y (lines_of x s) a ca → IsCvm y (lines_of x s) i ci → IsCvm y (lines_of x s) b cb → cb.rows ≡ ca.rows → ci.rows ≡ ca.rows
+  pub same_rows : (a i b : ℕ) (ca ci cb : Cvm) → a ≤ i → i ≤ b → IsCvm y (lines_of_turn x s) a ca → IsCvm y (lines_of_turn x s) i ci → IsCvm y (lines_of_turn x s) b cb → cb.rows ≡ ca.rows → ci.rows ≡ ca.rows
   same_rows a i b ca ci cb low high ia ii ib same =
       let p = rows_behind a i ca ci low ia ii in
       let q = rows_behind i b ci cb high ii ib in

@@ -13,8 +13,8 @@ use Rattle.cvm_outside.proofs.Follow.{both, first}
 use Rattle.cvm_outside.proofs.Putting.{same_script}
 use Rattle.mips_table.specs.Device as device
 use Rattle.mips_table.specs.Machine.{State, run}
-use Rattle.mips_table.specs.Turns.{complete, lines_of}
-use Rattle.mips_machine.specs.Steps.{outside_of, due}
+use Rattle.mips_table.specs.Turns.{complete, lines_of_turn}
+use Rattle.mips_machine.specs.Steps.{outside_of, script_of_step}
 use Rattle.c0_tree.specs.Tree.{CUnit}
 use Rattle.c0_meaning.specs.TypedState.{IsTypedState}
 use Rattle.cvm_model.specs.Cvm.{Boot as CvmBoot, System, Status, Running, Halted, Faulted, Cvm, IsCvm, map_of}
@@ -71,8 +71,8 @@ goes_none v r p t None st e = refl
 goes_none v r p t (Some power) st e = ap (fault_script v r p t (Some power)) e
 
 -- THE STEPS OF A BOOT, whose turns from k to b have the same rows, at a run of it
-module _ (x : device.Outside) (y : System) (s : State) (late held : ℕ) (m : RunMachines x y s late held) (turns steps : ℕ) (p : Past) (t n : ℕ) (tells : TellsFrom (run_at x y s Boot turns steps) p t (t + n))
-    (a b : ℕ) (ca cb : Cvm) (ia : IsCvm y (lines_of x s) a ca) (ib : IsCvm y (lines_of x s) b cb) (same : cb.rows ≡ ca.rows) where
+module _ (x : device.Environment) (y : System) (s : State) (late held : ℕ) (m : RunMachines x y s late held) (turns steps : ℕ) (p : Past) (t n : ℕ) (tells : TellsFrom (run_at x y s Boot turns steps) p t (t + n))
+    (a b : ℕ) (ca cb : Cvm) (ia : IsCvm y (lines_of_turn x s) a ca) (ib : IsCvm y (lines_of_turn x s) b cb) (same : cb.rows ≡ ca.rows) where
   abbrev r : Run
   r = run_at x y s Boot turns steps
 
@@ -81,14 +81,14 @@ module _ (x : device.Outside) (y : System) (s : State) (late held : ℕ) (m : Ru
 
   -- none adds a row
   pub quiet_steps : ((j : ℕ) → t ≤ j → j ≤ t + n → (a ≤ complete x s j) × (complete x s j ≤ b)) → steps_script (run_at x y s Boot turns steps) p t n ≡ transfers x s t n
-  quiet_steps between = scripts-same (λ i. step_script (run_at x y s Boot turns steps) p (t + i)) (λ i. due x (run x s (t + i))) n (λ i lt.
+  quiet_steps between = scripts-same (λ i. step_script (run_at x y s Boot turns steps) p (t + i)) (λ i. script_of_step x (run x s (t + i))) n (λ i lt.
       let h = between (t + i) (omega arith) (omega (arith, lt)) in
       let k = between (suc (t + i)) (omega arith) (omega (arith, lt)) in
       let before = rows_at (t + i) (omega arith) (omega (arith, lt)) h.0 h.1 in
       let after = rows_at (suc (t + i)) (omega arith) (omega (arith, lt)) k.0 k.1 in
-      ap (λ (l : List Call). due x (run x s (t + i)) ++ l)
+      ap (λ (l : List Call). script_of_step x (run x s (t + i)) ++ l)
       (ap₂ (λ (c d : List Row). prints (rows_text (drop (length c) d))) before after ∙ ap (λ (l : List Row). prints (rows_text l)) (drop-length ca.rows))
-      ∙ append-nil (due x (run x s (t + i))))
+      ∙ append-nil (script_of_step x (run x s (t + i))))
 
   -- the last may
   pub last_step : (i : ℕ) → n ≡ suc i → ((j : ℕ) → t ≤ j → j ≤ t + i → (a ≤ complete x s j) × (complete x s j ≤ b)) → (more : List Row) → (cvm_at (run_at x y s Boot turns steps) p (t + n)).rows ≡ ca.rows ++ more →
@@ -121,7 +121,7 @@ fault_is follow j f =
     ∙ ap (λ (l : List ℕ). l ++ 10 ∷ []) (sym (append_assoc (last_steps j) (codes "fault ") f))
 
 -- THE ROW OF A TRACE'S FAULT is put, or none
-module _ {O D : Type 0} (text : sink_of.Ghosts O) (told : sectors_of.Ghosts D) (shelf : Files) (o o1 : O) (d : D) (follow : RowsFollow) (x : device.Outside) (y : System) (s : State) (u turns steps : ℕ) (p : Past) (e : ℕ)
+module _ {O D : Type 0} (text : sink_of.Ghosts O) (told : sectors_of.Ghosts D) (shelf : Files) (o o1 : O) (d : D) (follow : RowsFollow) (x : device.Environment) (y : System) (s : State) (u turns steps : ℕ) (p : Past) (e : ℕ)
     (c : Cvm) (c_is : cvm_at (run_at x y s (Trace u) turns steps) p e ≡ c) (j : List JournalEntry) (j_is : p.shown e ≡ j) (ended : Option Next) where
   abbrev tr : Run
   tr = run_at x y s (Trace u) turns steps
@@ -154,7 +154,7 @@ module _ {O D : Type 0} (text : sink_of.Ghosts O) (told : sectors_of.Ghosts D) (
       (subst (λ (l : List ℕ). Puts l (output text o) (output text o1) blamed) (ap (fault_rows (pending_steps j)) is ∙ fault_is follow j (fault_name f)) puts))
 
 -- turns that were passed, and the next up to some step
-spread : (x : device.Outside) (y : System) (s : State) (k t : ℕ) (c : Cvm) (i : ℕ) → Skipped x y s k t c i → (u : ℕ) → ((j : ℕ) → t + i ≤ j → j ≤ u → complete x s j ≡ k + i) →
+spread : (x : device.Environment) (y : System) (s : State) (k t : ℕ) (c : Cvm) (i : ℕ) → Skipped x y s k t c i → (u : ℕ) → ((j : ℕ) → t + i ≤ j → j ≤ u → complete x s j ≡ k + i) →
     (j : ℕ) → t ≤ j → j ≤ u → (k ≤ complete x s j) × (complete x s j ≤ k + i)
 spread x y s k t c i w u flat j from to = ⊎_elim
     (λ (lt : j < t + i).
@@ -165,16 +165,16 @@ spread x y s k t c i w u flat j from to = ⊎_elim
     (cases_lt j (t + i))
 
 -- at the end of a turn the abstract machine is as the run says
-at_end : (x : device.Outside) (y : System) (s : State) (late held : ℕ) → RunMachines x y s late held → (v : View) (turns steps : ℕ) (p : Past) (t n : ℕ) → TellsFrom (run_at x y s v turns steps) p t (t + n) → (k from : ℕ) (c : Cvm) →
+at_end : (x : device.Environment) (y : System) (s : State) (late held : ℕ) → RunMachines x y s late held → (v : View) (turns steps : ℕ) (p : Past) (t n : ℕ) → TellsFrom (run_at x y s v turns steps) p t (t + n) → (k from : ℕ) (c : Cvm) →
     (a : Ahead x y s k from c) → t + n ≡ a.end → cvm_at (run_at x y s v turns steps) p (t + n) ≡ a.after
 at_end x y s late held m v turns steps p t n tells k from c a there =
     m.same (complete x s (t + n)) (cvm_at (run_at x y s v turns steps) p (t + n)) a.after (tells.turns (t + n) (omega arith) (omega arith))
-    (subst (λ z. IsCvm y (lines_of x s) z a.after) (sym (ap (complete x s) there ∙ a.stood.all)) a.stood.cvm)
+    (subst (λ z. IsCvm y (lines_of_turn x s) z a.after) (sym (ap (complete x s) there ∙ a.stood.all)) a.stood.cvm)
 
 -- WHAT IS CALLED BEFORE THE TURNS, in their steps and behind them: by the run before and after, and by sinks, disks and budgets
 module _ {L O D : Type 0} (text : sink_of.Ghosts O) (told : sectors_of.Ghosts D) (r new : Kept L) (o o1 o2 o3 : O) (d d1 : D) (budget left most : ℕ) (views : Views r)
     (law : (u : CUnit) → MachinesRun (IsTypedState u)) (grow : (u : CUnit) → TracesGrow (IsTypedState u)) (follow : RowsFollow) where
-  abbrev x : device.Outside
+  abbrev x : device.Environment
   x = outside_of r.machine.rows (told.size d)
 
   -- the calls of so many steps, of a run viewed so, by whom they blame
@@ -278,7 +278,7 @@ module _ {L O D : Type 0} (text : sink_of.Ghosts O) (told : sectors_of.Ghosts D)
           let all : t + n ≡ t + i + (budget - i) = omega (arith, n_is, spent, le) in
           let here : complete x s (t + n) ≡ k + i = fails.between (t + n) (omega (arith, all)) (omega (arith, all)) in
           let is : cvm_at (run_at x y s v turns steps) p (t + n) ≡ w.after =
-          m.same (k + i) (cvm_at (run_at x y s v turns steps) p (t + n)) w.after (subst (λ j. IsCvm y (lines_of x s) j (cvm_at (run_at x y s v turns steps) p (t + n))) here (tells.turns (t + n) (omega arith) (omega arith))) w.stood.cvm in
+          m.same (k + i) (cvm_at (run_at x y s v turns steps) p (t + n)) w.after (subst (λ j. IsCvm y (lines_of_turn x s) j (cvm_at (run_at x y s v turns steps) p (t + n))) here (tells.turns (t + n) (omega arith) (omega arith))) w.stood.cvm in
           goes_none v (run_at x y s v turns steps) p (t + n) (run x s (t + n)).off (cvm_at (run_at x y s v turns steps) p (t + n)).status (ap (λ (q : Cvm). q.status) is ∙ w.running)
       none_behind Disk v y s late held m base k t c i le w fails turns steps p tells e = absurd (let h = e in cc)
       none_behind Sink v y s late held m base k t c i le w fails turns steps p tells e = absurd (let h = e in cc)
@@ -350,7 +350,7 @@ module _ {L O D : Type 0} (text : sink_of.Ghosts O) (told : sectors_of.Ghosts D)
           (both (transfers x s t n) (prints (rows_text (rows_of answer))) (at text told shelf o1 d) (at text told shelf o2 d1) (at text told shelf o3 d1) blamed (calls.untraced e s t ready.state shelf)
           (prints_put text told shelf o2 o3 d1 (rows_text (rows_of answer)) blamed (some_row (rows_of answer) (one_row e)) after)))
 
-      off_at : (x : device.Outside) (s : State) (a b : ℕ) → a ≡ b → (f : KernelFault) (st : Status) → st ≡ Faulted f → Rests st (run x s b) → (run x s a).off ≡ Some (power_of f)
+      off_at : (x : device.Environment) (s : State) (a b : ℕ) → a ≡ b → (f : KernelFault) (st : Status) → st ≡ Faulted f → Rests st (run x s b) → (run x s a).off ≡ Some (power_of f)
       off_at x s a b e f st is rests = ap (λ i. (run x s i).off) e ∙ subst (λ (z : Status). Rests z (run x s b)) is rests
 
       trace_made : (kept : Tracer) → r.tracer ≡ Some kept → 1 ≤ kept.user → kept.user ≤ length r.boot.users.items → (retext : Option (List ℕ)) → EndsAs retext (Ok (made, answer)) (Trace kept.user) → CallsAs o3 d1 n blamed (Trace kept.user)

@@ -3,9 +3,9 @@ use Rattle.std.proofs.Common.{◌≡◌, ℕ, suc, Bool, true, false, not, Optio
 use Rattle.std.specs.Prelude.{is_some, IsSome, ◌&&◌, ◌||◌, ◌==◌, if◌then◌else◌, codes}
 use Rattle.std.proofs.lemmas.Bool.{eqb-true}
 use Rattle.cvm_outside.specs.Numbering.{Tally}
-use Rattle.mips_table.specs.Device.{Outside}
+use Rattle.mips_table.specs.Device.{Environment}
 use Rattle.mips_table.specs.Machine.{State, run}
-use Rattle.mips_table.specs.Turns.{in_user, complete, lines_of, is_end, end_within, TurnLaws}
+use Rattle.mips_table.specs.Turns.{in_user, complete, lines_of_turn, is_end, end_within, TurnLaws}
 use Rattle.c0_tree.specs.Tree.{CUnit}
 use Rattle.c0_meaning.specs.TypedState.{IsTypedState}
 use Rattle.schedule_file.specs.Rows.{Rows}
@@ -17,8 +17,8 @@ use Rattle.cvm_model.specs.declared.row.Next.{Next}
 use Rattle.cvm_model.specs.Text.{rows_text, closing_text, report_text}
 use Rattle.layer_contract.specs.Layer.{Rests}
 use Rattle.layer_contract.specs.Starts.{Beyond}
-use Rattle.boot_report.specs.Leaves.{Asks}
-use Rattle.boot_turns.specs.Completes.{seen, SeenPorts}
+use Rattle.boot_report.specs.Leaves.{CallsDisk}
+use Rattle.boot_turns.specs.Completes.{state_seen, SeenPorts}
 use Rattle.boot_turns.specs.Headline as headline
 use Rattle.boot_turns.specs.Headline.{ReportCalls, Ending, RanFrom, EndBroken, StepBroken, SinkFails, TurnPutFails, ending, ending_of}
 use Rattle.boot_turns.specs.Tracing.{reads_of}
@@ -44,7 +44,7 @@ use Rattle.boot_run.proofs.Ending.{boot_reads, calls_fit, stand_told, to_close}
 use Rattle.boot_run.specs.Sink.{Base}
 use Rattle.boot_run.specs.TurnCalls.{ended_of, Around, around, IsCalled, KeepsLoad}
 use Rattle.boot_run.specs.Pieces.{Gone, GoFails, GoRuns, RunsToEnd, end_of_fault}
-use Rattle.boot_run.proofs.Going.{running_of}
+use Rattle.boot_run.proofs.TurnToTurn.{running_of}
 use Rattle.boot_run.proofs.Looping.{machines}
 use Rattle.boot_run.proofs.Prefixes.{stays_beyond}
 
@@ -69,7 +69,7 @@ complete_of false None e h = absurd (cc)
 complete_of false (Some v) e h = absurd (cc)
 
 -- the text of a run that goes on is that of its rows
-rows_of_text : (x : Outside) (y : System) (s0 : State) (delay bound : ℕ) → RunMachines x y s0 delay bound → (t : ℕ) (c : Cvm) → IsCvm y (lines_of x s0) (complete x s0 t) c → (s : Status) → s ≡ Running → (text : List ℕ) →
+rows_of_text : (x : Environment) (y : System) (s0 : State) (delay bound : ℕ) → RunMachines x y s0 delay bound → (t : ℕ) (c : Cvm) → IsCvm y (lines_of_turn x s0) (complete x s0 t) c → (s : Status) → s ≡ Running → (text : List ℕ) →
     TextAfter x y s0 Boot t s text → text ≡ rows_text c.rows
 rows_of_text x y s0 delay bound m t c is Running e text (d, id, h) = h ∙ ap (λ (w : Cvm). rows_text w.rows) (m.same (complete x s0 t) d c id is)
 rows_of_text x y s0 delay bound m t c is Halted e text h = absurd (cc)
@@ -99,34 +99,34 @@ none_state : (a : State) → None ≡ Some a → ⊥
 none_state a e = cc
 
 -- the machine that is seen is this one, with these sectors
-pub seen_is : (told : Option (List (List ℕ))) (held : Held) (z : State) → seen told held ≡ Some z → (now : List (List ℕ)) × (told ≡ Some now) × (state_of held now ≡ z) × (now ≡ z.device.sectors)
+pub seen_is : (told : Option (List (List ℕ))) (held : Held) (z : State) → state_seen told held ≡ Some z → (now : List (List ℕ)) × (told ≡ Some now) × (state_of held now ≡ z) × (now ≡ z.device.sectors)
 seen_is None held z e = absurd (none_state z e)
 seen_is (Some ss) held z e = let same = one_state (state_of held ss) z e in (ss, refl, same, ap (λ (s : State). s.device.sectors) same)
 
 -- a disk that failed in a step of a boot, for which no word was read
-in_step : (x : Outside) (y : System) (s0 : State) (turns steps : ℕ) (calls : ℕ → State → Type 0) (base : Base) (now : List (List ℕ)) (after : Option (List ℕ)) (text : List ℕ) → after ≡ base.shows text →
+in_step : (x : Environment) (y : System) (s0 : State) (turns steps : ℕ) (calls : ℕ → State → Type 0) (base : Base) (now : List (List ℕ)) (after : Option (List ℕ)) (text : List ℕ) → after ≡ base.shows text →
     (made n : ℕ) → StepBroken x y s0 now Boot turns steps made n text → calls n (run x s0 made) → EndsInTurn x y s0 now turns steps calls base after ends.DiskFault
 in_step x y s0 turns steps calls base now after text shows made n broken fit =
     let none : n ≡ 0 = broken.fails.read in
     (text, made, subst (λ i. StepBroken x y s0 now Boot turns steps made i text) none broken, subst (λ i. calls i (run x s0 made)) none fit, shows)
 
 -- and a sink that failed in a row of one
-in_row : (x : Outside) (y : System) (s0 : State) (turns steps : ℕ) (calls : ℕ → State → Type 0) (base : Base) (now : List (List ℕ)) (after : Option (List ℕ)) (text : List ℕ) → after ≡ base.shows text →
+in_row : (x : Environment) (y : System) (s0 : State) (turns steps : ℕ) (calls : ℕ → State → Type 0) (base : Base) (now : List (List ℕ)) (after : Option (List ℕ)) (text : List ℕ) → after ≡ base.shows text →
     (made n : ℕ) → TurnPutFails x y s0 now Boot turns steps made n text → calls n (run x s0 made) → EndsInTurn x y s0 now turns steps calls base after ends.SinkFault
 in_row x y s0 turns steps calls base now after text shows made n broken fit = (text, made, broken.0, subst (λ i. calls i (run x s0 made)) broken.1 fit, shows)
 
-module _ (counts : TurnLaws) (x : Outside) (y : System) (s0 : State) (delay bound : ℕ) (old : List (List ℕ)) (m : RunMachines x y s0 delay bound) (first : Beyond bound old s0.device.sectors)
+module _ (counts : TurnLaws) (x : Environment) (y : System) (s0 : State) (delay bound : ℕ) (old : List (List ℕ)) (m : RunMachines x y s0 delay bound) (first : Beyond bound old s0.device.sectors)
     (base : Base) (turns steps : ℕ) (mid : Around) (g : Gone x y s0 Boot base turns steps mid) where
   end_is : end_within x s0 turns steps ≡ g.at
   end_is = counts.ends x s0 turns steps g.at g.end g.within
 
-  cvm_at : IsCvm y (lines_of x s0) (complete x s0 g.at) g.past
-  cvm_at = subst (λ n. IsCvm y (lines_of x s0) n g.past) (sym g.ready.stood.all) g.ready.stood.cvm
+  cvm_at : IsCvm y (lines_of_turn x s0) (complete x s0 g.at) g.past
+  cvm_at = subst (λ n. IsCvm y (lines_of_turn x s0) n g.past) (sym g.ready.stood.all) g.ready.stood.cvm
 
   -- it has halted
-  halts : IsSome mid.ended → (past : Cvm) → IsCvm y (lines_of x s0) (complete x s0 (end_within x s0 turns steps)) past → headline.Done ≡ ending x s0 turns steps past → HasHalted x s0 turns steps
+  halts : IsSome mid.ended → (past : Cvm) → IsCvm y (lines_of_turn x s0) (complete x s0 (end_within x s0 turns steps)) past → headline.Done ≡ ending x s0 turns steps past → HasHalted x s0 turns steps
   halts over past cvm is =
-      let same : past ≡ g.past = m.same _ past g.past cvm (subst (λ n. IsCvm y (lines_of x s0) (complete x s0 n) g.past) (sym end_is) cvm_at) in
+      let same : past ≡ g.past = m.same _ past g.past cvm (subst (λ n. IsCvm y (lines_of_turn x s0) (complete x s0 n) g.past) (sym end_is) cvm_at) in
       let there : ending x s0 turns steps past ≡ ending_of past.status = by_end _ (ending_of past.status) (ap (is_end x s0 turns) end_is ∙ g.end.here) in
       let done : ending_of g.past.status ≡ headline.Done = sym (ap (λ (c : Cvm). ending_of c.status) same) ∙ sym there ∙ sym is in
       ap (λ n. (run x s0 n).off) end_is ∙ halted_of g.past.status (run x s0 g.at) (subst (λ o. IsSome o) g.ready.ended over) done g.ready.stood.rests.0
@@ -183,7 +183,7 @@ module _ (counts : TurnLaws) (x : Outside) (y : System) (s0 : State) (delay boun
         RanFrom x y s0 bound old now Boot turns steps headline.Done (g.ready.shown ++ (codes "stopped\n" ++ report_text y.boot.meaning.names g.past.core))
     boots_on now is =
         let there : (run x s0 g.at).device.sectors ≡ (run x s0 (end_within x s0 turns steps)).device.sectors = ap (λ n. (run x s0 n).device.sectors) (sym end_is) in
-        let cvm : IsCvm y (lines_of x s0) (complete x s0 (end_within x s0 turns steps)) g.past = subst (λ n. IsCvm y (lines_of x s0) (complete x s0 n) g.past) (sym end_is) cvm_at in
+        let cvm : IsCvm y (lines_of_turn x s0) (complete x s0 (end_within x s0 turns steps)) g.past = subst (λ n. IsCvm y (lines_of_turn x s0) (complete x s0 n) g.past) (sym end_is) cvm_at in
         record {
           past = g.past;
           cvm = cvm;
@@ -257,7 +257,7 @@ one_told (Some c) a b e f = cc
 
 -- a fault of the loop ends it, in a turn
 module _ {L : Type 0} (count : ℕ) (r new : Kept L) (turns steps left : ℕ) (told retold : Option (List (List ℕ))) (text retext : Option (List ℕ)) where
-  in_turn : (x : Outside) (y : System) (s0 : State) (base : Base) (wanted total : ℕ) (calls : ℕ → State → Type 0) → (SeenPorts (run x s0 new.machine.time) (seen retold new.machine) → calls (reads_of new.tracer) (run x s0 new.machine.time)) →
+  in_turn : (x : Environment) (y : System) (s0 : State) (base : Base) (wanted total : ℕ) (calls : ℕ → State → Type 0) → (SeenPorts (run x s0 new.machine.time) (state_seen retold new.machine) → calls (reads_of new.tracer) (run x s0 new.machine.time)) →
       (now : List (List ℕ)) → retold ≡ Some now → (f : RunFault) → GoFails x y s0 Boot base wanted total (around new retold left retext) f → EndsInTurn x y s0 now wanted total calls base retext (end_of_fault f)
   in_turn x y s0 base wanted total calls fit now is StepLimit g = tt
   in_turn x y s0 base wanted total calls fit now is Disk (shown, there, stand, broken, ports, shows) =
@@ -277,7 +277,7 @@ module _ {L : Type 0} (count : ℕ) (r new : Kept L) (turns steps left : ℕ) (t
       let g : GoFails x y s0 Boot base wanted total (around new retold left retext) f =
       subst (λ (v : View). GoFails x y s0 v base wanted total (around new retold left retext) f) view (fails y s0 delay bound old base k t wanted total c p starts some more sum ready) in
       let calls : ℕ → State → Type 0 = CallsFrom (run x s0 t) made remade in
-      let fit : SeenPorts (run x s0 new.machine.time) (seen retold new.machine) → calls (reads_of new.tracer) (run x s0 new.machine.time) =
+      let fit : SeenPorts (run x s0 new.machine.time) (state_seen retold new.machine) → calls (reads_of new.tracer) (run x s0 new.machine.time) =
       calls_fit x y s0 base k t c r new told retold steps left text retext made remade ready called (boot_reads x y s0 r.view t r.tracer view ready.traces) (run x s0 new.machine.time) in
       (w.0, w.1, (subst (λ (v : View). ShownRunEnds x y s0 bound old w.0 v wanted total calls base retext (ending_of_end (end_of_fault f))) view w.2, inr (in_turn x y s0 base wanted total calls fit w.0 w.1 f g)))
 
@@ -286,7 +286,7 @@ module _ {L D O : Type 0} (run_is : (u : CUnit) → MachinesRun (IsTypedState u)
     (r mid new : Kept L) (disk mid_disk retold : D) (out mid_out printed : O) (turns steps left : ℕ) (kept : KeepsLoad r mid) (same : size mid_disk ≡ size disk)
     (gone : GoRuns (size disk) r turns (around r (sectors disk) steps (text out)) (around mid (sectors mid_disk) left (text mid_out)) (Ok tt)) (called : IsCalled r mid (calls disk) (calls mid_disk))
     (fine : (calls mid_disk).faults ≡ (calls disk).faults) where
-  pub stopped : (e : SaveEnd) → Asks (end_of_stop e ≡ ends.DiskFault) (calls mid_disk) (calls retold) → StopsOrCloses size sectors calls text mid mid_disk mid_out new retold printed e →
+  pub stopped : (e : SaveEnd) → CallsDisk (end_of_stop e ≡ ends.DiskFault) (calls mid_disk) (calls retold) → StopsOrCloses size sectors calls text mid mid_disk mid_out new retold printed e →
       RunStops size sectors calls text turns steps r disk out new retold printed e
   stopped Stopped asks (on, a, b, c) =
       subst (λ (n : Kept L). RunStops size sectors calls text turns steps r disk out n retold printed Stopped) (sym a)

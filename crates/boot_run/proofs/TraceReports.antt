@@ -29,7 +29,7 @@ use Rattle.boot_run.specs.Placed.{PlacesHold}
 use Rattle.boot_run.specs.Shown.{has_faulted}
 use Rattle.boot_run.specs.Report.{trace_rows, ReportRuns}
 use Rattle.boot_run.proofs.Reporting.{its_told, prefix_of, so_far, printed, cut}
-use Rattle.boot_run.proofs.Fitting.{user_there}
+use Rattle.boot_run.proofs.TraceRoom.{user_there}
 use Rattle.boot_run.proofs.TraceReporting.{users_are_those, trace_row_texts, trace_entries, its_journal, whole_trace}
 
 -- the rows of the steps stand, and some of what follows

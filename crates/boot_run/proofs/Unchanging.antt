@@ -8,7 +8,7 @@ use Rattle.mips_table.specs.declared.cause.Cause.{Cause}
 use Rattle.mips_table.specs.declared.cause.Cause.TheVariants as causes
 use Rattle.mips_table.specs.declared.inst.Inst.{Inst}
 use Rattle.mips_table.specs.declared.inst.Inst.TheVariants.{Mfc0, Mtc0, Eret}
-use Rattle.mips_table.specs.Device.{Outside, POWER, port_write}
+use Rattle.mips_table.specs.Device.{Environment, POWER, port_write}
 use Rattle.mips_table.specs.Decoding.{decoding}
 use Rattle.mips_table.specs.Processor.{Move, Ran, Loaded, Stored, Trapped, Privileged, is_aligned, move}
 use Rattle.mips_table.specs.declared.special.TheConstants.{SR}
@@ -25,14 +25,14 @@ after_read_at_kept : (s : State) (o : Option ℕ) → Kept s (after_read_at s o)
 after_read_at_kept s None = refl
 after_read_at_kept s (Some address) = after_read_kept s _
 
-port_written_kept : (x : Outside) (s : State) (k value : ℕ) → Kept s (port_written x s k value)
+port_written_kept : (x : Environment) (s : State) (k value : ℕ) → Kept s (port_written x s k value)
 port_written_kept x s k value =
     cond_both (k == POWER) (record s { off = Some value }) _ (λ (t : State). length t.memory ≡ length s.memory) (λ _. refl)
     (λ _. cond_both (k == LOG) (cond (nat_lt (length s.log) LOG_ROOM) (record s { log = s.log ++ value ∷ [] }) s) (record s { device = port_write x.busy x.count s.device k value }) (λ (t : State). length t.memory ≡ length s.memory)
     (λ _. cond_both (nat_lt (length s.log) LOG_ROOM) (record s { log = s.log ++ value ∷ [] }) s (λ (t : State). length t.memory ≡ length s.memory) (λ _. refl) (λ _. refl))
     (λ _. refl))
 
-written_at_kept : (x : Outside) (s : State) (o : Option ℕ) (value : ℕ) → Kept s (written_at x s o value)
+written_at_kept : (x : Environment) (s : State) (o : Option ℕ) (value : ℕ) → Kept s (written_at x s o value)
 written_at_kept x s None value = refl
 written_at_kept x s (Some address) value =
     cond_both (nat_lt (address / 4) (length s.memory)) (record s { memory = slice_set s.memory (address / 4) value }) (port_written x s (address / 4) value) (λ (t : State). length t.memory ≡ length s.memory)
@@ -51,7 +51,7 @@ privileged_kept s word (Some (Mtc0 rt special)) = refl
 privileged_kept s word (Some Eret) = refl
 privileged_kept s word (Some other) = refl
 
-moved_kept : (x : Outside) (s : State) (m : Move) → ComingKept s (moved x s m)
+moved_kept : (x : Environment) (s : State) (m : Move) → ComingKept s (moved x s m)
 unfolding ComingKept
 moved_kept x s (Ran c) = refl
 moved_kept x s (Loaded c register address) = after_read_at_kept s (located s false address)
@@ -67,7 +67,7 @@ unfolding ComingKept
 from_kept s t (Interrupt before cause edata epc) a b = b ∙ a
 from_kept s t (Done after) a b = b ∙ a
 
-coming_kept : (x : Outside) (s : State) → ComingKept s (coming x s)
+coming_kept : (x : Environment) (s : State) → ComingKept s (coming x s)
 unfolding ComingKept
 coming_kept x s =
     cond_both s.reset (Interrupt s causes.Reset 0 s.cpu.pc) _ (ComingKept s) (λ _. refl)
@@ -84,7 +84,7 @@ unfolding ComingKept
 come_kept s (Interrupt before cause edata epc) h = cleared_kept cause before ∙ h
 come_kept s (Done after) h = h
 
-step_kept : (x : Outside) (s : State) → Kept s (step x s)
+step_kept : (x : Environment) (s : State) → Kept s (step x s)
 unfolding step
 step_kept x s = by s.off
   where
@@ -92,9 +92,9 @@ step_kept x s = by s.off
     by (Some word) = refl
     by None = come_kept (latched x s) (coming x (latched x s)) (coming_kept x (latched x s))
 
-run_kept : (x : Outside) (s : State) (n : ℕ) → Kept s (run x s n)
+run_kept : (x : Environment) (s : State) (n : ℕ) → Kept s (run x s n)
 run_kept x s zero = refl
 run_kept x s (suc n) = step_kept x (run x s n) ∙ run_kept x s n
 
-pub stays_whole : (x : Outside) (s : State) (n : ℕ) → length (run x s n).memory ≡ length s.memory
+pub stays_whole : (x : Environment) (s : State) (n : ℕ) → length (run x s n).memory ≡ length s.memory
 stays_whole x s n = run_kept x s n

@@ -1,6 +1,6 @@
 -- How a run ends whatever state it begins from: of no start anything is asked.
 use Rattle.std.specs.Prelude.{◌≡◌, ℕ, suc, ◌<◌, ◌≤◌, ◌⊎◌, Bool, true, false, Option, Some, List}
-use Rattle.mips_table.specs.Device.{Outside}
+use Rattle.mips_table.specs.Device.{Environment}
 use Rattle.mips_table.specs.Machine.{State, run}
 use Rattle.cvm_model.specs.declared.row.Next.{Next}
 use Rattle.boot_turns.specs.Sooner.{NoSooner, ComesTo}
@@ -14,11 +14,11 @@ abbrev pub ended_off : Option ℕ → Option Next
 ended_off off = end_of_next (next_shown off 0)
 
 -- the sectors of the machine after so many steps are told
-abbrev pub SectorsTold : Outside → State → ℕ → Option (List (List ℕ)) → Type 0
+abbrev pub SectorsTold : Environment → State → ℕ → Option (List (List ℕ)) → Type 0
 SectorsTold x s t told = told ≡ Some (run x s t).device.sectors
 
 -- within so many steps of the run k turns are complete for the first time, or the machine is off: by a fault of the kernel, or not
-pub record ComesWithin (x : Outside) (s : State) (k total : ℕ) (faulted : Bool) (told : Option (List (List ℕ))) : Type 0 where
+pub record ComesWithin (x : Environment) (s : State) (k total : ℕ) (faulted : Bool) (told : Option (List (List ℕ))) : Type 0 where
   pub at : ℕ
   pub comes : ComesTo x s k at
   pub within : at ≤ total
@@ -26,7 +26,7 @@ pub record ComesWithin (x : Outside) (s : State) (k total : ℕ) (faulted : Bool
   pub sectors : SectorsTold x s at told
 
 -- the disk failed in the transfer that was due in step number `at`, before k turns were complete
-pub record StepFailsWithin (x : Outside) (s : State) (k total : ℕ) (told : Option (List (List ℕ))) : Type 0 where
+pub record StepFailsWithin (x : Environment) (s : State) (k total : ℕ) (told : Option (List (List ℕ))) : Type 0 where
   pub at : ℕ
   pub sooner : NoSooner x s k (suc at)
   pub less : at < total
@@ -35,7 +35,7 @@ pub record StepFailsWithin (x : Outside) (s : State) (k total : ℕ) (told : Opt
   pub torn : Torn x (run x s at) now
 
 -- the sink failed after `at` steps, up to which no more than k turns were complete
-pub record PutFails (x : Outside) (s : State) (k total : ℕ) (told : Option (List (List ℕ))) : Type 0 where
+pub record PutFails (x : Environment) (s : State) (k total : ℕ) (told : Option (List (List ℕ))) : Type 0 where
   pub at : ℕ
   pub sooner : NoSooner x s k at
   pub within : at ≤ total
@@ -43,7 +43,7 @@ pub record PutFails (x : Outside) (s : State) (k total : ℕ) (told : Option (Li
 
 -- A RUN TO ITS END, in so many steps in all: k turns are complete or the machine halted; it is off by another power word; all steps were run, the
 -- turns aren't complete, and the machine is on; the disk failed in a step, or in the report; or the sink failed
-abbrev pub AnyEnds : Outside → State → (k total : ℕ) → (told : Option (List (List ℕ))) → RunEnd → Type 0
+abbrev pub AnyEnds : Environment → State → (k total : ℕ) → (told : Option (List (List ℕ))) → RunEnd → Type 0
 AnyEnds x s k total told Done = ComesWithin x s k total false told
 AnyEnds x s k total told KernelFaulted = ComesWithin x s k total true told
 AnyEnds x s k total told OutOfSteps = NoSooner x s k (suc total) × SectorsTold x s total told

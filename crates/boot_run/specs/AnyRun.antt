@@ -1,7 +1,7 @@
 -- What the calls of a loaded run come to on any run of the machine, whatever state that begins from: a run that is resumed from a file that no saved
 -- run left is one. Nothing is said of the text.
 use Rattle.std.specs.Prelude.{◌≡◌, ◌⊎◌, ℕ, suc, ◌+◌, ◌<◌, Bool, true, false, Option, Some, None, List, Result, MatchResult}
-use Rattle.mips_table.specs.Device.{Outside}
+use Rattle.mips_table.specs.Device.{Environment}
 use Rattle.mips_table.specs.Machine.{State, run}
 use Rattle.mips_machine.specs.Steps.{outside_of}
 use Rattle.boot_turns.specs.AnyTurns.{BrokeOff}
@@ -17,7 +17,7 @@ use Rattle.boot_run.specs.TurnCalls.{Around}
 use Rattle.boot_run.specs.AnyEnds.{ended_off, AnyEnds, SectorsTold}
 
 -- from step t on the machine came to the end of turns, k in all
-pub record CameTo (x : Outside) (s : State) (k t : ℕ) (before after : Around) : Type 0 where
+pub record CameTo (x : Environment) (s : State) (k t : ℕ) (before after : Around) : Type 0 where
   pub at : ℕ
   pub comes : ComesTo x s k at
   pub state : after.state ≡ Some (run x s at)
@@ -30,11 +30,11 @@ is_traced Boot = false
 is_traced (Trace u) = true
 
 -- or it was broken off before k turns were complete
-abbrev pub WasCut : Outside → State → View → (k t : ℕ) → (before after : Around) → RunFault → Type 0
+abbrev pub WasCut : Environment → State → View → (k t : ℕ) → (before after : Around) → RunFault → Type 0
 WasCut x s v k t before after fault = BrokeOff x s (is_traced v) k t after.state before.budget after.budget fault
 
 -- P of each step t of each run from any s, of the machine of a run over a disk of so many sectors: k turns are complete there, and it is on
-abbrev pub FromAnywhere : {L : Type 0} → (count : ℕ) → Kept L → Around → (Outside → State → (k t : ℕ) → Type 0) → Type 0
+abbrev pub FromAnywhere : {L : Type 0} → (count : ℕ) → Kept L → Around → (Environment → State → (k t : ℕ) → Type 0) → Type 0
 FromAnywhere count r before P = (s : State) (k t : ℕ) → ComesTo (outside_of r.machine.rows count) s k t →
     (run (outside_of r.machine.rows count) s t).off ≡ None →
     before.state ≡ Some (run (outside_of r.machine.rows count) s t) → before.ended ≡ None → P (outside_of r.machine.rows count) s k t
@@ -55,7 +55,7 @@ is_faulted KernelFaulted = true
 is_faulted other = false
 
 -- of a trace the disk may fail in a step that is done, where a page is read for its rows
-abbrev pub AnyRunEnds : Outside → State → View → (k total : ℕ) → (told : Option (List (List ℕ))) → RunEnd → Type 0
+abbrev pub AnyRunEnds : Environment → State → View → (k total : ℕ) → (told : Option (List (List ℕ))) → RunEnd → Type 0
 AnyRunEnds x s Boot k total told e = AnyEnds x s k total told e
 AnyRunEnds x s (Trace u) k total told DiskFault = AnyEnds x s k total told DiskFault
     ⊎ ((at : ℕ) × NoSooner x s k (suc at) × (at < total) × SectorsTold x s (suc at) told)

@@ -14,7 +14,7 @@ use Rattle.boot_turns.specs.declared.answers.View.{View}
 use Rattle.boot_turns.specs.declared.answers.View.TheVariants.{Boot, Trace}
 use Rattle.boot_turns.specs.declared.answers.RunFault.{RunFault}
 use Rattle.boot_turns.specs.declared.tracer.Tracer.{Tracer}
-use Rattle.boot_turns.specs.Completes.{seen}
+use Rattle.boot_turns.specs.Completes.{state_seen}
 use Rattle.boot_run.specs.declared.load.LoadFault.{LoadFault}
 use Rattle.boot_run.specs.declared.load.LoadFault.TheVariants.{NoSuchUser, SmallDisk, Memory, Disk}
 use Rattle.boot_run.specs.RunEnds.{SeesUser}
@@ -86,7 +86,7 @@ pub record IsFresh {L : Type 0} (layer : L) (boot : Booted) (view : View) (rows 
 
 -- where its sectors are told, it stands as the machine that is made of the sectors as they were
 abbrev pub StandsFrom : {L : Type 0} → (start : List (List ℕ) → State) → (told retold : Option (List (List ℕ))) → Kept L → Type 0
-StandsFrom start told retold r = seen retold r.machine ≡ option_map start told
+StandsFrom start told retold r = state_seen retold r.machine ≡ option_map start told
 
 -- whether a command that is under way names one of so many sectors
 abbrev pub names_sector : ℕ → Pending → Bool

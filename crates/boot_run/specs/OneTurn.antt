@@ -10,7 +10,7 @@ use Rattle.boot_turns.specs.declared.answers.RunFault.{RunFault}
 use Rattle.boot_turns.specs.declared.answers.RunFault.TheVariants.{StepLimit, Disk, Sink}
 use Rattle.boot_run.specs.Calls.{TakesTurns, ProceedsAnyhow}
 use Rattle.boot_run.specs.LoadEnds.{Kept}
-use Rattle.boot_run.specs.TurnCalls.{IsCalled, IsOver, KeepsLoad}
+use Rattle.boot_run.specs.TurnCalls.{IsCalled, RunIsOver, KeepsLoad}
 
 -- turns can be made, so many at most and one at least, over a disk of so many sectors and from such a budget
 pub record CanMake {L : Type 0} (most : ℕ) (run : Kept L) (count budget : ℕ) : Type 0 where
@@ -59,7 +59,7 @@ module _ {D O : Type 0} (size : D → ℕ) (sectors : D → Option (List (List �
     pub over : run.fault ≡ None → IsSome run.ended → result ≡ Ok (0, Over)
     pub only : IfOk result (λ r. r.1 ≡ Over → IsSome run.ended)
     pub made : IfOk result (λ r. (r.0 ≤ most) × (run.ended ≡ None → 1 ≤ r.0))
-    pub still : IsOver run → (new ≡ run) × (left ≡ budget) × (retold ≡ disk) × (printed ≡ out)
+    pub still : RunIsOver run → (new ≡ run) × (left ≡ budget) × (retold ≡ disk) × (printed ≡ out)
     pub keeps : IfErr result (λ f. new.fault ≡ Some f)
     pub fine : OnOk result (new.fault ≡ None)
     pub disk_broke : result ≡ Err Disk → run.fault ≡ None → Rose (broke disk) (broke retold)

@@ -1,9 +1,9 @@
 -- What the pieces of a whole run come to, from which its end is put together: the premises, the loop over turns, what closes a run, and a run to its end.
 use Rattle.std.specs.Prelude.{◌≡◌, ℕ, suc, ◌+◌, ◌≤◌, false, Option, Some, List, length, Result, MatchResult}
 use Rattle.cvm_outside.specs.Numbering.{Tally}
-use Rattle.mips_table.specs.Device.{Outside}
+use Rattle.mips_table.specs.Device.{Environment}
 use Rattle.mips_table.specs.Machine.{State, run}
-use Rattle.mips_table.specs.Turns.{is_end, IsEnd, end_within}
+use Rattle.mips_table.specs.Turns.{is_end, IsTurnEnd, end_within}
 use Rattle.schedule_file.specs.Rows.{Rows}
 use Rattle.mips_machine.specs.Steps.{outside_of}
 use Rattle.c0_tree.specs.View.{unit_view}
@@ -56,16 +56,16 @@ abbrev pub AreRomBootable : Booted → Rows → (count : ℕ) → (told : Option
 AreRomBootable b rows count told = (old : List (List ℕ)) → told ≡ Some old → rom_needed b ≤ count → RomBootable b rows count old
 
 -- the wanted turns are complete, or the run has ended, within the steps
-pub record Gone (x : Outside) (y : System) (s : State) (v : View) (base : Base) (turns steps : ℕ) (after : Around) : Type 0 where
+pub record Gone (x : Environment) (y : System) (s : State) (v : View) (base : Base) (turns steps : ℕ) (after : Around) : Type 0 where
   pub count : ℕ
   pub at : ℕ
   pub past : Cvm
   pub ready : Ready x y s v base (suc count) at past after
-  pub end : IsEnd x s turns at
+  pub end : IsTurnEnd x s turns at
   pub within : at ≤ steps
 
 -- they aren't
-pub record Late (x : Outside) (y : System) (s : State) (v : View) (base : Base) (turns steps : ℕ) (after : Around) : Type 0 where
+pub record Late (x : Environment) (y : System) (s : State) (v : View) (base : Base) (turns steps : ℕ) (after : Around) : Type 0 where
   pub none : is_end x s turns (end_within x s turns steps) ≡ false
   pub state : after.state ≡ Some (run x s (end_within x s turns steps))
   pub shown : List ℕ
@@ -73,7 +73,7 @@ pub record Late (x : Outside) (y : System) (s : State) (v : View) (base : Base) 
   pub text : after.text ≡ base.shows shown
 
 -- a fault of a turn
-abbrev pub GoFails : Outside → System → State → View → Base → (turns steps : ℕ) → Around → RunFault → Type 0
+abbrev pub GoFails : Environment → System → State → View → Base → (turns steps : ℕ) → Around → RunFault → Type 0
 GoFails x y s v base turns steps after StepLimit = Late x y s v base turns steps after
 GoFails x y s v base turns steps after Disk = (shown : List ℕ) × (now : List (List ℕ)) × Stand after now
     × StepBroken x y s now v turns steps after.steps (reads_of after.tracer) shown
@@ -83,7 +83,7 @@ GoFails x y s v base turns steps after Sink = (shown : List ℕ) × (now : List 
     × SeenPorts (run x s after.steps) after.state × (after.text ≡ base.shows shown)
 
 -- k turns are complete at step t for the first time: before, fewer were, and the machine was on
-abbrev pub FirstAt : Outside → State → (k t : ℕ) → Type 0
+abbrev pub FirstAt : Environment → State → (k t : ℕ) → Type 0
 FirstAt x s k t = NoSooner x s k t
 
 -- THE LOOP over turns, from any moment at which turns are complete for the first time
@@ -97,7 +97,7 @@ GoRuns count r turns before after result =
     (GoFails (outside_of r.machine.rows count) y s r.view base wanted steps after)
 
 -- what closes a run at step t: the report, or where the kernel faulted nothing
-abbrev pub CloseEnds : Outside → System → State → View → Base → ℕ → Cvm → (before after : Around) → RunEnd → Type 0
+abbrev pub CloseEnds : Environment → System → State → View → Base → ℕ → Cvm → (before after : Around) → RunEnd → Type 0
 CloseEnds x y s v base t c before after ends.Done = (ending_of c.status ≡ headline.Done) × Reported x y s v base t before after
 CloseEnds x y s v base t c before after ends.KernelFaulted = (ending_of c.status ≡ headline.KernelFaulted) × (after ≡ before)
 CloseEnds x y s v base t c before after ends.OutOfSteps = ⊥

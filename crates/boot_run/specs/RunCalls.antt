@@ -1,6 +1,6 @@
 -- THE SCRIPTS OF THE CALLS of a loaded run: turns, the report, and a run to its end; over a disk that tells its sectors exactly, and else some calls.
 use Rattle.std.specs.Prelude.{◌≡◌, ℕ, zero, suc, ◌+◌, ◌-◌, ◌≤◌, ⊤, Bool, true, false, Option, Some, None, List, [], ◌++◌, Result, Ok, Err}
-use Rattle.mips_table.specs.Device.{Outside}
+use Rattle.mips_table.specs.Device.{Environment}
 use Rattle.mips_table.specs.Machine.{State}
 use Rattle.schedule_file.specs.Rows.{Rows}
 use Rattle.mips_machine.specs.Steps.{outside_of}
@@ -32,7 +32,7 @@ use Rattle.boot_run.specs.Pieces.{Bootable, FirstAt}
 use Rattle.boot_run.specs.TurnCalls.{around, Ready}
 
 -- the run of a system from a start, viewed so, for so many turns and steps
-abbrev pub run_at : Outside → System → State → View → (turns steps : ℕ) → Run
+abbrev pub run_at : Environment → System → State → View → (turns steps : ℕ) → Run
 run_at x y s v turns steps = record { around = x; system = y; first = s; view = v; turns = turns; steps = steps }
 
 -- this is what the abstract machine says of it from step a to step b

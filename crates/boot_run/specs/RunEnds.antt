@@ -2,7 +2,7 @@
 use Rattle.std.specs.Prelude.{ℕ, ◌≤◌, ⊤, ◌≡◌, Option, List}
 use Rattle.boot_turns.specs.declared.answers.View.{View}
 use Rattle.boot_turns.specs.declared.answers.View.TheVariants.{Boot, Trace}
-use Rattle.mips_table.specs.Device.{Outside}
+use Rattle.mips_table.specs.Device.{Environment}
 use Rattle.mips_table.specs.Machine.{State}
 use Rattle.cvm_outside.specs.Numbering.{Tally}
 use Rattle.sector_disk.specs.Ports.{CallsWith, ports_of}
@@ -31,7 +31,8 @@ abbrev pub CallsFrom : (from : State) → (made remade : Tally) → (more : ℕ)
 CallsFrom from made remade more s = CallsWith more (ports_of from.device) (ports_of s.device) made remade
 
 -- how a loaded run from `s` ends, over a disk that had the sectors `old` before the load, and a sink that shows what `base` says
-abbrev pub ShownRunEnds : Outside → System → State → (held : ℕ) → (old now : List (List ℕ)) → View → (turns steps : ℕ) → (calls : ℕ → State → Type 0) → Base →
+abbrev pub ShownRunEnds : Environment → System → State → (held : ℕ) → (old now : List (List ℕ)) → View → (turns steps : ℕ) → (calls : ℕ → State → Type 0)
+    → Base →
     (after : Option (List ℕ)) → Ending → Type 0
 ShownRunEnds x y s held old now v turns steps calls base after e =
     (text : List ℕ) × RunEndsFrom x y s held old now v turns steps calls text e × (after ≡ base.shows text)

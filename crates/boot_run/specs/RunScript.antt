@@ -1,7 +1,7 @@
 -- THE SCRIPTS OF WHOLE RUNS: a boot or a trace, the rest of one, and the steps of a machine of which nothing is known.
 use Rattle.std.specs.Prelude.{ℕ, ◌-◌, ⊤, if◌then◌else◌, List, [], ◌∷◌, ◌++◌, None}
 use Rattle.mips_machine.specs.Saved.{saved}
-use Rattle.mips_machine.specs.Steps.{due}
+use Rattle.mips_machine.specs.Steps.{script_of_step}
 use Rattle.cvm_outside.specs.Script.{Call, Printed, Read, scripts}
 use Rattle.boot_turns.specs.Runs.{Run, Past, state_at, turns_at, steps_made, has_ended, cvm_at}
 use Rattle.boot_turns.specs.StepScript.{steps_script}
@@ -21,7 +21,7 @@ saved_words r p = saved r.system.input (state_at r (steps_made r)) (turns_at r (
 
 -- A RESUME of a machine of which nothing is known: its transfers, with texts that aren't told
 abbrev pub untold_steps : Run → List Call
-untold_steps r = scripts (λ t. due r.around (state_at r t) ++ Printed None ∷ []) (steps_made r)
+untold_steps r = scripts (λ t. script_of_step r.around (state_at r t) ++ Printed None ∷ []) (steps_made r)
 
 -- calls that only read sectors, and print texts that aren't told
 abbrev pub AreReads : List Call → Type 0

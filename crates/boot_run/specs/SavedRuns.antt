@@ -1,8 +1,8 @@
 -- What a saved run leaves, and how one that is taken up from there ends.
 use Rattle.std.specs.Prelude.{◌≡◌, ℕ, ◌≤◌, None, Option, List, length, drop, ⊤, All, ◌++◌}
 use Rattle.std.specs.Io.KnownBytes.{append_known}
-use Rattle.mips_table.specs.Device.{Outside}
-use Rattle.mips_table.specs.Turns.{IsEnd}
+use Rattle.mips_table.specs.Device.{Environment}
+use Rattle.mips_table.specs.Turns.{IsTurnEnd}
 use Rattle.mips_table.specs.Machine.{State, run}
 use Rattle.mips_machine.specs.Saved.{saved}
 use Rattle.cvm_model.specs.Cvm.{System, Cvm}
@@ -21,10 +21,10 @@ use Rattle.boot_run.specs.declared.whole.RunEnd.TheVariants as ends
 
 -- THE SAVED RUN of so many turns, from `s`: the first step at which they are complete comes within the steps; the
 -- machine is on there; the words are those of it, with these turns and its current user; `left` are its sectors, and `shown` is the text of the run
-pub record SavedAt (x : Outside) (y : System) (s : State) (turns steps : ℕ) (words : List ℕ) (left : List (List ℕ)) (shown : List ℕ) : Type 0 where
+pub record SavedAt (x : Environment) (y : System) (s : State) (turns steps : ℕ) (words : List ℕ) (left : List (List ℕ)) (shown : List ℕ) : Type 0 where
   pub at : ℕ
   pub past : Cvm
-  pub end : IsEnd x s turns at
+  pub end : IsTurnEnd x s turns at
   pub within : at ≤ steps
   pub on : (run x s at).off ≡ None
   pub stood : Stood x y s turns at past
@@ -37,7 +37,8 @@ abbrev pub after_saved : (had : Option (List ℕ)) (shown : List ℕ) → Base
 after_saved had shown = record { least = length shown; shows = λ text. append_known had (drop (length shown) text) }
 
 -- a run came to no report: its kernel faulted, or it is out of steps, or the disk failed in a step, or the sink in the row of a dispatch
-abbrev pub EndsInTurn : Outside → System → State → (now : List (List ℕ)) → (turns steps : ℕ) → (calls : ℕ → State → Type 0) → Base → (after : Option (List ℕ)) →
+abbrev pub EndsInTurn : Environment → System → State → (now : List (List ℕ)) → (turns steps : ℕ) → (calls : ℕ → State → Type 0) → Base
+    → (after : Option (List ℕ)) →
     RunEnd → Type 0
 EndsInTurn x y s now turns steps calls base after ends.Done = ⊥
 EndsInTurn x y s now turns steps calls base after ends.DiskFault = (text : List ℕ) × (made : ℕ) × StepBroken x y s now Boot turns steps made 0 text
@@ -53,7 +54,7 @@ pub record IsDisk (count : ℕ) (old : List (List ℕ)) : Type 0 where
 
 -- HOW A RUN THAT GOES ON ENDS, whose first part printed `shown`: with no failed call its text behind that, its ending and its sectors are the boot's;
 -- and with one they are what this leaves of the boot
-abbrev pub GoesOnAs : Outside → System → (old now : List (List ℕ)) → (turns steps : ℕ) → (calls : ℕ → State → Type 0) → (shown : List ℕ) →
+abbrev pub GoesOnAs : Environment → System → (old now : List (List ℕ)) → (turns steps : ℕ) → (calls : ℕ → State → Type 0) → (shown : List ℕ) →
     (had has : Option (List ℕ)) → Ending → Type 0
 GoesOnAs x y old now turns steps calls shown had has headline.DiskFault =
     ShownRunEnds x y (loaded y old) (user_sectors y) old now Boot turns steps calls (after_saved had shown) has headline.DiskFault

@@ -1,7 +1,7 @@
 -- What a run that is to be saved comes to, and what one that is taken up from saved words does.
 use Rattle.std.specs.Prelude.{◌≡◌, ℕ, ◌+◌, ◌-◌, ◌≤◌, ◌⊎◌, Option, Some, None, IsSome, List, [], ◌++◌, codes, Result, Ok, Err}
 use Rattle.cvm_outside.specs.Numbering.{Tally}
-use Rattle.mips_table.specs.Device.{Outside}
+use Rattle.mips_table.specs.Device.{Environment}
 use Rattle.mips_table.specs.Machine.{State, run}
 use Rattle.mips_table.specs.Turns.{end_within}
 use Rattle.schedule_file.specs.Rows.{Rows}
@@ -36,13 +36,13 @@ abbrev pub saved_run : {L : Type 0} → Kept L → List ℕ
 saved_run r = saved r.machine.rows.inputs (state_of r.machine []) r.turns r.current
 
 -- the machine has halted at the headline's step
-abbrev pub HasHalted : Outside → State → (turns steps : ℕ) → Type 0
+abbrev pub HasHalted : Environment → State → (turns steps : ℕ) → Type 0
 HasHalted x s turns steps = (run x s (end_within x s turns steps)).off ≡ Some 0
 
 -- HOW A RUN THAT IS TO BE SAVED ENDS, from `s` over a disk that had the sectors `old`. It stops where the boot prints `stopped`: its text is the boot's up
 -- to there, and these words are those of the machine there. Or it ends as the boot does, and then it has halted, or it came to no report: a run that goes
 -- on prints no end row.
-abbrev pub StopsOrEnds : Outside → System → State → (held : ℕ) → (old now : List (List ℕ)) → (turns steps : ℕ) → (calls : ℕ → State → Type 0) → Base →
+abbrev pub StopsOrEnds : Environment → System → State → (held : ℕ) → (old now : List (List ℕ)) → (turns steps : ℕ) → (calls : ℕ → State → Type 0) → Base →
     (after : Option (List ℕ)) → (words : List ℕ) → SaveEnd → Type 0
 StopsOrEnds x y s held old now turns steps calls base after words Stopped = (shown : List ℕ) × (rest : List ℕ) × SavedAt x y s turns steps words now shown
     × RanFrom x y s held old now Boot turns steps headline.Done (shown ++ (codes "stopped\n" ++ rest)) × (after ≡ base.shows shown)
@@ -63,7 +63,7 @@ RunsToStop count r new turns before retold made remade after result =
     (CallsFrom (run (outside_of r.machine.rows count) s t) made remade) base after (saved_run new) result
 
 -- HOW A CALL ENDS that loads a run to be saved, with the run: as the run; or as a boot that isn't loaded
-abbrev pub SaveAnswerEnds : {L : Type 0} → Outside → System → State → (held : ℕ) → (old now : List (List ℕ)) → (turns steps : ℕ) →
+abbrev pub SaveAnswerEnds : {L : Type 0} → Environment → System → State → (held : ℕ) → (old now : List (List ℕ)) → (turns steps : ℕ) →
     (calls : ℕ → State → Type 0) →
     (before after : Option (List ℕ)) → Result (Kept L × SaveEnd) LoadFault → Type 0
 SaveAnswerEnds x y s held old now turns steps calls before after (Ok (r, e)) =

@@ -11,7 +11,7 @@ ghost use Rattle.boot_report.specs.Blames.{Blames};
 ghost use Rattle.boot_turns.specs.LoopScripts.{StepsCall};
 ghost use Rattle.boot_run.specs.LoadEnds.{LoadLeaves, pages_needed, rom_needed};
 ghost use Rattle.boot_run.specs.Loaded.{IsLoaded, LoadTorn, boot_load, rom_load};
-ghost use Rattle.boot_report.specs.Leaves.{Asks, OnlyViews, Puts};
+ghost use Rattle.boot_report.specs.Leaves.{CallsDisk, OnlyViews, PutsRows};
 ghost use Rattle.boot_run.specs.LoadedPages.{user_pages, rom_pages};
 ghost use Rattle.boot_run.specs.Loading.{system_of};
 ghost use Rattle.boot_run.specs.LoadScript.{load_script};
@@ -194,7 +194,7 @@ impl<L: Layer + Drop> Run<L> {
 
     // Prints what stands before the next turn: the first row of a trace, before its first turn.
     fn put_before<O: Sink>(&self, out: &mut O) -> Result<(), SinkFault>
-        ensures put { Puts O.text O.faults out.old out.new (rows_before self.now.boot self.now.tracer self.now.turns) result }
+        ensures put { PutsRows O.text O.faults out.old out.new (rows_before self.now.boot self.now.tracer self.now.turns) result }
         ensures first { OnErr result (IsSome self.now.tracer × (self.now.turns ≡ 0)) }
         ensures views { Views self.now }
     {
@@ -262,7 +262,7 @@ impl<L: Layer + Drop> Run<L> {
 
     // Prints what stands behind a turn: of a boot the row of its dispatch, and of a trace the kernel's fault.
     fn put_after<O: Sink>(&self, answer: Turn, out: &mut O) -> Result<(), SinkFault>
-        ensures put { Puts O.text O.faults out.old out.new (rows_after self.now.tracer self.now.ended answer) result }
+        ensures put { PutsRows O.text O.faults out.old out.new (rows_after self.now.tracer self.now.ended answer) result }
         ensures dispatch { self.now.tracer ≡ None → OnErr result ((row : OneRow) × (rows_of answer ≡ row ∷ [])) }
         ensures faulted { IsSome self.now.tracer → OnErr result (has_faulted self.now.ended ≡ true) }
     {
@@ -364,7 +364,7 @@ impl<L: Layer + Drop> Run<L> {
         ensures ends { Reports D.size D.sectors O.text self.old disk.old out.old (record self.new { fault = result_err result }) disk.new out.new result }
         ensures limit { result ≢ Err RunFault.StepLimit }
         ensures blame { Blames (result ≡ Err RunFault.Disk) (result ≡ Err RunFault.Sink) D.faults disk.old disk.new O.faults out.old out.new }
-        ensures asks { Asks (result ≡ Err RunFault.Disk) (tally D.faults D.calls disk.old) (tally D.faults D.calls disk.new) }
+        ensures asks { CallsDisk (result ≡ Err RunFault.Disk) (tally D.faults D.calls disk.old) (tally D.faults D.calls disk.new) }
         ensures script { ReportCalls O.Sink D.Sectors self.old (out.old, disk.old) (out.new, disk.new) result }
     {
         machines_run();
@@ -420,7 +420,7 @@ impl<L: Layer + Drop> Run<L> {
         requires disk { D.size disk.old ≡ self.old.count }
         ensures rest { ReportLeaves D.size D.sectors D.faults O.text O.faults self.old disk.old out.old self.new disk.new out.new result }
         ensures ends { self.old.fault ≡ None → Reports D.size D.sectors O.text self.old disk.old out.old self.new disk.new out.new result }
-        ensures asks { self.old.fault ≡ None → Asks (result ≡ Err RunFault.Disk) (tally D.faults D.calls disk.old) (tally D.faults D.calls disk.new) }
+        ensures asks { self.old.fault ≡ None → CallsDisk (result ≡ Err RunFault.Disk) (tally D.faults D.calls disk.old) (tally D.faults D.calls disk.new) }
         ensures script { ReportCalls O.Sink D.Sectors self.old (out.old, disk.old) (out.new, disk.new) result }
     {
         if let Some(fault) = self.fault {

@@ -5,7 +5,7 @@ ghost use Rattle.cvm_model.specs.Cvm.{map_of};
 ghost use Rattle.layer_contract.specs.Boots.{boot_of, BootFollows};
 ghost use Rattle.cvm_outside.specs.Numbering.{tally};
 ghost use Rattle.boot_report.specs.Blames.{Blames};
-ghost use Rattle.boot_report.specs.Leaves.{Asks};
+ghost use Rattle.boot_report.specs.Leaves.{CallsDisk};
 ghost use Rattle.boot_run.specs.OneTurn.{CanClose, CanRun, RunLeaves};
 ghost use Rattle.boot_run.specs.LoadEnds.{LoadsRun, pages_needed};
 ghost use Rattle.boot_run.specs.Whole.{WholeStopped};
@@ -43,7 +43,7 @@ fn stop<L: Layer + Drop, D: Sectors, O: Sink>(
 ) -> SaveEnd
     requires can { CanClose run.old (D.size disk.old) }
     ensures ends { StopsOrCloses D.size D.sectors (tally D.faults D.calls) O.text run.old disk.old out.old run.new disk.new out.new result }
-    ensures asks { Asks (end_of_stop result ≡ RunEnd.DiskFault) (tally D.faults D.calls disk.old) (tally D.faults D.calls disk.new) }
+    ensures asks { CallsDisk (end_of_stop result ≡ RunEnd.DiskFault) (tally D.faults D.calls disk.old) (tally D.faults D.calls disk.new) }
     ensures leaves { RunLeaves (end_of_stop result ≡ RunEnd.DiskFault) (end_of_stop result ≡ RunEnd.SinkFault)
         D.size D.faults O.faults disk.old out.old disk.new out.new }
     ensures script { StopCalls O.Sink D.Sectors run.old (out.old, disk.old) (out.new, disk.new) result }

@@ -6,7 +6,7 @@ ghost use Rattle.cvm_model.specs.declared.row.Row.{Row as OneRow};
 ghost use Rattle.boot_run.specs.Shown.{has_faulted};
 ghost use Rattle.boot_run.specs.TurnCalls.{rows_of};
 ghost use Rattle.boot_run.specs.TurnParts.{first_machine, fault_rows, HasUser};
-ghost use Rattle.boot_report.specs.Leaves.{Puts};
+ghost use Rattle.boot_report.specs.Leaves.{PutsRows};
 ghost use Rattle.boot_report.specs.Texts.{fault_row};
 
 use boot_report::journal_text::{start_row, steps_row};
@@ -32,7 +32,7 @@ fn first_pages(boot: &Boot, user: u32) -> u32
 // A fault of the sink.
 pub(crate) fn put_start<O: Sink>(boot: &Boot, user: u32, out: &mut O) -> Result<(), SinkFault>
     requires { HasUser boot.now user }
-    ensures { Puts O.text O.faults out.old out.new (start_text user (first_machine boot.now user)) result }
+    ensures { PutsRows O.text O.faults out.old out.new (start_text user (first_machine boot.now user)) result }
 {
     let pages = first_pages(boot, user);
     out.put(start_row(user, pages).as_str().as_bytes())
@@ -44,7 +44,7 @@ pub(crate) fn put_start<O: Sink>(boot: &Boot, user: u32, out: &mut O) -> Result<
 //
 // A fault of the sink.
 pub(crate) fn put_row<O: Sink>(answer: Turn, out: &mut O) -> Result<(), SinkFault>
-    ensures put { Puts O.text O.faults out.old out.new (rows_text (rows_of answer)) result }
+    ensures put { PutsRows O.text O.faults out.old out.new (rows_text (rows_of answer)) result }
     ensures dispatch { OnErr result ((row : OneRow) × (rows_of answer ≡ row ∷ [])) }
 {
     match answer {
@@ -59,7 +59,7 @@ pub(crate) fn put_row<O: Sink>(answer: Turn, out: &mut O) -> Result<(), SinkFaul
 //
 // A fault of the sink.
 fn put_both<O: Sink>(steps: u64, fault: KernelFault, out: &mut O) -> Result<(), SinkFault>
-    ensures { Puts O.text O.faults out.old out.new (steps_text steps ++ fault_row fault) result }
+    ensures { PutsRows O.text O.faults out.old out.new (steps_text steps ++ fault_row fault) result }
 {
     out.put(steps_row(steps).as_str().as_bytes())?;
     out.put(fault_row(fault).as_str().as_bytes())
@@ -75,7 +75,7 @@ pub(crate) fn put_fault<O: Sink>(
     ended: Option<Next>,
     out: &mut O,
 ) -> Result<(), SinkFault>
-    ensures put { Puts O.text O.faults out.old out.new (fault_rows steps ended) result }
+    ensures put { PutsRows O.text O.faults out.old out.new (fault_rows steps ended) result }
     ensures faulted { OnErr result (has_faulted ended ≡ true) }
 {
     match ended {

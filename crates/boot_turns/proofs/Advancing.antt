@@ -3,11 +3,11 @@
 use Rattle.std.proofs.Common.{◌≡◌, ⊎_elim, None, ℕ, zero, suc, ◌+◌, ◌-◌, ◌<◌, ◌≤◌, Bool, true, false, Option, Some, Result, Ok, Err, refl, sym, ap, ◌∙◌, subst, subst₂, arith, eq-eqb, slice_index}
 use Rattle.std.specs.Prelude.{◌==◌, not, bit_or}
 use Rattle.std.proofs.lemmas.Bool.{cases_lt}
-use Rattle.mips_table.specs.Device.{Outside}
+use Rattle.mips_table.specs.Device.{Environment}
 use Rattle.mips_table.specs.declared.special.TheConstants.{MODE}
 use Rattle.mips_table.specs.Machine.{State, run}
-use Rattle.mips_table.specs.Turns.{begins, complete, lines_of}
-use Rattle.c0_meaning.specs.State.{State as C0}
+use Rattle.mips_table.specs.Turns.{begins_turn, complete, lines_of_turn}
+use Rattle.c0_meaning.specs.State.{C0State}
 use Rattle.cvm_model.specs.Kernel.{Core, power_of}
 use Rattle.cvm_model.specs.Cvm.{System, Status, Running, Halted, Faulted, Cvm, Begin, Steps, Traps, Interrupts, begin}
 use Rattle.layer_contract.specs.Layer.{Rests}
@@ -21,7 +21,7 @@ use Rattle.boot_turns.specs.declared.answers.RunFault.{RunFault}
 use Rattle.boot_turns.specs.declared.answers.RunFault.TheVariants.{StepLimit, Disk, Sink}
 use Rattle.boot_turns.proofs.Stepping.{user_rests}
 
-went : (x : Outside) (y : System) (s : State) (late held : ℕ) → RunMachines x y s late held → (k t : ℕ) (c : Cvm) → Stood x y s k t c → c.status ≡ Running → (now : Option State) (budget left : ℕ) (b : Begun) →
+went : (x : Environment) (y : System) (s : State) (late held : ℕ) → RunMachines x y s late held → (k t : ℕ) (c : Cvm) → Stood x y s k t c → c.status ≡ Running → (now : Option State) (budget left : ℕ) (b : Begun) →
     CompleteOk x now budget left s t b → Advanced x y s k t c now budget left b
 went x y s late held m k t c st r now budget left b (u, done, state, spent) = ⊎_elim
     (λ (d : Completed x s t u b).
@@ -35,11 +35,11 @@ went x y s late held m k t c st r now budget left b (u, done, state, spent) = �
     (λ (d : WentOff x s t u b). absurd (d.off ((m.unfound k t u c None d.from st r d.none).1 u (omega arith))))
     done
 
-goes : (x : Outside) (y : System) (s : State) (late held : ℕ) → RunMachines x y s late held → (k t u : ℕ) (c : Cvm) (b : Option Begun) → t ≤ u → Stood x y s k t c → c.status ≡ Running →
+goes : (x : Environment) (y : System) (s : State) (late held : ℕ) → RunMachines x y s late held → (k t u : ℕ) (c : Cvm) (b : Option Begun) → t ≤ u → Stood x y s k t c → c.status ≡ Running →
     Progress x s t u b → StillGoes x y s k t u
 goes x y s late held m k t u c b le st r p = let w = m.unfound k t u c b le st r p in record { between = w.0; on = w.1 }
 
-stopped : (x : Outside) (y : System) (s : State) (late held : ℕ) → RunMachines x y s late held → (k t : ℕ) (c : Cvm) → Stood x y s k t c → c.status ≡ Running → (traced : Bool) (now : Option State) (budget left : ℕ) (f : RunFault) →
+stopped : (x : Environment) (y : System) (s : State) (late held : ℕ) → RunMachines x y s late held → (k t : ℕ) (c : Cvm) → Stood x y s k t c → c.status ≡ Running → (traced : Bool) (now : Option State) (budget left : ℕ) (f : RunFault) →
     CompleteErr x traced now budget left s t f → Stops x y s traced k t now budget left f
 stopped x y s late held m k t c st r traced now budget left StepLimit (u, le, spent, is, none, on, p) =
     let g = goes x y s late held m k t u c p.0 le st r p.1 in
@@ -50,7 +50,7 @@ stopped x y s late held m k t c st r traced now budget left Sink d = record { at
 
 -- THE TURNS THAT ARE PASSED
 -- where k turns are complete at t, and the run goes on, the machine is on
-stands : (x : Outside) (y : System) (s : State) (late held : ℕ) → RunMachines x y s late held → (k t : ℕ) (c : Cvm) → Stood x y s k t c → c.status ≡ Running → (j : ℕ) → j ≤ t → (run x s j).off ≡ None
+stands : (x : Environment) (y : System) (s : State) (late held : ℕ) → RunMachines x y s late held → (k t : ℕ) (c : Cvm) → Stood x y s k t c → c.status ≡ Running → (j : ℕ) → j ≤ t → (run x s j).off ≡ None
 stands x y s late held m k t c st r = (m.unfound k t t c None (omega arith) st r (λ j a b. absurd (omega (arith, a, b)))).1
 
 -- an untrapped step is shown as none that dispatches
@@ -66,11 +66,11 @@ is_running Halted z r on = absurd (let e : None ≡ Some 0 = sym on ∙ r in cc)
 is_running (Faulted f) z r on = absurd (let e : None ≡ Some (power_of f) = sym on ∙ r in cc)
 
 -- one more is passed
-module _ (x : Outside) (y : System) (s : State) (late held : ℕ) (m : RunMachines x y s late held) (k t : ℕ) (c : Cvm) (n : ℕ) (w : Skipped x y s k t c n) (skips : Skips x s t (suc n)) where
+module _ (x : Environment) (y : System) (s : State) (late held : ℕ) (m : RunMachines x y s late held) (k t : ℕ) (c : Cvm) (n : ℕ) (w : Skipped x y s k t c n) (skips : Skips x s t (suc n)) where
   next_at : t + suc n ≡ suc (t + n)
   next_at = omega arith
 
-  this : (begins x (run x s (t + n)) ≡ true) × (slice_index (run x s (t + suc n)).special MODE ≡ 1) × ((run x s (t + suc n)).off ≡ None)
+  this : (begins_turn x (run x s (t + n)) ≡ true) × (slice_index (run x s (t + suc n)).special MODE ≡ 1) × ((run x s (t + suc n)).off ≡ None)
   this = skips n (omega arith)
 
   mode_then : slice_index (run x s (suc (t + n))).special MODE ≡ 1
@@ -95,7 +95,7 @@ module _ (x : Outside) (y : System) (s : State) (late held : ℕ) (m : RunMachin
   found = m.found (k + n) (t + n) (suc (t + n)) w.after (note (run x s (suc (t + n)))) w.stood w.running passed
 
   abbrev begins_with : Begin
-  begins_with = begin (k + n) w.after.core (bit_or w.after.pending (lines_of x s (k + n)))
+  begins_with = begin (k + n) w.after.core (bit_or w.after.pending (lines_of_turn x s (k + n)))
 
   stepped : (at : Core) × (begins_with ≡ Steps at)
   stepped = is_step begins_with (note (run x s (suc found.0.start))) (m.shows (k + n) (t + n) w.after w.stood w.running found.0)
@@ -126,7 +126,7 @@ module _ (x : Outside) (y : System) (s : State) (late held : ℕ) (m : RunMachin
     steps = skips;
   }
 
-pub skipped : (x : Outside) (y : System) (s : State) (late held : ℕ) → RunMachines x y s late held → (k t : ℕ) (c : Cvm) → Stood x y s k t c → c.status ≡ Running → (n : ℕ) → Skips x s t n → Skipped x y s k t c n
+pub skipped : (x : Environment) (y : System) (s : State) (late held : ℕ) → RunMachines x y s late held → (k t : ℕ) (c : Cvm) → Stood x y s k t c → c.status ≡ Running → (n : ℕ) → Skips x s t n → Skipped x y s k t c n
 skipped x y s late held m k t c st r zero skips =
     let ks : k ≡ k + 0 = omega arith in
     let ts : t ≡ t + 0 = omega arith in
@@ -142,7 +142,7 @@ skipped x y s late held m k t c st r zero skips =
     }
 skipped x y s late held m k t c st r (suc n) skips = one_more x y s late held m k t c n (skipped x y s late held m k t c st r n (λ j l. skips j (omega (arith, l)))) skips
 
-by_result : (x : Outside) (y : System) (s : State) (late held : ℕ) → RunMachines x y s late held → (k t : ℕ) (c : Cvm) → Stood x y s k t c → c.status ≡ Running → (traced : Bool) (now : Option State) (budget left most : ℕ) (result : Result (ℕ × Begun) RunFault) →
+by_result : (x : Environment) (y : System) (s : State) (late held : ℕ) → RunMachines x y s late held → (k t : ℕ) (c : Cvm) → Stood x y s k t c → c.status ≡ Running → (traced : Bool) (now : Option State) (budget left most : ℕ) (result : Result (ℕ × Begun) RunFault) →
     CompleteEnds x traced now budget left s t most result → AdvanceEnds x y s traced k t c now budget left most result
 by_result x y s late held m k t c st r traced now budget left most (Ok b) (n, few, small, skips, d) =
     let w = skipped x y s late held m k t c st r n skips in
@@ -151,7 +151,7 @@ by_result x y s late held m k t c st r traced now budget left most (Err f) (n, f
     let w = skipped x y s late held m k t c st r n skips in
     (n, few, small, w, stopped x y s late held m (k + n) (t + n) w.after w.stood w.running traced now (budget - n) left f d)
 
-pub advances : (Typed : C0 → Type 0) → MachinesRun Typed → (x : Outside) (traced : Bool) (before now : Option State) (budget left most : ℕ) (result : Result (ℕ × Begun) RunFault) →
+pub advances : (Typed : C0State → Type 0) → MachinesRun Typed → (x : Environment) (traced : Bool) (before now : Option State) (budget left most : ℕ) (result : Result (ℕ × Begun) RunFault) →
     ((s : State) (t : ℕ) → before ≡ Some (run x s t) → CompleteEnds x traced now budget left s t most result) → AdvancesTyped Typed x traced before now budget left most result
 advances Typed m x traced before now budget left most result ends = λ y s late held from k t c st r is.
     by_result x y s late held (m x y s late held from) k t c st r traced now budget left most result (ends s t is)

@@ -6,14 +6,14 @@ use Rattle.std.specs.Prelude.{MatchResult}
 use Rattle.std.proofs.lemmas.Bool.{cases_lt, cond_both, cond-true}
 use Rattle.mips_table.specs.declared.cause.Cause.{Cause}
 use Rattle.mips_table.specs.declared.cause.Cause.TheVariants as causes
-use Rattle.mips_table.specs.Device.{Outside}
+use Rattle.mips_table.specs.Device.{Environment}
 use Rattle.mips_table.specs.declared.special.TheConstants.{MODE}
-use Rattle.mips_table.specs.Machine.{State, Coming, Interrupt, Done, interrupted, come_to, latched, ended, step, run}
-use Rattle.mips_table.specs.Turns.{is_on, in_user, handled, begins, rests, turn_of, complete}
+use Rattle.mips_table.specs.Machine.{State, Coming, Interrupt, Done, interrupted, come_to, latched, step_ended, step, run}
+use Rattle.mips_table.specs.Turns.{is_on, in_user, handled, begins_turn, rests, turn_of, complete}
 use Rattle.mips_machine.specs.Steps.{outside_of}
 use Rattle.boot_turns.specs.AnyTurns.{Came, BrokeOff, LoopsMakeTurns}
 use Rattle.boot_turns.specs.Sooner.{NoSooner, ComesTo}
-use Rattle.boot_turns.specs.Completes.{seen, Open, Progress, Completed, WentOff, Skips, CompleteOk, CompleteErr, CompleteEnds}
+use Rattle.boot_turns.specs.Completes.{state_seen, Open, Progress, Completed, WentOff, Skips, CompleteOk, CompleteErr, CompleteEnds}
 use Rattle.boot_turns.specs.declared.completion.Begun.{Begun}
 use Rattle.boot_turns.specs.declared.answers.RunFault.{RunFault}
 use Rattle.boot_turns.specs.declared.answers.RunFault.TheVariants.{StepLimit, Disk, Sink}
@@ -26,15 +26,15 @@ interrupted_reset s causes.Reset edata epc z = refl
 interrupted_reset s causes.External edata epc z = z
 interrupted_reset s other edata epc z = z
 
-come_reset : (s : State) (o : Coming) → Held s o → s.reset ≡ false → (ended (come_to o)).reset ≡ false
+come_reset : (s : State) (o : Coming) → Held s o → s.reset ≡ false → (step_ended (come_to o)).reset ≡ false
 come_reset s (Interrupt before cause edata epc) h z = interrupted_reset before cause edata epc (h.reset ∙ z)
 come_reset s (Done after) h z = h.reset ∙ z
 
-after_step : (x : Outside) (s : State) → s.off ≡ None → (step x s).reset ≡ false
+after_step : (x : Environment) (s : State) → s.off ≡ None → (step x s).reset ≡ false
 after_step x s on = by s.reset refl
   where
     by : (b : Bool) → s.reset ≡ b → (step x s).reset ≡ false
-    by true e = ap (λ (t : State). t.reset) (on_is x s on) ∙ ap (λ o. (ended (come_to o)).reset) (cond-true s.reset (Interrupt (latched x s) causes.Reset 0 s.cpu.pc) _ e)
+    by true e = ap (λ (t : State). t.reset) (on_is x s on) ∙ ap (λ o. (step_ended (come_to o)).reset) (cond-true s.reset (Interrupt (latched x s) causes.Reset 0 s.cpu.pc) _ e)
     by false e = ap (λ (t : State). t.reset) (on_is x s on) ∙ come_reset (latched x s) _ (coming_held x (latched x s)) e
 
 -- a machine that doesn't rest is in system mode, and on
@@ -62,48 +62,48 @@ and_false : (b : Bool) → (b && false) ≡ false
 and_false true = refl
 and_false false = refl
 
-begins_none : (x : Outside) (s : State) → s.reset ≡ false → in_user s ≡ false → begins x s ≡ false
-unfolding begins
+begins_none : (x : Environment) (s : State) → s.reset ≡ false → in_user s ≡ false → begins_turn x s ≡ false
+unfolding begins_turn
 begins_none x s r u = ap₂ (λ (a b : Bool). is_on s && (a || (b && not (handled x s)))) r u ∙ and_false (is_on s)
 
-begins_on : (x : Outside) (s : State) → begins x s ≡ true → s.off ≡ None
-unfolding begins
+begins_on : (x : Environment) (s : State) → begins_turn x s ≡ true → s.off ≡ None
+unfolding begins_turn
 begins_on x s e = on_of s (both_left (is_on s) _ e)
 
 -- so past the first step no turn begins where it doesn't rest
-none_begins : (x : Outside) (s : State) (t : ℕ) → rests (run x s (suc t)) ≡ false → begins x (run x s (suc t)) ≡ false
+none_begins : (x : Environment) (s : State) (t : ℕ) → rests (run x s (suc t)) ≡ false → begins_turn x (run x s (suc t)) ≡ false
 none_begins x s t e =
     let on : (run x s t).off ≡ None = was_on x (run x s t) (not_off (run x s (suc t)) e) in
     begins_none x (run x s (suc t)) (after_step x (run x s t) on) (not_user (run x s (suc t)) e)
 
 -- THE COUNTS. Where the machine is on it was on before
-on_before : (x : Outside) (s : State) (j u : ℕ) → j ≤ u → (run x s u).off ≡ None → (run x s j).off ≡ None
+on_before : (x : Environment) (s : State) (j u : ℕ) → j ≤ u → (run x s u).off ≡ None → (run x s j).off ≡ None
 on_before x s j zero le on = let e : 0 ≡ j = omega (arith, le) in subst (λ i. (run x s i).off ≡ None) e on
 on_before x s j (suc u) le on = ⊎_elim
     (λ (lt : j < suc u). on_before x s j u (omega (arith, lt)) (was_on x (run x s u) on))
     (λ (ge : suc u ≤ j). let e : suc u ≡ j = omega (arith, le, ge) in subst (λ i. (run x s i).off ≡ None) e on)
     (cases_lt j (suc u))
 
-same_turns : (x : Outside) (s : State) (t u : ℕ) → t ≤ u → ((j : ℕ) → t ≤ j → j < u → begins x (run x s j) ≡ false) → turn_of x s u ≡ turn_of x s t
+same_turns : (x : Environment) (s : State) (t u : ℕ) → t ≤ u → ((j : ℕ) → t ≤ j → j < u → begins_turn x (run x s j) ≡ false) → turn_of x s u ≡ turn_of x s t
 same_turns x s t zero le none = let e : 0 ≡ t = omega (arith, le) in subst (λ i. turn_of x s 0 ≡ turn_of x s i) e refl
 same_turns x s t (suc u) le none = ⊎_elim
     (λ (lt : t < suc u). turn_same x s u (none u (omega (arith, lt)) (omega arith)) ∙ same_turns x s t u (omega (arith, lt)) (λ j a b. none j a (omega (arith, b))))
     (λ (ge : suc u ≤ t). let e : suc u ≡ t = omega (arith, le, ge) in subst (λ i. turn_of x s (suc u) ≡ turn_of x s i) e refl)
     (cases_lt t (suc u))
 
-no_more : (x : Outside) (s : State) (t : ℕ) → complete x s t ≤ turn_of x s t
+no_more : (x : Environment) (s : State) (t : ℕ) → complete x s t ≤ turn_of x s t
 no_more x s zero = omega arith
 no_more x s (suc t) = cond_both (rests (run x s (suc t))) (turn_of x s (suc t)) (complete x s t) (λ n. n ≤ turn_of x s (suc t)) (λ _. omega arith)
-    (λ _. let a = no_more x s t in cond_both (begins x (run x s t)) (suc (turn_of x s t)) (turn_of x s t) (λ n. complete x s t ≤ n) (λ _. omega (arith, a)) (λ _. a))
+    (λ _. let a = no_more x s t in cond_both (begins_turn x (run x s t)) (suc (turn_of x s t)) (turn_of x s t) (λ n. complete x s t ≤ n) (λ _. omega (arith, a)) (λ _. a))
 
 -- more turns, or an earlier step
-pub sooner_than : (x : Outside) (s : State) (k m t u : ℕ) → k ≤ m → u ≤ t → NoSooner x s k t → NoSooner x s m u
+pub sooner_than : (x : Environment) (s : State) (k m t u : ℕ) → k ≤ m → u ≤ t → NoSooner x s k t → NoSooner x s m u
 sooner_than x s k m t u le few n = record { before = λ j l. let b = n.before j (omega (arith, l, few)) in omega (arith, b, le); on = λ j l. n.on j (omega (arith, l, few)) }
 
 -- k TURNS ARE COMPLETE AT t, and the machine is on there
-module _ (x : Outside) (s : State) (k t : ℕ) (c : ComesTo x s k t) (on : (run x s t).off ≡ None) where
+module _ (x : Environment) (s : State) (k t : ℕ) (c : ComesTo x s k t) (on : (run x s t).off ≡ None) where
   -- a turn of one step
-  one_more : begins x (run x s t) ≡ true → slice_index (run x s (suc t)).special MODE ≡ 1 → ComesTo x s (suc k) (suc t)
+  one_more : begins_turn x (run x s t) ≡ true → slice_index (run x s (suc t)).special MODE ≡ 1 → ComesTo x s (suc k) (suc t)
   one_more begin mode =
       let turn : turn_of x s (suc t) ≡ suc k = turn_more x s t begin ∙ ap (λ n. suc n) (c.here on).0 in
       let rest : rests (run x s (suc t)) ≡ true = user_rests (run x s (suc t)) (eq-eqb (slice_index (run x s (suc t)).special MODE) 1 mode) in
@@ -119,7 +119,7 @@ module _ (x : Outside) (s : State) (k t : ℕ) (c : ComesTo x s k t) (on : (run 
       }
 
   -- while none begins
-  none_complete : (u : ℕ) → ((j : ℕ) → t ≤ j → j < u → begins x (run x s j) ≡ false) → (j : ℕ) → j ≤ u → complete x s j ≤ k
+  none_complete : (u : ℕ) → ((j : ℕ) → t ≤ j → j < u → begins_turn x (run x s j) ≡ false) → (j : ℕ) → j ≤ u → complete x s j ≤ k
   none_complete u none j le = ⊎_elim
       (λ (lt : j < t). let b = c.sooner.before j lt in omega (arith, b))
       (λ (ge : t ≤ j).
@@ -160,7 +160,7 @@ module _ (x : Outside) (s : State) (k t : ℕ) (c : ComesTo x s k t) (on : (run 
         let to = o.to in
         same_turns x s (suc o.start) u (omega (arith, to)) (λ j a l. later j a l) ∙ turn_more x s o.start o.begin ∙ ap (λ n. suc n) (same_turns x s t o.start o.from o.none ∙ (c.here on).0)
       where
-        later : (j : ℕ) → suc o.start ≤ j → j < u → begins x (run x s j) ≡ false
+        later : (j : ℕ) → suc o.start ≤ j → j < u → begins_turn x (run x s j) ≡ false
         later zero a l = absurd (omega (arith, a))
         later (suc j) a l = none_begins x s j (o.busy (suc j) (omega (arith, a)) l)
 
@@ -195,11 +195,11 @@ module _ (x : Outside) (s : State) (k t : ℕ) (c : ComesTo x s k t) (on : (run 
   not_yet u (Some b) p here = open_more u b p.0 p.1
 
 -- turns of one step each
-skips_on : (x : Outside) (s : State) (t n : ℕ) → (run x s t).off ≡ None → Skips x s t n → (run x s (t + n)).off ≡ None
+skips_on : (x : Environment) (s : State) (t n : ℕ) → (run x s t).off ≡ None → Skips x s t n → (run x s (t + n)).off ≡ None
 skips_on x s t zero on skips = let e : t ≡ t + 0 = omega arith in subst (λ i. (run x s i).off ≡ None) e on
 skips_on x s t (suc n) on skips = (skips n (omega arith)).2
 
-after_skips : (x : Outside) (s : State) (k t n : ℕ) → ComesTo x s k t → (run x s t).off ≡ None → Skips x s t n → ComesTo x s (k + n) (t + n)
+after_skips : (x : Environment) (s : State) (k t n : ℕ) → ComesTo x s k t → (run x s t).off ≡ None → Skips x s t n → ComesTo x s (k + n) (t + n)
 after_skips x s k t zero c on skips = let a : k ≡ k + 0 = omega arith in let e : t ≡ t + 0 = omega arith in subst₂ (λ i j. ComesTo x s i j) a e c
 after_skips x s k t (suc n) c on skips =
     let few : Skips x s t n = λ j l. skips j (omega (arith, l)) in
@@ -211,7 +211,7 @@ after_skips x s k t (suc n) c on skips =
     (one_more x s (k + n) (t + n) so_far (skips_on x s t n on few) here.0 (subst (λ i. slice_index (run x s i).special MODE ≡ 1) next here.1))
 
 -- by the answer
-any_ok : (x : Outside) (s : State) (k t : ℕ) → ComesTo x s k t → (run x s t).off ≡ None → (now : Option State) (budget left : ℕ) (b : Begun) → CompleteOk x now budget left s t b → Came x s (suc k) t now budget left
+any_ok : (x : Environment) (s : State) (k t : ℕ) → ComesTo x s k t → (run x s t).off ≡ None → (now : Option State) (budget left : ℕ) (b : Begun) → CompleteOk x now budget left s t b → Came x s (suc k) t now budget left
 any_ok x s k t c on now budget left b (u, how, is, spent) = (
   u,
   ⊎_elim (λ (d : Completed x s t u b). done x s k t c on u b d) (λ (d : WentOff x s t u b). went_off x s k t c on u b d) how,
@@ -219,7 +219,7 @@ any_ok x s k t c on now budget left b (u, how, is, spent) = (
   spent,
 )
 
-any_err : (x : Outside) (s : State) (k t : ℕ) → ComesTo x s k t → (run x s t).off ≡ None → (traced : Bool) (now : Option State) (budget left : ℕ) (f : RunFault) → CompleteErr x traced now budget left s t f → BrokeOff x s traced (suc k) t now budget left f
+any_err : (x : Environment) (s : State) (k t : ℕ) → ComesTo x s k t → (run x s t).off ≡ None → (traced : Bool) (now : Option State) (budget left : ℕ) (f : RunFault) → CompleteErr x traced now budget left s t f → BrokeOff x s traced (suc k) t now budget left f
 any_err x s k t c on traced now budget left StepLimit (u, le, spent, is, none, here, p) =
     let at : u ≡ t + budget = omega (arith, spent, none) in
     (none, subst (λ i. NoSooner x s (suc k) (suc i)) at (not_yet x s k t c on u p.0 p.1 here), subst (λ i. now ≡ Some (run x s i)) at is)
@@ -227,14 +227,14 @@ any_err x s k t c on traced now budget left Disk (u, le, spent, p, leaves, here)
 any_err x s k t c on traced now budget left Sink (u, le, spent, p, is, here) = let sum : left + suc u ≡ budget + t = omega (arith, spent) in (suc u, omega (arith, le), not_yet x s k t c on u p.0 p.1 here, is, sum)
 
 -- behind turns that were passed, of so many at most
-broke_later : (x : Outside) (s : State) (traced : Bool) (k m t n : ℕ) (now : Option State) (budget left : ℕ) → k ≤ m → n ≤ budget → (f : RunFault) → BrokeOff x s traced k (t + n) now (budget - n) left f → BrokeOff x s traced m t now budget left f
+broke_later : (x : Environment) (s : State) (traced : Bool) (k m t n : ℕ) (now : Option State) (budget left : ℕ) → k ≤ m → n ≤ budget → (f : RunFault) → BrokeOff x s traced k (t + n) now (budget - n) left f → BrokeOff x s traced m t now budget left f
 broke_later x s traced k m t n now budget left le few StepLimit (none, sooner, is) =
     let at : t + n + (budget - n) ≡ t + budget = omega (arith, few) in
     (none, subst (λ i. NoSooner x s m (suc i)) at (sooner_than x s k m (suc (t + n + (budget - n))) (suc (t + n + (budget - n))) le (omega arith) sooner), subst (λ i. now ≡ Some (run x s i)) at is)
 broke_later x s traced k m t n now budget left le few Disk (at, from, sooner, leaves, spent) = (at, omega (arith, from), sooner_than x s k m (suc at) (suc at) le (omega arith) sooner, leaves, omega (arith, spent, few))
 broke_later x s traced k m t n now budget left le few Sink (at, from, sooner, is, spent) = (at, omega (arith, from), sooner_than x s k m at at le (omega arith) sooner, is, omega (arith, spent, few))
 
-by_result : (x : Outside) (s : State) (k t : ℕ) → ComesTo x s k t → (run x s t).off ≡ None → (traced : Bool) (now : Option State) (budget left most : ℕ) (result : Result (ℕ × Begun) RunFault) → CompleteEnds x traced now budget left s t most result →
+by_result : (x : Environment) (s : State) (k t : ℕ) → ComesTo x s k t → (run x s t).off ≡ None → (traced : Bool) (now : Option State) (budget left most : ℕ) (result : Result (ℕ × Begun) RunFault) → CompleteEnds x traced now budget left s t most result →
     MatchResult result (λ r. Came x s (k + suc r.0) t now budget left) (BrokeOff x s traced (k + most) t now budget left)
 by_result x s k t c on traced now budget left most (Ok r) (n, less, few, skips, (is, e)) =
     let w = any_ok x s (k + n) (t + n) (after_skips x s k t n c on skips) (skips_on x s t n on skips) now (budget - n) left r.1 e in
@@ -247,4 +247,4 @@ by_result x s k t c on traced now budget left most (Err f) (n, less, few, skips,
 
 pub loops_make_turns : LoopsMakeTurns
 loops_make_turns count traced old new told retold budget left most result ends = λ s k t c on is.
-    by_result (outside_of old.rows count) s k t c on traced (seen retold new) budget left most result (ends s t is)
+    by_result (outside_of old.rows count) s k t c on traced (state_seen retold new) budget left most result (ends s t is)

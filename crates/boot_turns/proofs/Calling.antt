@@ -3,17 +3,17 @@
 use Rattle.std.proofs.Common.{◌≡◌, ◌≢◌, ℕ, zero, suc, ◌+◌, ◌-◌, ◌<◌, ◌≤◌, true, Option, Some, None, List, refl, sym, ap, ◌∙◌, subst, ⊎_elim, arith, eq-eqb, ne_eqb}
 use Rattle.std.specs.Prelude.{◌==◌, ℤ, [], ◌∷◌, length, slice_get, slice_index}
 use Rattle.std.proofs.lemmas.Bool.{cases_lt, cond-true, cond-false}
-use Rattle.mips_table.specs.Device.{Outside}
+use Rattle.mips_table.specs.Device.{Environment}
 use Rattle.mips_table.specs.Machine.{State, in_system, run}
 use Rattle.mips_table.specs.Turns.{is_on}
-use Rattle.c0_meaning.specs.State.{State as C0}
+use Rattle.c0_meaning.specs.State.{C0State}
 use Rattle.cvm_model.specs.Kernel.{Core, Changes, KernelMeaning, MeaningLaws, NotYet}
-use Rattle.cvm_model.specs.Primitives.{Call, VmGet, VmSet, VmSize, VmResize, VmWord, VmPut, VmCopy, ConPut, ConGet, ConLeft, primitive_number}
+use Rattle.cvm_model.specs.Primitives.{KernelCall, VmGet, VmSet, VmSize, VmResize, VmWord, VmPut, VmCopy, ConPut, ConGet, ConLeft, primitive_number}
 use Rattle.cvm_model.specs.Stands.{Site}
 use Rattle.layer_contract.specs.declared.entry.Entry.TheVariants.{Dispatch, Primitive}
 use Rattle.layer_contract.specs.declared.registers.TheConstants.{RETURN}
-use Rattle.layer_contract.specs.Layer.{Inside, entry_address}
-use Rattle.layer_contract.specs.Calls.{under_way, ends_here, ended_before, is_busy, entered_before, EndsCall, KernelCalled, CallsFollow}
+use Rattle.layer_contract.specs.Layer.{Inside, layer_entry}
+use Rattle.layer_contract.specs.Calls.{under_way, ends_here, ended_before, busy_count, entered_before, EndsCall, KernelCalled, CallsFollow}
 use Rattle.boot_turns.specs.declared.tracer.Entered.{Entered}
 use Rattle.boot_turns.specs.Returns.{entry_note, noted_at, notes_on, noted_call}
 use Rattle.boot_turns.proofs.Stepping.{is_on_of}
@@ -22,11 +22,11 @@ use Rattle.boot_turns.proofs.Entering.{all_true, is_at}
 use Rattle.boot_turns.proofs.UnderWay.{ended_grows, note_back, noted_back, noted_none, noted_there}
 use Rattle.boot_turns.proofs.Journals.{calls_most}
 
-not_busy : (o : Option ℕ) → is_busy o ≡ 0 → o ≡ None
+not_busy : (o : Option ℕ) → busy_count o ≡ 0 → o ≡ None
 not_busy None e = refl
 not_busy (Some v) e = absurd (let f : 1 ≡ 0 = e in omega (arith, f))
 
-primitive_small : (call : Call) → primitive_number call < 10
+primitive_small : (call : KernelCall) → primitive_number call < 10
 primitive_small (VmGet u r) = omega arith
 primitive_small (VmSet u r v) = omega arith
 primitive_small (VmSize u) = omega arith
@@ -42,7 +42,7 @@ inside_on : (s : State) → Inside s → (is_on s ≡ true) × (in_system s.spec
 inside_on s i = (is_on_of s i.on, eq-eqb _ _ i.mode)
 
 -- one call of a primitive, on the run
-module _ (x : Outside) (y : Site) (longest : ℕ) (s : State) (m : ℕ) (ch : Changes) (ends : EndsCall x y longest s m ch) (door : s.cpu.pc ≡ entry_address Dispatch) where
+module _ (x : Environment) (y : Site) (longest : ℕ) (s : State) (m : ℕ) (ch : Changes) (ends : EndsCall x y longest s m ch) (door : s.cpu.pc ≡ layer_entry Dispatch) where
   -- the step at which it has returned
   abbrev pub return : ℕ
   return = ends.entry + ends.back.comes.steps
@@ -68,11 +68,11 @@ module _ (x : Outside) (y : Site) (longest : ℕ) (s : State) (m : ℕ) (ch : Ch
   is_there : is_at (primitive_number ends.call) at_entry ≡ true
   is_there =
       let i = inside_on at_entry ends.called.at.inside in
-      all_true (is_on at_entry) (in_system at_entry.special) (at_entry.cpu.pc == entry_address (Primitive (primitive_number ends.call))) i.0 i.1 (eq-eqb _ _ ends.called.at.pc)
+      all_true (is_on at_entry) (in_system at_entry.special) (at_entry.cpu.pc == layer_entry (Primitive (primitive_number ends.call))) i.0 i.1 (eq-eqb _ _ ends.called.at.pc)
 
   entered_later : (t : ℕ) → ends.entry ≡ t → 0 < t
   entered_later zero e =
-      let pc : s.cpu.pc ≡ entry_address (Primitive (primitive_number ends.call)) = subst (λ i. (run x s i).cpu.pc ≡ entry_address (Primitive (primitive_number ends.call))) e ends.called.at.pc in
+      let pc : s.cpu.pc ≡ layer_entry (Primitive (primitive_number ends.call)) = subst (λ i. (run x s i).cpu.pc ≡ layer_entry (Primitive (primitive_number ends.call))) e ends.called.at.pc in
       let few = primitive_small ends.call in
       absurd (omega (arith, door, pc, few))
   entered_later (suc t) e = omega arith
@@ -97,7 +97,7 @@ module _ (x : Outside) (y : Site) (longest : ℕ) (s : State) (m : ℕ) (ch : Ch
   steps_some : (n : ℕ) → ends.back.comes.steps ≡ n → 0 < n
   steps_some zero e =
       let pc : at_entry.cpu.pc ≡ slice_index at_entry.cpu.regs RETURN = subst (λ i. (run x at_entry i).cpu.pc ≡ slice_index at_entry.cpu.regs RETURN) e ends.back.comes.there.pc in
-      let at : at_entry.cpu.pc ≡ entry_address (Primitive (primitive_number ends.call)) = ends.called.at.pc in
+      let at : at_entry.cpu.pc ≡ layer_entry (Primitive (primitive_number ends.call)) = ends.called.at.pc in
       let few = primitive_small ends.call in
       let code = ends.called.back.from in
       absurd (omega (arith, pc, at, few, code))
@@ -123,7 +123,7 @@ module _ (x : Outside) (y : Site) (longest : ℕ) (s : State) (m : ℕ) (ch : Ch
       omega (arith, one, all)
 
 -- a dispatch, from the step at which it is called
-module _ (x : Outside) (y : Site) (longest : ℕ) (Typed : C0 → Type 0) (e : KernelMeaning) (follow : CallsFollow y Typed e) (laws : MeaningLaws e) (s : State) (c : Core) (cause edata user : ℤ)
+module _ (x : Environment) (y : Site) (longest : ℕ) (Typed : C0State → Type 0) (e : KernelMeaning) (follow : CallsFollow y Typed e) (laws : MeaningLaws e) (s : State) (c : Core) (cause edata user : ℤ)
     (called : KernelCalled x longest y Typed c cause edata user s) where
   abbrev pub calls : ℕ → List Changes
   calls n = (e.dispatch n c cause edata user).calls
@@ -133,7 +133,7 @@ module _ (x : Outside) (y : Site) (longest : ℕ) (Typed : C0 → Type 0) (e : K
   some_call (ch ∷ xs) zero lt = (ch, refl)
   some_call (ch ∷ xs) (suc m) lt = some_call xs m (omega (arith, lt))
 
-  abbrev door : s.cpu.pc ≡ entry_address Dispatch
+  abbrev door : s.cpu.pc ≡ layer_entry Dispatch
   door = called.called.at.pc
 
   -- at the last step of a dispatch that is over, its calls have ended, and none is under way
@@ -144,7 +144,7 @@ module _ (x : Outside) (y : Site) (longest : ℕ) (Typed : C0 → Type 0) (e : K
       let most : entered_before x s d ≤ length (calls w.0) = w.1 in
       let all : length (calls w.0) ≤ length (calls n) = calls_most e laws c cause edata user n w.0 over in
       let least = have (length (calls n)) refl in
-      let none : is_busy (under_way x s d) ≡ 0 = omega (arith, most, all, least) in
+      let none : busy_count (under_way x s d) ≡ 0 = omega (arith, most, all, least) in
       (not_busy (under_way x s d) none, omega (arith, most, all, least))
     where
       have : (l : ℕ) → length (calls n) ≡ l → length (calls n) ≤ ended_before x s d

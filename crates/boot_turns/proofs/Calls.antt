@@ -12,7 +12,7 @@ use Rattle.mips_table.specs.Arith.{signed}
 use Rattle.mips_table.specs.Flat.{Flat}
 use Rattle.c0_meaning.specs.Value.{bool}
 use Rattle.cvm_model.specs.Kernel.{flat, JournalEntry, Set, Size, Put}
-use Rattle.cvm_model.specs.Primitives.{Call, VmGet, VmSet, VmSize, VmResize, VmWord, VmPut, VmCopy, ConPut, ConGet, ConLeft, primitive_number, arguments_of, user_of, with_user, with_words, puts, is_within, is_place, is_good, refused, unchanged, granted, prim, Given, no_flat}
+use Rattle.cvm_model.specs.Primitives.{KernelCall, VmGet, VmSet, VmSize, VmResize, VmWord, VmPut, VmCopy, ConPut, ConGet, ConLeft, primitive_number, arguments_of, user_of, with_user, with_words, puts, is_within, is_address, is_good, refused, unchanged, granted, prim, Given, no_flat}
 use Rattle.cvm_model.specs.Journal.{changes_of}
 use Rattle.layer_contract.specs.Layer.{AreArguments}
 use Rattle.boot_turns.specs.declared.tracer.Entered.{Entered}
@@ -52,12 +52,12 @@ within_pos : (low high : ℕ) (z : ℤ) → is_within low high z ≡ true → (n
 within_pos low high (pos n) h = (n, refl)
 within_pos low high (negsuc n) h = absurd (cc)
 
-place_pos : (f : Flat) (z : ℤ) (n : ℕ) → is_place f z n ≡ true → (m : ℕ) × (z ≡ pos m)
+place_pos : (f : Flat) (z : ℤ) (n : ℕ) → is_address f z n ≡ true → (m : ℕ) × (z ≡ pos m)
 place_pos f (pos m) n h = (m, refl)
 place_pos f (negsuc m) n h = absurd (cc)
 
 -- words of a range that is good lie in the memory
-place_is : (f : Flat) (z : ℤ) (n : ℕ) → is_place f z n ≡ true → nat_abs z / 4 + n ≤ length f.words
+place_is : (f : Flat) (z : ℤ) (n : ℕ) → is_address f z n ≡ true → nat_abs z / 4 + n ≤ length f.words
 place_is f (pos a) n h =
     let aligned : a % 4 ≡ 0 = eqb-true (a % 4) 0 (both_left _ _ h) in
     let inside : a + 4 * n ≤ 4096 * (length f.words / 1024) = leb-true _ _ (both_right _ _ h) in
@@ -126,7 +126,7 @@ module _ (regs : List ℕ) (fits : (r : ℕ) → slice_index regs r < 2 ^ 32) (u
   refuses : (users : List Flat) (o : Console) (k : ℕ) → Agrees k (unchanged users o (bool false) 0 0)
   refuses users o k h = no_change u ∙ no_call k (user_of users u).words (sym (one_value _ _ h))
 
-  refused_agrees : (users : List Flat) (o : Console) (call : Call) → Agrees (primitive_number call) (unchanged users o (refused call) 0 0)
+  refused_agrees : (users : List Flat) (o : Console) (call : KernelCall) → Agrees (primitive_number call) (unchanged users o (refused call) 0 0)
   refused_agrees users o (VmGet v r) h = no_change u ∙ nothing (answer == 1)
   refused_agrees users o (VmSet v r w) h = refuses users o 1 h
   refused_agrees users o (VmSize v) h = no_change u ∙ nothing (answer == 1)
@@ -161,8 +161,8 @@ module _ (regs : List ℕ) (fits : (r : ℕ) → slice_index regs r < 2 ^ 32) (u
         let h3 = both_left _ _ h4 in
         let h2 = both_left _ _ h3 in
         let target : is_within 1 (length users) w ≡ true = both_right _ _ h2 in
-        let from : is_place (user_of users (nat_abs v)) a n ≡ true = both_right _ _ h3 in
-        let to : is_place (user_of users (nat_abs w)) b n ≡ true = both_right _ _ h4 in
+        let from : is_address (user_of users (nat_abs v)) a n ≡ true = both_right _ _ h3 in
+        let to : is_address (user_of users (nat_abs w)) b n ≡ true = both_right _ _ h4 in
         let ew : nat_abs w ≡ slice_index regs 22 = abs_of 22 w args.1.1.0 (within_pos 1 (length users) w target) in
         let eb : nat_abs b ≡ slice_index regs 23 = abs_of 23 b args.1.1.1.0 (place_pos (user_of users (nat_abs w)) b n to) in
         let en : n ≡ slice_index regs 24 = abs_of 24 (pos n) args.1.1.1.1.0 (n, refl) in
@@ -186,7 +186,7 @@ module _ (regs : List ℕ) (fits : (r : ℕ) → slice_index regs r < 2 ^ 32) (u
             ap (puts (nat_abs b))
             (sym (ap (λ (f : Flat). take n (drop (nat_abs b / 4) f.words)) there ∙ put_words (user_of users (nat_abs w)).words new (nat_abs b / 4) n room size))
 
-    granted_agrees : (call : Call) → is_good most users call ≡ true → AreArguments regs 20 (arguments_of call) → Agrees (primitive_number call) (granted users o call)
+    granted_agrees : (call : KernelCall) → is_good most users call ≡ true → AreArguments regs 20 (arguments_of call) → Agrees (primitive_number call) (granted users o call)
     granted_agrees (VmGet v r) good args h = no_change u ∙ nothing (answer == 1)
     granted_agrees (VmSet v r w) good args h =
         let ev = abs_of 20 v args.0 (within_pos 1 (length users) v (both_left _ _ good)) in
@@ -211,7 +211,7 @@ module _ (regs : List ℕ) (fits : (r : ℕ) → slice_index regs r < 2 ^ 32) (u
     granted_agrees ConLeft good args h = no_change u ∙ nothing (answer == 1)
 
     -- THE ENTRIES of user u of what a primitive changed are those by its note
-    pub call_agrees : (call : Call) → AreArguments regs 20 (arguments_of call) → Agrees (primitive_number call) (prim most call users o)
+    pub call_agrees : (call : KernelCall) → AreArguments regs 20 (arguments_of call) → Agrees (primitive_number call) (prim most call users o)
     call_agrees call args = cond_both (is_good most users call) (granted users o call) (unchanged users o (refused call) 0 0) (Agrees (primitive_number call)) (λ good. granted_agrees call good args) (λ _. refused_agrees users o call)
 
     -- the words that were copied lie in the user's memory
@@ -222,8 +222,8 @@ module _ (regs : List ℕ) (fits : (r : ℕ) → slice_index regs r < 2 ^ 32) (u
         let h3 = both_left _ _ h4 in
         let h2 = both_left _ _ h3 in
         let target : is_within 1 (length users) w ≡ true = both_right _ _ h2 in
-        let from : is_place (user_of users (nat_abs v)) a n ≡ true = both_right _ _ h3 in
-        let to : is_place (user_of users (nat_abs w)) b n ≡ true = both_right _ _ h4 in
+        let from : is_address (user_of users (nat_abs v)) a n ≡ true = both_right _ _ h3 in
+        let to : is_address (user_of users (nat_abs w)) b n ≡ true = both_right _ _ h4 in
         let ew : nat_abs w ≡ u = abs_of 22 w args.1.1.0 (within_pos 1 (length users) w target) ∙ same in
         let eb : nat_abs b ≡ slice_index regs 23 = abs_of 23 b args.1.1.1.0 (place_pos (user_of users (nat_abs w)) b n to) in
         let en : n ≡ slice_index regs 24 = abs_of 24 (pos n) args.1.1.1.1.0 (n, refl) in
@@ -242,7 +242,7 @@ module _ (regs : List ℕ) (fits : (r : ℕ) → slice_index regs r < 2 ^ 32) (u
         subst (λ i. i / 4 + slice_index regs 24 ≤ length (user_of (granted users o (VmCopy v a w b (pos n))).users u).words) eb
         (subst (λ i. nat_abs b / 4 + i ≤ length (user_of (granted users o (VmCopy v a w b (pos n))).users u).words) en bound)
 
-    abbrev Placed : Call → Given → Type 0
+    abbrev Placed : KernelCall → Given → Type 0
     Placed call g = flat (λ _. 0) g.answer ≡ answer ∷ [] → answer ≡ 1 → primitive_number call ≡ 6 → slice_index regs 22 ≡ u → slice_index regs 23 / 4 + slice_index regs 24 ≤ length (user_of g.users u).words
 
     not_one : (a : ℕ) → 0 ∷ [] ≡ a ∷ [] → a ≡ 1 → ⊥
@@ -254,7 +254,7 @@ module _ (regs : List ℕ) (fits : (r : ℕ) → slice_index regs r < 2 ^ 32) (u
     later_call : (k : ℕ) → k ≡ 6 → 6 < k → ⊥
     later_call k e lt = omega (arith, e, lt)
 
-    pub call_placed : (call : Call) → AreArguments regs 20 (arguments_of call) → Placed call (prim most call users o)
+    pub call_placed : (call : KernelCall) → AreArguments regs 20 (arguments_of call) → Placed call (prim most call users o)
     call_placed (VmGet v r) args h one six same = absurd (other_call 0 six (omega arith))
     call_placed (VmSet v r w) args h one six same = absurd (other_call 1 six (omega arith))
     call_placed (VmSize v) args h one six same = absurd (other_call 2 six (omega arith))

@@ -6,10 +6,10 @@ use Rattle.std.specs.Option.{option_map}
 use Rattle.std.specs.Io.KnownBytes.{append_known}
 use Rattle.std.proofs.lemmas.Bool.{cond-false}
 use Rattle.cvm_outside.proofs.Parts.{append_known-nil}
-use Rattle.mips_table.specs.Device.{Outside}
+use Rattle.mips_table.specs.Device.{Environment}
 use Rattle.mips_table.specs.declared.special.TheConstants.{MODE}
 use Rattle.mips_table.specs.Machine.{State, in_system, step}
-use Rattle.mips_table.specs.Turns.{is_on, begins}
+use Rattle.mips_table.specs.Turns.{is_on, begins_turn}
 use Rattle.mips_machine.specs.Machine.{Held, state_of}
 use Rattle.layer_map.specs.Map.{Map, current_at}
 use Rattle.c0_tree.specs.Tree.{CUnit}
@@ -17,22 +17,22 @@ use Rattle.c0_meaning.specs.TypedState.{IsTypedState}
 use Rattle.cvm_model.specs.Kernel.{JournalEntry, Trapped, Stepped as Untrapped}
 use Rattle.cvm_model.specs.Text.{journal_rows_after}
 use Rattle.layer_contract.specs.declared.entry.Entry.TheVariants.{Primitive}
-use Rattle.layer_contract.specs.Layer.{entry_address}
+use Rattle.layer_contract.specs.Layer.{layer_entry}
 use Rattle.boot_report.specs.Told.{WordsTell}
 use Rattle.boot_turns.specs.declared.completion.Stepped.{Stepped}
 use Rattle.boot_turns.specs.declared.tracer.Entered.{Entered}
 use Rattle.boot_turns.specs.declared.tracer.Tracer.{Tracer}
-use Rattle.boot_turns.specs.Completes.{seen, note}
+use Rattle.boot_turns.specs.Completes.{state_seen, note}
 use Rattle.boot_turns.specs.Entries.{turn_begins, TracesGrow}
 use Rattle.boot_turns.specs.Returns.{entry_note, noted_at, notes_on}
 use Rattle.boot_turns.specs.JournalText.{steps_after, RowsFollow}
-use Rattle.boot_turns.specs.Tracing.{CanTrace, counted, followed, kept_after, reads_of}
+use Rattle.boot_turns.specs.Tracing.{CanTrace, counted_step, followed, kept_after, reads_of}
 use Rattle.boot_turns.specs.TraceSteps.{StepTraces}
 use Rattle.boot_turns.proofs.Entering.{is_at}
 use Rattle.boot_turns.proofs.Tracking.{step_goes, step_untraced}
 
 -- what is known of a tracer stays
-pub counted_can : (m : Map) (words time count current : ℕ) (o : Option Tracer) → IfSome o (CanTrace m words time count) → IfSome (option_map (counted current) o) (CanTrace m words (time + 1) count)
+pub counted_can : (m : Map) (words time count current : ℕ) (o : Option Tracer) → IfSome o (CanTrace m words time count) → IfSome (option_map (counted_step current) o) (CanTrace m words (time + 1) count)
 counted_can m words time count current None h = tt
 counted_can m words time count current (Some k) h = record {
   some = h.some;
@@ -50,12 +50,12 @@ counted_can m words time count current (Some k) h = record {
     by true = let f = h.few in omega (arith, f)
     by false = let f = h.few in omega (arith, f)
 
-pub counted_user : (current : ℕ) (o : Option Tracer) → option_map (λ k. k.user) (option_map (counted current) o) ≡ option_map (λ k. k.user) o
+pub counted_user : (current : ℕ) (o : Option Tracer) → option_map (λ k. k.user) (option_map (counted_step current) o) ≡ option_map (λ k. k.user) o
 counted_user current None = refl
 counted_user current (Some k) = refl
 
 -- and no word is read
-pub counted_reads : (current : ℕ) (o : Option Tracer) → reads_of (option_map (counted current) o) ≡ reads_of o
+pub counted_reads : (current : ℕ) (o : Option Tracer) → reads_of (option_map (counted_step current) o) ≡ reads_of o
 counted_reads current None = refl
 counted_reads current (Some k) = refl
 
@@ -63,7 +63,7 @@ counted_reads current (Some k) = refl
 no_entry : (n : ℕ) (s : State) → slice_index s.special MODE ≡ 1 → noted_at n s ≡ None
 no_entry zero s h = refl
 no_entry (suc k) s h =
-    cond-false (is_at k s) (Some (entry_note k s)) (noted_at k s) (second_false (is_on s) (in_system s.special) (s.cpu.pc == entry_address (Primitive k)) (ap (λ m. m == 0) h)) ∙ no_entry k s h
+    cond-false (is_at k s) (Some (entry_note k s)) (noted_at k s) (second_false (is_on s) (in_system s.special) (s.cpu.pc == layer_entry (Primitive k)) (ap (λ m. m == 0) h)) ∙ no_entry k s h
   where
     second_false : (a b c : Bool) → b ≡ false → (a && b && c) ≡ false
     second_false true b c e = ap (λ b. b && c) e
@@ -90,7 +90,7 @@ module _ (s : State) (k : Tracer) (current : ℕ) (words : List ℕ) (user : sli
   pub counted_rows : journal_rows_after false k.steps (followed s k current true words) ≡ []
   counted_rows = ap (journal_rows_after false k.steps) (begins_as s k.user current user) ∙ no_rows k.steps (current == k.user)
 
-  pub counted_kept : (m : Map) → counted current k ≡ kept_after m s k current true words
+  pub counted_kept : (m : Map) → counted_step current k ≡ kept_after m s k current true words
   counted_kept m =
       let none : k.reads ≡ k.reads + 0 = omega arith in
       ap₂ (λ (n : ℕ) (c : Option Entered). tracer_of k.user n c k.reads) (sym counted_steps) called
@@ -103,13 +103,13 @@ module _ (s : State) (k : Tracer) (current : ℕ) (words : List ℕ) (user : sli
       called = free ∙ sym (ap (notes_on s) free ∙ no_entry 10 s user)
 
 -- THE STEP of a trace that is counted
-pub step_counted : (grow : (c : CUnit) → TracesGrow (IsTypedState c)) (f : RowsFollow) (tell : WordsTell) (x : Outside) (m : Map) (held : Held) (told : Option (List (List ℕ))) (before after : Option Tracer) (text : Option (List ℕ)) → held.hardware.off ≡ None →
-    (mid : Held) (midtold : Option (List (List ℕ))) → seen midtold mid ≡ option_map (step x) (seen told held) → (current : ℕ) → IfSome before (λ _. current ≡ slice_index held.hardware.memory current_at) →
-    IfSome (seen told held) (λ s. true ≡ begins x s) → slice_index mid.hardware.special MODE ≡ 1 → IfSome before (λ k. k.call ≡ None) → after ≡ option_map (counted current) before → (stepped : Stepped) →
+pub step_counted : (grow : (c : CUnit) → TracesGrow (IsTypedState c)) (f : RowsFollow) (tell : WordsTell) (x : Environment) (m : Map) (held : Held) (told : Option (List (List ℕ))) (before after : Option Tracer) (text : Option (List ℕ)) → held.hardware.off ≡ None →
+    (mid : Held) (midtold : Option (List (List ℕ))) → state_seen midtold mid ≡ option_map (step x) (state_seen told held) → (current : ℕ) → IfSome before (λ _. current ≡ slice_index held.hardware.memory current_at) →
+    IfSome (state_seen told held) (λ s. true ≡ begins_turn x s) → slice_index mid.hardware.special MODE ≡ 1 → IfSome before (λ k. k.call ≡ None) → after ≡ option_map (counted_step current) before → (stepped : Stepped) →
     StepTraces x m held mid told midtold before after text text (Ok stepped)
 step_counted grow f tell x m held told None after text on mid midtold ran current is began user free counts stepped = step_untraced x m held mid told midtold after text text (Ok stepped)
 step_counted grow f tell x m held told (Some k) after text on mid midtold ran current is began user free counts stepped =
     subst (λ (t : Option Tracer). StepTraces x m held mid told midtold (Some k) t text text (Ok stepped)) (sym counts)
-    (step_goes grow f tell x m held told k text on mid mid midtold midtold refl ran current is true began stepped (Some k) (counted current k) text refl
+    (step_goes grow f tell x m held told k text on mid mid midtold midtold refl ran current is true began stepped (Some k) (counted_step current k) text refl
     (λ ss words e t. sym (ap (append_known text) (counted_rows (state_of mid ss) k current words user free) ∙ append_known-nil text))
     (λ ss words e t. counted_kept (state_of mid ss) k current words user free m))

@@ -5,7 +5,7 @@ use Rattle.std.specs.Prelude.{◌==◌, nat_lt, bit_or, pos, ℤ, slice_get}
 use Rattle.std.proofs.lemmas.Bool.{cond-true, cond-false}
 use Rattle.std.proofs.lemmas.List.{length-take, take-take, take_all, append_assoc}
 use Rattle.mips_table.specs.Arith.{signed}
-use Rattle.cvm_model.specs.Kernel.{Core, Changes, JournalEntry, Trapped, MeaningLaws, KernelMeaning, DispatchOutcome, End, Answers, Faults, NotYet}
+use Rattle.cvm_model.specs.Kernel.{Core, Changes, JournalEntry, Trapped, MeaningLaws, KernelMeaning, DispatchOutcome, DispatchEnd, Answers, Faults, NotYet}
 use Rattle.cvm_model.specs.Cvm.{System, Status, Running, Halted, Faulted, Cvm, Begin, Steps, Traps, Interrupts, begin, dispatch_of, after_dispatch, dispatches, begun, turn_by, turn, cvm}
 use Rattle.cvm_model.specs.Journal.{changes_of, begin_calls, turn_calls, begin_entries, running_entries, turn_entries, journal}
 use Rattle.boot_turns.proofs.Units.{cvm_more}
@@ -66,7 +66,7 @@ module _ (y : System) (laws : MeaningLaws y.boot.meaning) where
       go : (dispatch_of y n cause edata at).end ≢ NotYet → dispatch_of y (n + d) cause edata at ≡ dispatch_of y n cause edata at
       go ne = laws.same n d at (pos cause) (signed edata) (pos at.current) ne
 
-      by : (e : End) → (dispatch_of y n cause edata at).end ≡ e → dispatch_of y (n + d) cause edata at ≡ dispatch_of y n cause edata at
+      by : (e : DispatchEnd) → (dispatch_of y n cause edata at).end ≡ e → dispatch_of y (n + d) cause edata at ≡ dispatch_of y n cause edata at
       by (Answers a) eq = go (λ f. absurd (let g : Answers a ≡ NotYet = sym eq ∙ f in cc))
       by (Faults a) eq = go (λ f. absurd (let g : Faults a ≡ NotYet = sym eq ∙ f in cc))
       by NotYet eq = absurd (none_some p (sym (ap (after_dispatch y c k cause edata at.current pending (dispatch_of y n cause edata at)) eq) ∙ h))

@@ -1,17 +1,17 @@
 -- What holds of every run from a start, gathered.
-use Rattle.mips_table.specs.Turns.{lines_of, TurnLaws}
-use Rattle.c0_meaning.specs.State.{State as C0}
+use Rattle.mips_table.specs.Turns.{lines_of_turn, TurnLaws}
+use Rattle.c0_meaning.specs.State.{C0State}
 use Rattle.layer_contract.specs.Starts.{StartsGoOn}
 use Rattle.layer_contract.specs.Users.{UserStepsLinked}
 use Rattle.boot_turns.specs.RunMachines.{MachinesRun, RunsStayTyped}
 use Rattle.boot_turns.proofs.Counting.{complete_small}
 use Rattle.boot_turns.proofs.Units.{one_cvm}
-use Rattle.boot_turns.proofs.Turning.{given}
+use Rattle.boot_turns.proofs.OneTurn.{given}
 use Rattle.boot_turns.proofs.Growing.{rows_grow, user_stays}
-use Rattle.boot_turns.proofs.Joining.{finished, unfinished, shown}
-use Rattle.boot_turns.proofs.Whole.{forward, goes_on, two_faults, ahead, defined, is_over, beyond, torn}
+use Rattle.boot_turns.proofs.NextTurn.{finished, unfinished, shown}
+use Rattle.boot_turns.proofs.BothWays.{forward, goes_on, two_faults, ahead, defined, is_over, beyond, torn}
 
-pub machines_run : TurnLaws → StartsGoOn → UserStepsLinked → (Typed : C0 → Type 0) → MachinesRun Typed
+pub machines_run : TurnLaws → StartsGoOn → UserStepsLinked → (Typed : C0State → Type 0) → MachinesRun Typed
 machines_run counts goes users Typed x y s late held f =
     let g = given goes users Typed x y s late held f in
     record {
@@ -28,10 +28,10 @@ machines_run counts goes users Typed x y s late held f =
       torn = torn x y s late held Typed g;
       few = complete_small x s;
       ends = λ turns steps c is here. is_over x y s late held Typed g counts turns _ (counts.found x s turns steps here) c is;
-      same = λ k c d. one_cvm y g.meaning (lines_of x s) k c d;
+      same = λ k c d. one_cvm y g.meaning (lines_of_turn x s) k c d;
     }
 
 -- the kernel's data stays typed
-pub runs_stay_typed : StartsGoOn → UserStepsLinked → (Typed : C0 → Type 0) → RunsStayTyped Typed
+pub runs_stay_typed : StartsGoOn → UserStepsLinked → (Typed : C0State → Type 0) → RunsStayTyped Typed
 runs_stay_typed goes users Typed x y s late held f k c is =
     (forward x y s late held Typed (given goes users Typed x y s late held f) is.units k c is.is).1.typed

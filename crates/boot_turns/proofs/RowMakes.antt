@@ -32,7 +32,7 @@ use Rattle.boot_turns.specs.StepScript.{prints}
 use Rattle.boot_turns.specs.RowScripts.{ArePages, copied_script, copy_script, words_copied, ended_script, returned_script, followed_script}
 
 -- what is put of rows
-pub puts_of : {T O : Type 0} (text : sink_of.Ghosts O) (out reout : O) (rows : List ℕ) (r : Result T SinkFault) → reported.Puts text.text text.faults out reout rows r → Puts rows (output text out) (output text reout) (blame of_sink r)
+pub puts_of : {T O : Type 0} (text : sink_of.Ghosts O) (out reout : O) (rows : List ℕ) (r : Result T SinkFault) → reported.PutsRows text.text text.faults out reout rows r → Puts rows (output text out) (output text reout) (blame of_sink r)
 puts_of text out reout rows r put = put_once rows (output text out) (output text reout) r put.ok put.err put.count
 
 -- rows are put, where there are any

@@ -5,19 +5,19 @@ use Rattle.std.specs.Prelude.{◌==◌, nat_lt, bit_or, pos, ℤ, is_some, slice
 use Rattle.std.proofs.lemmas.Bool.{cases_lt, cond-true, cond-false}
 use Rattle.std.proofs.lemmas.List.Elements.{All-head, All-tail}
 use Rattle.mips_table.specs.Arith.{signed}
-use Rattle.mips_table.specs.Device.{Outside}
+use Rattle.mips_table.specs.Device.{Environment}
 use Rattle.mips_table.specs.Machine.{State, run}
 use Rattle.mips_table.specs.Fits.{IsWord}
-use Rattle.mips_table.specs.Turns.{begins, rests, is_on, in_user, turn_of, complete, lines_of}
+use Rattle.mips_table.specs.Turns.{begins_turn, rests, is_on, in_user, turn_of, complete, lines_of_turn}
 use Rattle.layer_map.specs.Map.{current_at}
-use Rattle.c0_meaning.specs.State.{State as C0}
+use Rattle.c0_meaning.specs.State.{C0State}
 use Rattle.cvm_model.specs.Kernel.{Core, Changes, JournalEntry, Stepped, Trapped, NotYet}
 use Rattle.cvm_model.specs.Primitives.{user_of}
 use Rattle.cvm_model.specs.Cvm.{System, Status, Running, Halted, Faulted, Cvm, IsCvm, Begin, Steps, Traps, Interrupts, begin, begun, turn_by, turn, cvm, dispatch_of, after_dispatch, turn_steps, map_of, first_cvm}
 use Rattle.cvm_model.specs.Journal.{changes_of, begin_calls, begin_entries}
-use Rattle.cvm_model.specs.Stands.{Site, Stands, runs_user}
+use Rattle.cvm_model.specs.Stands.{Site, RunningRelation, runs_user}
 use Rattle.layer_contract.specs.declared.registers.TheConstants.{ANSWER, RETURN}
-use Rattle.layer_contract.specs.Layer.{Inside, Comes, IsEntry, DispatchCalled, Returned, given}
+use Rattle.layer_contract.specs.Layer.{Inside, ComesBy, IsEntry, DispatchCalled, Returned, given}
 use Rattle.layer_contract.specs.Follows.{site_of}
 use Rattle.layer_contract.specs.Calls.{entered, under_way, ends_here, ended_before, KernelCalled, CallsFollow}
 use Rattle.boot_turns.specs.declared.completion.Begun.{Begun}
@@ -32,9 +32,9 @@ use Rattle.boot_turns.proofs.Entering.{entered_none, entered_user, entered_off, 
 use Rattle.boot_turns.proofs.Counting.{turn_same, turn_more, still, completes}
 use Rattle.boot_turns.proofs.Stretches.{later, quietly}
 use Rattle.boot_turns.proofs.Units.{one_cvm, cvm_more, cvm_next}
-use Rattle.boot_turns.proofs.Turning.{on_back, Given, Beginning, BegunAs, same_data}
-use Rattle.boot_turns.proofs.Whole.{OffOn, off_on, ended_off, forward, Going, Covered, covered, defined}
-use Rattle.boot_turns.proofs.Joining.{stood_rests}
+use Rattle.boot_turns.proofs.OneTurn.{on_back, Given, Beginning, BegunAs, same_data}
+use Rattle.boot_turns.proofs.BothWays.{OffOn, off_on, ended_off, forward, Going, Covered, covered, defined}
+use Rattle.boot_turns.proofs.NextTurn.{stood_rests}
 use Rattle.boot_turns.proofs.UnderWay.{stays_quiet, next_none, under_way_later, ended_later, ended_grows, note_back, noted_back, noted_none, noted_later}
 use Rattle.boot_turns.proofs.Calling.{over_quiet, CallAt, call_at, its_note, noted_last}
 use Rattle.boot_turns.proofs.Calls.{call_agrees, call_placed}
@@ -107,29 +107,29 @@ none_heads u user cause b d c le = sym (
     nothing true = refl
     nothing false = refl
 
-module _ (x : Outside) (y : System) (s : State) (late held : ℕ) (Typed : C0 → Type 0) (g : Given x y s late held Typed) (follow : CallsFollow (site_of y.boot) Typed y.boot.meaning) where
+module _ (x : Environment) (y : System) (s : State) (late held : ℕ) (Typed : C0State → Type 0) (g : Given x y s late held Typed) (follow : CallsFollow (site_of y.boot) Typed y.boot.meaning) where
   abbrev site : Site
   site = site_of y.boot
 
   abbrev lines : ℕ → ℕ
-  lines = lines_of x s
+  lines = lines_of_turn x s
 
   -- what turn k begins with
   abbrev begin_of : ℕ → Cvm → Begin
   begin_of k c = begin k c.core (bit_or c.pending (lines k))
 
   -- no turn begins in a stretch
-  turn_stays : (t u : ℕ) → t ≤ u → ((j : ℕ) → t ≤ j → j < u → begins x (run x s j) ≡ false) → turn_of x s u ≡ turn_of x s t
+  turn_stays : (t u : ℕ) → t ≤ u → ((j : ℕ) → t ≤ j → j < u → begins_turn x (run x s j) ≡ false) → turn_of x s u ≡ turn_of x s t
   turn_stays t zero le h = let e : t ≡ 0 = omega arith in ap (turn_of x s) (sym e)
   turn_stays t (suc u) le h = ⊎_elim
       (λ (lt : t < suc u). turn_same x s u (h u (omega arith) (omega arith)) ∙ turn_stays t u (omega arith) (λ j a b. h j a (omega arith)))
       (λ (ge : suc u ≤ t). let e : t ≡ suc u = omega arith in ap (turn_of x s) (sym e))
       (cases_lt t (suc u))
 
-  begin_stays : (t u : ℕ) → t ≤ u → ((j : ℕ) → t ≤ j → j < u → begins x (run x s j) ≡ false) → ended_at_begin x s u ≡ ended_at_begin x s t
+  begin_stays : (t u : ℕ) → t ≤ u → ((j : ℕ) → t ≤ j → j < u → begins_turn x (run x s j) ≡ false) → ended_at_begin x s u ≡ ended_at_begin x s t
   begin_stays t zero le h = let e : t ≡ 0 = omega arith in ap (ended_at_begin x s) (sym e)
   begin_stays t (suc u) le h = ⊎_elim
-      (λ (lt : t < suc u). cond-false (begins x (run x s u)) (ended_before x s u) (ended_at_begin x s u) (h u (omega arith) (omega arith)) ∙ begin_stays t u (omega arith) (λ j a b. h j a (omega arith)))
+      (λ (lt : t < suc u). cond-false (begins_turn x (run x s u)) (ended_before x s u) (ended_at_begin x s u) (h u (omega arith) (omega arith)) ∙ begin_stays t u (omega arith) (λ j a b. h j a (omega arith)))
       (λ (ge : suc u ≤ t). let e : t ≡ suc u = omega arith in ap (ended_at_begin x s) (sym e))
       (cases_lt t (suc u))
 
@@ -155,7 +155,7 @@ module _ (x : Outside) (y : System) (s : State) (late held : ℕ) (Typed : C0 �
 
   -- and then
   module _ (at k : ℕ) (c : Cvm) (w : Turn at k c) (t : ℕ) (o : Goes at k c w t) where
-    no_begin : (j : ℕ) → suc w.beginning.start ≤ j → j < t → begins x (run x s j) ≡ false
+    no_begin : (j : ℕ) → suc w.beginning.start ≤ j → j < t → begins_turn x (run x s j) ≡ false
     no_begin j a b = inside_begins x _ (o.inside j a (omega (arith, b)))
 
     pub turn_open : turn_of x s t ≡ suc k
@@ -163,7 +163,7 @@ module _ (x : Outside) (y : System) (s : State) (late held : ℕ) (Typed : C0 �
 
     pub begin_open : ended_at_begin x s t ≡ ended_before x s w.beginning.start
     begin_open = begin_stays (suc w.beginning.start) t o.begun_is no_begin
-        ∙ cond-true (begins x (run x s w.beginning.start)) (ended_before x s w.beginning.start) (ended_at_begin x s w.beginning.start) w.beginning.begin_here
+        ∙ cond-true (begins_turn x (run x s w.beginning.start)) (ended_before x s w.beginning.start) (ended_at_begin x s w.beginning.start) w.beginning.begin_here
 
     pub complete_open : complete x s t ≡ k
     complete_open =
@@ -205,7 +205,7 @@ module _ (x : Outside) (y : System) (s : State) (late held : ℕ) (Typed : C0 �
   kind : (at k : ℕ) (c : Cvm) (w : Turn at k c) → Single k c w.beginning.start ⊎ Dispatch k c w.beginning.start
   kind at k c w = by (begin_of k c) refl w.beginning.shows w.beginning.comes
     where
-      made : (cause edata user : ℤ) (core : Core) → Comes x site IsEntry w.beginning.enter (run x s w.beginning.at) (DispatchCalled x site core cause edata user) → Typed core.c0 →
+      made : (cause edata user : ℤ) (core : Core) → ComesBy x site IsEntry w.beginning.enter (run x s w.beginning.at) (DispatchCalled x site core cause edata user) → Typed core.c0 →
           ((u : ℕ) → Cut y g.meaning lines u k c (λ n. (y.boot.meaning.dispatch n core cause edata user).calls) (turn_begins u (slice_index (run x s w.beginning.start).memory current_at) (note (run x s (suc w.beginning.start))))) →
           ((n : ℕ) (p : Cvm) → begun y n k c (begin_of k c) ≡ Some p → (y.boot.meaning.dispatch n core cause edata user).end ≢ NotYet) → Dispatch k c w.beginning.start
       made cause edata user core comes typed cut over =
@@ -448,28 +448,28 @@ module _ (x : Outside) (y : System) (s : State) (late held : ℕ) (Typed : C0 �
     past_is n at k r m c j w v = v.cvm_is ∙ ap (λ c. Some c) (one_cvm y g.meaning lines k v.past c (record { units = n; is = v.cvm_is }) w.stood.cvm)
 
     -- a step that adds nothing
-    quiet_step : (t : ℕ) (j : List JournalEntry) → begins x (run x s t) ≡ false → returned (run x s (suc t)) (noted_call x s t) ≡ None → Shown x s y u (suc t) j → ShowsMore x y s u t j
+    quiet_step : (t : ℕ) (j : List JournalEntry) → begins_turn x (run x s t) ≡ false → returned (run x s (suc t)) (noted_call x s t) ≡ None → Shown x s y u (suc t) j → ShowsMore x y s u t j
     quiet_step t j b e w = record {
       words = [];
       there = subst (WordsAt x y u (run x s (suc t)) []) (sym e) tt;
       shown = subst (Shown x s y u (suc t))
           (sym (ap (λ (l : List JournalEntry). j ++ l)
-          (cond-false (begins x (run x s t)) (turn_begins u (slice_index (run x s t).memory current_at) (note (run x s (suc t)))) (return_entries u (run x s (suc t)) [] (returned (run x s (suc t)) (noted_call x s t))) b
+          (cond-false (begins_turn x (run x s t)) (turn_begins u (slice_index (run x s t).memory current_at) (note (run x s (suc t)))) (return_entries u (run x s (suc t)) [] (returned (run x s (suc t)) (noted_call x s t))) b
           ∙ ap (return_entries u (run x s (suc t)) []) e) ∙ append-nil j)) w;
     }
 
     -- a step that begins a turn
-    begin_step : (t : ℕ) (j : List JournalEntry) → begins x (run x s t) ≡ true → noted_call x s t ≡ None →
+    begin_step : (t : ℕ) (j : List JournalEntry) → begins_turn x (run x s t) ≡ true → noted_call x s t ≡ None →
         Shown x s y u (suc t) (j ++ turn_begins u (slice_index (run x s t).memory current_at) (note (run x s (suc t)))) → ShowsMore x y s u t j
     begin_step t j b e w = record {
       words = [];
       there = subst (λ o. WordsAt x y u (run x s (suc t)) [] (returned (run x s (suc t)) o)) (sym e) tt;
       shown = subst (λ (l : List JournalEntry). Shown x s y u (suc t) (j ++ l))
-          (sym (cond-true (begins x (run x s t)) (turn_begins u (slice_index (run x s t).memory current_at) (note (run x s (suc t)))) (return_entries u (run x s (suc t)) [] (returned (run x s (suc t)) (noted_call x s t))) b)) w;
+          (sym (cond-true (begins_turn x (run x s t)) (turn_begins u (slice_index (run x s t).memory current_at) (note (run x s (suc t)))) (return_entries u (run x s (suc t)) [] (returned (run x s (suc t)) (noted_call x s t))) b)) w;
     }
 
     -- a step in which a primitive returns
-    call_step : (t : ℕ) (j : List JournalEntry) (e : Entered) (core : Core) → begins x (run x s t) ≡ false → noted_call x s t ≡ Some e → (run x s (suc t)).cpu.pc ≡ e.back → Stands x site (run x s (suc t)) Running core →
+    call_step : (t : ℕ) (j : List JournalEntry) (e : Entered) (core : Core) → begins_turn x (run x s t) ≡ false → noted_call x s t ≡ Some e → (run x s (suc t)).cpu.pc ≡ e.back → RunningRelation x site (run x s (suc t)) Running core →
         IsPlaced u e (slice_index (run x s (suc t)).cpu.regs ANSWER) (user_of core.users u).words →
         Shown x s y u (suc t) (j ++ call_ends u e (slice_index (run x s (suc t)).cpu.regs ANSWER) (user_of core.users u).words) → ShowsMore x y s u t j
     call_step t j e core b is pc stands placed w =
@@ -478,7 +478,7 @@ module _ (x : Outside) (y : System) (s : State) (late held : ℕ) (Typed : C0 �
           words = (user_of core.users u).words;
           there = subst (WordsAt x y u (run x s (suc t)) (user_of core.users u).words) (sym back) (core, stands, refl, placed);
           shown = subst (λ (l : List JournalEntry). Shown x s y u (suc t) (j ++ l))
-              (sym (cond-false (begins x (run x s t)) (turn_begins u (slice_index (run x s t).memory current_at) (note (run x s (suc t))))
+              (sym (cond-false (begins_turn x (run x s t)) (turn_begins u (slice_index (run x s t).memory current_at) (note (run x s (suc t))))
               (return_entries u (run x s (suc t)) (user_of core.users u).words (returned (run x s (suc t)) (noted_call x s t))) b
               ∙ ap (return_entries u (run x s (suc t)) (user_of core.users u).words) back)) w;
         }
@@ -547,7 +547,7 @@ module _ (x : Outside) (y : System) (s : State) (late held : ℕ) (Typed : C0 �
 
     -- while it goes on
     module _ (at k : ℕ) (c : Cvm) (w : Turn at k c) (q : under_way x s at ≡ None) (t : ℕ) (j : List JournalEntry) (o : Goes at k c w t) (o2 : Goes at k c w (suc t)) (sh : Shown x s y u t j) where
-      no_begin_here : begins x (run x s t) ≡ false
+      no_begin_here : begins_turn x (run x s t) ≡ false
       no_begin_here = let lt = o.begun_is in inside_begins x _ (o.inside t lt (omega arith))
 
       known_here : (n : ℕ) × Knows n k (suc k) (ended_since x s t) j
@@ -724,20 +724,20 @@ module _ (x : Outside) (y : System) (s : State) (late held : ℕ) (Typed : C0 �
         by false r = let h = here (suc t) (not_rests_on _ r) in inside_on h (quiet_at (suc t) (suc t) (omega arith) h) (early r h)
 
     -- a step that has rows completes no turn
-    busy : (t : ℕ) → (run x s t).off ≡ None → HasRows (run x s (suc t)) (noted_call x s t) (begins x (run x s t)) → rests (run x s (suc t)) ≡ false
+    busy : (t : ℕ) → (run x s t).off ≡ None → HasRows (run x s (suc t)) (noted_call x s t) (begins_turn x (run x s t)) → rests (run x s (suc t)) ≡ false
     busy t on rows = by (rests (run x s (suc t))) refl
       where
-        none_there : begins x (run x s t) ≡ false → noted_call x s t ≡ None → ⊥
+        none_there : begins_turn x (run x s t) ≡ false → noted_call x s t ≡ None → ⊥
         none_there b n = true_false false (subst₂ (HasRows (run x s (suc t))) n b rows) refl
 
-        dispatched : begins x (run x s t) ≡ true → (note (run x s (suc t))).dispatched ≡ true
+        dispatched : begins_turn x (run x s t) ≡ true → (note (run x s (suc t))).dispatched ≡ true
         dispatched b = let h : HasRows (run x s (suc t)) (noted_call x s t) true = subst (HasRows (run x s (suc t)) (noted_call x s t)) b rows in h
 
         at_begin : (h : Here t) → t ≡ h.turn.beginning.start → rests (run x s (suc t)) ≡ true → ⊥
         at_begin h e r = ⊎_elim
             (λ (z : Single h.k h.c h.turn.beginning.start).
             let user : in_user (run x s (suc t)) ≡ true = subst (λ i. in_user (run x s (suc i)) ≡ true) (sym e) (both_right (is_on (run x s (suc h.turn.beginning.start))) (in_user (run x s (suc h.turn.beginning.start))) z.user) in
-            let begun : begins x (run x s t) ≡ true = subst (λ i. begins x (run x s i) ≡ true) (sym e) h.turn.beginning.begin_here in
+            let begun : begins_turn x (run x s t) ≡ true = subst (λ i. begins_turn x (run x s i) ≡ true) (sym e) h.turn.beginning.begin_here in
             true_false _ (dispatched begun) (ap not user))
             (λ (d : Dispatch h.k h.c h.turn.beginning.start). let f = d.from in not_inside (suc t) r (d.inside (suc t) (omega (arith, e)) (omega (arith, e, f))))
             (kind h.at h.k h.c h.turn)

@@ -6,9 +6,9 @@ use Rattle.std.proofs.Math.Seq.{drop-append-add, drop-append_seam, take-append-a
 use Rattle.std.proofs.lemmas.Bool.{cond-false}
 use Rattle.cvm_outside.specs.Script.{Call, Printed, Read, scripts}
 use Rattle.cvm_outside.proofs.Putting.{scripts-none, scripts-suc}
-use Rattle.mips_table.specs.Device.{Outside}
+use Rattle.mips_table.specs.Device.{Environment}
 use Rattle.mips_table.specs.Machine.{State, run}
-use Rattle.mips_table.specs.Turns.{begins}
+use Rattle.mips_table.specs.Turns.{begins_turn}
 use Rattle.mips_machine.specs.Machine.{Held, state_of}
 use Rattle.layer_map.specs.Map.{Map, current_at, memory_frames}
 use Rattle.layer_contract.specs.declared.registers.TheConstants.{ANSWER}
@@ -192,7 +192,7 @@ both_true true b e = (refl, e)
 both_true false b e = absurd (let t : false ≡ true = e in cc)
 
 -- THE STEP: step number t, before which j was shown, with these words of the user after it
-module _ (f : RowsFollow) (x : Outside) (y : System) (s : State) (u t : ℕ) (j : List JournalEntry) (words : List ℕ) (some : 1 ≤ u) (most : u ≤ (map_of y.boot).users) where
+module _ (f : RowsFollow) (x : Environment) (y : System) (s : State) (u t : ℕ) (j : List JournalEntry) (words : List ℕ) (some : 1 ≤ u) (most : u ≤ (map_of y.boot).users) where
   abbrev m : Map
   m = map_of y.boot
 
@@ -233,9 +233,9 @@ module _ (f : RowsFollow) (x : Outside) (y : System) (s : State) (u t : ℕ) (j 
   return_adds (Some e) told = end_adds e (slice_index after.cpu.regs ANSWER) told.0 told.1
 
   step_adds : ReturnTold m after u words (returned after (noted_call x s t)) →
-      followed_script m after (Some (paged_of m after)) (tracer_at x y s u t j) current (begins x (run x s t))
-      ≡ adds (if begins x (run x s t) then false else is_copy_to u after (returned after (noted_call x s t))) (step_entries x s u t words)
-  step_adds told = by (begins x (run x s t))
+      followed_script m after (Some (paged_of m after)) (tracer_at x y s u t j) current (begins_turn x (run x s t))
+      ≡ adds (if begins_turn x (run x s t) then false else is_copy_to u after (returned after (noted_call x s t))) (step_entries x s u t words)
+  step_adds told = by (begins_turn x (run x s t))
     where
       by : (began : Bool) →
           (if began then prints (journal_rows_after false (pending_steps j) (turn_begins u current (note after))) else returned_script m after (Some (paged_of m after)) u (pending_steps j) (returned after (noted_call x s t)))
@@ -245,13 +245,13 @@ module _ (f : RowsFollow) (x : Outside) (y : System) (s : State) (u t : ℕ) (j 
 
   -- so they are the rows of the step
   rows_shown : (p : Past) (turns steps : ℕ) → p.shown t ≡ j → p.shown (suc t) ≡ j ++ step_entries x s u t words → ReturnTold m after u words (returned after (noted_call x s t)) →
-      followed_script m after (Some (paged_of m after)) (tracer_at x y s u t j) current (begins x (run x s t)) ≡ rows_script (Trace u) (traced_run x y s u turns steps) p t
+      followed_script m after (Some (paged_of m after)) (tracer_at x y s u t j) current (begins_turn x (run x s t)) ≡ rows_script (Trace u) (traced_run x y s u turns steps) p t
   rows_shown p turns steps before now told =
       step_adds told
-      ∙ sym (all_added f (λ e. if (if begins x (run x s t) then false else is_copy_to u after (returned after (noted_call x s t))) then entry_reads m after u e else []) j (step_entries x s u t words) (p.shown t) (p.shown (suc t)) before now)
+      ∙ sym (all_added f (λ e. if (if begins_turn x (run x s t) then false else is_copy_to u after (returned after (noted_call x s t))) then entry_reads m after u e else []) j (step_entries x s u t words) (p.shown t) (p.shown (suc t)) before now)
 
   -- by what the machine shows and what is kept
-  pub rows_followed : (m' : Map) (z : State) (k : Tracer) (now : ℕ) (began : Bool) → m' ≡ m → z ≡ after → k ≡ tracer_at x y s u t j → now ≡ current → began ≡ begins x (run x s t) →
+  pub rows_followed : (m' : Map) (z : State) (k : Tracer) (now : ℕ) (began : Bool) → m' ≡ m → z ≡ after → k ≡ tracer_at x y s u t j → now ≡ current → began ≡ begins_turn x (run x s t) →
       (p : Past) (turns steps : ℕ) → p.shown t ≡ j → p.shown (suc t) ≡ j ++ step_entries x s u t words → ReturnTold m after u words (returned after (noted_call x s t)) →
       followed_script m' z (Some (paged_of m' z)) k now began ≡ rows_script (Trace u) (traced_run x y s u turns steps) p t
   rows_followed m' z k now began hm hz hk hc hb p turns steps before after_it told =

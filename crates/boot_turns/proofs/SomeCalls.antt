@@ -9,7 +9,7 @@ use Rattle.sector_disk.specs.Ports.{transfer_script}
 use Rattle.mips_table.specs.Device as device
 use Rattle.mips_table.specs.Device.{Pending, Idle, Reading, Writing}
 use Rattle.mips_table.specs.Machine.{State}
-use Rattle.mips_machine.specs.Steps.{due, due_if, before_count}
+use Rattle.mips_machine.specs.Steps.{script_of_step, due_if, before_count}
 use Rattle.layer_map.specs.Map.{Map}
 use Rattle.layer_contract.specs.declared.registers.TheConstants.{ANSWER}
 use Rattle.page_model.specs.Paging.{Paged}
@@ -80,12 +80,12 @@ of_transfer (Reading (suc left) sector) buffer = tt
 of_transfer (Writing zero sector) buffer = tt
 of_transfer (Writing (suc left) sector) buffer = tt
 
-of_due_if : (x : device.Outside) (s : State) (off : Option ℕ) → AreOfRun (untold (due_if x s off))
+of_due_if : (x : device.Environment) (s : State) (off : Option ℕ) → AreOfRun (untold (due_if x s off))
 of_due_if x s None = of_transfer (before_count x s).pending (before_count x s).buffer
 of_due_if x s (Some word) = tt
 
-pub of_due : (x : device.Outside) (s : State) → AreOfRun (untold (due x s))
-unfolding due
+pub of_due : (x : device.Environment) (s : State) → AreOfRun (untold (script_of_step x s))
+unfolding script_of_step
 of_due x s = of_due_if x s s.off
 
 -- its rows

@@ -10,11 +10,11 @@ use Rattle.cvm_outside.proofs.Follow.{both, first}
 use Rattle.cvm_outside.proofs.Putting.{same_script, scripts-none, scripts-suc}
 use Rattle.mips_table.specs.Device as device
 use Rattle.mips_table.specs.Machine.{State, step, run}
-use Rattle.mips_table.specs.Turns.{begins}
+use Rattle.mips_table.specs.Turns.{begins_turn}
 use Rattle.mips_table.specs.declared.special.TheConstants.{MODE}
 use Rattle.mips_machine.specs.Machine.{Held, state_of}
 use Rattle.mips_machine.specs.Quiet.{Stretch}
-use Rattle.mips_machine.specs.Steps.{outside_of, due}
+use Rattle.mips_machine.specs.Steps.{outside_of, script_of_step}
 use Rattle.layer_map.specs.Map.{Map, current_at}
 use Rattle.page_model.specs.Paging.{Paged}
 use Rattle.c0_tree.specs.Tree.{CUnit}
@@ -24,7 +24,7 @@ use Rattle.boot_turns.specs.declared.answers.RunFault.{RunFault}
 use Rattle.boot_turns.specs.declared.answers.RunFault.TheVariants.{Disk}
 use Rattle.boot_turns.specs.declared.answers.View.TheVariants.{Trace}
 use Rattle.boot_turns.specs.declared.tracer.Tracer.{Tracer}
-use Rattle.boot_turns.specs.Completes.{seen, note}
+use Rattle.boot_turns.specs.Completes.{state_seen, note}
 use Rattle.boot_turns.specs.Entries.{TracesGrow}
 use Rattle.boot_turns.specs.JournalText.{RowsFollow}
 use Rattle.boot_turns.specs.Tracing.{Traced, tracer_at, tracing}
@@ -56,21 +56,21 @@ all_none f zero none = scripts-none f
 all_none f (suc n) none = scripts-suc f n ∙ ap₂ (λ (a b : List Call). a ++ b) (all_none f n (λ i lt. none i (omega (arith, lt)))) (none n (omega arith))
 
 -- the transfer of one step, of a run in which the machine stands
-pub one_transfer : (x : device.Outside) (held : Held) (told : Option (List (List ℕ))) (P : List Call → Type 0) → ((ss : List (List ℕ)) → P (due x (state_of held ss))) →
-    (s : State) (t : ℕ) → seen told held ≡ Some (run x s t) → P (transfers x s t 1)
+pub one_transfer : (x : device.Environment) (held : Held) (told : Option (List (List ℕ))) (P : List Call → Type 0) → ((ss : List (List ℕ)) → P (script_of_step x (state_of held ss))) →
+    (s : State) (t : ℕ) → state_seen told held ≡ Some (run x s t) → P (transfers x s t 1)
 one_transfer x held told P h s t at =
     let w = told_as_some told held (run x s t) at in
     let e : t + 0 ≡ t = omega arith in
-    subst P (ap (due x) w.2 ∙ ap (λ n. due x (run x s n)) (sym e) ∙ sym (scripts-one (λ i. due x (run x s (t + i))))) (h w.0)
+    subst P (ap (script_of_step x) w.2 ∙ ap (λ n. script_of_step x (run x s n)) (sym e) ∙ sym (scripts-one (λ i. script_of_step x (run x s (t + i))))) (h w.0)
 
 abbrev over : {O D : Type 0} → sink_of.Ghosts O → sectors_of.Ghosts D → Files → O → D → Outside
 over text told shelf o d = record { shelf = shelf; sink = output text o; disk = drive told d }
 
-module _ {O D : Type 0} (x : device.Outside) (text : sink_of.Ghosts O) (told : sectors_of.Ghosts D) (m : Map) (held : Held) (kept : Option Tracer) (o : O) (d : D) where
+module _ {O D : Type 0} (x : device.Environment) (text : sink_of.Ghosts O) (told : sectors_of.Ghosts D) (m : Map) (held : Held) (kept : Option Tracer) (o : O) (d : D) where
   -- no step is made
   pub no_steps : CallsOf {T = Unit {0}} x text told m held kept (o, d) (o, d) 0 (Ok tt)
   no_steps = record {
-    untraced = λ none s t at shelf. same_script [] (transfers x s t 0) (over text told shelf o d) (over text told shelf o d) None (sym (scripts-none (λ i. due x (run x s (t + i))))) (done _);
+    untraced = λ none s t at shelf. same_script [] (transfers x s t 0) (over text told shelf o d) (over text told shelf o d) None (sym (scripts-none (λ i. script_of_step x (run x s (t + i))))) (done _);
     traced = λ c y s late limit u t base from map_is low high at traced p turns steps shown shelf.
         same_script [] (steps_script (traced_run x y s u turns steps) p t 0) (over text told shelf o d) (over text told shelf o d) None (sym (scripts-none (λ i. step_script (traced_run x y s u turns steps) p (t + i)))) (done _);
     some = ([], tt, λ shelf. done _);
@@ -88,33 +88,33 @@ module _ {O D : Type 0} (x : device.Outside) (text : sink_of.Ghosts O) (told : s
   })
 
   -- ONE STEP, whose transfer failed
-  pub step_broken : {T : Type 0} (d1 : D) → ((ss : List (List ℕ)) (shelf : Files) → Performs (due x (state_of held ss)) (over text told shelf o d) (over text told shelf o d1) (Some TheDisk)) →
+  pub step_broken : {T : Type 0} (d1 : D) → ((ss : List (List ℕ)) (shelf : Files) → Performs (script_of_step x (state_of held ss)) (over text told shelf o d) (over text told shelf o d1) (Some TheDisk)) →
       CallsOf {T = T} x text told m held kept (o, d) (o, d1) 1 (Err Disk)
   step_broken d1 h = record {
     untraced = λ none s t at shelf. one_transfer x held (told.sectors d) (λ (l : List Call). Performs l (over text told shelf o d) (over text told shelf o d1) (Some TheDisk)) (λ ss. h ss shelf) s t at;
     traced = λ c y s late limit u t base from map_is low high at traced p turns steps shown shelf.
         let r = traced_run x y s u turns steps in
         let w = told_as_some (told.sectors d) held (run x s t) at in
-        same_script (due x (state_of held w.0) ++ rows_script (Trace u) r p t) (steps_script r p t 1) (over text told shelf o d) (over text told shelf o d1) (Some TheDisk)
-        (ap (λ (v : State). due x v ++ rows_script (Trace u) r p t) w.2 ∙ sym (steps_one r p t))
-        (first (due x (state_of held w.0)) (rows_script (Trace u) r p t) (over text told shelf o d) (over text told shelf o d1) TheDisk (h w.0 shelf));
-    some = (untold (due x (state_of held [])), of_due x (state_of held []), λ shelf. made_untold (due x (state_of held [])) (over text told shelf o d) (over text told shelf o d1) (Some TheDisk) (h [] shelf));
+        same_script (script_of_step x (state_of held w.0) ++ rows_script (Trace u) r p t) (steps_script r p t 1) (over text told shelf o d) (over text told shelf o d1) (Some TheDisk)
+        (ap (λ (v : State). script_of_step x v ++ rows_script (Trace u) r p t) w.2 ∙ sym (steps_one r p t))
+        (first (script_of_step x (state_of held w.0)) (rows_script (Trace u) r p t) (over text told shelf o d) (over text told shelf o d1) TheDisk (h w.0 shelf));
+    some = (untold (script_of_step x (state_of held [])), of_due x (state_of held []), λ shelf. made_untold (script_of_step x (state_of held [])) (over text told shelf o d) (over text told shelf o d1) (Some TheDisk) (h [] shelf));
   }
 
   -- or which was done where no user is traced
-  pub step_plain : {T : Type 0} (v : T) (d1 : D) → kept ≡ None → ((ss : List (List ℕ)) (shelf : Files) → Performs (due x (state_of held ss)) (over text told shelf o d) (over text told shelf o d1) None) →
+  pub step_plain : {T : Type 0} (v : T) (d1 : D) → kept ≡ None → ((ss : List (List ℕ)) (shelf : Files) → Performs (script_of_step x (state_of held ss)) (over text told shelf o d) (over text told shelf o d1) None) →
       CallsOf {T = T} x text told m held kept (o, d) (o, d1) 1 (Ok v)
   step_plain v d1 untraced h = record {
     untraced = λ none s t at shelf. one_transfer x held (told.sectors d) (λ (l : List Call). Performs l (over text told shelf o d) (over text told shelf o d1) None) (λ ss. h ss shelf) s t at;
     traced = λ c y s late limit u t base from map_is low high at traced p turns steps shown shelf.
         absurd (let e : ◌≡◌ {A = Option Tracer} None (Some (tracer_at x y s u t traced.journal)) = sym untraced ∙ traced.keeps in cc);
-    some = (untold (due x (state_of held [])), of_due x (state_of held []), λ shelf. made_untold (due x (state_of held [])) (over text told shelf o d) (over text told shelf o d1) None (h [] shelf));
+    some = (untold (script_of_step x (state_of held [])), of_due x (state_of held []), λ shelf. made_untold (script_of_step x (state_of held [])) (over text told shelf o d) (over text told shelf o d1) None (h [] shelf));
   }
 
   -- or was done where one is, and then its rows are printed
   pub step_follows : {T : Type 0} (grow : (c : CUnit) → TracesGrow (IsTypedState c)) (f : RowsFollow) (tell : WordsTell) (on : held.hardware.off ≡ None) (k : Tracer) (is : kept ≡ Some k) (mid : Held) (o2 : O) (d1 d2 : D) (current : ℕ) (began : Bool) (result : Result T RunFault) →
-      seen (told.sectors d1) mid ≡ option_map (step x) (seen (told.sectors d) held) → current ≡ slice_index held.hardware.memory current_at → IfSome (seen (told.sectors d) held) (λ s. began ≡ begins x s) →
-      ((ss : List (List ℕ)) (shelf : Files) → Performs (due x (state_of held ss)) (over text told shelf o d) (over text told shelf o d1) None) →
+      state_seen (told.sectors d1) mid ≡ option_map (step x) (state_seen (told.sectors d) held) → current ≡ slice_index held.hardware.memory current_at → IfSome (state_seen (told.sectors d) held) (λ s. began ≡ begins_turn x s) →
+      ((ss : List (List ℕ)) (shelf : Files) → Performs (script_of_step x (state_of held ss)) (over text told shelf o d) (over text told shelf o d1) None) →
       ((pages : Option Paged) → ArePages (told.sectors d1) mid m pages → (shelf : Files) → Performs (followed_script m (state_of mid []) pages k current began) (over text told shelf o d1) (over text told shelf o2 d2) (blame of_run result)) →
       CallsOf x text told m held kept (o, d) (o2, d2) 1 result
   step_follows grow f tell on k is mid o2 d1 d2 current began result ran current_is began_is moved rows = rw is (record {
@@ -123,19 +123,19 @@ module _ {O D : Type 0} (x : device.Outside) (text : sink_of.Ghosts O) (told : s
         step_made grow f tell x m held (told.sectors d) k (text.text o) on mid mid (told.sectors d1) (told.sectors d1) refl ran current current_is began began_is
         (record { unit = c; y = y; s = s; late = late; held = limit; u = u; t = t; base = base; from = from; map_is = map_is; low = low; high = high; at = at; traced = traced }) p turns steps shown
         (λ (l : List Call). Performs l (over text told shelf o d) (over text told shelf o2 d2) (blame of_run result))
-        (λ ss pages are. both (due x (state_of held ss)) (followed_script m (state_of mid []) pages k current began) (over text told shelf o d) (over text told shelf o d1) (over text told shelf o2 d2) (blame of_run result) (moved ss shelf) (rows pages are shelf));
+        (λ ss pages are. both (script_of_step x (state_of held ss)) (followed_script m (state_of mid []) pages k current began) (over text told shelf o d) (over text told shelf o d1) (over text told shelf o2 d2) (blame of_run result) (moved ss shelf) (rows pages are shelf));
     some = (
-      untold (due x (state_of held []) ++ followed_script m (state_of mid []) None k current began),
-      untold_both (due x (state_of held [])) (followed_script m (state_of mid []) None k current began) (of_due x (state_of held [])) (of_followed m (state_of mid []) None k current began),
-      λ shelf. made_untold (due x (state_of held []) ++ followed_script m (state_of mid []) None k current began) (over text told shelf o d) (over text told shelf o2 d2) (blame of_run result)
-          (both (due x (state_of held [])) (followed_script m (state_of mid []) None k current began) (over text told shelf o d) (over text told shelf o d1) (over text told shelf o2 d2) (blame of_run result) (moved [] shelf) (rows None tt shelf)),
+      untold (script_of_step x (state_of held []) ++ followed_script m (state_of mid []) None k current began),
+      untold_both (script_of_step x (state_of held [])) (followed_script m (state_of mid []) None k current began) (of_due x (state_of held [])) (of_followed m (state_of mid []) None k current began),
+      λ shelf. made_untold (script_of_step x (state_of held []) ++ followed_script m (state_of mid []) None k current began) (over text told shelf o d) (over text told shelf o2 d2) (blame of_run result)
+          (both (script_of_step x (state_of held [])) (followed_script m (state_of mid []) None k current began) (over text told shelf o d) (over text told shelf o d1) (over text told shelf o2 d2) (blame of_run result) (moved [] shelf) (rows None tt shelf)),
     );
   })
 
   -- or is an untrapped one of a user, which has no rows
   pub step_counts : {T : Type 0} (grow : (c : CUnit) → TracesGrow (IsTypedState c)) (f : RowsFollow) (tell : WordsTell) (on : held.hardware.off ≡ None) (mid : Held) (d1 : D) (current : ℕ) (v : T) →
-      seen (told.sectors d1) mid ≡ option_map (step x) (seen (told.sectors d) held) → current ≡ slice_index held.hardware.memory current_at → IfSome (seen (told.sectors d) held) (λ s. true ≡ begins x s) →
-      slice_index mid.hardware.special MODE ≡ 1 → ((ss : List (List ℕ)) (shelf : Files) → Performs (due x (state_of held ss)) (over text told shelf o d) (over text told shelf o d1) None) →
+      state_seen (told.sectors d1) mid ≡ option_map (step x) (state_seen (told.sectors d) held) → current ≡ slice_index held.hardware.memory current_at → IfSome (state_seen (told.sectors d) held) (λ s. true ≡ begins_turn x s) →
+      slice_index mid.hardware.special MODE ≡ 1 → ((ss : List (List ℕ)) (shelf : Files) → Performs (script_of_step x (state_of held ss)) (over text told shelf o d) (over text told shelf o d1) None) →
       CallsOf {T = T} x text told m held kept (o, d) (o, d1) 1 (Ok v)
   step_counts grow f tell on mid d1 current v ran current_is began_is mode moved = by kept refl
     where
@@ -146,14 +146,14 @@ module _ {O D : Type 0} (x : device.Outside) (text : sink_of.Ghosts O) (told : s
           (counted_none k.user k.steps current (note (state_of mid [])) (ap (λ n. not (n == 1)) mode)) (done _))
 
   module _ (o1 : O) (d1 : D) (n : ℕ) (first_steps : CallsOf {T = Unit {0}} x text told m held kept (o, d) (o1, d1) n (Ok tt)) where
-    module _ (mid : Held) (at_mid : (s : State) (t : ℕ) → seen (told.sectors d) held ≡ Some (run x s t) → seen (told.sectors d1) mid ≡ Some (run x s (t + n))) where
+    module _ (mid : Held) (at_mid : (s : State) (t : ℕ) → state_seen (told.sectors d) held ≡ Some (run x s t) → state_seen (told.sectors d1) mid ≡ Some (run x s (t + n))) where
       -- steps behind them
       pub steps_then : {T : Type 0} (result : Result T RunFault) (rekept : Option Tracer) (o2 : O) (d2 : D) (k all : ℕ) → all ≡ n + k → (kept ≡ None → rekept ≡ None) →
-          ((b : Booted x m (seen (told.sectors d) held) kept (text.text o)) → Traced x b.y b.s b.u (b.t + n) b.base rekept (text.text o1)) →
+          ((b : Booted x m (state_seen (told.sectors d) held) kept (text.text o)) → Traced x b.y b.s b.u (b.t + n) b.base rekept (text.text o1)) →
           CallsOf x text told m mid rekept (o1, d1) (o2, d2) k result → CallsOf x text told m held kept (o, d) (o2, d2) all result
       steps_then result rekept o2 d2 k all many none_kept traced_mid then = rw many (record {
         untraced = λ none s t at shelf.
-            same_script (transfers x s t n ++ transfers x s (t + n) k) (transfers x s t (n + k)) (over text told shelf o d) (over text told shelf o2 d2) (blame of_run result) (sym (from_add (λ j. due x (run x s j)) t n k))
+            same_script (transfers x s t n ++ transfers x s (t + n) k) (transfers x s t (n + k)) (over text told shelf o d) (over text told shelf o2 d2) (blame of_run result) (sym (from_add (λ j. script_of_step x (run x s j)) t n k))
             (both (transfers x s t n) (transfers x s (t + n) k) (over text told shelf o d) (over text told shelf o1 d1) (over text told shelf o2 d2) (blame of_run result)
             (first_steps.untraced none s t at shelf) (then.untraced (none_kept none) s (t + n) (at_mid s t at) shelf));
         traced = λ c y s late limit u t base from map_is low high at traced p turns steps shown shelf.
@@ -176,10 +176,10 @@ module _ {O D : Type 0} (x : device.Outside) (text : sink_of.Ghosts O) (told : s
       stretch_then new k all many stretch none_traced = rw many (record {
         untraced = λ none s t at shelf.
             let w = told_as_some (told.sectors d1) mid (run x s (t + n)) (at_mid s t at) in
-            let quiet : transfers x s (t + n) k ≡ [] = all_none (λ i. due x (run x s (t + n + i))) k (λ i lt.
-            ap (due x) (sym (later x s (t + n) i)) ∙ ap (λ (v : State). due x (run x v i)) (sym w.2) ∙ (stretch w.0).calls i lt) in
+            let quiet : transfers x s (t + n) k ≡ [] = all_none (λ i. script_of_step x (run x s (t + n + i))) k (λ i lt.
+            ap (script_of_step x) (sym (later x s (t + n) i)) ∙ ap (λ (v : State). script_of_step x (run x v i)) (sym w.2) ∙ (stretch w.0).calls i lt) in
             same_script (transfers x s t n) (transfers x s t (n + k)) (over text told shelf o d) (over text told shelf o1 d1) None
-            (sym (append-nil (transfers x s t n)) ∙ ap (λ (l : List Call). transfers x s t n ++ l) (sym quiet) ∙ sym (from_add (λ j. due x (run x s j)) t n k))
+            (sym (append-nil (transfers x s t n)) ∙ ap (λ (l : List Call). transfers x s t n ++ l) (sym quiet) ∙ sym (from_add (λ j. script_of_step x (run x s j)) t n k))
             (first_steps.untraced none s t at shelf);
         traced = λ c y s late limit u t base from map_is low high at traced p turns steps shown shelf.
             let r = traced_run x y s u turns steps in
@@ -191,7 +191,7 @@ module _ {O D : Type 0} (x : device.Outside) (text : sink_of.Ghosts O) (told : s
       })
 
 -- THE LOOP: where a machine stood at a step it stands now so many steps on as were taken from the budget, with what is kept of its trace then
-pub at_made : (x : device.Outside) (start now : Option State) (budget left : ℕ) → left ≤ budget →
+pub at_made : (x : device.Environment) (start now : Option State) (budget left : ℕ) → left ≤ budget →
     ((s : State) (t : ℕ) → start ≡ Some (run x s t) → (u : ℕ) × (left + u ≡ budget + t) × (now ≡ Some (run x s u))) →
     (s : State) (t : ℕ) → start ≡ Some (run x s t) → now ≡ Some (run x s (t + (budget - left)))
 at_made x start now budget left less ran s t at =
@@ -200,7 +200,7 @@ at_made x start now budget left less ran s t at =
     let e : i.0 ≡ t + (budget - left) = omega (arith, b, less) in
     i.2 ∙ ap (λ u. Some (run x s u)) e
 
-traced_made : (x : device.Outside) (m : Map) (start now : Option State) (budget left : ℕ) (kept rekept : Option Tracer) (text retext : Option (List ℕ)) → left ≤ budget →
+traced_made : (x : device.Environment) (m : Map) (start now : Option State) (budget left : ℕ) (kept rekept : Option Tracer) (text retext : Option (List ℕ)) → left ≤ budget →
     Tracks x m start now (tracing kept text budget) (tracing rekept retext left) → (b : Booted x m start kept text) → Traced x b.y b.s b.u (b.t + (budget - left)) b.base rekept retext
 traced_made x m start now budget left kept rekept text retext less tracks b =
     let w = tracks b in
@@ -211,12 +211,12 @@ traced_made x m start now budget left kept rekept text retext less tracks b =
 -- so the calls of one step more are those behind the calls so far
 pub one_more : {O D T : Type 0} (text : sink_of.Ghosts O) (told : sectors_of.Ghosts D) (m : Map) (start now : Held) (kept rekept : Option Tracer) (o o1 o2 : O) (d d1 d2 : D) (budget left : ℕ) (result : Result T RunFault) →
     left ≤ budget → 1 ≤ left → now.rows ≡ start.rows → told.size d1 ≡ told.size d → StepsCall {T = Unit {0}} text told m start kept (o, d) (o1, d1) (budget - left) (Ok tt) →
-    ((s : State) (t : ℕ) → seen (told.sectors d) start ≡ Some (run (outside_of start.rows (told.size d)) s t) → (u : ℕ) × (left + u ≡ budget + t) × (seen (told.sectors d1) now ≡ Some (run (outside_of start.rows (told.size d)) s u))) →
-    (kept ≡ None → rekept ≡ None) → Tracks (outside_of start.rows (told.size d)) m (seen (told.sectors d) start) (seen (told.sectors d1) now) (tracing kept (text.text o) budget) (tracing rekept (text.text o1) left) →
+    ((s : State) (t : ℕ) → state_seen (told.sectors d) start ≡ Some (run (outside_of start.rows (told.size d)) s t) → (u : ℕ) × (left + u ≡ budget + t) × (state_seen (told.sectors d1) now ≡ Some (run (outside_of start.rows (told.size d)) s u))) →
+    (kept ≡ None → rekept ≡ None) → Tracks (outside_of start.rows (told.size d)) m (state_seen (told.sectors d) start) (state_seen (told.sectors d1) now) (tracing kept (text.text o) budget) (tracing rekept (text.text o1) left) →
     StepsCall text told m now rekept (o1, d1) (o2, d2) 1 result → StepsCall text told m start kept (o, d) (o2, d2) (budget - (left - 1)) result
 one_more text told m start now kept rekept o o1 o2 d d1 d2 budget left result less some rows size so_far ran none tracks made =
     let x = outside_of start.rows (told.size d) in
     steps_then x text told m start kept o d o1 d1 (budget - left) so_far now
-    (at_made x (seen (told.sectors d) start) (seen (told.sectors d1) now) budget left less ran) result rekept o2 d2 1 (budget - (left - 1)) (omega (arith, less, some)) none
-    (traced_made x m (seen (told.sectors d) start) (seen (told.sectors d1) now) budget left kept rekept (text.text o) (text.text o1) less tracks)
+    (at_made x (state_seen (told.sectors d) start) (state_seen (told.sectors d1) now) budget left less ran) result rekept o2 d2 1 (budget - (left - 1)) (omega (arith, less, some)) none
+    (traced_made x m (state_seen (told.sectors d) start) (state_seen (told.sectors d1) now) budget left kept rekept (text.text o) (text.text o1) less tracks)
     (subst (λ z. CallsOf z text told m now rekept (o1, d1) (o2, d2) 1 result) (ap₂ outside_of rows size) made)

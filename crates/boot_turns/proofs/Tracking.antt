@@ -6,11 +6,11 @@ use Rattle.std.specs.Io.KnownBytes.{append_known}
 use Rattle.std.proofs.Math.Seq.{take-append-add, take-append_seam}
 use Rattle.cvm_outside.specs.Told.{AppendsPart}
 use Rattle.cvm_outside.proofs.Parts.{puts-both}
-use Rattle.mips_table.specs.Device.{Outside}
+use Rattle.mips_table.specs.Device.{Environment}
 use Rattle.mips_table.specs.Machine.{State, run, step}
-use Rattle.mips_table.specs.Turns.{begins, rests}
+use Rattle.mips_table.specs.Turns.{begins_turn, rests}
 use Rattle.mips_machine.specs.Machine.{Held, state_of}
-use Rattle.mips_machine.specs.Steps.{outside_of, due}
+use Rattle.mips_machine.specs.Steps.{outside_of, script_of_step}
 use Rattle.layer_map.specs.Map.{Map, MapInRange, current_at}
 use Rattle.c0_tree.specs.Tree.{CUnit}
 use Rattle.c0_meaning.specs.TypedState.{IsTypedState}
@@ -26,7 +26,7 @@ use Rattle.boot_turns.specs.declared.tracer.Entered.{Entered}
 use Rattle.boot_turns.specs.declared.tracer.Tracer.{Tracer}
 use Rattle.boot_turns.specs.declared.answers.RunFault.{RunFault}
 use Rattle.boot_turns.specs.declared.answers.RunFault.TheVariants.{StepLimit, Disk, Sink}
-use Rattle.boot_turns.specs.Completes.{seen, SeenTorn, StepTorn}
+use Rattle.boot_turns.specs.Completes.{state_seen, SeenTorn, StepTorn}
 use Rattle.boot_turns.specs.Premises.{StartsFrom}
 use Rattle.boot_turns.specs.TurnEnds.{Prefix}
 use Rattle.boot_turns.specs.Entries.{call_ends, IsPlaced, step_entries, WordsAt, ShowsMore, HasRows, TracesGrow}
@@ -43,7 +43,7 @@ use Rattle.boot_turns.specs.LoopScripts.{traced_run}
 use Rattle.cvm_outside.specs.Script.{Call}
 use Rattle.page_model.specs.Paging.{Paged}
 use Rattle.boot_turns.proofs.Events.{told_as_some, step_torn}
-use Rattle.boot_turns.proofs.Opening.{seen_more}
+use Rattle.boot_turns.proofs.LoopSteps.{seen_more}
 use Rattle.boot_turns.proofs.Reading.{reads_seen}
 use Rattle.boot_turns.proofs.Followed.{call_returned, call_seen, copied_length, first_rows}
 use Rattle.boot_turns.proofs.JournalRows.{nil_behind}
@@ -82,14 +82,14 @@ abbrev tracer_of : ℕ → ℕ → Option Entered → ℕ → Tracer
 tracer_of u n c r = record { user = u; steps = n; call = c; reads = r }
 
 -- ONE STEP of the run, of which j was shown before it
-module _ (f : RowsFollow) (x : Outside) (y : System) (s : State) (u t : ℕ) (base text : Option (List ℕ)) (kept : Option Tracer) (w : Traced x y s u t base kept text) (more : ShowsMore x y s u t w.journal) where
+module _ (f : RowsFollow) (x : Environment) (y : System) (s : State) (u t : ℕ) (base text : Option (List ℕ)) (kept : Option Tracer) (w : Traced x y s u t base kept text) (more : ShowsMore x y s u t w.journal) where
   abbrev entries : List JournalEntry
   entries = step_entries x s u t more.words
 
   step_torn_rows : (now : Option State) → SeenTorn x (run x s t) now → RowsTorn x y s u t (reads_of kept) base now text
   step_torn_rows now torn = inl (record { before = w.journal; shown_before = w.shown; torn = torn; read = ap reads_of w.keeps; printed = w.printed })
 
-  rows_torn_rows : (now : Option State) → now ≡ Some (run x s (suc t)) → begins x (run x s t) ≡ false → (call : Entered) → returned (run x s (suc t)) (noted_call x s t) ≡ Some call →
+  rows_torn_rows : (now : Option State) → now ≡ Some (run x s (suc t)) → begins_turn x (run x s t) ≡ false → (call : Entered) → returned (run x s (suc t)) (noted_call x s t) ≡ Some call →
       IsCopyTo u call (slice_index (run x s (suc t)).cpu.regs ANSWER) → (i n : ℕ) → i < length entries →
       copy_reads (map_of y.boot) (run x s (suc t)) u call i < copy_reads (map_of y.boot) (run x s (suc t)) u call (suc i) →
       n ≡ reads_before x (map_of y.boot) s u t + copy_reads (map_of y.boot) (run x s (suc t)) u call (suc i) →
@@ -138,8 +138,8 @@ module _ (f : RowsFollow) (x : Outside) (y : System) (s : State) (u t : ℕ) (ba
       record { journal = w.journal ++ entries; shown = more.shown; keeps = ap (λ (k : Tracer). Some k) is ∙ counted; printed = rows_done f base text w.journal entries w.printed retext h }
 
 -- what is followed are the entries of the step
-followed_is : (x : Outside) (y : System) (s : State) (u t : ℕ) (j : List JournalEntry) (k : Tracer) → k ≡ tracer_at x y s u t j → (now : State) → now ≡ run x s (suc t) →
-    (current : ℕ) → current ≡ slice_index (run x s t).memory current_at → (began : Bool) → began ≡ begins x (run x s t) → (words : List ℕ) → followed now k current began words ≡ step_entries x s u t words
+followed_is : (x : Environment) (y : System) (s : State) (u t : ℕ) (j : List JournalEntry) (k : Tracer) → k ≡ tracer_at x y s u t j → (now : State) → now ≡ run x s (suc t) →
+    (current : ℕ) → current ≡ slice_index (run x s t).memory current_at → (began : Bool) → began ≡ begins_turn x (run x s t) → (words : List ℕ) → followed now k current began words ≡ step_entries x s u t words
 followed_is x y s u t j k hk now hn current hc began hb words =
     let k' : Tracer = tracer_at x y s u t j in
     let z : State = run x s (suc t) in
@@ -150,8 +150,8 @@ followed_is x y s u t j k hk now hn current hc began hb words =
     ∙ ap (λ (b : Bool). followed z k' e b words) hb
 
 -- and its words that are read from the disk are those of what is followed
-reads_is : (x : Outside) (y : System) (s : State) (u t : ℕ) (j : List JournalEntry) (m : Map) → m ≡ map_of y.boot → (k : Tracer) → k ≡ tracer_at x y s u t j → (now : State) → now ≡ run x s (suc t) →
-    (began : Bool) → began ≡ begins x (run x s t) → k.reads + followed_reads m now k began ≡ reads_before x (map_of y.boot) s u (suc t)
+reads_is : (x : Environment) (y : System) (s : State) (u t : ℕ) (j : List JournalEntry) (m : Map) → m ≡ map_of y.boot → (k : Tracer) → k ≡ tracer_at x y s u t j → (now : State) → now ≡ run x s (suc t) →
+    (began : Bool) → began ≡ begins_turn x (run x s t) → k.reads + followed_reads m now k began ≡ reads_before x (map_of y.boot) s u (suc t)
 reads_is x y s u t j m hm k hk now hn began hb =
     let k' : Tracer = tracer_at x y s u t j in
     let z : State = run x s (suc t) in
@@ -161,7 +161,7 @@ reads_is x y s u t j m hm k hk now hn began hb =
     ∙ ap (λ (b : Bool). k'.reads + followed_reads (map_of y.boot) z k' b) hb
 
 -- where a primitive returns, the words that are shown are told
-words_told : (x : Outside) (y : System) → WordsTell → MapInRange (site_of y.boot).map → (u : ℕ) → 1 ≤ u → u ≤ length y.boot.users → (held : Held) (ss : List (List ℕ)) (words : List ℕ) (o : Option Entered) →
+words_told : (x : Environment) (y : System) → WordsTell → MapInRange (site_of y.boot).map → (u : ℕ) → 1 ≤ u → u ≤ length y.boot.users → (held : Held) (ss : List (List ℕ)) (words : List ℕ) (o : Option Entered) →
     WordsAt x y u (state_of held ss) words o → ReturnTold (site_of y.boot).map (state_of held ss) u words o
 words_told x y tell range u low high held ss words None h = tt
 words_told x y tell range u low high held ss words (Some e) (core, stands, is, placed) =
@@ -170,7 +170,7 @@ words_told x y tell range u low high held ss words (Some e) (core, stands, is, p
     (subst (WordsAreTold (site_of y.boot).map (state_of held ss) u) (sym is) told, placed)
 
 -- A run from a start in which a machine stands at step t, and one of its users who is traced.
-pub record Booted (x : Outside) (m : Map) (now : Option State) (kept : Option Tracer) (text : Option (List ℕ)) : Type 0 where
+pub record Booted (x : Environment) (m : Map) (now : Option State) (kept : Option Tracer) (text : Option (List ℕ)) : Type 0 where
   pub unit : CUnit
   pub y : System
   pub s : State
@@ -187,8 +187,8 @@ pub record Booted (x : Outside) (m : Map) (now : Option State) (kept : Option Tr
   pub traced : Traced x y s u t base kept text
 
 -- the clause on a step is of each such run
-pub each_step : (x : Outside) (m : Map) (held new : Held) (told retold : Option (List (List ℕ))) (before after : Option Tracer) (text retext : Option (List ℕ)) (result : Result Stepped RunFault) →
-    ((b : Booted x m (seen told held) before text) → MatchResult result (λ _. Traced x b.y b.s b.u (suc b.t) b.base after retext) (StepStops x b.y b.s b.u b.t b.base (seen retold new) after retext)) →
+pub each_step : (x : Environment) (m : Map) (held new : Held) (told retold : Option (List (List ℕ))) (before after : Option Tracer) (text retext : Option (List ℕ)) (result : Result Stepped RunFault) →
+    ((b : Booted x m (state_seen told held) before text) → MatchResult result (λ _. Traced x b.y b.s b.u (suc b.t) b.base after retext) (StepStops x b.y b.s b.u b.t b.base (state_seen retold new) after retext)) →
     StepTraces x m held new told retold before after text retext result
 each_step x m held new told retold before after text retext result f = λ unit y s late limit u t base from map_is low high at traced.
     f (record { unit = unit; y = y; s = s; late = late; held = limit; u = u; t = t; base = base; from = from; map_is = map_is; low = low; high = high; at = at; traced = traced })
@@ -221,9 +221,9 @@ pub steps_one : (r : Run) (p : Past) (t : ℕ) → steps_script r p t 1 ≡ step
 steps_one r p t = scripts-one (λ i. step_script r p (t + i)) ∙ (let e : t + 0 ≡ t = omega arith in ap (step_script r p) e)
 
 -- THE STEP of the loop, on a machine that is on and of which a trace is printed
-module _ (grow : (c : CUnit) → TracesGrow (IsTypedState c)) (f : RowsFollow) (tell : WordsTell) (x : Outside) (m : Map) (held : Held) (told : Option (List (List ℕ))) (k : Tracer) (text : Option (List ℕ)) (on : held.hardware.off ≡ None) where
+module _ (grow : (c : CUnit) → TracesGrow (IsTypedState c)) (f : RowsFollow) (tell : WordsTell) (x : Environment) (m : Map) (held : Held) (told : Option (List (List ℕ))) (k : Tracer) (text : Option (List ℕ)) (on : held.hardware.off ≡ None) where
   abbrev Here : Type 0
-  Here = Booted x m (seen told held) (Some k) text
+  Here = Booted x m (state_seen told held) (Some k) text
 
   more_at : (b : Here) → ShowsMore x b.y b.s b.u b.t b.traced.journal
   more_at b =
@@ -236,18 +236,18 @@ module _ (grow : (c : CUnit) → TracesGrow (IsTypedState c)) (f : RowsFollow) (
 
   -- the disk failed in the step
   step_fails : (new : Held) (retold : Option (List (List ℕ))) (result : Result Stepped RunFault) (e : RunFault) → result ≡ Err e → e ≡ Disk →
-      ((b : Here) → SeenTorn x (run x b.s b.t) (seen retold new)) → StepTraces x m held new told retold (Some k) (Some k) text text result
+      ((b : Here) → SeenTorn x (run x b.s b.t) (state_seen retold new)) → StepTraces x m held new told retold (Some k) (Some k) text text result
   step_fails new retold result e hr he torn = rw (hr, he) (each_step x m held new told retold (Some k) (Some k) text text (Err Disk) (λ (b : Here).
-      step_torn_rows f x b.y b.s b.u b.t b.base text (Some k) b.traced (more_at b) (seen retold new) (torn b)))
+      step_torn_rows f x b.y b.s b.u b.t b.base text (Some k) b.traced (more_at b) (state_seen retold new) (torn b)))
 
   -- the step was done
-  module _ (mid new : Held) (midtold retold : Option (List (List ℕ))) (same : seen retold new ≡ seen midtold mid) (ran : seen midtold mid ≡ option_map (step x) (seen told held)) (current : ℕ) (current_is : current ≡ slice_index held.hardware.memory current_at)
-      (began : Bool) (began_is : IfSome (seen told held) (λ s. began ≡ begins x s)) where
+  module _ (mid new : Held) (midtold retold : Option (List (List ℕ))) (same : state_seen retold new ≡ state_seen midtold mid) (ran : state_seen midtold mid ≡ option_map (step x) (state_seen told held)) (current : ℕ) (current_is : current ≡ slice_index held.hardware.memory current_at)
+      (began : Bool) (began_is : IfSome (state_seen told held) (λ s. began ≡ begins_turn x s)) where
     told_at : (b : Here) → (ss : List (List ℕ)) × (midtold ≡ Some ss) × (state_of mid ss ≡ run x b.s (suc b.t))
-    told_at b = told_as_some midtold mid (run x b.s (suc b.t)) (seen_more x (seen told held) (seen midtold mid) (run x b.s b.t) ran b.at)
+    told_at b = told_as_some midtold mid (run x b.s (suc b.t)) (seen_more x (state_seen told held) (state_seen midtold mid) (run x b.s b.t) ran b.at)
 
-    begun_at : (b : Here) → began ≡ begins x (run x b.s b.t)
-    begun_at b = subst (λ o. IfSome o (λ s. began ≡ begins x s)) b.at began_is
+    begun_at : (b : Here) → began ≡ begins_turn x (run x b.s b.t)
+    begun_at b = subst (λ o. IfSome o (λ s. began ≡ begins_turn x s)) b.at began_is
 
     call_at : (b : Here) → k.call ≡ noted_call x b.s b.t
     call_at b = ap (λ (k : Tracer). k.call) (keeps_at b)
@@ -311,7 +311,7 @@ module _ (grow : (c : CUnit) → TracesGrow (IsTypedState c)) (f : RowsFollow) (
         (words_told x b.y tell b.from.boots.fits.range b.u b.low b.high mid ss words (returned (state_of mid ss) (noted_call x b.s b.t)) there)
 
     pub step_made : (b : Here) (p : Past) (turns steps : ℕ) → ((j : ℕ) → b.t ≤ j → j ≤ b.t + 1 → Shown x b.s b.y b.u j (p.shown j)) → (P : List Call → Type 0) →
-        ((ss : List (List ℕ)) (pages : Option Paged) → ArePages midtold mid m pages → P (due x (state_of held ss) ++ followed_script m (state_of mid []) pages k current began)) →
+        ((ss : List (List ℕ)) (pages : Option Paged) → ArePages midtold mid m pages → P (script_of_step x (state_of held ss) ++ followed_script m (state_of mid []) pages k current began)) →
         P (steps_script (traced_run x b.y b.s b.u turns steps) p b.t 1)
     step_made b p turns steps shown P h =
         let w = told_as_some told held (run x b.s b.t) b.at in
@@ -323,7 +323,7 @@ module _ (grow : (c : CUnit) → TracesGrow (IsTypedState c)) (f : RowsFollow) (
         let pages = pages_for m mid midtold ss k current began (more_at b).words (returned (state_of mid ss) k.call) (told_at b).1 refl (returns_at b) in
         let rows = rows_followed f x b.y b.s b.u b.t b.traced.journal (more_at b).words b.low b.high m (state_of mid ss) k current began b.map_is (told_at b).2 (keeps_at b) here (begun_at b) p turns steps before after (returns_run b) in
         subst P
-        (ap₂ (λ (a b : List Call). a ++ b) (ap (due x) w.2) (followed_here m mid ss pages.0 k current began ∙ pages.2 ∙ rows) ∙ sym (steps_one (traced_run x b.y b.s b.u turns steps) p b.t))
+        (ap₂ (λ (a b : List Call). a ++ b) (ap (script_of_step x) w.2) (followed_here m mid ss pages.0 k current began ∙ pages.2 ∙ rows) ∙ sym (steps_one (traced_run x b.y b.s b.u turns steps) p b.t))
         (h w.0 pages.0 pages.1)
 
     pub step_goes : (stepped : Stepped) (before : Option Tracer) (after : Tracer) (retext : Option (List ℕ)) → before ≡ Some k →
@@ -368,7 +368,7 @@ module _ (grow : (c : CUnit) → TracesGrow (IsTypedState c)) (f : RowsFollow) (
           ∙ ap₂ (λ (s : State) (t : Tracer). copy_reads m s t.user c.ends.call n) (told_at b).2 (keeps_at b)
           ∙ ap (λ (m : Map). copy_reads m (run x b.s (suc b.t)) b.u c.ends.call n) b.map_is
 
-      torn_there : seen retold new ≡ Some (run x b.s (suc b.t)) → RowsTorn x b.y b.s b.u b.t after.reads b.base (seen retold new) retext
+      torn_there : state_seen retold new ≡ Some (run x b.s (suc b.t)) → RowsTorn x b.y b.s b.u b.t after.reads b.base (state_seen retold new) retext
       torn_there done =
           let i : ℕ = c.fails.words in
           let less = c.fails.less in
@@ -378,7 +378,7 @@ module _ (grow : (c : CUnit) → TracesGrow (IsTypedState c)) (f : RowsFollow) (
           let long : length (step_entries x b.s b.u b.t words) ≡ slice_index c.ends.call.arguments 4 =
           ap (λ (j : List JournalEntry). length j) (sym call_there) ∙ copied_length m there k.user k.steps answer c.ends.call words one user sixth told_there.0 told_there.1 in
           let rows = first_rows m there k.user k.steps answer c.ends.call words one user sixth told_there.0 told_there.1 i (omega (arith, less)) in
-          rows_torn_rows f x b.y b.s b.u b.t b.base text (Some k) b.traced (more_at b) (seen retold new) done (sym (begun_at b) ∙ c.goes_on) c.ends.call
+          rows_torn_rows f x b.y b.s b.u b.t b.base text (Some k) b.traced (more_at b) (state_seen retold new) done (sym (begun_at b) ∙ c.goes_on) c.ends.call
           (sym (ap₂ returned (told_at b).2 (call_at b)) ∙ returns_there)
           (subst₂ (λ (u : ℕ) (s : State). IsCopyTo u c.ends.call (slice_index s.cpu.regs ANSWER)) (ap (λ (t : Tracer). t.user) (keeps_at b)) (told_at b).2 c.ends.copy)
           i after.reads (omega (arith, long, less)) (subst₂ (λ p q. p < q) (words_there i) (words_there (suc i)) c.fails.away)
@@ -413,14 +413,14 @@ module _ (grow : (c : CUnit) → TracesGrow (IsTypedState c)) (f : RowsFollow) (
         part b = subst (AppendsPart text retext) (rows_at b) (says (told_at b).0 (more_at b).words (told_at b).1 (returns_at b))
 
         by_fault : (b : Here) (fault : RunFault) → (fault ≡ StepLimit → ⊥) → (fault ≡ Disk → FollowFails midtold mid m k after began text retext) → (fault ≡ Sink → HasRows (state_of mid []) k.call began) →
-            (fault ≡ Sink → FollowCut midtold mid m k after current began) → StepStops x b.y b.s b.u b.t b.base (seen retold new) (Some after) retext fault
+            (fault ≡ Sink → FollowCut midtold mid m k after current began) → StepStops x b.y b.s b.u b.t b.base (state_seen retold new) (Some after) retext fault
         by_fault b StepLimit limit fails puts cut = limit refl
-        by_fault b Disk limit fails puts cut = torn_there after retext (fails refl) b (same ∙ seen_more x (seen told held) (seen midtold mid) (run x b.s b.t) ran b.at)
+        by_fault b Disk limit fails puts cut = torn_there after retext (fails refl) b (same ∙ seen_more x (state_seen told held) (state_seen midtold mid) (run x b.s b.t) ran b.at)
         by_fault b Sink limit fails puts cut = cut_at after retext (puts refl) (cut refl) least b (part b)
 
 -- where none is printed there is nothing to be said
-pub step_untraced : (x : Outside) (m : Map) (held new : Held) (told retold : Option (List (List ℕ))) (after : Option Tracer) (text retext : Option (List ℕ)) (result : Result Stepped RunFault) → StepTraces x m held new told retold None after text retext result
-step_untraced x m held new told retold after text retext result = each_step x m held new told retold None after text retext result (λ (b : Booted x m (seen told held) None text).
+pub step_untraced : (x : Environment) (m : Map) (held new : Held) (told retold : Option (List (List ℕ))) (after : Option Tracer) (text retext : Option (List ℕ)) (result : Result Stepped RunFault) → StepTraces x m held new told retold None after text retext result
+step_untraced x m held new told retold after text retext result = each_step x m held new told retold None after text retext result (λ (b : Booted x m (state_seen told held) None text).
     absurd (let e : ◌≡◌ {A = Option Tracer} None (Some (tracer_at x b.y b.s b.u b.t b.traced.journal)) = b.traced.keeps in cc))
 
 -- the disk failed in the step
@@ -432,74 +432,74 @@ step_breaks grow f tell count m held new told retold (Some k) text result e on h
     step_fails grow f tell x m held told k text on new retold result e hr he (λ b. step_torn count x held new told retold (run x b.s b.t) refl b.at torn)
 
 -- THE LOOP: how far a run is whose trace goes on
-pub record Tracked (x : Outside) (y : System) (s : State) (u t : ℕ) (base : Option (List ℕ)) (now : Option State) (before after : ℕ) (kept : Option Tracer) (text : Option (List ℕ)) : Type 0 where
+pub record Tracked (x : Environment) (y : System) (s : State) (u t : ℕ) (base : Option (List ℕ)) (now : Option State) (before after : ℕ) (kept : Option Tracer) (text : Option (List ℕ)) : Type 0 where
   pub at : ℕ
   pub from : t ≤ at
   pub spent : after + at ≡ before + t
   pub state : now ≡ Some (run x s at)
   pub traced : Traced x y s u at base kept text
 
-abbrev pub Tracks : Outside → Map → (start now : Option State) → (before after : Tracing) → Type 0
+abbrev pub Tracks : Environment → Map → (start now : Option State) → (before after : Tracing) → Type 0
 Tracks x m start now before after = (b : Booted x m start before.tracer before.text) → Tracked x b.y b.s b.u b.t b.base now before.budget after.budget after.tracer after.text
 
 -- the clause on a loop is of each run
 each_run : (count : ℕ) (m : Map) (held new : Held) (told retold : Option (List (List ℕ))) (before after : Tracing) (result : Result (ℕ × Begun) RunFault) →
-    ((b : Booted (outside_of held.rows count) m (seen told held) before.tracer before.text) →
+    ((b : Booted (outside_of held.rows count) m (state_seen told held) before.tracer before.text) →
     MatchResult result (λ _. TracedOn (outside_of held.rows count) b.y b.s b.u b.t b.base before.budget after.budget after.tracer after.text)
-    (TraceStops (outside_of held.rows count) b.y b.s b.u b.t b.base (seen retold new) before.budget after.budget after.tracer after.text)) →
+    (TraceStops (outside_of held.rows count) b.y b.s b.u b.t b.base (state_seen retold new) before.budget after.budget after.tracer after.text)) →
     TraceRuns count m held new told retold before after result
 each_run count m held new told retold before after result f = λ unit y s late limit u t base from map_is low high at traced.
     f (record { unit = unit; y = y; s = s; late = late; held = limit; u = u; t = t; base = base; from = from; map_is = map_is; low = low; high = high; at = at; traced = traced })
 
-pub tracks_none : (x : Outside) (m : Map) (start : Option State) (before : Tracing) → Tracks x m start start before before
+pub tracks_none : (x : Environment) (m : Map) (start : Option State) (before : Tracing) → Tracks x m start start before before
 tracks_none x m start before = λ b. record { at = b.t; from = omega arith; spent = refl; state = b.at; traced = b.traced }
 
-traced_on : (x : Outside) (y : System) (s : State) (u t : ℕ) (base : Option (List ℕ)) (now : Option State) (before after : ℕ) (kept : Option Tracer) (text : Option (List ℕ)) →
+traced_on : (x : Environment) (y : System) (s : State) (u t : ℕ) (base : Option (List ℕ)) (now : Option State) (before after : ℕ) (kept : Option Tracer) (text : Option (List ℕ)) →
     Tracked x y s u t base now before after kept text → TracedOn x y s u t base before after kept text
 traced_on x y s u t base now before after kept text w = record { at = w.at; from = w.from; spent = w.spent; traced = w.traced }
 
-module _ (count : ℕ) (m : Map) (held mid : Held) (told midtold : Option (List (List ℕ))) (before now : Tracing) (so_far : Tracks (outside_of held.rows count) m (seen told held) (seen midtold mid) before now) where
+module _ (count : ℕ) (m : Map) (held mid : Held) (told midtold : Option (List (List ℕ))) (before now : Tracing) (so_far : Tracks (outside_of held.rows count) m (state_seen told held) (state_seen midtold mid) before now) where
   -- the budget was spent, or the machine is off
   pub tracks_limit : (new : Held) (retold : Option (List (List ℕ))) → TraceRuns count m held new told retold before now (Err StepLimit)
-  tracks_limit new retold = each_run count m held new told retold before now (Err StepLimit) (λ b. traced_on _ b.y b.s b.u b.t b.base (seen midtold mid) _ _ _ _ (so_far b))
+  tracks_limit new retold = each_run count m held new told retold before now (Err StepLimit) (λ b. traced_on _ b.y b.s b.u b.t b.base (state_seen midtold mid) _ _ _ _ (so_far b))
 
   -- the turn is complete
   pub tracks_whole : (new : Held) (retold : Option (List (List ℕ))) (begun : ℕ × Begun) → TraceRuns count m held new told retold before now (Ok begun)
-  tracks_whole new retold begun = each_run count m held new told retold before now (Ok begun) (λ b. traced_on _ b.y b.s b.u b.t b.base (seen midtold mid) _ _ _ _ (so_far b))
+  tracks_whole new retold begun = each_run count m held new told retold before now (Ok begun) (λ b. traced_on _ b.y b.s b.u b.t b.base (state_seen midtold mid) _ _ _ _ (so_far b))
 
   -- one step more, by which the budget is less
-  module _ (z : Outside) (same : z ≡ outside_of held.rows count) (after : Tracing) (less : now.budget ≡ after.budget + 1) where
-    pub tracks_more : (next : Held) (nexttold : Option (List (List ℕ))) (stepped : Stepped) → StepTraces z m mid next midtold nexttold now.tracer after.tracer now.text after.text (Ok stepped) → seen nexttold next ≡ option_map (step z) (seen midtold mid) → Tracks (outside_of held.rows count) m (seen told held) (seen nexttold next) before after
+  module _ (z : Environment) (same : z ≡ outside_of held.rows count) (after : Tracing) (less : now.budget ≡ after.budget + 1) where
+    pub tracks_more : (next : Held) (nexttold : Option (List (List ℕ))) (stepped : Stepped) → StepTraces z m mid next midtold nexttold now.tracer after.tracer now.text after.text (Ok stepped) → state_seen nexttold next ≡ option_map (step z) (state_seen midtold mid) → Tracks (outside_of held.rows count) m (state_seen told held) (state_seen nexttold next) before after
     tracks_more next nexttold stepped done ran = λ b.
-        let x : Outside = outside_of held.rows count in
+        let x : Environment = outside_of held.rows count in
         let w = so_far b in
-        let here : seen midtold mid ≡ Some (run x b.s w.at) = w.state in
-        let of_x : StepTraces x m mid next midtold nexttold now.tracer after.tracer now.text after.text (Ok stepped) = subst (λ (z : Outside). StepTraces z m mid next midtold nexttold now.tracer after.tracer now.text after.text (Ok stepped)) same done in
-        let ran_x : seen nexttold next ≡ option_map (step x) (seen midtold mid) = subst (λ (z : Outside). seen nexttold next ≡ option_map (step z) (seen midtold mid)) same ran in
+        let here : state_seen midtold mid ≡ Some (run x b.s w.at) = w.state in
+        let of_x : StepTraces x m mid next midtold nexttold now.tracer after.tracer now.text after.text (Ok stepped) = subst (λ (z : Environment). StepTraces z m mid next midtold nexttold now.tracer after.tracer now.text after.text (Ok stepped)) same done in
+        let ran_x : state_seen nexttold next ≡ option_map (step x) (state_seen midtold mid) = subst (λ (z : Environment). state_seen nexttold next ≡ option_map (step z) (state_seen midtold mid)) same ran in
         let from = w.from in
         let spent = w.spent in
         record {
           at = suc w.at;
           from = omega (arith, from);
           spent = omega (arith, spent, less);
-          state = seen_more x (seen midtold mid) (seen nexttold next) (run x b.s w.at) ran_x here;
+          state = seen_more x (state_seen midtold mid) (state_seen nexttold next) (run x b.s w.at) ran_x here;
           traced = of_x b.unit b.y b.s b.late b.held b.u w.at b.base b.from b.map_is b.low b.high here w.traced;
         }
 
     -- or the step or its rows failed
     pub tracks_stop : (new : Held) (retold : Option (List (List ℕ))) (fault : RunFault) → StepTraces z m mid new midtold retold now.tracer after.tracer now.text after.text (Err fault) →
-        (fault ≡ Sink → seen retold new ≡ option_map (step z) (seen midtold mid)) → TraceRuns count m held new told retold before after (Err fault)
+        (fault ≡ Sink → state_seen retold new ≡ option_map (step z) (state_seen midtold mid)) → TraceRuns count m held new told retold before after (Err fault)
     tracks_stop new retold fault fails ran = each_run count m held new told retold before after (Err fault) (λ b.
-        let x : Outside = outside_of held.rows count in
+        let x : Environment = outside_of held.rows count in
         let w = so_far b in
-        let here : seen midtold mid ≡ Some (run x b.s w.at) = w.state in
-        let of_x : StepTraces x m mid new midtold retold now.tracer after.tracer now.text after.text (Err fault) = subst (λ (z : Outside). StepTraces z m mid new midtold retold now.tracer after.tracer now.text after.text (Err fault)) same fails in
-        let ran_x : fault ≡ Sink → seen retold new ≡ option_map (step x) (seen midtold mid) = subst (λ (z : Outside). fault ≡ Sink → seen retold new ≡ option_map (step z) (seen midtold mid)) same ran in
-        by_fault b fault (of_x b.unit b.y b.s b.late b.held b.u w.at b.base b.from b.map_is b.low b.high here w.traced) (λ e. seen_more x (seen midtold mid) (seen retold new) (run x b.s w.at) (ran_x e) here))
+        let here : state_seen midtold mid ≡ Some (run x b.s w.at) = w.state in
+        let of_x : StepTraces x m mid new midtold retold now.tracer after.tracer now.text after.text (Err fault) = subst (λ (z : Environment). StepTraces z m mid new midtold retold now.tracer after.tracer now.text after.text (Err fault)) same fails in
+        let ran_x : fault ≡ Sink → state_seen retold new ≡ option_map (step x) (state_seen midtold mid) = subst (λ (z : Environment). fault ≡ Sink → state_seen retold new ≡ option_map (step z) (state_seen midtold mid)) same ran in
+        by_fault b fault (of_x b.unit b.y b.s b.late b.held b.u w.at b.base b.from b.map_is b.low b.high here w.traced) (λ e. seen_more x (state_seen midtold mid) (state_seen retold new) (run x b.s w.at) (ran_x e) here))
       where
-        by_fault : (b : Booted (outside_of held.rows count) m (seen told held) before.tracer before.text) (fault : RunFault) → StepStops (outside_of held.rows count) b.y b.s b.u (so_far b).at b.base (seen retold new) after.tracer after.text fault →
-            (fault ≡ Sink → seen retold new ≡ Some (run (outside_of held.rows count) b.s (suc (so_far b).at))) →
-            TraceStops (outside_of held.rows count) b.y b.s b.u b.t b.base (seen retold new) before.budget after.budget after.tracer after.text fault
+        by_fault : (b : Booted (outside_of held.rows count) m (state_seen told held) before.tracer before.text) (fault : RunFault) → StepStops (outside_of held.rows count) b.y b.s b.u (so_far b).at b.base (state_seen retold new) after.tracer after.text fault →
+            (fault ≡ Sink → state_seen retold new ≡ Some (run (outside_of held.rows count) b.s (suc (so_far b).at))) →
+            TraceStops (outside_of held.rows count) b.y b.s b.u b.t b.base (state_seen retold new) before.budget after.budget after.tracer after.text fault
         by_fault b StepLimit h there = absurd h
         by_fault b Disk h there = let w = so_far b in let from = w.from in let spent = w.spent in (w.at, omega (arith, from), omega (arith, spent, less), h)
         by_fault b Sink h there = let w = so_far b in let from = w.from in let spent = w.spent in (w.at, omega (arith, from), omega (arith, spent, less), there refl, h)

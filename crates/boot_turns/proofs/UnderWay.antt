@@ -3,18 +3,18 @@
 use Rattle.std.proofs.Common.{◌≡◌, ℕ, zero, suc, ◌+◌, ◌<◌, ◌≤◌, Bool, true, false, cond, Option, Some, None, refl, sym, ap, ap₂, ◌∙◌, subst, ⊎_elim, arith, ne_eqb}
 use Rattle.std.specs.Prelude.{◌==◌}
 use Rattle.std.proofs.lemmas.Bool.{cases_lt, cond-true, cond-false}
-use Rattle.mips_table.specs.Device.{Outside}
+use Rattle.mips_table.specs.Device.{Environment}
 use Rattle.mips_table.specs.Machine.{State, in_system, step, run}
 use Rattle.mips_table.specs.Turns.{is_on}
 use Rattle.layer_contract.specs.declared.entry.Entry.TheVariants.{Primitive}
-use Rattle.layer_contract.specs.Layer.{entry_address}
+use Rattle.layer_contract.specs.Layer.{layer_entry}
 use Rattle.layer_contract.specs.Calls.{entered, goes_on, under_way, ends_here, ended_before}
 use Rattle.boot_turns.specs.declared.tracer.Entered.{Entered}
 use Rattle.boot_turns.specs.Returns.{entry_note, noted_at, notes_on, noted_call}
 use Rattle.boot_turns.proofs.Entering.{is_at, third_false}
 use Rattle.boot_turns.proofs.Stretches.{later}
 
-module _ (x : Outside) (s : State) where
+module _ (x : Environment) (s : State) where
   pub next_none : (t : ℕ) → under_way x s t ≡ None → entered 10 (run x s (suc t)) ≡ None → under_way x s (suc t) ≡ None
   next_none t q e = ap (goes_on (run x s (suc t))) q ∙ e
 
@@ -86,7 +86,7 @@ notes_back : (s : State) (o : Option Entered) → note_back (notes_on s o) ≡ g
 notes_back s None = noted_at_back 10 s
 notes_back s (Some e) = back_unless (s.cpu.pc == e.back) e
 
-pub noted_back : (x : Outside) (s : State) (t : ℕ) → note_back (noted_call x s t) ≡ under_way x s t
+pub noted_back : (x : Environment) (s : State) (t : ℕ) → note_back (noted_call x s t) ≡ under_way x s t
 noted_back x s zero = refl
 noted_back x s (suc t) = notes_back (run x s (suc t)) (noted_call x s t) ∙ ap (goes_on (run x s (suc t))) (noted_back x s t)
 
@@ -94,20 +94,20 @@ back_none : (o : Option Entered) → note_back o ≡ None → o ≡ None
 back_none None h = refl
 back_none (Some e) h = absurd (let f : ◌≡◌ {A = Option ℕ} (Some e.back) None = h in cc)
 
-pub noted_none : (x : Outside) (s : State) (t : ℕ) → under_way x s t ≡ None → noted_call x s t ≡ None
+pub noted_none : (x : Environment) (s : State) (t : ℕ) → under_way x s t ≡ None → noted_call x s t ≡ None
 noted_none x s t q = back_none (noted_call x s t) (noted_back x s t ∙ q)
 
-pub noted_later : (x : Outside) (s : State) (u d : ℕ) → under_way x s u ≡ None → noted_call x s (u + d) ≡ noted_call x (run x s u) d
+pub noted_later : (x : Environment) (s : State) (u d : ℕ) → under_way x s u ≡ None → noted_call x s (u + d) ≡ noted_call x (run x s u) d
 noted_later x s u d q = noted_next x s u d (noted_none x s u q)
 
 -- at the entry of primitive k that one is noted
-pub noted_there : (n k : ℕ) (s : State) → k < n → is_at k s ≡ true → s.cpu.pc ≡ entry_address (Primitive k) → noted_at n s ≡ Some (entry_note k s)
+pub noted_there : (n k : ℕ) (s : State) → k < n → is_at k s ≡ true → s.cpu.pc ≡ layer_entry (Primitive k) → noted_at n s ≡ Some (entry_note k s)
 noted_there zero k s lt h pc = absurd (omega (arith, lt))
 noted_there (suc n) k s lt h pc = ⊎_elim
-    (λ (l : k < n). cond-false (is_at n s) (Some (entry_note n s)) (noted_at n s) (third_false (is_on s) (in_system s.special) (s.cpu.pc == entry_address (Primitive n)) (ne_eqb s.cpu.pc (entry_address (Primitive n)) (λ e. other pc e l))) ∙ noted_there n k s l h pc)
+    (λ (l : k < n). cond-false (is_at n s) (Some (entry_note n s)) (noted_at n s) (third_false (is_on s) (in_system s.special) (s.cpu.pc == layer_entry (Primitive n)) (ne_eqb s.cpu.pc (layer_entry (Primitive n)) (λ e. other pc e l))) ∙ noted_there n k s l h pc)
     (λ (g : n ≤ k). let e : k ≡ n = omega (arith, lt, g) in
     cond-true (is_at n s) (Some (entry_note n s)) (noted_at n s) (subst (λ i. is_at i s ≡ true) e h) ∙ ap (λ i. Some (entry_note i s)) (sym e))
     (cases_lt k n)
   where
-    other : {a : ℕ} → a ≡ entry_address (Primitive k) → a ≡ entry_address (Primitive n) → k < n → ⊥
+    other : {a : ℕ} → a ≡ layer_entry (Primitive k) → a ≡ layer_entry (Primitive n) → k < n → ⊥
     other e f l = omega (arith, e, f, l)

@@ -2,7 +2,7 @@
 use Rattle.std.proofs.Common.{◌≡◌, ◌≢◌, ℕ, zero, suc, ◌+◌, Option, Some, None, refl, sym, ap, ◌∙◌, arith}
 use Rattle.std.specs.Prelude.{bit_or, pos}
 use Rattle.mips_table.specs.Arith.{signed}
-use Rattle.cvm_model.specs.Kernel.{Core, MeaningLaws, End, Answers, Faults, NotYet}
+use Rattle.cvm_model.specs.Kernel.{Core, MeaningLaws, DispatchEnd, Answers, Faults, NotYet}
 use Rattle.cvm_model.specs.Cvm.{System, Status, Running, Halted, Faulted, Cvm, Begin, Steps, Traps, Interrupts, begin, dispatch_of, after_dispatch, dispatches, begun, turn_by, turn, cvm, IsCvm}
 
 module _ (y : System) (laws : MeaningLaws y.boot.meaning) where
@@ -15,7 +15,7 @@ module _ (y : System) (laws : MeaningLaws y.boot.meaning) where
       go : (dispatch_of y n cause edata at).end ≢ NotYet → dispatches y (n + d) k c cause edata at pending ≡ Some p
       go ne = ap (λ o. after_dispatch y c k cause edata at.current pending o o.end) (laws.same n d at (pos cause) (signed edata) (pos at.current) ne) ∙ h
 
-      by : (e : End) → (dispatch_of y n cause edata at).end ≡ e → dispatches y (n + d) k c cause edata at pending ≡ Some p
+      by : (e : DispatchEnd) → (dispatch_of y n cause edata at).end ≡ e → dispatches y (n + d) k c cause edata at pending ≡ Some p
       by (Answers a) eq = go (λ f. absurd (let g : Answers a ≡ NotYet = sym eq ∙ f in cc))
       by (Faults a) eq = go (λ f. absurd (let g : Faults a ≡ NotYet = sym eq ∙ f in cc))
       by NotYet eq = absurd (none_some p (sym (ap (after_dispatch y c k cause edata at.current pending (dispatch_of y n cause edata at)) eq) ∙ h))

@@ -2,11 +2,11 @@
 use Rattle.std.specs.Prelude.{◌≡◌, ◌≢◌, ◌⊎◌, ℕ, suc, ◌+◌, ◌-◌, ◌/◌, ◌<◌, ◌≤◌, ◌==◌, ◌&&◌, ◌||◌, not, nat_lt, is_some, IfSome, Option, Some, None}
 use Rattle.std.specs.Prelude.{Bool, true, false, List, [], slice_index, Result, MatchResult}
 use Rattle.std.specs.Option.{option_map}
-use Rattle.mips_table.specs.Device.{Outside}
+use Rattle.mips_table.specs.Device.{Environment}
 use Rattle.mips_table.specs.declared.cause.Cause.TheVariants.{Reset, FetchFault, DataFault}
 use Rattle.mips_table.specs.declared.special.TheConstants.{MODE, ECA, EDATA}
-use Rattle.mips_table.specs.Machine.{State, number_of, step, run}
-use Rattle.mips_table.specs.Turns.{begins, rests}
+use Rattle.mips_table.specs.Machine.{State, cause_number, step, run}
+use Rattle.mips_table.specs.Turns.{begins_turn, rests}
 use Rattle.sector_disk.specs.Ports.{ports_of}
 use Rattle.mips_machine.specs.Machine.{Held, state_of}
 use Rattle.mips_machine.specs.Steps.{outside_of, after_step}
@@ -23,12 +23,12 @@ use Rattle.boot_turns.specs.declared.answers.RunFault.TheVariants.{StepLimit, Di
 use Rattle.boot_turns.specs.Torn.{Torn}
 
 -- the state of a machine with the sectors of its disk, where they are told
-abbrev pub seen : Option (List (List ℕ)) → Held → Option State
-seen told held = option_map (state_of held) told
+abbrev pub state_seen : Option (List (List ℕ)) → Held → Option State
+state_seen told held = option_map (state_of held) told
 
 -- over a disk of so many sectors the machine made one step
 abbrev pub StepRan : (count : ℕ) → (old new : Held) → (told retold : Option (List (List ℕ))) → Type 0
-StepRan count old new told retold = seen retold new ≡ option_map (step (outside_of old.rows count)) (seen told old)
+StepRan count old new told retold = state_seen retold new ≡ option_map (step (outside_of old.rows count)) (state_seen told old)
 
 -- the transfer that was due in a step failed, over a disk of so many sectors, where they are told
 abbrev pub StepTorn : (count : ℕ) → Held → (told retold : Option (List (List ℕ))) → Type 0
@@ -36,7 +36,7 @@ StepTorn count old told retold = (ss : List (List ℕ)) → told ≡ Some ss →
     × Torn (outside_of old.rows count) (state_of old ss) now
 
 -- and in a machine that is seen afterwards
-abbrev pub SeenTorn : Outside → State → Option State → Type 0
+abbrev pub SeenTorn : Environment → State → Option State → Type 0
 SeenTorn x s new = (now : List (List ℕ)) × (option_map (λ (z : State). z.device.sectors) new ≡ Some now) × Torn x s now
 
 -- the disk's ports are as after the step of a machine, whatever the sectors are
@@ -49,7 +49,7 @@ SeenPorts s new = option_map (λ (z : State). ports_of z.device) new ≡ Some (p
 
 -- what a fault of the disk in step number t leaves: its transfer failed, and its ports are as after the step; or, where a user is traced, the step is
 -- done
-abbrev pub DiskLeaves : Outside → State → (t : ℕ) → (traced : Bool) → Option State → Type 0
+abbrev pub DiskLeaves : Environment → State → (t : ℕ) → (traced : Bool) → Option State → Type 0
 DiskLeaves x s t false new = SeenTorn x (run x s t) new × SeenPorts (run x s (suc t)) new
 DiskLeaves x s t true new = (SeenTorn x (run x s t) new × SeenPorts (run x s (suc t)) new) ⊎ (new ≡ Some (run x s (suc t)))
 
@@ -60,7 +60,7 @@ StepFails count old new told retold true = (StepTorn count old told retold × Po
 
 -- the answer is whether that step begins a turn
 abbrev pub StepBegan : (count : ℕ) → Held → Option (List (List ℕ)) → Bool → Type 0
-StepBegan count old told answer = IfSome (seen told old) (λ s. answer ≡ begins (outside_of old.rows count) s)
+StepBegan count old told answer = IfSome (state_seen told old) (λ s. answer ≡ begins_turn (outside_of old.rows count) s)
 
 -- whether a step was the answer of a machine that was off, and whether it took an interrupt
 abbrev pub was_off : Event → Bool
@@ -75,8 +75,8 @@ was_taken other = false
 -- step other than a page fault that is handled
 abbrev pub begun_at : (in_user : Bool) (pages : ℕ) (off taken : Bool) (cause edata : ℕ) → Bool
 begun_at in_user pages off taken cause edata =
-    not off && ((taken && cause == number_of Reset)
-    || (in_user && not ((taken && (cause == number_of FetchFault || cause == number_of DataFault)) && nat_lt (edata / 4096) pages)))
+    not off && ((taken && cause == cause_number Reset)
+    || (in_user && not ((taken && (cause == cause_number FetchFault || cause == cause_number DataFault)) && nat_lt (edata / 4096) pages)))
 
 -- whether a step was one that began a turn
 abbrev pub turn_began : Stepped → Bool
@@ -129,40 +129,40 @@ abbrev pub is_at_rest : Held → Bool
 is_at_rest held = slice_index held.hardware.special MODE == 1 || is_some held.hardware.off
 
 -- from step t on a turn began at `start`, before u, and the machine hasn't come to rest since
-pub record Open (x : Outside) (s : State) (t u : ℕ) (b : Begun) : Type 0 where
+pub record Open (x : Environment) (s : State) (t u : ℕ) (b : Begun) : Type 0 where
   pub start : ℕ
   pub from : t ≤ start
   pub to : start < u
-  pub none : (j : ℕ) → t ≤ j → j < start → begins x (run x s j) ≡ false
-  pub begin : begins x (run x s start) ≡ true
+  pub none : (j : ℕ) → t ≤ j → j < start → begins_turn x (run x s j) ≡ false
+  pub begin : begins_turn x (run x s start) ≡ true
   pub busy : (j : ℕ) → start < j → j < u → rests (run x s j) ≡ false
   pub shows : b ≡ note (run x s (suc start))
 
 -- how far the next turn is at step u, from step t on: it hasn't begun, or it is open
-abbrev pub Progress : Outside → State → ℕ → ℕ → Option Begun → Type 0
-Progress x s t u None = (j : ℕ) → t ≤ j → j < u → begins x (run x s j) ≡ false
+abbrev pub Progress : Environment → State → ℕ → ℕ → Option Begun → Type 0
+Progress x s t u None = (j : ℕ) → t ≤ j → j < u → begins_turn x (run x s j) ≡ false
 Progress x s t u (Some b) = Open x s t u b × (rests (run x s u) ≡ false)
 
 -- the turn is complete at u
-pub record Completed (x : Outside) (s : State) (t u : ℕ) (b : Begun) : Type 0 where
+pub record Completed (x : Environment) (s : State) (t u : ℕ) (b : Begun) : Type 0 where
   pub opened : Open x s t u b
   pub rest : rests (run x s u) ≡ true
 
 -- or the machine is off at u, for the first time, before a turn begins; what is noted is what it shows there
-pub record WentOff (x : Outside) (s : State) (t u : ℕ) (b : Begun) : Type 0 where
+pub record WentOff (x : Environment) (s : State) (t u : ℕ) (b : Begun) : Type 0 where
   pub from : t ≤ u
-  pub none : (j : ℕ) → t ≤ j → j < u → begins x (run x s j) ≡ false
+  pub none : (j : ℕ) → t ≤ j → j < u → begins_turn x (run x s j) ≡ false
   pub on : (j : ℕ) → t ≤ j → j < u → (run x s j).off ≡ None
   pub off : (run x s u).off ≢ None
   pub shows : b ≡ note (run x s u)
 
 -- the turn was completed, or there is none to come, and the steps are taken from the budget
-abbrev pub CompleteOk : Outside → Option State → ℕ → ℕ → State → ℕ → Begun → Type 0
+abbrev pub CompleteOk : Environment → Option State → ℕ → ℕ → State → ℕ → Begun → Type 0
 CompleteOk x new before after s t b = (u : ℕ) × (Completed x s t u b ⊎ WentOff x s t u b) × (new ≡ Some (run x s u)) × (after + u ≡ before + t)
 
 -- the machine is on, and the budget was spent; or the disk failed in step number u or in its rows; or the sink failed in the rows of step number u,
 -- which is done
-abbrev pub CompleteErr : Outside → (traced : Bool) → Option State → ℕ → ℕ → State → ℕ → RunFault → Type 0
+abbrev pub CompleteErr : Environment → (traced : Bool) → Option State → ℕ → ℕ → State → ℕ → RunFault → Type 0
 CompleteErr x traced new before after s t StepLimit = (u : ℕ) × (t ≤ u) × (after + u ≡ before + t) × (new ≡ Some (run x s u))
     × (after ≡ 0) × ((run x s u).off ≡ None) × ((b : Option Begun) × Progress x s t u b)
 CompleteErr x traced new before after s t Disk = (u : ℕ) × (t ≤ u) × (after + (u + 1) ≡ before + t) × ((b : Option Begun) × Progress x s t u b)
@@ -171,25 +171,25 @@ CompleteErr x traced new before after s t Sink = (u : ℕ) × (t ≤ u) × (afte
     × (new ≡ Some (run x s (suc u))) × ((run x s u).off ≡ None)
 
 -- over any disk the machine made so many steps in which nothing comes from outside, and only the processor, the memory and the time changed
-pub record Passes (old new : Held) (n : ℕ) : Type 0 where
+pub record PassesQuietly (old new : Held) (n : ℕ) : Type 0 where
   pub stretch : (count : ℕ) (sectors : List (List ℕ)) → Stretch (outside_of old.rows count) (state_of old sectors) n (state_of new sectors)
   pub rest : new ≡ record old { hardware = record old.hardware { cpu = new.hardware.cpu; memory = new.hardware.memory }; time = old.time + n }
 
 -- n turns from step t on were one step each, after which the machine was on and in user mode
-abbrev pub Skips : Outside → State → (t n : ℕ) → Type 0
-Skips x s t n = (j : ℕ) → j < n → (begins x (run x s (t + j)) ≡ true) × (slice_index (run x s (t + suc j)).special MODE ≡ 1)
+abbrev pub Skips : Environment → State → (t n : ℕ) → Type 0
+Skips x s t n = (j : ℕ) → j < n → (begins_turn x (run x s (t + j)) ≡ true) × (slice_index (run x s (t + suc j)).special MODE ≡ 1)
     × ((run x s (t + suc j)).off ≡ None)
 
 -- how the loop ends, after n such turns of so many at most
-abbrev pub CompleteEnds : Outside → (traced : Bool) → Option State → ℕ → ℕ → State → ℕ → (most : ℕ) → Result (ℕ × Begun) RunFault → Type 0
+abbrev pub CompleteEnds : Environment → (traced : Bool) → Option State → ℕ → ℕ → State → ℕ → (most : ℕ) → Result (ℕ × Begun) RunFault → Type 0
 CompleteEnds x traced new before after s t most result = (n : ℕ) × (n < most) × (n ≤ before) × Skips x s t n ×
     MatchResult result (λ r. (r.0 ≡ n) × CompleteOk x new (before - n) after s (t + n) r.1) (CompleteErr x traced new (before - n) after s (t + n))
 
 -- THE LOOP, over a disk of so many sectors: from any step of any run in which the machine stands
 abbrev pub Completes : (count : ℕ) → (traced : Bool) → (old new : Held) → (told retold : Option (List (List ℕ))) → (before after most : ℕ) →
     Result (ℕ × Begun) RunFault → Type 0
-Completes count traced old new told retold before after most result = (s : State) (t : ℕ) → seen told old ≡ Some (run (outside_of old.rows count) s t) →
-    CompleteEnds (outside_of old.rows count) traced (seen retold new) before after s t most result
+Completes count traced old new told retold before after most result = (s : State) (t : ℕ) → state_seen told old ≡ Some (run (outside_of old.rows count) s t) →
+    CompleteEnds (outside_of old.rows count) traced (state_seen retold new) before after s t most result
 
 -- what the machine shows once a turn has begun: a user's step, or the cause of its dispatch and what that concerns
 abbrev pub ShownAs : Begin → Begun → Type 0

@@ -1,15 +1,15 @@
 -- The entries that a step of the machine adds to what is shown of a user, by what the machine shows.
 use Rattle.std.specs.Prelude.{◌≡◌, ◌≢◌, ℕ, suc, ◌+◌, ◌/◌, ◌≤◌, ◌&&◌, ◌==◌, nat_lt, if◌then◌else◌, List, [], ◌∷◌, ◌++◌, length, take, drop}
 use Rattle.std.specs.Prelude.{slice_index, Bool, true, false, Option, Some, None, IsSome}
-use Rattle.mips_table.specs.Device.{Outside}
+use Rattle.mips_table.specs.Device.{Environment}
 use Rattle.mips_table.specs.Machine.{State, run}
-use Rattle.mips_table.specs.Turns.{begins, rests}
+use Rattle.mips_table.specs.Turns.{begins_turn, rests}
 use Rattle.layer_map.specs.Map.{current_at}
-use Rattle.c0_meaning.specs.State.{State as C0}
+use Rattle.c0_meaning.specs.State.{C0State}
 use Rattle.cvm_model.specs.Kernel.{Core, JournalEntry, Stepped, Trapped, Set, Size, Put}
 use Rattle.cvm_model.specs.Primitives.{user_of, puts}
 use Rattle.cvm_model.specs.Cvm.{System, Running}
-use Rattle.cvm_model.specs.Stands.{Stands}
+use Rattle.cvm_model.specs.Stands.{RunningRelation}
 use Rattle.layer_contract.specs.declared.registers.TheConstants.{ANSWER}
 use Rattle.layer_contract.specs.Follows.{site_of}
 use Rattle.boot_turns.specs.declared.completion.Begun.{Begun}
@@ -44,9 +44,9 @@ return_entries u s words None = []
 return_entries u s words (Some e) = call_ends u e (slice_index s.cpu.regs ANSWER) words
 
 -- the entries of user u that step number t adds; `words` are that user's after it
-abbrev pub step_entries : Outside → State → (u t : ℕ) → List ℕ → List JournalEntry
+abbrev pub step_entries : Environment → State → (u t : ℕ) → List ℕ → List JournalEntry
 step_entries x s u t words =
-    if begins x (run x s t) then turn_begins u (slice_index (run x s t).memory current_at) (note (run x s (suc t)))
+    if begins_turn x (run x s t) then turn_begins u (slice_index (run x s t).memory current_at) (note (run x s (suc t)))
     else return_entries u (run x s (suc t)) words (returned (run x s (suc t)) (noted_call x s t))
 
 -- the words that a primitive copied to user u lie in its memory
@@ -55,9 +55,9 @@ IsPlaced u e answer words = answer ≡ 1 → e.primitive ≡ VM_COPY → slice_i
     slice_index e.arguments 3 / 4 + slice_index e.arguments 4 ≤ length words
 
 -- where a primitive returns, the machine stands for a state with these words of user u, and what was copied to it lies there
-abbrev pub WordsAt : Outside → System → (u : ℕ) → State → List ℕ → Option Entered → Type 0
+abbrev pub WordsAt : Environment → System → (u : ℕ) → State → List ℕ → Option Entered → Type 0
 WordsAt x y u s words None = Unit {0}
-WordsAt x y u s words (Some e) = (core : Core) × Stands x (site_of y.boot) s Running core × (words ≡ (user_of core.users u).words)
+WordsAt x y u s words (Some e) = (core : Core) × RunningRelation x (site_of y.boot) s Running core × (words ≡ (user_of core.users u).words)
     × IsPlaced u e (slice_index s.cpu.regs ANSWER) words
 
 -- a step that led to s has rows: it began a turn with a dispatch, or a primitive returned
@@ -66,20 +66,20 @@ HasRows s noted true = (note s).dispatched ≡ true
 HasRows s noted false = IsSome (returned s noted)
 
 -- what is shown after step number t, where j was shown before it
-pub record ShowsMore (x : Outside) (y : System) (s : State) (u t : ℕ) (j : List JournalEntry) : Type 0 where
+pub record ShowsMore (x : Environment) (y : System) (s : State) (u t : ℕ) (j : List JournalEntry) : Type 0 where
   pub words : List ℕ
   pub there : WordsAt x y u (run x s (suc t)) words (returned (run x s (suc t)) (noted_call x s t))
   pub shown : Shown x s y u (suc t) (j ++ step_entries x s u t words)
 
 -- A TRACE GROWS: one journal at most is shown at a step; none before the first step; and each step of a machine that is on adds its entries
-pub record TraceGrows (x : Outside) (y : System) (s : State) (u : ℕ) : Type 0 where
+pub record TraceGrows (x : Environment) (y : System) (s : State) (u : ℕ) : Type 0 where
   pub one : (t : ℕ) (i j : List JournalEntry) → Shown x s y u t i → Shown x s y u t j → i ≡ j
   pub none : Shown x s y u 0 []
   pub more : (t : ℕ) (j : List JournalEntry) → (run x s t).off ≡ None → Shown x s y u t j → ShowsMore x y s u t j
   -- and a step that has rows completes no turn
-  pub busy : (t : ℕ) → (run x s t).off ≡ None → HasRows (run x s (suc t)) (noted_call x s t) (begins x (run x s t)) → rests (run x s (suc t)) ≡ false
+  pub busy : (t : ℕ) → (run x s t).off ≡ None → HasRows (run x s (suc t)) (noted_call x s t) (begins_turn x (run x s t)) → rests (run x s (suc t)) ≡ false
 
 -- from each start, of each user
-abbrev pub TracesGrow : (C0 → Type 0) → Type 0
-TracesGrow Typed = (x : Outside) (y : System) (s : State) (late held u : ℕ) → StartsFrom Typed x y s late held →
+abbrev pub TracesGrow : (C0State → Type 0) → Type 0
+TracesGrow Typed = (x : Environment) (y : System) (s : State) (late held u : ℕ) → StartsFrom Typed x y s late held →
     1 ≤ u → u ≤ length y.boot.users → TraceGrows x y s u

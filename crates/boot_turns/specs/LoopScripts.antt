@@ -1,6 +1,6 @@
 -- THE SCRIPT OF STEPS of a machine: where its disk tells its sectors, exactly; and what it may be where the disk tells none.
 use Rattle.std.specs.Prelude.{◌≡◌, ℕ, ◌+◌, ◌≤◌, ⊤, List, [], ◌∷◌, length, Option, Some, None, Result}
-use Rattle.mips_table.specs.Device.{Outside}
+use Rattle.mips_table.specs.Device.{Environment}
 use Rattle.mips_table.specs.Machine.{State, run}
 use Rattle.mips_machine.specs.Machine.{Held}
 use Rattle.mips_machine.specs.Steps.{outside_of}
@@ -15,7 +15,7 @@ use Rattle.cvm_outside.specs.Script.{Call, Printed, Read, Wrote, Makes}
 use Rattle.boot_turns.specs.declared.answers.RunFault.{RunFault}
 use Rattle.boot_turns.specs.declared.answers.View.TheVariants.{Trace}
 use Rattle.boot_turns.specs.declared.tracer.Tracer.{Tracer}
-use Rattle.boot_turns.specs.Completes.{seen}
+use Rattle.boot_turns.specs.Completes.{state_seen}
 use Rattle.boot_turns.specs.Premises.{StartsFrom}
 use Rattle.boot_turns.specs.Trace.{Shown}
 use Rattle.boot_turns.specs.Tracing.{Traced}
@@ -24,20 +24,21 @@ use Rattle.boot_turns.specs.StepScript.{transfers, steps_script}
 use Rattle.boot_turns.specs.RowScripts.{of_run}
 
 -- the transfers of n steps, from any step of any run in which the machine stands
-abbrev pub StepsMake : {O D T : Type 0} → Outside → sink_of.Ghosts O → sectors_of.Ghosts D → Held → (old new : O × D) → (n : ℕ) → Result T RunFault → Type 0
+abbrev pub StepsMake : {O D T : Type 0} → Environment → sink_of.Ghosts O → sectors_of.Ghosts D → Held → (old new : O × D) → (n : ℕ) → Result T RunFault → Type 0
 StepsMake x text told held (out, disk) new n result =
-    (s : State) (t : ℕ) → seen (told.sectors disk) held ≡ Some (run x s t) → Makes text told (out, disk) new (transfers x s t n) of_run result
+    (s : State) (t : ℕ) → state_seen (told.sectors disk) held ≡ Some (run x s t) → Makes text told (out, disk) new (transfers x s t n) of_run result
 
 -- the run of a trace of user u
-abbrev pub traced_run : Outside → System → State → (u turns steps : ℕ) → Run
+abbrev pub traced_run : Environment → System → State → (u turns steps : ℕ) → Run
 traced_run x y s u turns steps = record { around = x; system = y; first = s; view = Trace u; turns = turns; steps = steps }
 
 -- the transfers of n steps and their rows, from any step of any run from a start in which the machine stands and one of whose users is traced
-abbrev pub StepsTrace : {O D T : Type 0} → Outside → sink_of.Ghosts O → sectors_of.Ghosts D → Map → Held → Option Tracer → (old new : O × D) → (n : ℕ) →
+abbrev pub StepsTrace : {O D T : Type 0} → Environment → sink_of.Ghosts O → sectors_of.Ghosts D → Map → Held → Option Tracer → (old new : O × D) → (n : ℕ) →
     Result T RunFault → Type 0
 StepsTrace x text told m held kept (out, disk) new n result =
     (c : CUnit) (y : System) (s : State) (late limit u t : ℕ) (base : Option (List ℕ)) → StartsFrom (IsTypedState c) x y s late limit →
-    m ≡ (site_of y.boot).map → 1 ≤ u → u ≤ length y.boot.users → seen (told.sectors disk) held ≡ Some (run x s t) → Traced x y s u t base kept (text.text out) →
+    m ≡ (site_of y.boot).map → 1 ≤ u → u ≤ length y.boot.users → state_seen (told.sectors disk) held ≡ Some (run x s t)
+    → Traced x y s u t base kept (text.text out) →
     (p : Past) (turns steps : ℕ) → ((j : ℕ) → t ≤ j → j ≤ t + n → Shown x s y u j (p.shown j)) →
     Makes text told (out, disk) new (steps_script (traced_run x y s u turns steps) p t n) of_run result
 
@@ -54,7 +55,7 @@ abbrev pub SomeMake : {O D T : Type 0} → sink_of.Ghosts O → sectors_of.Ghost
 SomeMake text told old new result = (script : List Call) × AreOfRun script × Makes text told old new script of_run result
 
 -- THE CALLS OF n STEPS, with what was kept of a trace before them: where no user is traced, where one is, and over any disk
-pub record CallsOf {O D T : Type 0} (x : Outside) (text : sink_of.Ghosts O) (told : sectors_of.Ghosts D) (m : Map) (held : Held) (kept : Option Tracer)
+pub record CallsOf {O D T : Type 0} (x : Environment) (text : sink_of.Ghosts O) (told : sectors_of.Ghosts D) (m : Map) (held : Held) (kept : Option Tracer)
     (old new : O × D) (n : ℕ) (result : Result T RunFault) : Type 0 where
   pub untraced : kept ≡ None → StepsMake x text told held old new n result
   pub traced : StepsTrace x text told m held kept old new n result

@@ -1,16 +1,16 @@
 -- The premises of a run: what the outside does, what is booted over which layer, and where it starts.
 use Rattle.std.specs.Prelude.{◌≡◌, ℕ, List, length}
-use Rattle.mips_table.specs.Device.{Outside, HasEightLines, LinesEnd}
+use Rattle.mips_table.specs.Device.{Environment, HasEightLines, LinesEnd}
 use Rattle.mips_table.specs.Machine.{State}
 use Rattle.layer_map.specs.Map.{Map}
-use Rattle.c0_meaning.specs.State.{State as C0}
+use Rattle.c0_meaning.specs.State.{C0State}
 use Rattle.cvm_model.specs.Cvm.{System}
 use Rattle.layer_contract.specs.Layer.{BusyWithin, Laws}
 use Rattle.layer_contract.specs.Follows.{site_of, SystemFits, Follows}
 use Rattle.layer_contract.specs.Starts.{Start}
 
 -- the outside has these lines, of which there are eight, and none after its last step; these busy times; and this number of sectors
-pub record Happens (lines busy : ℕ → ℕ) (count : ℕ) (x : Outside) : Type 0 where
+pub record Happens (lines busy : ℕ → ℕ) (count : ℕ) (x : Environment) : Type 0 where
   pub lines_are : x.lines ≡ lines
   pub eight : HasEightLines x
   pub end : LinesEnd x
@@ -19,7 +19,7 @@ pub record Happens (lines busy : ℕ → ℕ) (count : ℕ) (x : Outside) : Type
 
 -- THE PREMISES of a boot: the outside has the schedule's lines and busy times, none above the longest, and a disk with the sectors `old`; and
 -- what is booted fits, over a layer of these words that was made for it
-pub record Boots (Typed : C0 → Type 0) (lines busy : ℕ → ℕ) (x : Outside) (y : System) (old : List (List ℕ)) (image sizes : List ℕ)
+pub record Boots (Typed : C0State → Type 0) (lines busy : ℕ → ℕ) (x : Environment) (y : System) (old : List (List ℕ)) (image sizes : List ℕ)
     (made_for : Map) : Type 0 where
   pub happens : Happens lines busy (length old) x
   pub within : BusyWithin x y.longest
@@ -27,7 +27,7 @@ pub record Boots (Typed : C0 → Type 0) (lines busy : ℕ → ℕ) (x : Outside
   pub follows : Follows Typed image sizes made_for y.boot
 
 -- THE PREMISES of a run: they hold over some disk and a lawful layer, and the run starts from this state
-pub record StartsFrom (Typed : C0 → Type 0) (x : Outside) (y : System) (s : State) (late held : ℕ) : Type 0 where
+pub record StartsFrom (Typed : C0State → Type 0) (x : Environment) (y : System) (s : State) (late held : ℕ) : Type 0 where
   pub lines : ℕ → ℕ
   pub busy : ℕ → ℕ
   pub old : List (List ℕ)

@@ -1,12 +1,12 @@
 -- What is noted of the primitive that is under way, where it returns, when words were copied to a user, and which of these are read from the disk.
 use Rattle.std.specs.Prelude.{◌≡◌, ℕ, zero, suc, ◌+◌, ◌/◌, ◌≤◌, ◌&&◌, ◌==◌, if◌then◌else◌, [], ◌∷◌, slice_index, false, Option, Some, None}
-use Rattle.mips_table.specs.Device.{Outside}
+use Rattle.mips_table.specs.Device.{Environment}
 use Rattle.mips_table.specs.Machine.{State, in_system, run}
-use Rattle.mips_table.specs.Turns.{is_on, begins}
+use Rattle.mips_table.specs.Turns.{is_on, begins_turn}
 use Rattle.layer_map.specs.Map.{Map}
 use Rattle.layer_contract.specs.declared.entry.Entry.TheVariants.{Primitive}
 use Rattle.layer_contract.specs.declared.registers.TheConstants.{ARGUMENT, ANSWER, RETURN}
-use Rattle.layer_contract.specs.Layer.{entry_address}
+use Rattle.layer_contract.specs.Layer.{layer_entry}
 use Rattle.boot_report.specs.Resident.{word_calls}
 use Rattle.boot_turns.specs.declared.primitives.TheConstants.{VM_COPY}
 use Rattle.boot_turns.specs.declared.tracer.Entered.{Entered}
@@ -26,14 +26,14 @@ entry_note k s = record {
 -- the note where the machine is at the entry of one of the first k primitives
 abbrev pub noted_at : ℕ → State → Option Entered
 noted_at zero s = None
-noted_at (suc k) s = if is_on s && in_system s.special && s.cpu.pc == entry_address (Primitive k) then Some (entry_note k s) else noted_at k s
+noted_at (suc k) s = if is_on s && in_system s.special && s.cpu.pc == layer_entry (Primitive k) then Some (entry_note k s) else noted_at k s
 
 -- the note of the primitive that is under way, until it returns
 abbrev pub notes_on : State → Option Entered → Option Entered
 notes_on s None = noted_at 10 s
 notes_on s (Some e) = if s.cpu.pc == e.back then None else Some e
 
-abbrev pub noted_call : Outside → State → ℕ → Option Entered
+abbrev pub noted_call : Environment → State → ℕ → Option Entered
 noted_call x s zero = None
 noted_call x s (suc t) = notes_on (run x s (suc t)) (noted_call x s t)
 
@@ -56,8 +56,8 @@ pub record CopyEnds (u : ℕ) (s : State) (noted : Option Entered) : Type 0 wher
   pub copy : IsCopyTo u call (slice_index s.cpu.regs ANSWER)
 
 -- so it is after step number t of a run, which begins no turn
-pub record CopyReturns (x : Outside) (s : State) (u t : ℕ) : Type 0 where
-  pub goes_on : begins x (run x s t) ≡ false
+pub record CopyReturns (x : Environment) (s : State) (u t : ℕ) : Type 0 where
+  pub goes_on : begins_turn x (run x s t) ≡ false
   pub ends : CopyEnds u (run x s (suc t)) (noted_call x s t)
 
 -- how many of n words of user u, from word k on, are read from the disk
@@ -80,9 +80,9 @@ return_reads m s u None = 0
 return_reads m s u (Some e) = call_reads m s u e (slice_index s.cpu.regs ANSWER)
 
 -- for the rows of step number t of a run, and of all steps before it
-abbrev pub step_reads : Outside → Map → State → (u t : ℕ) → ℕ
-step_reads x m s u t = if begins x (run x s t) then 0 else return_reads m (run x s (suc t)) u (returned (run x s (suc t)) (noted_call x s t))
+abbrev pub step_reads : Environment → Map → State → (u t : ℕ) → ℕ
+step_reads x m s u t = if begins_turn x (run x s t) then 0 else return_reads m (run x s (suc t)) u (returned (run x s (suc t)) (noted_call x s t))
 
-abbrev pub reads_before : Outside → Map → State → (u t : ℕ) → ℕ
+abbrev pub reads_before : Environment → Map → State → (u t : ℕ) → ℕ
 reads_before x m s u zero = 0
 reads_before x m s u (suc t) = reads_before x m s u t + step_reads x m s u t

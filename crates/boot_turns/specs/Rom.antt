@@ -6,11 +6,11 @@ use Rattle.layer_map.specs.Map.{memory_frames}
 use Rattle.cvm_model.specs.Cvm.{System, map_of}
 use Rattle.layer_contract.specs.Follows.{loaded_sector}
 use Rattle.layer_contract.specs.Starts.{user_sectors}
-use Rattle.boot_rom.specs.Laws.{Load}
+use Rattle.boot_rom.specs.Laws.{RomLoad}
 use Rattle.boot_rom.specs.Boots.{rom_start, rom_of}
 
 -- what the ROM loads: the linked words, from the sector behind the users' pages on
-abbrev pub load_of : System → Load
+abbrev pub load_of : System → RomLoad
 load_of y = record { first = user_sectors y; count = (length y.boot.words + 1023) / 1024; busy = y.longest }
 
 -- the sectors that a run from the ROM uses: the users' pages, and the linked words

@@ -1,8 +1,8 @@
 -- A RUN of a machine that boots a system: where it starts, what is printed of it and how far it goes; and what the abstract machine says of it.
 use Rattle.std.specs.Prelude.{ℕ, ◌≤◌, ⊤, Bool, List}
-use Rattle.mips_table.specs.Device.{Outside}
+use Rattle.mips_table.specs.Device.{Environment}
 use Rattle.mips_table.specs.Machine.{State, run}
-use Rattle.mips_table.specs.Turns.{complete, is_end, end_within, lines_of}
+use Rattle.mips_table.specs.Turns.{complete, is_end, end_within, lines_of_turn}
 use Rattle.cvm_model.specs.Cvm.{System, Cvm, IsCvm}
 use Rattle.cvm_model.specs.Kernel.{JournalEntry}
 use Rattle.boot_turns.specs.declared.answers.View.{View}
@@ -11,7 +11,7 @@ use Rattle.boot_turns.specs.Trace.{Shown}
 
 -- what surrounds the machine, the system that is booted, the state at step 0, what is printed of the run, and for how many turns and steps it goes
 pub record Run : Type 0 where
-  pub around : Outside
+  pub around : Environment
   pub system : System
   pub first : State
   pub view : View
@@ -34,7 +34,7 @@ has_ended r = is_end r.around r.first r.turns (steps_made r)
 
 -- the lines that the machine meets in each turn
 abbrev pub lines_met : Run → ℕ → ℕ
-lines_met r = lines_of r.around r.first
+lines_met r = lines_of_turn r.around r.first
 
 -- WHAT THE ABSTRACT MACHINE SAYS of a run: its state after each number of turns; and of the user of a trace what is shown after each number of steps
 pub record Past : Type 0 where

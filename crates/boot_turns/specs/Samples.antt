@@ -2,8 +2,8 @@
 use Rattle.std.specs.Prelude.{ℕ, ◌-◌, ◌^◌, false, ◌==◌, if◌then◌else◌, List, [], ◌∷◌, ◌++◌, length, map, replicate}
 use Rattle.mips_table.specs.declared.inst.Inst.TheVariants.{Syscall, Bne, Addiu, Lui, Ori, Mfc0, Mtc0, Eret, Lw, Sw}
 use Rattle.mips_table.specs.Encoding.{encoding}
-use Rattle.mips_table.specs.Device.{Outside}
-use Rattle.mips_table.specs.Machine.{State, start}
+use Rattle.mips_table.specs.Device.{Environment}
+use Rattle.mips_table.specs.Machine.{State, power_on}
 
 -- A handler: after the reset it gives the user the page table at 40 (hexadecimal) with one page, and enters user mode; after another
 -- cause it switches the power off.
@@ -24,7 +24,7 @@ abbrev pub line_at : ℕ → ℕ → ℕ
 line_at at t = if t == at then 8 else 0
 
 -- with no disk
-abbrev pub raising : ℕ → Outside
+abbrev pub raising : ℕ → Environment
 raising at = record { lines = line_at at; busy = λ _. 0; count = 0; last = at }
 
 -- A machine of 21 words, whose one page is the memory itself. After the reset it enters user mode at 40 (hexadecimal); after a system
@@ -43,8 +43,8 @@ few_words = entering ++ (returning ++ (encoding (Ori 5 0 5) ∷ encoding (Ori 6 
 
 -- two input words are read, the number left is read, and the first is logged
 abbrev pub conversing : State
-conversing = start (map encoding (Lui 9 0xffff ∷ Ori 9 9 0xf000 ∷ Lw 1 9 20 ∷ Lw 2 9 20 ∷ Lw 3 9 16 ∷ Sw 1 9 12 ∷ [])) [] (7 ∷ 35 ∷ 9 ∷ [])
+conversing = power_on (map encoding (Lui 9 0xffff ∷ Ori 9 9 0xf000 ∷ Lw 1 9 20 ∷ Lw 2 9 20 ∷ Lw 3 9 16 ∷ Sw 1 9 12 ∷ [])) [] (7 ∷ 35 ∷ 9 ∷ [])
 
 -- a fetch from the input port takes its word, an instruction, and runs it
 abbrev pub fetching : State
-fetching = record (start [] [] (encoding (Ori 1 0 5) ∷ 8 ∷ [])) { cpu = record { pc = 0xfffff014; regs = replicate 32 0; hi = 0; lo = 0 }; reset = false }
+fetching = record (power_on [] [] (encoding (Ori 1 0 5) ∷ 8 ∷ [])) { cpu = record { pc = 0xfffff014; regs = replicate 32 0; hi = 0; lo = 0 }; reset = false }

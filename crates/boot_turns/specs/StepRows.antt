@@ -4,7 +4,7 @@ use Rattle.mips_machine.specs.Machine.{Held, state_of}
 use Rattle.layer_map.specs.Map.{Map}
 use Rattle.cvm_model.specs.Kernel.{JournalEntry}
 use Rattle.cvm_model.specs.Text.{journal_rows_after}
-use Rattle.boot_report.specs.Leaves.{PrintsAll, Puts}
+use Rattle.boot_report.specs.Leaves.{PrintsAll, PutsRows}
 use Rattle.boot_turns.specs.declared.answers.RunFault.{RunFault}
 use Rattle.boot_turns.specs.declared.answers.RunFault.TheVariants.{Disk, Sink}
 use Rattle.boot_turns.specs.declared.tracer.Entered.{Entered}
@@ -18,7 +18,7 @@ use Rattle.boot_turns.specs.Tracing.{ForEnded, EndedKeeps, EndCut, ForFollowed, 
 -- are some; by the texts and faults of a sink, and the objects before and after
 pub record PutsEntries {T E O : Type 0} (text : O → Option (List ℕ)) (cut : O → ℕ) (out reout : O) (kept new : Tracer) (entries : List JournalEntry)
     (result : Result T E) : Type 0 where
-  pub put : Puts text cut out reout (journal_rows_after false kept.steps entries) result
+  pub put : PutsRows text cut out reout (journal_rows_after false kept.steps entries) result
   pub steps : OnOk result (new ≡ record kept { steps = steps_after kept.steps entries })
   pub some : OnErr result (journal_rows_after false kept.steps entries ≢ [])
 

@@ -1,9 +1,9 @@
 -- THE SCRIPT OF A STEP of a run: the transfer that is due, and the rows of what the step completes.
 use Rattle.std.specs.Prelude.{ℕ, suc, ◌+◌, ◌-◌, ◌*◌, ◌/◌, ◌%◌, ◌==◌, ◌&&◌, if◌then◌else◌, Bool, false, List, [], ◌∷◌, ◌++◌, Option, Some, None, length, take, drop, slice_index}
-use Rattle.mips_table.specs.Device.{Outside}
+use Rattle.mips_table.specs.Device.{Environment}
 use Rattle.mips_table.specs.Machine.{State, run}
-use Rattle.mips_table.specs.Turns.{begins}
-use Rattle.mips_machine.specs.Steps.{due}
+use Rattle.mips_table.specs.Turns.{begins_turn}
+use Rattle.mips_machine.specs.Steps.{script_of_step}
 use Rattle.layer_map.specs.Map.{Map}
 use Rattle.layer_contract.specs.declared.registers.TheConstants.{ANSWER}
 use Rattle.cvm_outside.specs.Script.{Call, Printed, Read, scripts}
@@ -24,8 +24,8 @@ prints [] = []
 prints (b ∷ text) = Printed (Some (b ∷ text)) ∷ []
 
 -- the transfers of n steps of a run from step number t on
-abbrev pub transfers : Outside → State → (t n : ℕ) → List Call
-transfers x s t n = scripts (λ i. due x (run x s (t + i))) n
+abbrev pub transfers : Environment → State → (t n : ℕ) → List Call
+transfers x s t n = scripts (λ i. script_of_step x (run x s (t + i))) n
 
 -- page p of user u, by its number of all; it is read where it is in no frame
 abbrev pub page_of : Map → (u p : ℕ) → ℕ
@@ -42,7 +42,7 @@ is_copy_to u s (Some e) = slice_index s.cpu.regs ANSWER == 1 && (e.primitive == 
 -- whether one returns in step number t that did
 abbrev pub copies_at : Run → (u t : ℕ) → Bool
 copies_at r u t =
-    if begins r.around (state_at r t) then false else is_copy_to u (state_at r (suc t)) (returned (state_at r (suc t)) (noted_call r.around r.first t))
+    if begins_turn r.around (state_at r t) then false else is_copy_to u (state_at r (suc t)) (returned (state_at r (suc t)) (noted_call r.around r.first t))
 
 -- the read of the word that the first of these entries has, which was copied to user u
 abbrev pub entry_reads : Map → State → (u : ℕ) → List JournalEntry → List Call
@@ -66,7 +66,7 @@ rows_script (Trace u) r p t = scripts (λ i. entry_script r p u t (length (p.sho
 
 -- STEP NUMBER t: its transfer, and its rows
 abbrev pub step_script : Run → Past → (t : ℕ) → List Call
-step_script r p t = due r.around (state_at r t) ++ rows_script r.view r p t
+step_script r p t = script_of_step r.around (state_at r t) ++ rows_script r.view r p t
 
 -- n steps from step number t on
 abbrev pub steps_script : Run → Past → (t n : ℕ) → List Call

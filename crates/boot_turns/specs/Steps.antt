@@ -11,7 +11,7 @@ use Rattle.boot_report.specs.Leaves.{OnlyViews}
 use Rattle.boot_turns.specs.declared.tracer.Tracer.{Tracer}
 use Rattle.boot_turns.specs.declared.answers.RunFault.{RunFault}
 use Rattle.boot_turns.specs.declared.answers.RunFault.TheVariants.{StepLimit, Disk, Sink}
-use Rattle.boot_turns.specs.Tracing.{CanTrace, counted, reads_of}
+use Rattle.boot_turns.specs.Tracing.{CanTrace, counted_step, reads_of}
 
 -- what a machine has to be for so many steps over a disk of so many sectors, with what is kept of a trace: its steps stay countable in 64 bits, its command
 -- names a sector of the disk, its memory has the word that says the current user, and where a user is traced the trace can be printed

@@ -1,6 +1,6 @@
 -- What sectors are where the disk failed in the transfer of a step.
 use Rattle.std.specs.Prelude.{◌≡◌, ℕ, zero, List, slice_set}
-use Rattle.mips_table.specs.Device.{Outside, Pending, Reading, Writing}
+use Rattle.mips_table.specs.Device.{Environment, Pending, Reading, Writing}
 use Rattle.mips_table.specs.Machine.{State}
 use Rattle.mips_machine.specs.Steps.{before_count}
 
@@ -12,5 +12,5 @@ TornBy (Writing zero sector) old now = (words : List ℕ) × (now ≡ slice_set 
 TornBy other old now = ⊥
 
 -- where that fails of the command that is under way just before the step of a state ends
-abbrev pub Torn : Outside → State → List (List ℕ) → Type 0
+abbrev pub Torn : Environment → State → List (List ℕ) → Type 0
 Torn x s now = TornBy (before_count x s).pending s.device.sectors now

@@ -1,6 +1,6 @@
 -- What one step of a loop does to a trace.
 use Rattle.std.specs.Prelude.{◌≡◌, ℕ, suc, ◌≤◌, Option, Some, List, length, Result, MatchResult}
-use Rattle.mips_table.specs.Device.{Outside}
+use Rattle.mips_table.specs.Device.{Environment}
 use Rattle.mips_table.specs.Machine.{State, run}
 use Rattle.mips_machine.specs.Machine.{Held}
 use Rattle.mips_machine.specs.Steps.{outside_of}
@@ -13,24 +13,24 @@ use Rattle.boot_turns.specs.declared.completion.Stepped.{Stepped}
 use Rattle.boot_turns.specs.declared.tracer.Tracer.{Tracer}
 use Rattle.boot_turns.specs.declared.answers.RunFault.{RunFault}
 use Rattle.boot_turns.specs.declared.answers.RunFault.TheVariants.{StepLimit, Disk, Sink}
-use Rattle.boot_turns.specs.Completes.{seen}
+use Rattle.boot_turns.specs.Completes.{state_seen}
 use Rattle.boot_turns.specs.Premises.{StartsFrom}
 use Rattle.boot_turns.specs.Tracing.{Traced, RowsTorn, RowsCut, reads_of}
 
 -- the disk failed in step number t or in its rows, or the sink in its rows
-abbrev pub StepStops : Outside → System → State → (u t : ℕ) → (base : Option (List ℕ)) → (now : Option State) → (kept : Option Tracer) →
+abbrev pub StepStops : Environment → System → State → (u t : ℕ) → (base : Option (List ℕ)) → (now : Option State) → (kept : Option Tracer) →
     (text : Option (List ℕ)) → RunFault → Type 0
 StepStops x y s u t base now kept text StepLimit = ⊥
 StepStops x y s u t base now kept text Disk = RowsTorn x y s u t (reads_of kept) base now text
 StepStops x y s u t base now kept text Sink = RowsCut x y s u t (reads_of kept) base text
 
 -- ONE STEP OF A TRACE: for every run from a start that stands there, of one of its users
-abbrev pub StepTraces : Outside → Map → (held new : Held) → (told retold : Option (List (List ℕ))) → (before after : Option Tracer) →
+abbrev pub StepTraces : Environment → Map → (held new : Held) → (told retold : Option (List (List ℕ))) → (before after : Option Tracer) →
     (text retext : Option (List ℕ)) → Result Stepped RunFault → Type 0
 StepTraces x m held new told retold before after text retext result =
     (c : CUnit) (y : System) (s : State) (late limit u t : ℕ) (base : Option (List ℕ)) → StartsFrom (IsTypedState c) x y s late limit →
-    m ≡ (site_of y.boot).map → 1 ≤ u → u ≤ length y.boot.users → seen told held ≡ Some (run x s t) → Traced x y s u t base before text →
-    MatchResult result (λ _. Traced x y s u (suc t) base after retext) (StepStops x y s u t base (seen retold new) after retext)
+    m ≡ (site_of y.boot).map → 1 ≤ u → u ≤ length y.boot.users → state_seen told held ≡ Some (run x s t) → Traced x y s u t base before text →
+    MatchResult result (λ _. Traced x y s u (suc t) base after retext) (StepStops x y s u t base (state_seen retold new) after retext)
 
 -- over a disk of so many sectors
 abbrev pub StepTracesOver : (count : ℕ) → Map → (held new : Held) → (told retold : Option (List (List ℕ))) → (before after : Option Tracer) →

@@ -2,7 +2,7 @@
 use Rattle.std.specs.Prelude.{◌≡◌, ◌≢◌, ℕ, suc, ◌+◌, ◌*◌, ◌<◌, ◌≤◌, ◌⊎◌, ◌==◌, Bool, false, if◌then◌else◌}
 use Rattle.std.specs.Prelude.{Option, Some, None, List, [], length, take, slice_index, Result, MatchResult, OnOk}
 use Rattle.std.specs.Io.KnownBytes.{append_known}
-use Rattle.mips_table.specs.Device.{Outside}
+use Rattle.mips_table.specs.Device.{Environment}
 use Rattle.mips_table.specs.Machine.{State, run}
 use Rattle.mips_table.specs.Turns.{rests}
 use Rattle.mips_machine.specs.Machine.{Held, state_of}
@@ -21,7 +21,7 @@ use Rattle.boot_turns.specs.declared.tracer.Entered.{Entered}
 use Rattle.boot_turns.specs.declared.tracer.Tracer.{Tracer}
 use Rattle.boot_turns.specs.declared.answers.RunFault.{RunFault}
 use Rattle.boot_turns.specs.declared.answers.RunFault.TheVariants.{StepLimit, Disk, Sink}
-use Rattle.boot_turns.specs.Completes.{seen, note, SeenTorn}
+use Rattle.boot_turns.specs.Completes.{state_seen, note, SeenTorn}
 use Rattle.boot_turns.specs.Entries.{turn_begins, call_ends, return_entries, IsPlaced}
 use Rattle.boot_turns.specs.Returns.{noted_call, notes_on, returned, CopyReturns, copy_reads, call_reads, return_reads, reads_before}
 use Rattle.boot_turns.specs.JournalText.{steps_after, pending_steps}
@@ -87,8 +87,8 @@ abbrev pub FollowedKeeps : {T E : Type 0} → (told : Option (List (List ℕ))) 
 FollowedKeeps told held m kept new current began result = WhereTold told held m kept (λ s words. OnOk result (new ≡ kept_after m s kept current began words))
 
 -- an untrapped step under this current user is counted, and has no rows
-abbrev pub counted : (current : ℕ) → Tracer → Tracer
-counted current kept = record kept { steps = if current == kept.user then kept.steps + 1 else kept.steps }
+abbrev pub counted_step : (current : ℕ) → Tracer → Tracer
+counted_step current kept = record kept { steps = if current == kept.user then kept.steps + 1 else kept.steps }
 
 -- of every words of the traced user that the pages tell, where those that a primitive with this answer copied to it lie
 abbrev pub WhereCopied : Option (List (List ℕ)) → Held → Map → Tracer → Entered → (answer : ℕ) → (List ℕ → Type 0) → Type 0
@@ -125,11 +125,11 @@ pub record EndCut (told : Option (List (List ℕ))) (held : Held) (m : Map) (kep
   pub read : new.reads ≤ kept.reads + call_reads m (state_of held []) kept.user e answer
 
 -- what is kept at step t, where j is shown
-abbrev pub tracer_at : Outside → System → State → (u t : ℕ) → List JournalEntry → Tracer
+abbrev pub tracer_at : Environment → System → State → (u t : ℕ) → List JournalEntry → Tracer
 tracer_at x y s u t j = record { user = u; steps = pending_steps j; call = noted_call x s t; reads = reads_before x (map_of y.boot) s u t }
 
 -- AT STEP t, over a sink that had `base` before the first row of the journal: the rows of what is shown are printed, but for a last row of steps
-pub record Traced (x : Outside) (y : System) (s : State) (u t : ℕ) (base : Option (List ℕ)) (kept : Option Tracer)
+pub record Traced (x : Environment) (y : System) (s : State) (u t : ℕ) (base : Option (List ℕ)) (kept : Option Tracer)
     (text : Option (List ℕ)) : Type 0 where
   pub journal : List JournalEntry
   pub shown : Shown x s y u t journal
@@ -137,7 +137,7 @@ pub record Traced (x : Outside) (y : System) (s : State) (u t : ℕ) (base : Opt
   pub printed : text ≡ append_known base (open_journal_rows journal)
 
 -- the disk failed in the transfer that was due in step number `at`: the rows of what was shown before it stand, for which n words had been read
-pub record StepTears (x : Outside) (y : System) (s : State) (u at n : ℕ) (base : Option (List ℕ)) (now : Option State) (text : Option (List ℕ)) : Type 0 where
+pub record StepTears (x : Environment) (y : System) (s : State) (u at n : ℕ) (base : Option (List ℕ)) (now : Option State) (text : Option (List ℕ)) : Type 0 where
   pub before : List JournalEntry
   pub shown_before : Shown x s y u at before
   pub torn : SeenTorn x (run x s at) now
@@ -146,7 +146,7 @@ pub record StepTears (x : Outside) (y : System) (s : State) (u at n : ℕ) (base
 
 -- or where a page was read for the row of a word that a primitive copied to the user: the step is done, the rows of the words before it stand too, and
 -- that word is the last of those that were read
-pub record RowsTear (x : Outside) (y : System) (s : State) (u at n : ℕ) (base : Option (List ℕ)) (now : Option State) (text : Option (List ℕ)) : Type 0 where
+pub record RowsTear (x : Environment) (y : System) (s : State) (u at n : ℕ) (base : Option (List ℕ)) (now : Option State) (text : Option (List ℕ)) : Type 0 where
   pub copy : CopyReturns x s u at
   pub done : now ≡ Some (run x s (suc at))
   pub before : List JournalEntry
@@ -159,12 +159,12 @@ pub record RowsTear (x : Outside) (y : System) (s : State) (u at n : ℕ) (base 
   pub read : n ≡ reads_before x (map_of y.boot) s u at + copy_reads (map_of y.boot) (run x s (suc at)) u copy.ends.call (suc words)
   pub printed : text ≡ append_known base (open_journal_rows (take (length before + words) after))
 
-abbrev pub RowsTorn : Outside → System → State → (u at n : ℕ) → (base : Option (List ℕ)) → (now : Option State) → (text : Option (List ℕ)) → Type 0
+abbrev pub RowsTorn : Environment → System → State → (u at n : ℕ) → (base : Option (List ℕ)) → (now : Option State) → (text : Option (List ℕ)) → Type 0
 RowsTorn x y s u at n base now text = StepTears x y s u at n base now text ⊎ RowsTear x y s u at n base now text
 
 -- the sink failed in the rows of step number `at`, which completes no turn and has some: those of what was shown before it stand, and n words had been
 -- read for rows, of its own at most all
-pub record RowsCut (x : Outside) (y : System) (s : State) (u at n : ℕ) (base text : Option (List ℕ)) : Type 0 where
+pub record RowsCut (x : Environment) (y : System) (s : State) (u at n : ℕ) (base text : Option (List ℕ)) : Type 0 where
   pub busy : rests (run x s (suc at)) ≡ false
   pub before : List JournalEntry
   pub after : List JournalEntry
@@ -178,7 +178,7 @@ pub record RowsCut (x : Outside) (y : System) (s : State) (u at n : ℕ) (base t
   pub printed : text ≡ append_known base rows
 
 -- steps were made from step t on, each taken from the budget
-pub record TracedOn (x : Outside) (y : System) (s : State) (u t : ℕ) (base : Option (List ℕ)) (before after : ℕ) (kept : Option Tracer)
+pub record TracedOn (x : Environment) (y : System) (s : State) (u t : ℕ) (base : Option (List ℕ)) (before after : ℕ) (kept : Option Tracer)
     (text : Option (List ℕ)) : Type 0 where
   pub at : ℕ
   pub from : t ≤ at
@@ -191,7 +191,7 @@ reads_of None = 0
 reads_of (Some kept) = kept.reads
 
 -- how they end by a fault
-abbrev pub TraceStops : Outside → System → State → (u t : ℕ) → (base : Option (List ℕ)) → (now : Option State) → (before after : ℕ) →
+abbrev pub TraceStops : Environment → System → State → (u t : ℕ) → (base : Option (List ℕ)) → (now : Option State) → (before after : ℕ) →
     (kept : Option Tracer) → (text : Option (List ℕ)) → RunFault → Type 0
 TraceStops x y s u t base now before after kept text StepLimit = TracedOn x y s u t base before after kept text
 TraceStops x y s u t base now before after kept text Disk = (at : ℕ) × (t ≤ at) × (after + suc at ≡ before + t)
@@ -215,6 +215,6 @@ abbrev pub TraceRuns : (count : ℕ) → Map → (old new : Held) → (told reto
 TraceRuns count m held new told retold before after result =
     (c : CUnit) (y : System) (s : State) (late limit u t : ℕ) (base : Option (List ℕ)) →
     StartsFrom (IsTypedState c) (outside_of held.rows count) y s late limit → m ≡ (site_of y.boot).map → 1 ≤ u → u ≤ length y.boot.users →
-    seen told held ≡ Some (run (outside_of held.rows count) s t) → Traced (outside_of held.rows count) y s u t base before.tracer before.text →
+    state_seen told held ≡ Some (run (outside_of held.rows count) s t) → Traced (outside_of held.rows count) y s u t base before.tracer before.text →
     MatchResult result (λ _. TracedOn (outside_of held.rows count) y s u t base before.budget after.budget after.tracer after.text)
-    (TraceStops (outside_of held.rows count) y s u t base (seen retold new) before.budget after.budget after.tracer after.text)
+    (TraceStops (outside_of held.rows count) y s u t base (state_seen retold new) before.budget after.budget after.tracer after.text)

@@ -2,17 +2,17 @@
 use Rattle.std.specs.Prelude.{◌≡◌, ℕ, List, [], ◌∷◌, ◌++◌, map, replicate, take, drop, slice_index, Some}
 use Rattle.std.specs.List.{range_with_len}
 use Rattle.mips_table.specs.Device.{HasEightLines, LinesEnd}
-use Rattle.mips_table.specs.Machine.{State, start, run}
-use Rattle.mips_table.specs.Turns.{turn_of, complete, lines_of, end_within}
+use Rattle.mips_table.specs.Machine.{State, power_on, run}
+use Rattle.mips_table.specs.Turns.{turn_of, complete, lines_of_turn, end_within}
 use Rattle.mips_table.specs.Samples.{reading, sampled, sectors as eight_sectors}
 use Rattle.cvm_outside.specs.Script.{Read}
-use Rattle.mips_machine.specs.Steps.{due}
+use Rattle.mips_machine.specs.Steps.{script_of_step}
 use Rattle.boot_turns.specs.StepScript.{transfers}
 use Rattle.boot_turns.specs.Samples.{two_frames, few_words, raising, conversing, fetching}
 
 -- the machine of 21 words at its start
 abbrev pub small : State
-small = start few_words [] []
+small = power_on few_words [] []
 
 -- with a line at a step: the turns begun before each of steps 0 to 27
 abbrev pub begun_before : ℕ → List ℕ
@@ -24,7 +24,7 @@ complete_at at = map (complete (raising at) small) (range_with_len 0 28)
 
 -- the lines of turns 0 to 5
 abbrev pub lines_by_turn : ℕ → List ℕ
-lines_by_turn at = map (lines_of (raising at) small) (range_with_len 0 6)
+lines_by_turn at = map (lines_of_turn (raising at) small) (range_with_len 0 6)
 
 -- the steps at which 0 to 5 turns are complete, or the machine is off
 abbrev pub ends_by_turn : ℕ → List ℕ
@@ -59,13 +59,13 @@ pub record AreLateLinesLeft : Type 0 where
 
 -- the machine of two frames, with a line at step 12
 abbrev pub framed : State
-framed = start two_frames [] []
+framed = power_on two_frames [] []
 
 -- its turns: the reset, a step, the system call; the line belongs to a turn that doesn't begin
 pub record AreTurnsCounted : Type 0 where
   pub begun : map (turn_of (raising 12) framed) (1 ∷ 10 ∷ 11 ∷ 12 ∷ 15 ∷ []) ≡ 1 ∷ 1 ∷ 2 ∷ 3 ∷ 3 ∷ []
   pub complete : map (complete (raising 12) framed) (9 ∷ 10 ∷ 11 ∷ 12 ∷ 14 ∷ 15 ∷ []) ≡ 0 ∷ 1 ∷ 2 ∷ 2 ∷ 2 ∷ 3 ∷ []
-  pub lines : map (lines_of (raising 12) framed) (0 ∷ 1 ∷ 2 ∷ 3 ∷ []) ≡ 0 ∷ 0 ∷ 0 ∷ 8 ∷ []
+  pub lines : map (lines_of_turn (raising 12) framed) (0 ∷ 1 ∷ 2 ∷ 3 ∷ []) ≡ 0 ∷ 0 ∷ 0 ∷ 8 ∷ []
   pub ends : map (λ k. end_within (raising 12) framed k 20) (0 ∷ 1 ∷ 2 ∷ 3 ∷ 7 ∷ []) ≡ 0 ∷ 10 ∷ 11 ∷ 15 ∷ 15 ∷ []
   pub off : (run (raising 12) framed 15).off ≡ Some 0
 
@@ -79,9 +79,9 @@ pub record IsInputTaken : Type 0 where
 
 -- of a machine that begins to read sector 7 in step 5, by a command that is busy for 3 steps: the transfer is due in step 8 alone
 pub record IsTransferDue : Type 0 where
-  pub by_step : map (λ t. due sampled (run sampled (start reading eight_sectors []) t)) (range_with_len 0 11) ≡ replicate 8 [] ++ (Read 7 ∷ []) ∷ [] ∷ [] ∷ []
-  pub all : transfers sampled (start reading eight_sectors []) 0 11 ≡ Read 7 ∷ []
-  pub later : transfers sampled (start reading eight_sectors []) 9 2 ≡ []
+  pub by_step : map (λ t. script_of_step sampled (run sampled (power_on reading eight_sectors []) t)) (range_with_len 0 11) ≡ replicate 8 [] ++ (Read 7 ∷ []) ∷ [] ∷ [] ∷ []
+  pub all : transfers sampled (power_on reading eight_sectors []) 0 11 ≡ Read 7 ∷ []
+  pub later : transfers sampled (power_on reading eight_sectors []) 9 2 ≡ []
 
 -- the outside of these rows is one that a schedule may give
 pub record AreLinesOfASchedule : Type 0 where

@@ -8,7 +8,7 @@ ghost use Rattle.boot_turns.specs.RowScripts.{MakesRows, copy_script};
 ghost use Rattle.boot_turns.specs.StepRows.{CopyPrints, PutsEntries};
 ghost use Rattle.boot_turns.specs.Steps.{EndLeaves, KeepsReads};
 ghost use Rattle.boot_turns.specs.Tracing.{CanTrace};
-ghost use Rattle.boot_report.specs.Leaves.{Puts};
+ghost use Rattle.boot_report.specs.Leaves.{PutsRows};
 
 use crate::answers::RunFault;
 use crate::completion::Begun;
@@ -57,7 +57,7 @@ pub fn note_entry(machine: &Machine) -> Option<Entered>
 
 // Prints the row of the steps that have none yet, and then this one.
 fn put_after<O: Sink>(steps: u64, row: &[u8], out: &mut O) -> Result<(), SinkFault>
-    ensures { Puts O.text O.faults out.old out.new (steps_text steps ++ row.now) result }
+    ensures { PutsRows O.text O.faults out.old out.new (steps_text steps ++ row.now) result }
 {
     out.put(steps_row(steps).as_str().as_bytes())?;
     out.put(row)
@@ -115,7 +115,7 @@ impl Tracer {
     //
     // A fault of the sink.
     fn put<O: Sink>(&mut self, row: &[u8], out: &mut O) -> Result<(), SinkFault>
-        ensures put { Puts O.text O.faults out.old out.new (steps_text self.old.steps ++ row.now) result }
+        ensures put { PutsRows O.text O.faults out.old out.new (steps_text self.old.steps ++ row.now) result }
         ensures steps { OnOk result (self.new ≡ record self.old { steps = 0 }) }
         ensures keeps { KeepsReads self.old self.new }
     {

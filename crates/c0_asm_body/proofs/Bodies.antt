@@ -10,14 +10,14 @@ use Rattle.mips_table.specs.declared.inst.Inst.{Inst}
 use Rattle.mips_table.specs.Encoding.{InRange, encoding}
 use Rattle.mips_table.specs.Decoding.{decoding}
 use Rattle.mips_table.specs.Device.{Idle}
-use Rattle.mips_table.specs.Processor.{write}
+use Rattle.mips_table.specs.Processor.{write_register}
 use Rattle.mips_table.specs.Fits.{IsWord, AreRegisters, CpuFits, EffectFits, KeepsWords}
 use Rattle.mips_table.specs.Code.{put, reg, with_reg, Contents, Behind, World, at_with, Steps, Reaches, CodeAt, RunLaws, effect_at}
-use Rattle.masm.specs.Says.{Gives, Said, written}
+use Rattle.masm.specs.Says.{Gives, Said, register_written}
 use Rattle.masm.specs.Laws.{RunsCompose, StraightRuns}
 use Rattle.c0_meaning.specs.Value.{Values, count}
 use Rattle.c0_meaning.specs.Asm.{may_use, is_allowed_word, are_allowed_words}
-use Rattle.c0_meaning.specs.AsmBody.{argument_words, start_registers, registers_after, performed, run_words}
+use Rattle.c0_meaning.specs.AsmBody.{argument_words, start_registers, registers_after, after_instruction, run_words}
 use Rattle.c0_meaning.specs.RunLaws.{LookAtTheirs}
 use Rattle.c0_asm_body.specs.Code.{arguments_code, instruction_of, body_code, asm_code}
 use Rattle.c0_asm_body.specs.Laws.{HoldInts, AsmRuns}
@@ -51,7 +51,7 @@ pub record Stays (c c' : Contents) : Type 0 where
 
 -- a register is set in both
 module _ (c : Contents) (regs : List ℕ) (r v : ℕ) (ok : IsTrue (may_use r)) where
-  agrees : length regs ≡ 32 → Agree c regs → Agree (with_reg c r v) (write regs r v)
+  agrees : length regs ≡ 32 → Agree c regs → Agree (with_reg c r v) (write_register regs r v)
   agrees long same k use_k = by_test (r == 0) refl
     where
       by_place : (b : Bool) → (k == r) ≡ b → r ≢ 0 → reg (put c.regs r v) k ≡ slice_index (slice_set regs r v) k
@@ -115,11 +115,11 @@ module _ (w : World) (decoded : (word : ℕ) → IfSome (decoding word) (λ i. I
   step n i c d regs at idle s =
       let said : Said w i c d (effect_at i n c) (Gives s.value) = subst (λ e. Said w i c d e (Gives s.value)) (sym s.code) refl in
       one_step w runs n (n + 1) c d (with_reg c s.register s.value) d (λ e. absurd (omega (arith, e)))
-      (subst (λ e. Reaches w 1 (at_with n c d) (at_with (n + 1) (with_reg c (written e) s.value) d)) s.code
+      (subst (λ e. Reaches w 1 (at_with n c d) (at_with (n + 1) (with_reg c (register_written e) s.value) d)) s.code
       (straight.next i (Gives s.value) n c d at s.straight idle said))
 
   written_fits : (regs : List ℕ) (i : Inst) (n : ℕ) (c : Contents) → AreRegisters regs → InRange i → (s : Sets n c regs i) → AreRegisters
-      (write regs s.register s.value)
+      (write_register regs s.register s.value)
   written_fits regs i n c h range s =
       let effect = keeps.effects i (record { pc = 0; regs = regs; hi = 0; lo = 0 }) (fits_cpu regs h) range in
       let word = subst (λ e. EffectFits e) s.list effect in
@@ -142,9 +142,9 @@ module _ (w : World) (decoded : (word : ℕ) → IfSome (decoding word) (λ i. I
       let of = is_of decoded word (left (is_allowed_word word) (are_allowed_words words) ok) in
       let s = sets n c regs same (instruction_of word) of.allowed in
       let c1 = with_reg c s.register s.value in
-      let next_regs : performed regs (decoding word) ≡ write regs s.register s.value = ap (performed regs) of.decoded ∙ ap
+      let next_regs : after_instruction regs (decoding word) ≡ write_register regs s.register s.value = ap (after_instruction regs) of.decoded ∙ ap
       (registers_after regs) s.list in
-      let rest = body_runs words (n + 1) c1 d (write regs s.register s.value) (right (is_allowed_word word) (are_allowed_words words) ok) at.1 idle
+      let rest = body_runs words (n + 1) c1 d (write_register regs s.register s.value) (right (is_allowed_word word) (are_allowed_words words) ok) at.1 idle
       (written_fits regs (instruction_of word) n c fit of.range s) (agrees c regs s.register s.value s.may fit.size same) in
       let count : 1 + length words ≡ length (word ∷ words) = omega arith in
       let there : n + 1 + length words ≡ n + length (word ∷ words) = omega arith in

@@ -7,7 +7,7 @@ use Rattle.mips_table.specs.declared.effect.Effect.TheVariants.{Set}
 use Rattle.mips_table.specs.Arith.{sum, difference, less, shifted_left, shifted_right, shifted_signed, nor, flag, extended}
 use Rattle.mips_table.specs.Effect.{effect_of, next}
 use Rattle.mips_table.specs.Code.{Contents, reg, effect_at}
-use Rattle.masm.specs.Says.{goes_on}
+use Rattle.masm.specs.Says.{falls_through}
 use Rattle.c0_meaning.specs.Asm.{may_use, is_allowed}
 use Rattle.c0_asm_body.proofs.Words.{is_not, left, right}
 
@@ -22,11 +22,11 @@ pub record Sets (n : ℕ) (c : Contents) (regs : List ℕ) (i : Inst) : Type 0 w
   pub may : IsTrue (may_use register)
   pub code : effect_at i n c ≡ Set register value (next (4 * n))
   pub list : effect_of i 0 (slice_index regs) 0 0 ≡ Set register value (next 0)
-  pub straight : goes_on i ≡ true
+  pub straight : falls_through i ≡ true
 
 module _ (n : ℕ) (c : Contents) (regs : List ℕ) (same : Agree c regs) where
   from_one : (i : Inst) (f : ℕ → ℕ) (d r : ℕ) → may_use d && may_use r ≡ true → effect_at i n c ≡ Set d (f (reg c.regs r)) (next (4 * n)) →
-      effect_of i 0 (slice_index regs) 0 0 ≡ Set d (f (slice_index regs r)) (next 0) → goes_on i ≡ true → Sets n c regs i
+      effect_of i 0 (slice_index regs) 0 0 ≡ Set d (f (slice_index regs r)) (next 0) → falls_through i ≡ true → Sets n c regs i
   from_one i f d r ok e l g = record {
     register = d;
     value = f (slice_index regs r);
@@ -38,7 +38,7 @@ module _ (n : ℕ) (c : Contents) (regs : List ℕ) (same : Agree c regs) where
 
   from_two : (i : Inst) (f : ℕ → ℕ → ℕ) (d r s : ℕ) → may_use d && (may_use r && may_use s) ≡ true → effect_at i n c ≡ Set d
       (f (reg c.regs r) (reg c.regs s)) (next (4 * n)) → effect_of i 0 (slice_index regs) 0 0 ≡ Set d (f (slice_index regs r) (slice_index regs s))
-      (next 0) → goes_on i ≡ true → Sets n c regs i
+      (next 0) → falls_through i ≡ true → Sets n c regs i
   from_two i f d r s ok e l g =
       let rest = right (may_use d) (may_use r && may_use s) ok in
       record {

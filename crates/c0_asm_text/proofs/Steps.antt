@@ -4,14 +4,14 @@ use Rattle.std.proofs.lemmas.Bool.{and_from}
 use Rattle.std.specs.Option.{option_or, IfSome}
 use Rattle.std.specs.List.{list_all}
 use Rattle.mips_asm.specs.declared.fault.AsmFault.{AsmFault}
-use Rattle.mips_asm.specs.Line.{meaning, statement}
+use Rattle.mips_asm.specs.Line.{line_meaning, statement}
 use Rattle.mips_asm.specs.Assembled.{assembled}
 use Rattle.c0_meaning.specs.Asm.{is_allowed_word, are_allowed_words}
-use Rattle.c0_asm_text.specs.AsmText.{is_plain, allowed, of_assembled, line_words, words_if, words_in, first_bad}
+use Rattle.c0_asm_text.specs.AsmText.{is_plain_line, allowed, of_assembled, line_words, words_if, words_in, first_bad}
 
 -- an empty line is allowed
 pub empty_line : line_words [] ≡ Some []
-unfolding line_words assembled meaning statement
+unfolding line_words assembled line_meaning statement
 empty_line = refl
 
 -- the words so far
@@ -64,7 +64,7 @@ result_words (Err f) = refl
 line_allowed : (line : List ℕ) → list_all is_allowed_word (words_if (line_words line)) ≡ true
 unfolding line_words
 line_allowed line =
-    elim (is_plain line) as (λ b. list_all is_allowed_word (words_if (cond b (of_assembled (assembled line)) None)) ≡ true) [
+    elim (is_plain_line line) as (λ b. list_all is_allowed_word (words_if (cond b (of_assembled (assembled line)) None)) ≡ true) [
       | true ↦ result_words (assembled line)
       | false ↦ refl
     ]

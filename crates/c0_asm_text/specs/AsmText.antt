@@ -3,13 +3,13 @@
 use Rattle.std.specs.Prelude.{ℕ, ◌+◌, Bool, not, ◌&&◌, ◌==◌, List, [], ◌∷◌, ◌++◌, slice_index, Option, Some, None, is_some, Result, Ok, Err, if◌then◌else◌}
 use Rattle.std.specs.List.{list_any}
 use Rattle.mips_asm.specs.declared.fault.AsmFault.{AsmFault}
-use Rattle.mips_asm.specs.Text.{lines_of, content, trim_start}
+use Rattle.mips_asm.specs.Text.{asm_lines, content, trim_start}
 use Rattle.mips_asm.specs.Assembled.{assembled}
 use Rattle.c0_meaning.specs.Asm.{is_allowed_word}
 
 -- whether a line has no label and no directive: no `:` before its comment, and no `.` at its start
-abbrev pub is_plain : List ℕ → Bool
-is_plain line = not (list_any (λ c. c == 58) (content line)) && not (slice_index (trim_start line) 0 == 46)
+abbrev pub is_plain_line : List ℕ → Bool
+is_plain_line line = not (list_any (λ c. c == 58) (content line)) && not (slice_index (trim_start line) 0 == 46)
 
 -- what a line that assembles by itself to these words says
 abbrev pub allowed : List ℕ → Option (List ℕ)
@@ -24,7 +24,7 @@ of_assembled (Err f) = None
 
 -- the words of a line, none or one, if the line is allowed
 unfoldable pub line_words : List ℕ → Option (List ℕ)
-line_words line = if is_plain line then of_assembled (assembled line) else None
+line_words line = if is_plain_line line then of_assembled (assembled line) else None
 
 -- these words, if the line has them
 abbrev pub words_if : Option (List ℕ) → List ℕ
@@ -43,8 +43,8 @@ first_bad number (line ∷ rest) = if is_some (line_words line) then first_bad (
 
 -- the words of a text
 abbrev pub text_words : List ℕ → List ℕ
-text_words text = words_in (lines_of text)
+text_words text = words_in (asm_lines text)
 
 -- the first line of a text that isn't allowed; that of the brace before the text is 1
 abbrev pub bad_line : List ℕ → Option ℕ
-bad_line text = first_bad 1 (lines_of text)
+bad_line text = first_bad 1 (asm_lines text)

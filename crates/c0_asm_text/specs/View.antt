@@ -3,7 +3,7 @@ use Rattle.std.specs.Prelude.{ℕ, List, [], ◌∷◌, Option, Some, None}
 use Rattle.c0_asm_text.specs.declared.line.Line.{Line}
 use Rattle.c0_asm_text.specs.declared.line.Line.TheVariants.{Blank, Word, NotAllowed}
 use Rattle.std.specs.Borrow.{Bor}
-use Rattle.mips_asm.specs.Text.{lines_of}
+use Rattle.mips_asm.specs.Text.{asm_lines}
 
 -- the words of a line, if it is allowed
 abbrev pub line_view : Line → Option (List ℕ)
@@ -14,4 +14,4 @@ line_view NotAllowed = None
 -- the lines of what is left of a text, if anything is
 abbrev pub lines_left : Option (Bor (List ℕ)) → List (List ℕ)
 lines_left None = []
-lines_left (Some rest) = lines_of rest.now
+lines_left (Some rest) = asm_lines rest.now

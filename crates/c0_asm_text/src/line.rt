@@ -5,7 +5,7 @@ ghost use Rattle.std.specs.List.{list_any, prefix_len};
 ghost use Rattle.std.specs.Char.{is_ascii_whitespace};
 ghost use Rattle.mips_asm.specs.Text.{content as content_of, trim_start as trim_start_of};
 ghost use Rattle.c0_meaning.specs.Asm.{may_use as may_use_of, is_allowed as is_allowed_of, is_allowed_word as is_allowed_word_of};
-ghost use Rattle.c0_asm_text.specs.AsmText.{is_plain as is_plain_of, allowed as allowed_of, line_words};
+ghost use Rattle.c0_asm_text.specs.AsmText.{is_plain_line as is_plain_of, allowed as allowed_of, line_words};
 ghost use Rattle.c0_asm_text.specs.View.{line_view};
 
 use mips_asm::{AsmFault, assemble};

@@ -3,7 +3,7 @@
 ghost use Rattle.std.specs.Prelude.{◌≡◌, ◌==◌, ◌<◌, ◌≤◌, ◌-◌, ◌^◌, ◌+◌, ◌++◌, ◌∷◌, [], length, IfOk, OnOk, IfSome, IsTrue, is_some, Option, Some, None};
 ghost use Rattle.std.specs.Prelude.{if◌then◌else◌, ℕ, List};
 ghost use Rattle.std.specs.Option.{option_or};
-ghost use Rattle.mips_asm.specs.Text.{lines_of};
+ghost use Rattle.mips_asm.specs.Text.{asm_lines};
 ghost use Rattle.c0_meaning.specs.Asm.{are_allowed_words};
 ghost use Rattle.c0_asm_text.specs.AsmText.{words_if, text_words, bad_line};
 ghost use Rattle.c0_asm_text.specs.View.{line_view, lines_left};
@@ -22,7 +22,7 @@ pub struct AsmReading {
 
 // The first line, and what stands after its LF if there is one.
 fn cut(text: &[u8]) -> (&[u8], Option<&[u8]>)
-    ensures lines { lines_of text.now ≡ result.0.now ∷ lines_left result.1 }
+    ensures lines { asm_lines text.now ≡ result.0.now ∷ lines_left result.1 }
     ensures parts { IfSome result.1 (λ rest. length result.0.now + 1 + length rest.now ≡ length text.now) }
     ensures within { length result.0.now ≤ length text.now }
 {

@@ -1,5 +1,5 @@
 pub mod Numbered
-pub mod Node
+pub mod NodeChecks
 pub mod PartLemmas
 pub mod InPlace
 pub mod StmtLemmas

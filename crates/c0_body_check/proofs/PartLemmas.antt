@@ -7,11 +7,11 @@ use Rattle.c0_meaning.specs.Ty.{Ty, pointer, ty_of}
 use Rattle.c0_meaning.specs.Env.{Env, Callee, callee_named}
 use Rattle.c0_meaning.specs.Fault.{Fault, kept_all, TOO_DEEP}
 use Rattle.c0_meaning.specs.DeclaredTypes.{fault_if, type_faults}
-use Rattle.c0_meaning.specs.Expression.{own, one, both, is_place, span_of, asked, asked_faults, type_of, faults}
-use Rattle.c0_meaning.specs.Statement.{MAX_NEED, same_rule, given_verdict, given_faults, deep_faults, left_rule, left_type, left_faults, result_faults, callee_faults, params_of, first_of, rest_of, args_faults, assign_need, call_need, new_need, assign_faults, call_faults, new_faults}
-use Rattle.c0_body_check.specs.Check.{Settles, Checks, ChecksAsked}
+use Rattle.c0_meaning.specs.Expression.{own, one, both, is_lvalue, span_of, type_asked, asked_faults, type_of, faults}
+use Rattle.c0_meaning.specs.Statement.{MAX_NEED, same_rule, given_verdict, given_faults, deep_faults, left_rule, left_type, left_faults, result_faults, callee_faults, parameter_types, first_of, rest_of, args_faults, assign_need, call_need, new_need, assign_faults, call_faults, new_faults}
+use Rattle.c0_body_check.specs.Check.{SettlesType, Checks, ChecksAsked}
 use Rattle.c0_body_check.specs.Stmts.{ChecksGiven, ChecksTested, ChecksLeft, ChecksArgs}
-use Rattle.c0_body_check.proofs.Node.{one_part}
+use Rattle.c0_body_check.proofs.NodeChecks.{one_part}
 use Rattle.c0_name_check.proofs.Meeting.{kept_all-append, two_met}
 use Rattle.c0_body_check.proofs.InPlace.{rest, rest-next}
 
@@ -19,7 +19,7 @@ pub given_part : (env : Env) (want a w b : Option Ty) (e : CExpr) (s : Span) (m 
     → ChecksAsked env want e a m n new → w ≡ want → b ≡ a → s ≡ span_of e → n' ≡ kept_all n (own (both w b (same_rule s))) → ChecksGiven env want e m n' new
 given_part env want a w b e s m n n' new c p q k met =
     let rule : both w b (same_rule s) ≡ given_verdict env want e =
-    ap (λ x. both x b (same_rule s)) p ∙ (ap (λ x. both want x (same_rule s)) (q ∙ c.0) ∙ ap (λ x. both want (asked want e (type_of env e)) (same_rule x)) k) in (
+    ap (λ x. both x b (same_rule s)) p ∙ (ap (λ x. both want x (same_rule s)) (q ∙ c.0) ∙ ap (λ x. both want (type_asked want e (type_of env e)) (same_rule x)) k) in (
       two_met m n n' (asked_faults want e (faults env e)) (own (given_verdict env want e)) c.1 (met ∙ ap (λ x. kept_all n (own x)) rule),
       c.2,
     )
@@ -33,11 +33,11 @@ tested_part env want e s deep m n n' new c k d met = (
 )
 
 pub left_part : (env : Env) (p : CExpr) (place : Bool) (s : Span) (t r : Option Ty) (m n n' : Option Fault) (new : CExpr)
-    → Checks env p t m n new → place ≡ is_place p → s ≡ span_of p → Settles r n n' (one t (left_rule place s)) → ChecksLeft env p r m n' new
+    → Checks env p t m n new → place ≡ is_lvalue p → s ≡ span_of p → SettlesType r n n' (one t (left_rule place s)) → ChecksLeft env p r m n' new
 left_part env p place s t r m n n' new c k l q =
-    let rule : one t (left_rule place s) ≡ one t (left_rule (is_place p) (span_of p)) =
-    ap (λ x. one t (left_rule x s)) k ∙ ap (λ x. one t (left_rule (is_place p) x)) l in
-    let d = one_part env p (λ x. one x (left_rule (is_place p) (span_of p))) t m n n' new r _ c rule q in
+    let rule : one t (left_rule place s) ≡ one t (left_rule (is_lvalue p) (span_of p)) =
+    ap (λ x. one t (left_rule x s)) k ∙ ap (λ x. one t (left_rule (is_lvalue p) x)) l in
+    let d = one_part env p (λ x. one x (left_rule (is_lvalue p) (span_of p))) t m n n' new r _ c rule q in
     (d.0, d.1, c.2)
 
 -- what a list of types asks of the argument after some
@@ -79,17 +79,17 @@ assign_met env s p v after value t deep m n n' n'' l g d met =
 
 pub call_met : (env : Env) (s cs : Span) (p after : CExpr) (f : CName) (args after_args : List CExpr) (t w : Option Ty) (found : Option Callee) (count : ℕ) (deep : Bool) (m n n1 n2 n3 : Option Fault)
     → ChecksLeft env p t m n after → w ≡ t → found ≡ callee_named env f.text → count ≡ length args
-    → n1 ≡ kept_all n (callee_faults cs f w count found) → ChecksArgs env (params_of found) args n1 n2 after_args
+    → n1 ≡ kept_all n (callee_faults cs f w count found) → ChecksArgs env (parameter_types found) args n1 n2 after_args
     → deep ≡ nat_lt MAX_NEED (call_need p args) → n3 ≡ kept_all n2 (fault_if deep TOO_DEEP s)
     → n3 ≡ kept_all m (call_faults env s p cs f args)
 call_met env s cs p after f args after_args t w found count deep m n n1 n2 n3 l k e h a b d met =
     let callee = callee_faults cs f (left_type env p) (length args) (callee_named env f.text) in
-    let given = args_faults env (params_of (callee_named env f.text)) args in
+    let given = args_faults env (parameter_types (callee_named env f.text)) args in
     two_met m n n3 (left_faults env p) (callee ++ (given ++ deep_faults s (call_need p args))) l.1
     (two_met n n1 n3 callee (given ++ deep_faults s (call_need p args))
     (a ∙ (ap (λ x. kept_all n (callee_faults cs f x count found)) (k ∙ l.0)
     ∙ (ap (λ x. kept_all n (callee_faults cs f (left_type env p) x found)) h ∙ ap (λ x. kept_all n (callee_faults cs f (left_type env p) (length args) x)) e)))
-    (two_met n1 n2 n3 given (deep_faults s (call_need p args)) (b.0 ∙ ap (λ x. kept_all n1 (args_faults env (params_of x) args)) e)
+    (two_met n1 n2 n3 given (deep_faults s (call_need p args)) (b.0 ∙ ap (λ x. kept_all n1 (args_faults env (parameter_types x) args)) e)
     (deep_met s (call_need p args) deep n2 n3 d met)))
 
 pub new_met : (env : Env) (s ts : Span) (p after : CExpr) (ty : CTy) (t : Option Ty) (deep : Bool) (m n n1 n2 n3 : Option Fault)

@@ -11,15 +11,15 @@ use Rattle.c0_meaning.specs.declared.form.Form.{Form}
 use Rattle.c0_meaning.specs.Form.{form_view, found_view}
 use Rattle.c0_name_check.specs.declared.met.Fault.{Fault as MetFault}
 use Rattle.c0_name_check.specs.Met.{met_view}
-use Rattle.c0_meaning.specs.Expression.{Verdict, one, both, given, own, type_of, faults, resolved, asked, asked_faults}
+use Rattle.c0_meaning.specs.Expression.{Verdict, one, both, type_given, own, type_of, faults, resolved, type_asked, asked_faults}
 
 -- a type, and the least fault met before and after, are as a rule says
-abbrev pub Settles : Option Ty → Option Fault → Option Fault → Verdict → Type 0
-Settles type old new v = (type ≡ given v) × (new ≡ kept_all old (own v))
+abbrev pub SettlesType : Option Ty → Option Fault → Option Fault → Verdict → Type 0
+SettlesType type old new v = (type ≡ type_given v) × (new ≡ kept_all old (own v))
 
 -- what is found, and the least fault met before and after, are as a rule says
-abbrev pub Follows : Found → Option MetFault → Option MetFault → Verdict → Type 0
-Follows found old new v = Settles (found_view found) (met_view old) (met_view new) v
+abbrev pub IsByRule : Found → Option MetFault → Option MetFault → Verdict → Type 0
+IsByRule found old new v = SettlesType (found_view found) (met_view old) (met_view new) v
 
 -- a rule of the type of one part
 abbrev pub by_one : Form → (Ty → Verdict) → Verdict
@@ -36,7 +36,7 @@ Checks env e type old new after = (type ≡ type_of env e) × (new ≡ kept_all 
 -- the same where a type may be asked
 abbrev pub ChecksAsked : Env → Option Ty → CExpr → Option Ty → Option Fault → Option Fault → CExpr → Type 0
 ChecksAsked env want e type old new after =
-    (type ≡ asked want e (type_of env e)) × (new ≡ kept_all old (asked_faults want e (faults env e))) × (after ≡ resolved env e)
+    (type ≡ type_asked want e (type_of env e)) × (new ≡ kept_all old (asked_faults want e (faults env e))) × (after ≡ resolved env e)
 
 -- and so over the tree, with what is found
 abbrev pub FindsAsked : Env → Found → Expr → Found → Option MetFault → Option MetFault → Expr → Type 0

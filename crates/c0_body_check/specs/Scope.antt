@@ -54,25 +54,25 @@ found_in view None = None
 found_in view (Some p) = Some (p.0, view p.1.now)
 
 -- a map tells the number of the first of a list that has a name
-abbrev pub Tells : {A S T : Type 0} → (T → List ℕ) → IndexMap (Vec ℕ A) ℕ S → List T → Type 0
-Tells name names list = (text : List ℕ) → look names text ≡ number_named name text 0 list
+abbrev pub MapTells : {A S T : Type 0} → (T → List ℕ) → IndexMap (Vec ℕ A) ℕ S → List T → Type 0
+MapTells name names list = (text : List ℕ) → look names text ≡ number_named name text 0 list
 
 -- for each struct a map tells the numbers of its fields
 pub record FieldsTell {A S : Type 0} (names : List (IndexMap (Vec ℕ A) ℕ S)) (structs : List StructDef) : Type 0 where
   pub count : length names ≡ length structs
   pub each : (i : ℕ) (n : IndexMap (Vec ℕ A) ℕ S) (s : StructDef) → i < length structs
-      → Tells (λ v. v.text) (get_or names i n) (map typed_view (get_or structs i s).fields.items)
+      → MapTells (λ v. v.text) (get_or names i n) (map typed_view (get_or structs i s).fields.items)
 
 -- the maps of a scope tell the numbers of its lists
 pub record Knows (scope : Scope) : Type 0 where
-  pub structs : Tells (λ s. s.text) scope.struct_names.now (map shape_view scope.structs.now)
+  pub structs : MapTells (λ s. s.text) scope.struct_names.now (map shape_view scope.structs.now)
   pub sizes : (text : List ℕ) (n : ℕ) → look scope.struct_names.now text ≡ Some n
       → get_or scope.struct_words.now n 0 ≡ min (words (map shape_view scope.structs.now) (named text)) WORDS_CAP
   pub fields : FieldsTell scope.field_names.now scope.structs.now
-  pub globals : Tells (λ v. v.text) scope.global_names.now (map typed_view scope.globals.now)
-  pub functions : Tells (λ s. s.text) scope.function_names.now (map signature_view scope.functions.now)
-  pub primitives : Tells (λ s. s.text) scope.primitive_names.now (map primitive_signature_view scope.primitives.now)
-  pub locals : Tells (λ v. v.text) scope.local_names.now (map typed_view scope.params.now ++ map typed_view scope.locals.now)
+  pub globals : MapTells (λ v. v.text) scope.global_names.now (map typed_view scope.globals.now)
+  pub functions : MapTells (λ s. s.text) scope.function_names.now (map signature_view scope.functions.now)
+  pub primitives : MapTells (λ s. s.text) scope.primitive_names.now (map primitive_signature_view scope.primitives.now)
+  pub locals : MapTells (λ v. v.text) scope.local_names.now (map typed_view scope.params.now ++ map typed_view scope.locals.now)
 
 -- a variable that was found
 abbrev pub variable_view : Variable → spec.Variable

@@ -17,7 +17,7 @@ use Rattle.c0_meaning.specs.Fault.{Fault, kept_all}
 use Rattle.c0_meaning.specs.Expression.{span_of, resolved}
 use Rattle.c0_meaning.specs.DeclaredTypes.{type_faults}
 use Rattle.c0_meaning.specs.Resolved.{resolved_type}
-use Rattle.c0_meaning.specs.Statement.{params_of, call_faults, new_faults, args_faults, given_faults, tested_faults, deep_faults, left_type, left_faults, stmt_faults, stmts_faults, stmt_resolved, stmts_resolved}
+use Rattle.c0_meaning.specs.Statement.{parameter_types, call_faults, new_faults, args_faults, given_faults, tested_faults, deep_faults, left_type, left_faults, stmt_faults, stmts_faults, stmt_resolved, stmts_resolved}
 
 -- an expression is checked where a type may be asked: its faults are met, and its names are resolved
 abbrev pub ChecksGiven : Env → Option Ty → CExpr → Option Fault → Option Fault → CExpr → Type 0
@@ -75,7 +75,7 @@ code_faults env result stmts answer = faults_of_stmts env stmts ++ tested_faults
 -- arguments of what is called are checked
 abbrev pub PassesArgs : Env → Option Callee → List Expr → Option MetFault → Option MetFault → List Expr → Type 0
 PassesArgs env callee es old new after =
-    ChecksArgs env (params_of (option_map callee_view callee)) (map expr_view es) (met_view old) (met_view new) (map expr_view after)
+    ChecksArgs env (parameter_types (option_map callee_view callee)) (map expr_view es) (met_view old) (met_view new) (map expr_view after)
 
 -- the faults of a call in an environment
 abbrev pub faults_of_call : Env → Span → Expr → Span → Name → List Expr → List Fault

@@ -57,7 +57,7 @@ fn function_param<'a>(function: &'a Function, index: usize) -> Found<'a>
 
 // The type that is asked of the argument of this number, if one is.
 fn param_of<'a>(callee: Option<Callee<'a>>, index: usize) -> Found<'a>
-    ensures { found_view result ≡ slice_get (spec.params_of (option_map callee_view callee.entry)) index }
+    ensures { found_view result ≡ slice_get (spec.parameter_types (option_map callee_view callee.entry)) index }
 {
     match callee {
         None => Found::Nothing,

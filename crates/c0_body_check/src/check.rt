@@ -29,7 +29,7 @@ fn is_filled(want: Found<'_>, expr: &Expr) -> bool
 
 // The type that an operator asks of an operand, by the other's.
 fn asked_by<'a>(op: BinaryOp, other: Found<'a>) -> Found<'a>
-    ensures { found_view result ≡ spec.asks op (found_view other.entry) }
+    ensures { found_view result ≡ spec.operand_type op (found_view other.entry) }
 {
     if compares(op) { other } else { Found::Nothing }
 }
@@ -39,7 +39,7 @@ fn asked_by<'a>(op: BinaryOp, other: Found<'a>) -> Found<'a>
 pub fn check<'a>(scope: &Scope<'a>, expr: &mut Expr, least: &mut Option<Fault>) -> Found<'a>
     requires { Knows scope.now }
     ensures checks { Checks (env_view scope.now) (expr_view expr.old) (found_view result) (met_view least.old) (met_view least.new) (expr_view expr.new) }
-    ensures declared { IsTrue (spec.is_place (expr_view expr.old)) → IsTrue (is_declared result) }
+    ensures declared { IsTrue (spec.is_lvalue (expr_view expr.old)) → IsTrue (is_declared result) }
 {
     match expr {
         Expr::Num(_, _) => Found::Int,

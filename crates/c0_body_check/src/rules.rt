@@ -7,8 +7,8 @@ ghost use Rattle.c0_meaning.specs.Fault.{fault};
 ghost use Rattle.c0_meaning.specs.Ty.{bool, int, is_scalar};
 ghost use Rattle.c0_tree.specs.View.{name_view};
 ghost use Rattle.c0_meaning.specs.Form.{form_view, found_view, is_declared};
-ghost use Rattle.c0_body_check.specs.Check.{Follows, Settles, by_both, by_one};
-ghost use Rattle.c0_name_check.specs.Met.{met_view, number_of};
+ghost use Rattle.c0_body_check.specs.Check.{IsByRule, SettlesType, by_both, by_one};
+ghost use Rattle.c0_name_check.specs.Met.{met_view, mistake_number};
 ghost use Rattle.c0_body_check.specs.Scope.{Knows, env_view, found_in, typed_view};
 
 use crate::scope::{Scope, find_field, find_variable};
@@ -18,7 +18,7 @@ use c0_tree::{BinaryOp, Decl, Kind, Name, Span, UnaryOp};
 
 /// A mistake leaves no type.
 pub fn wrong<'a>(least: &mut Option<Fault>, mistake: Mistake, span: Span) -> Found<'a>
-    ensures settles { Settles (found_view result) (met_view least.old) (met_view least.new) (spec.wrong (fault (number_of mistake) span)) }
+    ensures settles { SettlesType (found_view result) (met_view least.old) (met_view least.new) (spec.wrong (fault (mistake_number mistake) span)) }
     ensures declared { IsTrue (is_declared result) }
 {
     meet_at(least, mistake, span);
@@ -32,7 +32,7 @@ pub fn element<'a>(
     index: Form<'_>,
     least: &mut Option<Fault>,
 ) -> Found<'a>
-    ensures settles { Follows result least.old least.new (by_both part.entry index.entry (spec.element_rule span)) }
+    ensures settles { IsByRule result least.old least.new (by_both part.entry index.entry (spec.element_rule span)) }
     ensures declared { IsTrue (is_declared result) }
 {
     match index {
@@ -68,7 +68,7 @@ pub fn index<'a>(
     index: Form<'_>,
     least: &mut Option<Fault>,
 ) -> Found<'a>
-    ensures settles { Follows result least.old least.new (by_both part.entry index.entry (spec.index_rule span place at)) }
+    ensures settles { IsByRule result least.old least.new (by_both part.entry index.entry (spec.index_rule span place at)) }
     ensures declared { IsTrue (is_declared result) }
 {
     if place {
@@ -124,7 +124,7 @@ pub fn number_field(name: &mut Name, found: Option<(u32, &Decl)>)
 
 // A field that was sought.
 fn sought<'a>(at: Span, found: Option<(u32, &'a Decl)>, least: &mut Option<Fault>) -> Found<'a>
-    ensures settles { Settles (found_view result) (met_view least.old) (met_view least.new) (spec.sought_rule at (found_in typed_view found.entry)) }
+    ensures settles { SettlesType (found_view result) (met_view least.old) (met_view least.new) (spec.sought_rule at (found_in typed_view found.entry)) }
     ensures declared { IsTrue (is_declared result) }
 {
     match found {
@@ -141,7 +141,7 @@ fn field<'a>(
     part: Form<'_>,
     least: &mut Option<Fault>,
 ) -> Found<'a>
-    ensures settles { Follows result least.old least.new (by_one part.entry (spec.field_rule span at (found_in typed_view found.entry))) }
+    ensures settles { IsByRule result least.old least.new (by_one part.entry (spec.field_rule span at (found_in typed_view found.entry))) }
     ensures declared { IsTrue (is_declared result) }
 {
     match part {
@@ -161,7 +161,7 @@ pub fn place_field<'a>(
     part: Form<'_>,
     least: &mut Option<Fault>,
 ) -> Found<'a>
-    ensures settles { Follows result least.old least.new (by_one part.entry (spec.place_field_rule span place at name (found_in typed_view found.entry))) }
+    ensures settles { IsByRule result least.old least.new (by_one part.entry (spec.place_field_rule span place at name (found_in typed_view found.entry))) }
     ensures declared { IsTrue (is_declared result) }
 {
     if place {
@@ -181,7 +181,7 @@ pub fn arrow<'a>(
     part: Form<'_>,
     least: &mut Option<Fault>,
 ) -> Found<'a>
-    ensures settles { Follows result least.old least.new (by_one part.entry (spec.arrow_rule span name (found_in typed_view found.entry))) }
+    ensures settles { IsByRule result least.old least.new (by_one part.entry (spec.arrow_rule span name (found_in typed_view found.entry))) }
     ensures declared { IsTrue (is_declared result) }
 {
     match part {
@@ -193,7 +193,7 @@ pub fn arrow<'a>(
 
 /// `*e`.
 pub fn deref<'a>(span: Span, part: Form<'a>, least: &mut Option<Fault>) -> Found<'a>
-    ensures settles { Settles (found_view result) (met_view least.old) (met_view least.new) (spec.one (form_view part.entry) (spec.deref_rule span)) }
+    ensures settles { SettlesType (found_view result) (met_view least.old) (met_view least.new) (spec.one (form_view part.entry) (spec.deref_rule span)) }
     ensures declared { IsTrue (is_declared result) }
 {
     match part {
@@ -212,7 +212,7 @@ pub fn address<'a>(
     least: &mut Option<Fault>,
 ) -> Found<'a>
     requires { IsTrue place → IsTrue (is_declared part) }
-    ensures { Settles (found_view result) (met_view least.old) (met_view least.new) (spec.one (found_view part.entry) (spec.address_rule place local at)) }
+    ensures { SettlesType (found_view result) (met_view least.old) (met_view least.new) (spec.one (found_view part.entry) (spec.address_rule place local at)) }
 {
     match part {
         Found::Nothing => Found::Nothing,
@@ -233,7 +233,7 @@ pub fn address<'a>(
 
 /// `-e` and `!e`.
 pub fn unary<'a>(span: Span, op: UnaryOp, part: Form<'_>, least: &mut Option<Fault>) -> Found<'a>
-    ensures { Settles (found_view result) (met_view least.old) (met_view least.new) (spec.one (form_view part.entry) (spec.unary_rule span op)) }
+    ensures { SettlesType (found_view result) (met_view least.old) (met_view least.new) (spec.one (form_view part.entry) (spec.unary_rule span op)) }
 {
     match op {
         UnaryOp::Negate => match part {
@@ -257,7 +257,7 @@ fn ints<'a>(
     right: Form<'_>,
     least: &mut Option<Fault>,
 ) -> Found<'a>
-    ensures { Follows result least.old least.new (by_both left.entry right.entry (spec.ints_rule span (if ordered then bool else int))) }
+    ensures { IsByRule result least.old least.new (by_both left.entry right.entry (spec.ints_rule span (if ordered then bool else int))) }
 {
     match left {
         Form::Nothing => Found::Nothing,
@@ -278,7 +278,7 @@ fn ints<'a>(
 
 // Two bools.
 fn bools<'a>(span: Span, left: Form<'_>, right: Form<'_>, least: &mut Option<Fault>) -> Found<'a>
-    ensures { Follows result least.old least.new (by_both left.entry right.entry (spec.bools_rule span)) }
+    ensures { IsByRule result least.old least.new (by_both left.entry right.entry (spec.bools_rule span)) }
 {
     match left {
         Form::Nothing => Found::Nothing,
@@ -314,7 +314,7 @@ pub fn is_scalar_form(form: Form<'_>) -> bool
 
 // Two values of one scalar type.
 fn alike<'a>(span: Span, left: Form<'_>, right: Form<'_>, least: &mut Option<Fault>) -> Found<'a>
-    ensures { Follows result least.old least.new (by_both left.entry right.entry (spec.alike_rule span)) }
+    ensures { IsByRule result least.old least.new (by_both left.entry right.entry (spec.alike_rule span)) }
 {
     if is_nothing(left) || is_nothing(right) {
         Found::Nothing
@@ -333,7 +333,7 @@ pub fn binary<'a>(
     right: Form<'_>,
     least: &mut Option<Fault>,
 ) -> Found<'a>
-    ensures { Follows result least.old least.new (by_both left.entry right.entry (spec.binary_rule span op)) }
+    ensures { IsByRule result least.old least.new (by_both left.entry right.entry (spec.binary_rule span op)) }
 {
     match op {
         BinaryOp::Add => ints(span, false, left, right, least),
@@ -355,7 +355,7 @@ pub fn binary<'a>(
 /// A variable; its name gets what it stands for.
 pub fn variable<'a>(scope: &Scope<'a>, name: &mut Name, least: &mut Option<Fault>) -> Found<'a>
     requires { Knows scope.now }
-    ensures settles { Follows result least.old least.new (spec.variable_rule (name_view name.old) (variable_named (env_view scope.now) name.old.bytes.items)) }
+    ensures settles { IsByRule result least.old least.new (spec.variable_rule (name_view name.old) (variable_named (env_view scope.now) name.old.bytes.items)) }
     ensures named { name_view name.new ≡ spec.numbered_variable (name_view name.old) (variable_named (env_view scope.now) name.old.bytes.items) }
     ensures declared { IsTrue (is_declared result) }
 {

@@ -3,7 +3,7 @@
 ghost use Rattle.std.specs.Prelude.{◌≡◌, ◌<◌, ℕ, List, IfSome, length, map};
 ghost use Rattle.std.specs.Option.{option_map};
 ghost use Rattle.c0_meaning.specs.Env.{Shape, Signature, Typed, callee_named, field_named, first_named, variable_named};
-ghost use Rattle.c0_body_check.specs.Scope.{Knows, Tells, callee_view, env_view, found_in, typed_view, variable_view};
+ghost use Rattle.c0_body_check.specs.Scope.{Knows, MapTells, callee_view, env_view, found_in, typed_view, variable_view};
 ghost use Rattle.c0_body_check.specs.Scope.{primitive_signature_view, shape_view, signature_view};
 
 use c0_name_check::names::Names;
@@ -103,7 +103,7 @@ impl Listed for Function {
 
 /// The first element of a name, with its number.
 pub fn find<'a, T: Listed>(names: &Names, list: &'a [T], text: &[u8]) -> Option<(u32, &'a T)>
-    requires { Tells T.spelled names.now (map T.seen list.now) }
+    requires { MapTells T.spelled names.now (map T.seen list.now) }
     ensures found { found_in T.seen result ≡ first_named T.spelled text.now 0 (map T.seen list.now) }
     ensures within { IfSome result (λ p. p.0 < length list.now) }
 {

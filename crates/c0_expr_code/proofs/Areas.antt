@@ -15,7 +15,7 @@ use Rattle.masm.specs.declared.registers.Places.{Places}
 use Rattle.c0_meaning.specs.Ty.{Ty, ty_of, is_scalar}
 use Rattle.c0_meaning.specs.Ty as ty
 use Rattle.c0_meaning.specs.Env.{Typed, Shape, shape_of, typed_of, first_named, fields_of}
-use Rattle.c0_meaning.specs.Words.{fields_named, have_field, Holds, by_field, by_part, words, all_words, WordsAreThose}
+use Rattle.c0_meaning.specs.Words.{fields_named, have_field, StructHolds, by_field, by_part, words, all_words, WordsAreThose}
 use Rattle.c0_meaning.specs.DeclaredTypes.{has_empty_array}
 use Rattle.c0_meaning.specs.Addresses.{PartsAreApart}
 use Rattle.c0_meaning.specs.Limits.{locals_of}
@@ -24,11 +24,11 @@ use Rattle.c0_meaning.specs.Typed.{IsDeclarable, IsTypedStruct, IsTypedFunction,
 use Rattle.c0_meaning.specs.Unit.{IsWellFormed}
 use Rattle.c0_meaning.specs.RunLaws.{TypesHaveWords}
 use Rattle.c0_meaning.specs.Value.{Region, globals, heap, locals, Location}
-use Rattle.c0_meaning.specs.TypedState.{types_of, variable_types, Leads, LeadsFrom, PointsTo}
+use Rattle.c0_meaning.specs.TypedState.{types_of, variable_types, PathLeads, LeadsFrom, PointsTo}
 use Rattle.c0_expr_code.specs.Scope.{keeps_registers, scope_of, is_leaf, MAX_REGISTER_VARIABLES}
-use Rattle.c0_expr_code.specs.Bases.{words_of_all, Bases, types_in, word_at}
+use Rattle.c0_expr_code.specs.Bases.{words_of_all, Bases, types_in, location_word}
 use Rattle.c0_expr_code.specs.Relation.{layout, Area}
-use Rattle.c0_expr_code.specs.Laws.{IsDeclared, AreDeclared, AreSpread, HasRoom}
+use Rattle.c0_expr_code.specs.Laws.{IsDeclared, AreDeclared, RegionsApart, RegionsHaveRoom}
 use Rattle.c0_expr_code.proofs.Offsets.{room_from}
 
 get_all : {X : Type 0} (P : X → Type 0) (xs : List X) (i : ℕ) (x : X) → All P xs → slice_get xs i ≡ Some x → P x
@@ -87,14 +87,14 @@ named_struct (s ∷ rest) k x = elim (cases_Bool (bytes_eq s.name.text x)) [
 ]
 
 module _ (all : List CStruct) (typed : All (IsTypedStruct (map shape_of all)) all) where
-  nothing_held : (x y : List ℕ) → fields_named (map shape_of all) x ≡ [] → Holds (map shape_of all) x y → ⊥
+  nothing_held : (x y : List ℕ) → fields_named (map shape_of all) x ≡ [] → StructHolds (map shape_of all) x y → ⊥
   nothing_held x y e (by_field h) = false≢true (ap (λ ds. have_field ds y) (sym e) ∙ h)
   nothing_held x y e (by_part {part = z} h g) = false≢true (ap (λ ds. have_field ds z) (sym e) ∙ h)
 
-  loose : (x : List ℕ) → Holds (map shape_of all) x x → ⊥
+  loose : (x : List ℕ) → StructHolds (map shape_of all) x x → ⊥
   loose x h = elim (named_struct all 0 x) [
     | inl e ↦ nothing_held x x e h
-    | inr s ↦ (get_all (IsTypedStruct (map shape_of all)) all s.number s.its typed s.there).loose (subst (λ y. Holds (map shape_of all) y y) (sym s.name) h)
+    | inr s ↦ (get_all (IsTypedStruct (map shape_of all)) all s.number s.its typed s.there).loose (subst (λ y. StructHolds (map shape_of all) y y) (sym s.name) h)
   ]
 
   -- the parts of declared types are declared
@@ -119,7 +119,7 @@ module _ (all : List CStruct) (typed : All (IsTypedStruct (map shape_of all)) al
         (b.0.ty, ap (λ (d : Typed). d.ty) b.2 ∙ a.2, get_all (λ (d : CDecl). IsDeclarable (map shape_of all) d.ty) s.its.fields i b.0 (get_all (IsTypedStruct (map shape_of all)) all s.number s.its typed s.there).fields b.1)
   ]
 
-  part : (t : Ty) (path : List ℕ) (u : Ty) → IsDeclared (map shape_of all) t → Leads (map shape_of all) t path u → IsDeclared (map shape_of all) u
+  part : (t : Ty) (path : List ℕ) (u : Ty) → IsDeclared (map shape_of all) t → PathLeads (map shape_of all) t path u → IsDeclared (map shape_of all) u
   part t [] u h l = subst (IsDeclared (map shape_of all)) l h
   part (ty.named x) (i ∷ path) u h l = part l.0 path u (field x i l.0 l.1) l.2
   part (ty.array t n) (i ∷ path) u h l = part t path u (element h.0 t n i h.1 h.2 l.0) l.1
@@ -153,7 +153,7 @@ module _ (primitives : List CPrimitive) (u : CUnit) (formed : IsWellFormed primi
   some_words : (t : Ty) → IsDeclared (shapes u) t → 1 ≤ words (shapes u) t
   some_words t h = subst (λ y. 1 ≤ words (shapes u) y) h.1 (filled primitives u formed h.0 h.2)
 
-  module _ (f : CFunction) (number : ℕ) (there : slice_get u.functions number ≡ Some f) (places : Places) (w : World) (p : Bases) (room : HasRoom w (scope_of u f places) p) (spread : AreSpread (scope_of u f places) p) (objects : AreDeclared (shapes u) p.objects) where
+  module _ (f : CFunction) (number : ℕ) (there : slice_get u.functions number ≡ Some f) (places : Places) (w : World) (p : Bases) (room : RegionsHaveRoom w (scope_of u f places) p) (spread : RegionsApart (scope_of u f places) p) (objects : AreDeclared (shapes u) p.objects) where
     all_declared : (g : Region) → AreDeclared (shapes u) (types_in (scope_of u f places) p g)
     all_declared globals = declared (shapes u) u.globals typed.globals
     all_declared heap = objects
@@ -166,7 +166,7 @@ module _ (primitives : List CPrimitive) (u : CUnit) (formed : IsWellFormed primi
 
     by_region : (t : Ty) (a b : Region) (x y : List ℕ) → PointsTo (shapes u) (layout (scope_of u f places) p) a x t
         → PointsTo (shapes u) (layout (scope_of u f places) p) b y t
-        → word_at (scope_of u f places) p (record { region = a; path = x }) ≡ word_at (scope_of u f places) p (record { region = b; path = y })
+        → location_word (scope_of u f places) p (record { region = a; path = x }) ≡ location_word (scope_of u f places) p (record { region = b; path = y })
         → ◌≡◌ {A = Location} (record { region = a; path = x }) (record { region = b; path = y })
     by_region t globals globals x y h g e = ap (λ z. record { region = globals; path = z }) (apart primitives u (types_in (scope_of u f places) p globals) x y t formed h g (one_word globals x t h) (omega (arith, e)))
     by_region t heap heap x y h g e = ap (λ z. record { region = heap; path = z }) (apart primitives u p.objects x y t formed h g (one_word heap x t h) (omega (arith, e)))

@@ -5,10 +5,10 @@ use Rattle.c0_tree.specs.declared.tree.BinaryOp.{BinaryOp}
 use Rattle.c0_tree.specs.declared.tree.BinaryOp.TheVariants.{Add, Sub, Mul, Div, Rem, Lt, Le, Gt, Ge, Eq, Ne, And, Or}
 use Rattle.c0_tree.specs.Tree.{CName, CExpr, num, true_, false_, null, var, field, arrow, index, deref, address, unary, binary}
 use Rattle.c0_tree.specs.Size.{nodes}
-use Rattle.c0_meaning.specs.State.{State, read}
+use Rattle.c0_meaning.specs.State.{C0State, read}
 use Rattle.c0_meaning.specs.Value.{Location, Value, bool, at, below}
 use Rattle.c0_meaning.specs.Operators.{Failure, stuck, on_unary, on_binary}
-use Rattle.c0_meaning.specs.Evaluation.{Costed, costs, at_no_cost, paying, ◌>>=◌, bool_of, truth, both, behind, element_of, loaded, indexed, field_of, pointed, variable_location, value_of, place_of}
+use Rattle.c0_meaning.specs.Evaluation.{Costed, costs, at_no_cost, paying, ◌>>=◌, bool_of, truth, both, pointed_to, element_of, load_from, indexed, field_of, pointed, variable_location, value_of, place_of}
 use Rattle.c0_expr_code.specs.Relation.{units_of}
 
 pays : {A : Type 0} (k n : ℕ) (e : Costed A) → units_of e ≤ n → units_of (paying k e) ≤ k + n
@@ -22,12 +22,12 @@ free : {A B : Type 0} (n : ℕ) (e : Costed A) (f : A → Result B Failure) → 
 free n (costs k (Ok x)) f h = omega (arith, h)
 free n (costs k (Err x)) f h = h
 
-module _ (s : State) where
-  loads : (n : ℕ) (e : Costed Location) → units_of e ≤ n → units_of (loaded s e) ≤ n
+module _ (s : C0State) where
+  loads : (n : ℕ) (e : Costed Location) → units_of e ≤ n → units_of (load_from s e) ≤ n
   loads n e h = free n e (λ l. ok_or (read s l) stuck) h
 
   points : (n : ℕ) (e : Costed Value) → units_of e ≤ n → units_of (pointed e) ≤ n
-  points n e h = free n e behind h
+  points n e h = free n e pointed_to h
 
   parts : (f : CName) (n : ℕ) (e : Costed Location) → units_of e ≤ n → units_of (field_of f e) ≤ n
   parts f n e h = free n e (λ l. Ok (below l f.number)) h
@@ -70,9 +70,9 @@ module _ (s : State) where
     value : units_of v ≤ n
     place : units_of l ≤ n
 
-  placed : (n : ℕ) (e : Costed Location) → units_of e ≤ n → Costs (paying 1 (loaded s e)) (paying 1 e) (n + 1)
+  placed : (n : ℕ) (e : Costed Location) → units_of e ≤ n → Costs (paying 1 (load_from s e)) (paying 1 e) (n + 1)
   placed n e h =
-      let a = pays 1 n (loaded s e) (loads n e h) in
+      let a = pays 1 n (load_from s e) (loads n e h) in
       let b = pays 1 n e h in
       record { value = omega (arith, a); place = omega (arith, b) }
 
@@ -85,7 +85,7 @@ module _ (s : State) where
   few (false_ p) = record { value = omega arith; place = omega arith }
   few (null p) = record { value = omega arith; place = omega arith }
   few (var x) =
-      let a = pays 1 0 (loaded s (at_no_cost (variable_location x.kind x.number))) (loads 0 (at_no_cost (variable_location x.kind x.number)) (omega arith)) in
+      let a = pays 1 0 (load_from s (at_no_cost (variable_location x.kind x.number))) (loads 0 (at_no_cost (variable_location x.kind x.number)) (omega arith)) in
       record { value = omega (arith, a); place = omega arith }
   few (field p e f) = placed (nodes e) (field_of f (place_of e s)) (parts f (nodes e) (place_of e s) (few e).place)
   few (arrow p e f) = placed (nodes e) (field_of f (pointed (value_of e s))) (parts f (nodes e) (pointed (value_of e s)) (points (nodes e) (value_of e s) (few e).value))
@@ -95,8 +95,8 @@ module _ (s : State) where
   few (unary p o e) = valued (nodes e) (value_of e s >>= λ v. at_no_cost (on_unary o v)) (free (nodes e) (value_of e s) (λ v. on_unary o v) (few e).value)
   few (binary p o x y) = valued (nodes x + nodes y) (both o (value_of x s) (value_of y s)) (operators o (nodes x) (nodes y) (value_of x s) (value_of y s) (few x).value (few y).value)
 
-pub value_costs : (e : CExpr) (s : State) → units_of (value_of e s) ≤ nodes e
+pub value_costs : (e : CExpr) (s : C0State) → units_of (value_of e s) ≤ nodes e
 value_costs e s = (few s e).value
 
-pub place_costs : (e : CExpr) (s : State) → units_of (place_of e s) ≤ nodes e
+pub place_costs : (e : CExpr) (s : C0State) → units_of (place_of e s) ≤ nodes e
 place_costs e s = (few s e).place

@@ -11,32 +11,32 @@ use Rattle.mips_table.specs.Code.{Contents, reg, with_reg, Behind, World, at_wit
 use Rattle.c0_meaning.specs.Ty.{Ty}
 use Rattle.c0_meaning.specs.Words.{words}
 use Rattle.c0_meaning.specs.Value.{Location, Value, int, bool, null, at, group, below, count}
-use Rattle.c0_meaning.specs.State.{State}
+use Rattle.c0_meaning.specs.State.{C0State}
 use Rattle.c0_meaning.specs.Operators.{Bounds, faulted}
 use Rattle.c0_meaning.specs.Evaluation.{Costed, at_no_cost, element_of, indexed}
-use Rattle.c0_meaning.specs.TypedState.{Fits, Leads as PathLeads}
+use Rattle.c0_meaning.specs.TypedState.{Fits, PathLeads}
 use Rattle.c0_expr_code.proofs.Paths.{leads_from_on, points_on, length_fits}
 use Rattle.masm.specs.Says.{Gives as Becomes}
 use Rattle.c0_expr_code.proofs.Machine.{Machine, joined, later, code_front, code_back, said_step}
 use Rattle.cvm_words.specs.Words.{word_of}
 use Rattle.c0_expr_code.specs.Scope.{Scope}
-use Rattle.c0_expr_code.specs.Bases.{Bases, types_in, word_at}
-use Rattle.c0_expr_code.specs.Code.{Spot, Made, constant_code, operand_code, operand_register, bound_code, scale_code, element_code, tested_spot}
-use Rattle.c0_expr_code.specs.Relation.{layout, IsTyped, Ready, Keeps, Area, Comes, Gives, Leads, Source}
+use Rattle.c0_expr_code.specs.Bases.{Bases, types_in, location_word}
+use Rattle.c0_expr_code.specs.Code.{AddressingMode, Made, constant_code, operand_code, operand_register, bound_code, scale_code, element_code, tested_spot}
+use Rattle.c0_expr_code.specs.Relation.{layout, StateIsTyped, Ready, KeepsRegisters, Area, Evaluates, HoldsValue, HoldsAddress, Source}
 use Rattle.c0_expr_code.proofs.Words.{plain, word_pos, word_negsuc, pos_small}
 use Rattle.c0_expr_code.proofs.Offsets.{offset_from_on}
 use Rattle.c0_expr_code.proofs.Steps.{same_read, other_read, keeps_on, keeps_in, keeps_put, keeps_one, keeps_low, ready_on, source_other, source_kept, binds, arrives, faults, jumps}
-use Rattle.c0_expr_code.proofs.Spots.{found}
+use Rattle.c0_expr_code.proofs.AddressingModes.{found}
 use Rattle.c0_expr_code.proofs.Nodes.{constant_runs, skips, falls}
 use Rattle.c0_expr_code.proofs.Scales.{all_kept, scales}
 use Rattle.c0_meaning.specs.Ty as ty
 
-module _ (w : World) (sc : Scope) (p : Bases) (s : State) (f : Machine w) (area : Area w sc p) (is_typed : IsTyped sc p s) where
+module _ (w : World) (sc : Scope) (p : Bases) (s : C0State) (f : Machine w) (area : Area w sc p) (is_typed : StateIsTyped sc p s) where
   -- the test
   record Tested (q len n : ℕ) (a : Contents) (k : Behind) : Type 0 where
     core : Contents
     is : reg core.regs 1 ≡ flag (nat_lt (reg a.regs q) len)
-    keeps : (r : ℕ) → Keeps r r a core
+    keeps : (r : ℕ) → KeepsRegisters r r a core
     others : (x : ℕ) → x ≢ 1 → reg core.regs x ≡ reg a.regs x
     run : Reaches w 3 (at_with n a k) (at_with (n + length (bound_code q len)) core k)
 
@@ -67,22 +67,22 @@ module _ (w : World) (sc : Scope) (p : Bases) (s : State) (f : Machine w) (area 
   ]
 
   -- an index that is tested
-  pub indexes : (len : ℕ) (t : Ty) (local : Bool) (x : Spot) (m : Made) (r n : ℕ) (c : Contents) (k : Behind) (e : Costed Location) (i : Costed Value) → k.pending ≡ Idle → 8 ≤ r → r < 19 → Ready sc p s c → Source r x.base →
+  pub indexes : (len : ℕ) (t : Ty) (local : Bool) (x : AddressingMode) (m : Made) (r n : ℕ) (c : Contents) (k : Behind) (e : Costed Location) (i : Costed Value) → k.pending ≡ Idle → 8 ≤ r → r < 19 → Ready sc p s c → Source r x.base →
       CodeAt w n (tested_spot sc (words sc.env.structs t) len x m r).code →
-      Comes w sc 0 n (n + length x.code) c k (Leads sc p x.base x.displacement r local (ty.array t len) c) e →
-      ((b : Contents) → Ready sc p s b → CodeAt w (n + length x.code) (operand_code m (r + 1)) → Source (r + 1) (operand_register m (r + 1)) × Comes w sc 0 (n + length x.code) (n + length x.code + length (operand_code m (r + 1))) b k (Gives sc p (operand_register m (r + 1)) (r + 1) (r + 1) ty.int b) i) →
-      Comes w sc 10 n (n + length (tested_spot sc (words sc.env.structs t) len x m r).code) c k (Leads sc p r x.displacement r local t c) (indexed s e i)
+      Evaluates w sc 0 n (n + length x.code) c k (HoldsAddress sc p x.base x.displacement r local (ty.array t len) c) e →
+      ((b : Contents) → Ready sc p s b → CodeAt w (n + length x.code) (operand_code m (r + 1)) → Source (r + 1) (operand_register m (r + 1)) × Evaluates w sc 0 (n + length x.code) (n + length x.code + length (operand_code m (r + 1))) b k (HoldsValue sc p (operand_register m (r + 1)) (r + 1) (r + 1) ty.int b) i) →
+      Evaluates w sc 10 n (n + length (tested_spot sc (words sc.env.structs t) len x m r).code) c k (HoldsAddress sc p r x.displacement r local t c) (indexed s e i)
   indexes len t local x m r n c k e i idle lo hi ready source code h op =
-      binds w sc 0 10 n n1 to c k (Leads sc p x.base x.displacement r local (ty.array t len) c) (Leads sc p r x.displacement r local t c) e _ h
+      binds w sc 0 10 n n1 to c k (HoldsAddress sc p x.base x.displacement r local (ty.array t len) c) (HoldsAddress sc p r x.displacement r local t c) e _ h
       (λ l b q. keeps_low r r c b (omega arith) q.keeps)
       (λ l b q.
       let ready_b = ready_on sc p s c b (keeps_low r r c b (omega arith) q.keeps) ready in
       let o = op b ready_b operand_there in
-      binds w sc 0 10 n1 n2 to b k (Gives sc p (operand_register m (r + 1)) (r + 1) (r + 1) ty.int b) (Leads sc p r x.displacement r local t c) i _ o.1
+      binds w sc 0 10 n1 n2 to b k (HoldsValue sc p (operand_register m (r + 1)) (r + 1) (r + 1) ty.int b) (HoldsAddress sc p r x.displacement r local t c) i _ o.1
       (λ v a g. keeps_low (r + 1) (r + 1) b a (omega arith) g.keeps)
       (λ v a g.
       let there = found w sc p s f area is_typed b l (ty.array t len) ready_b q.leads q.standing in
-      subst (λ y. Comes w sc 10 n2 to a k (Leads sc p r x.displacement r local t c) (at_no_cost (element_of l y v))) (sym there.seen.is)
+      subst (λ y. Evaluates w sc 10 n2 to a k (HoldsAddress sc p r x.displacement r local t c) (at_no_cost (element_of l y v))) (sym there.seen.is)
       (by_value l b q ready_b a o.0 there.seen.value v there.seen.fits g)))
     where
       q : ℕ
@@ -130,10 +130,10 @@ module _ (w : World) (sc : Scope) (p : Bases) (s : State) (f : Machine w) (area 
           omega (arith, a, b, d, g)
 
       Out : Location → Contents → Type 0
-      Out = Leads sc p r x.displacement r local t c
+      Out = HoldsAddress sc p r x.displacement r local t c
 
       outside : (a : Contents) (v : ℕ) → len < 2 ^ 32 → q ≢ 1 → nat_lt v len ≡ false → reg a.regs q ≡ v
-          → Comes w sc 10 n2 to a k Out (at_no_cost (Err (faulted Bounds)))
+          → Evaluates w sc 10 n2 to a k Out (at_no_cost (Err (faulted Bounds)))
       outside a v short ne out is =
           let test = tests q len n2 a k short idle ne (code_front w n2 (bound_code q len) tail last_there) in
           let zero_is : reg test.core.regs 1 ≡ reg test.core.regs 0 = test.is ∙ ap (λ y. flag (nat_lt y len)) is ∙ ap flag out in
@@ -141,7 +141,7 @@ module _ (w : World) (sc : Scope) (p : Bases) (s : State) (f : Machine w) (area 
           let run = joined w 3 2 _ _ _ test.run (joined w 1 1 _ _ _ go (jumps w f (n3 + 1) (sc.exit Bounds) test.core k idle tail_there.1.0)) in
           faults w sc 10 n2 to a test.core k Out Bounds (keeps_low 0 0 a test.core (omega arith) (test.keeps 0)) (later w 5 10 _ _ (omega arith) run)
 
-      inside : (l : Location) (b : Contents) (g : Leads sc p x.base x.displacement r local (ty.array t len) c l b) (ready_b : Ready sc p s b) (a : Contents) (j : ℕ) → Source (r + 1) q → Keeps (r + 1) (r + 1) b a → nat_lt j len ≡ true → reg a.regs q ≡ j → j < 2 ^ 31 → len < 2 ^ 32 → Comes w sc 10 n2 to a k Out (at_no_cost (Ok (below l j)))
+      inside : (l : Location) (b : Contents) (g : HoldsAddress sc p x.base x.displacement r local (ty.array t len) c l b) (ready_b : Ready sc p s b) (a : Contents) (j : ℕ) → Source (r + 1) q → KeepsRegisters (r + 1) (r + 1) b a → nat_lt j len ≡ true → reg a.regs q ≡ j → j < 2 ^ 31 → len < 2 ^ 32 → Evaluates w sc 10 n2 to a k Out (at_no_cost (Ok (below l j)))
       inside l b g ready_b a j src keeps within is low short =
           let ne = source_other (r + 1) q (omega arith) src in
           let test = tests q len n2 a k short idle ne (code_front w n2 (bound_code q len) tail last_there) in
@@ -166,9 +166,9 @@ module _ (w : World) (sc : Scope) (p : Bases) (s : State) (f : Machine w) (area 
           let comm : words sc.env.structs t * j ≡ j * words sc.env.structs t = mul_comm (words sc.env.structs t) j in
           let was = g.is in
           let r_is : reg a3.regs r ≡ sum (reg b.regs x.base) (4 * (words sc.env.structs t * j) % 2 ^ 32) = same_read scaled.core.regs r _ (λ z. absurd (omega (arith, z, lo))) in
-          let kept : Keeps r r c a3 = keeps_on r r c b a3 g.keeps (keeps_on r r b a a3 (keeps_in r (r + 1) r b a (omega arith) (omega arith) keeps) (keeps_on r r a test.core a3 (test.keeps r) (keeps_on r r test.core scaled.core a3 (scaled.keeps r) (keeps_put r r _ scaled.core)))) in
+          let kept : KeepsRegisters r r c a3 = keeps_on r r c b a3 g.keeps (keeps_on r r b a a3 (keeps_in r (r + 1) r b a (omega arith) (omega arith) keeps) (keeps_on r r a test.core a3 (test.keeps r) (keeps_on r r test.core scaled.core a3 (scaled.keeps r) (keeps_put r r _ scaled.core)))) in
           arrives w sc 10 n2 to a a3 k Out (below l j) (record {
-            is = ap (λ y. (y + x.displacement) % 2 ^ 32) r_is ∙ address (reg b.regs x.base) x.displacement (words sc.env.structs t * j) (word_at sc p l) (word_at sc p (below l j)) was (omega (arith, on, comm)) (omega (arith, room, small));
+            is = ap (λ y. (y + x.displacement) % 2 ^ 32) r_is ∙ address (reg b.regs x.base) x.displacement (words sc.env.structs t * j) (location_word sc p l) (location_word sc p (below l j)) was (omega (arith, on, comm)) (omega (arith, room, small));
             leads = leads;
             away = λ z. points_on sc.env.structs (layout sc p) l.region l.path (ty.array t len) j t (g.away z) path;
             standing = g.standing;
@@ -179,7 +179,7 @@ module _ (w : World) (sc : Scope) (p : Bases) (s : State) (f : Machine w) (area 
               → (sum base (4 * more % 2 ^ 32) + shift) % 2 ^ 32 ≡ 4 * there
           address base shift further from there h e small = omega arith
 
-      by_test : (l : Location) (b : Contents) (g : Leads sc p x.base x.displacement r local (ty.array t len) c l b) (ready_b : Ready sc p s b) (a : Contents) (j : ℕ) → Source (r + 1) q → Keeps (r + 1) (r + 1) b a → reg a.regs q ≡ j → j < 2 ^ 31 → len < 2 ^ 32 → (y : Bool) → nat_lt j len ≡ y → Comes w sc 10 n2 to a k Out (at_no_cost (if y then Ok (below l j) else Err (faulted Bounds)))
+      by_test : (l : Location) (b : Contents) (g : HoldsAddress sc p x.base x.displacement r local (ty.array t len) c l b) (ready_b : Ready sc p s b) (a : Contents) (j : ℕ) → Source (r + 1) q → KeepsRegisters (r + 1) (r + 1) b a → reg a.regs q ≡ j → j < 2 ^ 31 → len < 2 ^ 32 → (y : Bool) → nat_lt j len ≡ y → Evaluates w sc 10 n2 to a k Out (at_no_cost (if y then Ok (below l j) else Err (faulted Bounds)))
       by_test l b g ready_b a j src keeps is low short true e = inside l b g ready_b a j src keeps e is low short
       by_test l b g ready_b a j src keeps is low short false e = outside a j short (source_other (r + 1) q (omega arith) src) e is
 
@@ -187,14 +187,14 @@ module _ (w : World) (sc : Scope) (p : Bases) (s : State) (f : Machine w) (area 
       wide n zero h = absurd (omega (arith, h))
       wide n (suc m) h = let z = mul_comm n (suc m) in omega (arith, z)
 
-      short_array : (l : Location) (b : Contents) → Leads sc p x.base x.displacement r local (ty.array t len) c l b → Ready sc p s b → len < 2 ^ 32
+      short_array : (l : Location) (b : Contents) → HoldsAddress sc p x.base x.displacement r local (ty.array t len) c l b → Ready sc p s b → len < 2 ^ 32
       short_array l b g ready_b =
           let room = (found w sc p s f area is_typed b l (ty.array t len) ready_b g.leads g.standing).inside in
           let some = wide len (words sc.env.structs t) (area.filled l.region l.path (ty.array t len) g.leads) in
           let small = f.sound.small in
           omega (arith, room, some, small)
 
-      by_value : (l : Location) (b : Contents) (g : Leads sc p x.base x.displacement r local (ty.array t len) c l b) (ready_b : Ready sc p s b) (a : Contents) → Source (r + 1) q → (y v : Value) → Fits sc.env.structs (layout sc p) (ty.array t len) y → Gives sc p q (r + 1) (r + 1) ty.int b v a → Comes w sc 10 n2 to a k Out (at_no_cost (element_of l (Some y) v))
+      by_value : (l : Location) (b : Contents) (g : HoldsAddress sc p x.base x.displacement r local (ty.array t len) c l b) (ready_b : Ready sc p s b) (a : Contents) → Source (r + 1) q → (y v : Value) → Fits sc.env.structs (layout sc p) (ty.array t len) y → HoldsValue sc p q (r + 1) (r + 1) ty.int b v a → Evaluates w sc 10 n2 to a k Out (at_no_cost (element_of l (Some y) v))
       by_value l b g ready_b a src (group vs) (int (pos j)) fits h =
           let is : reg a.regs q ≡ j = h.is ∙ word_pos j h.fits in
           let c0 : count vs ≡ len = length_fits sc.env.structs (layout sc p) len t vs fits in

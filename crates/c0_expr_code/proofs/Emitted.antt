@@ -9,7 +9,7 @@ use Rattle.c0_tree.specs.declared.tree.BinaryOp.{BinaryOp}
 use Rattle.c0_tree.specs.declared.tree.BinaryOp.TheVariants.{Add, Sub, Mul, Div, Rem, Lt, Le, Gt, Ge, Eq, Ne, And, Or}
 use Rattle.c0_tree.specs.Tree.{CExpr, num, true_, false_, null, var, field, arrow, index, deref, address, unary, binary}
 use Rattle.c0_expr_code.specs.Scope.{Scope}
-use Rattle.c0_expr_code.specs.Code.{Made, Immediate, made, unary_made, binary_made, negative_made, operator_made, sum_made, immediate_of, variable_made, no_spot, Spot, scaled_code, constant_code, element_spot, tested_spot, moved, element_words, length_in, shift_within, POWERS, scale_code, operand_code, operand_register, element_code, bound_code}
+use Rattle.c0_expr_code.specs.Code.{Made, Immediate, made, unary_made, binary_made, negative_made, operator_made, sum_made, immediate_of, variable_made, no_spot, AddressingMode, scaled_code, constant_code, element_spot, tested_spot, displaced, element_words, length_in, shift_within, POWERS, scale_code, operand_code, operand_register, element_code, bound_code}
 use Rattle.std.proofs.lemmas.Nat.{mul-mod_first}
 use Rattle.std.proofs.lemmas.List.{append_assoc, map-append}
 use Rattle.c0_tree.specs.declared.tree.Expr as rust
@@ -166,13 +166,13 @@ stands_is sc (address p e) = refl
 stands_is sc (unary p o e) = ap (λ (l : Option ℕ). zero_register (negative_of o l)) (literal_is sc e) ∙ unary_stands o (made sc e)
 stands_is sc (binary p o a b) = sym (binary_plain sc o (made sc a) (made sc b)).stands
 
-below_near : (sc : Scope) (w n k : ℕ) (x : Spot) (m : Made) (r c : ℕ) (b : Bool) → ◌≡◌ {A = Option ℕ} (if b then Some k else None) (Some c)
-    → (if b then moved (4 * (k * w)) x else tested_spot sc w n x m r) ≡ moved (4 * (c * w)) x
-below_near sc w n k x m r c true h = let e : k ≡ c = cc in ap (λ (j : ℕ). moved (4 * (j * w)) x) e
+below_near : (sc : Scope) (w n k : ℕ) (x : AddressingMode) (m : Made) (r c : ℕ) (b : Bool) → ◌≡◌ {A = Option ℕ} (if b then Some k else None) (Some c)
+    → (if b then displaced (4 * (k * w)) x else tested_spot sc w n x m r) ≡ displaced (4 * (c * w)) x
+below_near sc w n k x m r c true h = let e : k ≡ c = cc in ap (λ (j : ℕ). displaced (4 * (j * w)) x) e
 below_near sc w n k x m r c false h = cc
 
-below_far : (sc : Scope) (w n k : ℕ) (x : Spot) (m : Made) (r : ℕ) (b : Bool) → ◌≡◌ {A = Option ℕ} (if b then Some k else None) None
-    → (if b then moved (4 * (k * w)) x else tested_spot sc w n x m r) ≡ tested_spot sc w n x m r
+below_far : (sc : Scope) (w n k : ℕ) (x : AddressingMode) (m : Made) (r : ℕ) (b : Bool) → ◌≡◌ {A = Option ℕ} (if b then Some k else None) None
+    → (if b then displaced (4 * (k * w)) x else tested_spot sc w n x m r) ≡ tested_spot sc w n x m r
 below_far sc w n k x m r true h = cc
 below_far sc w n k x m r false h = refl
 
@@ -186,11 +186,11 @@ scaled_same (Some by) w q b h = refl
 scaled_same None w q b h = ap (λ (k : ℕ). constant_code SCRATCH k ++ (Mult q SCRATCH ∷ Mflo SCRATCH ∷ [])) h
 
 -- an element of a number below the length, and any other
-pub near_element : (sc : Scope) (w n : ℕ) (l : Option ℕ) (x : Spot) (m : Made) (r c : ℕ) → below_of l n ≡ Some c → element_spot sc w n l x m r ≡ moved (4 * (c * w)) x
+pub near_element : (sc : Scope) (w n : ℕ) (l : Option ℕ) (x : AddressingMode) (m : Made) (r c : ℕ) → below_of l n ≡ Some c → element_spot sc w n l x m r ≡ displaced (4 * (c * w)) x
 near_element sc w n None x m r c h = cc
 near_element sc w n (Some k) x m r c h = below_near sc w n k x m r c (nat_lt k n) h
 
-pub far_element : (sc : Scope) (w n : ℕ) (l : Option ℕ) (x : Spot) (m : Made) (r : ℕ) → below_of l n ≡ None → element_spot sc w n l x m r ≡ tested_spot sc w n x m r
+pub far_element : (sc : Scope) (w n : ℕ) (l : Option ℕ) (x : AddressingMode) (m : Made) (r : ℕ) → below_of l n ≡ None → element_spot sc w n l x m r ≡ tested_spot sc w n x m r
 far_element sc w n None x m r h = refl
 far_element sc w n (Some k) x m r h = below_far sc w n k x m r (nat_lt k n) h
 
@@ -213,10 +213,10 @@ pub near_place : (sc : Scope) (e i : CExpr) (r c : ℕ) (x : Elements) (near mov
 near_place sc e i r c x near to words count type below place base shift =
     let n : x.count ≡ length_in (type_at sc.env e) = count ∙ ap length_in type in
     let w : x.bytes ≡ 4 * element_words sc.env.structs (type_at sc.env e) % 2 ^ 32 = words.1 ∙ ap (λ (t : Option Ty). 4 * element_words sc.env.structs t % 2 ^ 32) type in
-    let m : index_spot sc e i r ≡ moved (4 * (c * element_words sc.env.structs (type_at sc.env e))) ((made sc e).place r) =
+    let m : index_spot sc e i r ≡ displaced (4 * (c * element_words sc.env.structs (type_at sc.env e))) ((made sc e).place r) =
     near_element sc _ _ (made sc i).literal ((made sc e).place r) (made sc i) r c (subst (λ (k : ℕ). below_of (made sc i).literal k ≡ Some c) n below) in (
-      base ∙ place.0 ∙ sym (ap (λ (y : Spot). y.base) m),
-      shift ∙ ap (λ (k : ℕ). (k + x.bytes * c % 2 ^ 32) % 2 ^ 32) place.1 ∙ before_element x.bytes c _ ((made sc e).place r).displacement w ∙ sym (ap (λ (y : Spot). y.displacement) m),
+      base ∙ place.0 ∙ sym (ap (λ (y : AddressingMode). y.base) m),
+      shift ∙ ap (λ (k : ℕ). (k + x.bytes * c % 2 ^ 32) % 2 ^ 32) place.1 ∙ before_element x.bytes c _ ((made sc e).place r).displacement w ∙ sym (ap (λ (y : AddressingMode). y.displacement) m),
     )
 
 on_ok : {A E : Type 0} (r : Result A E) (P Q : Type 0) → (P → Q) → OnOk r P → OnOk r Q
@@ -246,4 +246,4 @@ far_code sc e i r x near result old mid new words count type below place m =
     h ∙ ap (λ (l : List ℕ). l ++ map encoding (tested_code sc x near.base (made sc i) r)) m
     ∙ append_assoc old (map encoding here) (map encoding (tested_code sc x near.base (made sc i) r))
     ∙ ap (λ (l : List ℕ). old ++ l) (sym (map-append encoding here (tested_code sc x near.base (made sc i) r)) ∙ ap (λ (l : List Inst). map encoding (here ++ l)) one)
-    ∙ sym (ap (λ (y : Spot). old ++ map encoding y.code) far))
+    ∙ sym (ap (λ (y : AddressingMode). old ++ map encoding y.code) far))

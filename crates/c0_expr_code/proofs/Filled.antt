@@ -10,7 +10,7 @@ use Rattle.c0_tree.specs.declared.tree.BinaryOp.{BinaryOp}
 use Rattle.c0_tree.specs.declared.tree.BinaryOp.TheVariants.{Add, Sub, Mul, Div, Rem, Lt, Le, Gt, Ge, Eq, Ne, And, Or}
 use Rattle.c0_tree.specs.Tree.{CExpr, num, true_, false_, null, var, field, arrow, index, deref, address, unary, binary}
 use Rattle.c0_expr_code.specs.Scope.{Scope}
-use Rattle.c0_expr_code.specs.Code.{is_near, negated, Spot, Made, constant_code, on_spot, operand_code, operand_register, at_place, no_spot, global_spot, register_made, register_of, local_spot, variable_made, one_code, two_code, operator_code, Immediate, when_near, equality_with, immediate, immediate_of, operator_made, sum_made, is_sure, divisor_code, division_made, binary_made, negative_made, unary_made, made}
+use Rattle.c0_expr_code.specs.Code.{is_near, negated, AddressingMode, Made, constant_code, on_spot, operand_code, operand_register, at_place, no_spot, global_spot, register_made, register_of, local_spot, variable_made, one_code, two_code, operator_code, Immediate, when_near, equality_with, immediate, immediate_of, operator_made, sum_made, is_sure, divisor_code, division_made, binary_made, negative_made, unary_made, made}
 use Rattle.c0_expr_code.specs.Test.{branch_code, compare_code, ImmediateTest, immediate_test, immediate_test_of, Testing, compare_test, both_code, binary_test, plain_test, test_code}
 
 -- two codes of lengths
@@ -24,7 +24,7 @@ cond_some false is js h g = g
 constant_some : (d n : ℕ) → 1 ≤ length (constant_code d n)
 constant_some d n = cond_some (nat_lt n (2 ^ 16)) _ _ (omega arith) (cond_some (is_near n) _ _ (omega arith) (omega arith))
 
-spot_some : (i : ℕ → ℕ → Inst) (r : ℕ) (x : Spot) → 1 ≤ length (on_spot i r x)
+spot_some : (i : ℕ → ℕ → Inst) (r : ℕ) (x : AddressingMode) → 1 ≤ length (on_spot i r x)
 spot_some i r x = behind x.code _ (cond_some (is_near x.displacement) _ _ (omega arith) (omega arith))
 
 -- a value's code has a word

@@ -16,7 +16,7 @@ use Rattle.c0_tree.specs.declared.tree.BinaryOp.TheVariants.{Add, Sub, Lt, Le, G
 use Rattle.c0_meaning.specs.Ty.{Ty, is_scalar}
 use Rattle.c0_meaning.specs.Ty as ty
 use Rattle.c0_meaning.specs.Value.{Value, int, bool, null, at, group}
-use Rattle.c0_meaning.specs.State.{State}
+use Rattle.c0_meaning.specs.State.{C0State}
 use Rattle.c0_meaning.specs.Operators.{Failure, same, on_binary}
 use Rattle.c0_meaning.specs.Evaluation.{at_no_cost}
 use Rattle.c0_meaning.specs.TypedState.{Fits}
@@ -24,7 +24,7 @@ use Rattle.cvm_words.specs.Words.{word_of}
 use Rattle.c0_expr_code.specs.Scope.{Scope}
 use Rattle.c0_expr_code.specs.Code.{low, is_near, negated, equality_with, immediate}
 use Rattle.c0_expr_code.specs.Bases.{Bases, word}
-use Rattle.c0_expr_code.specs.Relation.{layout, IsTyped, Area, Comes, Gives}
+use Rattle.c0_expr_code.specs.Relation.{layout, StateIsTyped, Area, Evaluates, HoldsValue}
 use Rattle.c0_expr_code.proofs.Machine.{Machine, said_step}
 use Rattle.c0_expr_code.proofs.Words.{word_sum, word_difference, word_less, xor_tests, not_flag, not_less}
 use Rattle.c0_expr_code.proofs.Steps.{same_read}
@@ -82,13 +82,13 @@ above_none : (n : ℕ) → nat_lt 0 n ≡ not (nat_eq n 0)
 above_none zero = refl
 above_none (suc n) = lt-ltb 0 (suc n) (omega arith) ∙ ap not (sym (ne_eqb (suc n) 0 (λ e. absurd (omega (arith, e)))))
 
-module _ (w : World) (sc : Scope) (p : Bases) (s : State) (f : Machine w) (area : Area w sc p) (is_typed : IsTyped sc p s) where
+module _ (w : World) (sc : Scope) (p : Bases) (s : C0State) (f : Machine w) (area : Area w sc p) (is_typed : StateIsTyped sc p s) where
   -- a value in a register, and then the code of the operator with a constant
   abbrev pub With : (ℕ → ℕ → List Inst) → (d r : ℕ) → Ty → Ty → (Value → Result Value Failure) → Type 0
   With g d r t z on = FinishesOne w sc p s f area is_typed (λ q. g d q) d r t z on
 
   on_number : (g : ℕ → ℕ → List Inst) (d r : ℕ) (z : Ty) (on : Value → Result Value Failure) →
-      ((x : ℤ) (q n : ℕ) (a : Contents) (k : Behind) → k.pending ≡ Idle → FitsSigned w32 x → reg a.regs q ≡ word_of x → CodeAt w n (g d q) → Comes w sc 5 n (n + length (g d q)) a k (Gives sc p d r d z a) (at_no_cost (on (int x)))) → With g d r ty.int z on
+      ((x : ℤ) (q n : ℕ) (a : Contents) (k : Behind) → k.pending ≡ Idle → FitsSigned w32 x → reg a.regs q ≡ word_of x → CodeAt w n (g d q) → Evaluates w sc 5 n (n + length (g d q)) a k (HoldsValue sc p d r d z a) (at_no_cost (on (int x)))) → With g d r ty.int z on
   on_number g d r z on h (int x) q n a k idle fx ex there = h x q n a k idle fx ex there
   on_number g d r z on h (bool b) q n a k idle fx ex there = absurd fx
   on_number g d r z on h null q n a k idle fx ex there = absurd fx
@@ -158,21 +158,21 @@ module _ (w : World) (sc : Scope) (p : Bases) (s : State) (f : Machine w) (area 
       → With g d r t ty.bool (λ x. on_binary o x v)
   equal_with o i turn tells on d r t v nz scalar fv g e x q n a k idle fx ex there =
       let is = same_words w sc p s f area is_typed t x v scalar fx fv in
-      subst (λ z. Comes w sc 5 n (n + length (g d q)) a k (Gives sc p d r d ty.bool a) (at_no_cost z)) (sym (on x v)) (by_code is (either_some (nat_eq (word sc p v) 0) (nat_lt (word sc p v) (2 ^ 16)) (λ d q. i d q ∷ []) (λ d q. Xori d q (word sc p v) ∷ i d d ∷ []) g e))
+      subst (λ z. Evaluates w sc 5 n (n + length (g d q)) a k (HoldsValue sc p d r d ty.bool a) (at_no_cost z)) (sym (on x v)) (by_code is (either_some (nat_eq (word sc p v) 0) (nat_lt (word sc p v) (2 ^ 16)) (λ d q. i d q ∷ []) (λ d q. Xori d q (word sc p v) ∷ i d d ∷ []) g e))
     where
       by_code : same x v ≡ nat_eq (word sc p x) (word sc p v)
           → ((nat_eq (word sc p v) 0 ≡ true) × ((λ d q. i d q ∷ []) ≡ g)) ⊎ ((λ d q. Xori d q (word sc p v) ∷ i d d ∷ []) ≡ g)
-          → Comes w sc 5 n (n + length (g d q)) a k (Gives sc p d r d ty.bool a) (at_no_cost (Ok (bool (turn (same x v)))))
+          → Evaluates w sc 5 n (n + length (g d q)) a k (HoldsValue sc p d r d ty.bool a) (at_no_cost (Ok (bool (turn (same x v)))))
       by_code is (inl h) =
           let zero_is : nat_eq (word sc p x) 0 ≡ same x v = ap (nat_eq (word sc p x)) (sym (eqb-true (word sc p v) 0 h.0)) ∙ sym is in
           let code = subst (λ g. CodeAt w n (g d q)) (sym h.1) there in
-          subst (λ g. Comes w sc 5 n (n + length (g d q)) a k (Gives sc p d r d ty.bool a) (at_no_cost (Ok (bool (turn (same x v)))))) h.1
+          subst (λ g. Evaluates w sc 5 n (n + length (g d q)) a k (HoldsValue sc p d r d ty.bool a) (at_no_cost (Ok (bool (turn (same x v)))))) h.1
           (once w sc p s f area is_typed d r (flag (turn (nat_eq (word sc p x) 0))) n ty.bool (bool (turn (same x v))) a k nz (ap (λ y. flag (turn y)) zero_is) tt (tells.steps d q n (word sc p x) a k idle code.0 ex))
       by_code is (inr h) =
           let code = subst (λ g. CodeAt w n (g d q)) (sym h) there in
           let u : ℕ = bit_xor (word sc p x) (word sc p v) in
           let zero_is : nat_eq (bit_xor (word sc p x) (word sc p v)) 0 ≡ same x v = xor_zero (word sc p x) (word sc p v) ∙ sym is in
-          subst (λ g. Comes w sc 5 n (n + length (g d q)) a k (Gives sc p d r d ty.bool a) (at_no_cost (Ok (bool (turn (same x v)))))) h
+          subst (λ g. Evaluates w sc 5 n (n + length (g d q)) a k (HoldsValue sc p d r d ty.bool a) (at_no_cost (Ok (bool (turn (same x v)))))) h
           (twice w sc p s f area is_typed d r (bit_xor (word sc p x) (word sc p v)) (flag (turn (nat_eq (bit_xor (word sc p x) (word sc p v)) 0))) n ty.bool (bool (turn (same x v))) a k nz (ap (λ y. flag (turn y)) zero_is) tt
           (said_step w f (Xori d q (word sc p v)) (Becomes (bit_xor (word sc p x) (word sc p v))) n a k code.0 refl idle (ap (λ y. bit_xor y (word sc p v)) ex))
           (tells.steps d d (n + 1) (bit_xor (word sc p x) (word sc p v)) (with_reg a d (bit_xor (word sc p x) (word sc p v))) k idle code.1.0 (same_read a.regs d (bit_xor (word sc p x) (word sc p v)) nz)))

@@ -17,9 +17,9 @@ use Rattle.c0_tree.specs.Size.{need, binary_need}
 use Rattle.c0_meaning.specs.Operators.{KernelFault, NullUse, Bounds, DivZero}
 use Rattle.c0_meaning.specs.TypeAt.{type_at}
 use Rattle.c0_expr_code.specs.Scope.{Scope}
-use Rattle.c0_expr_code.specs.Code.{element_words, length_in, Spot, Made, constant_code, is_near, low, high, on_spot, store_code, or_code, operand_code, operand_register, no_spot, at_place, constant, only_value, global_spot, local_spot, register_made, register_of, variable_made, moved, target_spot, bound_code, shift_within, POWERS, scaled_code, scale_code, tested_spot, element_spot, to_code, two_code, one_code, logic_code, negated, negative_made, unary_made, operator_code, Immediate, when_near, equality_with, immediate, immediate_of, operator_made, sum_made, is_sure, divisor_code, division_made, binary_made, made}
+use Rattle.c0_expr_code.specs.Code.{element_words, length_in, AddressingMode, Made, constant_code, is_near, low, high, on_spot, store_code, or_code, operand_code, operand_register, no_spot, at_place, constant, only_value, global_spot, local_spot, register_made, register_of, variable_made, displaced, target_spot, bound_code, shift_within, POWERS, scaled_code, scale_code, tested_spot, element_spot, to_code, two_code, one_code, logic_code, negated, negative_made, unary_made, operator_code, Immediate, when_near, equality_with, immediate, immediate_of, operator_made, sum_made, is_sure, divisor_code, division_made, binary_made, made}
 use Rattle.c0_expr_code.specs.Test.{branch_code, negative_branch, positive_branch, below_code, compare_code, ImmediateTest, immediate_test, immediate_test_of, Testing, compare_test, both_code, binary_test, plain_test, test_code}
-use Rattle.c0_expr_code.proofs.Whole.{need_some}
+use Rattle.c0_expr_code.proofs.EveryExpression.{need_some}
 
 -- instruction by instruction
 abbrev pub Ranged : List Inst → Type 0
@@ -52,15 +52,15 @@ constants d n h = elim (cases_Bool (nat_lt n (2 ^ 16))) [
 ]
 
 -- a place
-pub record FineSpot (x : Spot) : Type 0 where
+pub record FineSpot (x : AddressingMode) : Type 0 where
   pub code : Ranged x.code
   pub base : x.base < 32
 
-spots : (f : ℕ → ℕ → Inst) (r : ℕ) (x : Spot) → r < 32 → FineSpot x → ((b k : ℕ) → b < 32 → k < 2 ^ 16 → InRange (f b k)) → Ranged (on_spot f r x)
+spots : (f : ℕ → ℕ → Inst) (r : ℕ) (x : AddressingMode) → r < 32 → FineSpot x → ((b k : ℕ) → b < 32 → k < 2 ^ 16 → InRange (f b k)) → Ranged (on_spot f r x)
 spots f r x h g i = both x.code _ g.code (either (is_near x.displacement) (f x.base (low x.displacement) ∷ []) (Lui 1 (high x.displacement) ∷ Addu r x.base 1 ∷ f r (low x.displacement) ∷ [])
     (i x.base (low x.displacement) g.base (low_small x.displacement), tt) ((omega arith, high_small x.displacement), ((h, g.base, omega arith), (i r (low x.displacement) h (low_small x.displacement), tt))))
 
-loads : (d r : ℕ) (x : Spot) → d < 32 → r < 32 → FineSpot x → Ranged (on_spot (λ b k. Lw d b k) r x)
+loads : (d r : ℕ) (x : AddressingMode) → d < 32 → r < 32 → FineSpot x → Ranged (on_spot (λ b k. Lw d b k) r x)
 loads d r x h g i = spots (λ b k. Lw d b k) r x g i (λ b k low l. (h, low, l))
 
 -- a node that needs so many registers
@@ -87,7 +87,7 @@ registers m need r h le = register_at m.stands r (let s = h.some in omega (arith
 no_place : (r : ℕ) → FineSpot (no_spot r)
 no_place r = record { code = tt; base = omega arith }
 
-places : (place : ℕ → Spot) (need : ℕ) → 1 ≤ need → ((r : ℕ) → r + need ≤ 32 → FineSpot (place r)) → Fine (at_place place) need
+places : (place : ℕ → AddressingMode) (need : ℕ) → 1 ≤ need → ((r : ℕ) → r + need ≤ 32 → FineSpot (place r)) → Fine (at_place place) need
 places place need some h = record { some = some; value = λ d r l le. loads d r (place r) l (omega (arith, some, le)) (h r le); place = h; stands = λ q e. absurd (cc) }
 
 values : (code : ℕ → ℕ → List Inst) (need : ℕ) → 1 ≤ need → ((d r : ℕ) → d < 32 → r + need ≤ 32 → Ranged (code d r)) → Fine (only_value code) need
@@ -253,7 +253,7 @@ module _ (sc : Scope) (exits : (f : KernelFault) → sc.exit f < 2 ^ 26) where
   targets : (m : Made) (need r : ℕ) → Fine m need → r + need ≤ 32 → FineSpot (target_spot sc m r)
   targets m need r h le = record { code = both (operand_code m r) _ (operands m need r h le) ((registers m need r h le, omega arith, omega arith), (exits NullUse, tt)); base = registers m need r h le }
 
-  tested : (w n : ℕ) (x : Spot) (m : Made) (nm r : ℕ) → FineSpot x → Fine m nm → r + 1 + nm ≤ 32 → FineSpot (tested_spot sc w n x m r)
+  tested : (w n : ℕ) (x : AddressingMode) (m : Made) (nm r : ℕ) → FineSpot x → Fine m nm → r + 1 + nm ≤ 32 → FineSpot (tested_spot sc w n x m r)
   tested w n x m nm r h g le =
       let q = registers m nm (r + 1) g le in
       let low : r < 32 = omega (arith, le) in
@@ -263,12 +263,12 @@ module _ (sc : Scope) (exits : (f : KernelFault) → sc.exit f < 2 ^ 26) where
         base = low;
       }
 
-  elements : (o : Option ℕ) (w n : ℕ) (x : Spot) (m : Made) (nm r : ℕ) → FineSpot x → Fine m nm → r + 1 + nm ≤ 32
+  elements : (o : Option ℕ) (w n : ℕ) (x : AddressingMode) (m : Made) (nm r : ℕ) → FineSpot x → Fine m nm → r + 1 + nm ≤ 32
       → FineSpot (element_spot sc w n o x m r)
   elements None w n x m nm r h g le = tested w n x m nm r h g le
   elements (Some c) w n x m nm r h g le = by_test (nat_lt c n)
     where
-      by_test : (b : Bool) → FineSpot (cond b (moved (4 * (c * w)) x) (tested_spot sc w n x m r))
+      by_test : (b : Bool) → FineSpot (cond b (displaced (4 * (c * w)) x) (tested_spot sc w n x m r))
       by_test true = record { code = h.code; base = h.base }
       by_test false = tested w n x m nm r h g le
 

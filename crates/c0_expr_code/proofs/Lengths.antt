@@ -13,7 +13,7 @@ use Rattle.c0_tree.specs.Size.{nodes}
 use Rattle.c0_meaning.specs.Operators.{NullUse, Bounds}
 use Rattle.c0_meaning.specs.TypeAt.{type_at}
 use Rattle.c0_expr_code.specs.Scope.{Scope}
-use Rattle.c0_expr_code.specs.Code.{element_words, length_in, Spot, Made, constant_code, is_near, low, high, on_spot, or_code, operand_code, operand_register, no_spot, at_place, constant, only_value, global_spot, local_spot, register_made, register_of, variable_made, moved, target_spot, bound_code, shift_within, POWERS, scaled_code, scale_code, element_code, tested_spot, element_spot, to_code, two_code, one_code, logic_code, negated, negative_made, unary_made, operator_code, Immediate, when_near, equality_with, immediate, immediate_of, operator_made, sum_made, is_sure, divisor_code, division_made, binary_made, made}
+use Rattle.c0_expr_code.specs.Code.{element_words, length_in, AddressingMode, Made, constant_code, is_near, low, high, on_spot, or_code, operand_code, operand_register, no_spot, at_place, constant, only_value, global_spot, local_spot, register_made, register_of, variable_made, displaced, target_spot, bound_code, shift_within, POWERS, scaled_code, scale_code, element_code, tested_spot, element_spot, to_code, two_code, one_code, logic_code, negated, negative_made, unary_made, operator_code, Immediate, when_near, equality_with, immediate, immediate_of, operator_made, sum_made, is_sure, divisor_code, division_made, binary_made, made}
 
 cond_length : (b : Bool) (is js : List Inst) (n : ℕ) → length is ≤ n → length js ≤ n → length (cond b is js) ≤ n
 cond_length true is js n h g = h
@@ -29,7 +29,7 @@ constant_length d n =
     cond_length (nat_lt n (2 ^ 16)) (Ori d 0 n ∷ []) _ 2 (omega arith)
     (cond_length (is_near n) (Addiu d 0 (low n) ∷ []) (Lui d (n / 2 ^ 16 % 2 ^ 16) ∷ Ori d d (low n) ∷ []) 2 (omega arith) (omega arith))
 
-spot_length : (i : ℕ → ℕ → Inst) (r : ℕ) (x : Spot) → length (on_spot i r x) ≤ length x.code + 3
+spot_length : (i : ℕ → ℕ → Inst) (r : ℕ) (x : AddressingMode) → length (on_spot i r x) ≤ length x.code + 3
 spot_length i r x =
     let a = length-append x.code (cond (is_near x.displacement) (i x.base (low x.displacement) ∷ []) (Lui 1 (high x.displacement) ∷ Addu r x.base 1 ∷ i r (low x.displacement) ∷ [])) in
     let b = cond_length (is_near x.displacement) (i x.base (low x.displacement) ∷ []) (Lui 1 (high x.displacement) ∷ Addu r x.base 1 ∷ i r (low x.displacement) ∷ []) 3 (omega arith) (omega arith) in
@@ -42,7 +42,7 @@ or_length (Some q) is n h = omega arith
 pub operand_length : (m : Made) (k r : ℕ) → Short m k → length (operand_code m r) ≤ 14 * k
 operand_length m k r h = or_length m.stands (m.value r r) (14 * k) (h.value r r)
 
-places : (place : ℕ → Spot) (k : ℕ) → ((r : ℕ) → length (place r).code + 3 ≤ 14 * k) → Short (at_place place) k
+places : (place : ℕ → AddressingMode) (k : ℕ) → ((r : ℕ) → length (place r).code + 3 ≤ 14 * k) → Short (at_place place) k
 places place k h = record { value = λ d r. let a = spot_length (λ b x. Lw d b x) r (place r) in let g = h r in omega (arith, a, g); place = h }
 
 values : (code : ℕ → ℕ → List Inst) (k : ℕ) → 1 ≤ k → ((d r : ℕ) → length (code d r) ≤ 14 * k) → Short (only_value code) k
@@ -143,7 +143,7 @@ module _ (sc : Scope) where
       let g = scaled_length (shift_within POWERS w) w q in
       omega (arith, a, d, e, g)
 
-  tested_length : (w n : ℕ) (x : Spot) (m : Made) (j k r : ℕ) → length x.code + 3 ≤ 14 * j → Short m k
+  tested_length : (w n : ℕ) (x : AddressingMode) (m : Made) (j k r : ℕ) → length x.code + 3 ≤ 14 * j → Short m k
       → length (tested_spot sc w n x m r).code + 3 ≤ 14 * (j + k + 1)
   tested_length w n x m j k r h g =
       let a = operand_length m k (r + 1) g in
@@ -152,12 +152,12 @@ module _ (sc : Scope) where
       let d = length-append (operand_code m (r + 1)) (element_code sc (operand_register m (r + 1)) x.base r w n) in
       omega (arith, a, b, c, d, h)
 
-  elements : (o : Option ℕ) (w n : ℕ) (x : Spot) (m : Made) (j k r : ℕ) → length x.code + 3 ≤ 14 * j → Short m k
+  elements : (o : Option ℕ) (w n : ℕ) (x : AddressingMode) (m : Made) (j k r : ℕ) → length x.code + 3 ≤ 14 * j → Short m k
       → length (element_spot sc w n o x m r).code + 3 ≤ 14 * (j + k + 1)
   elements None w n x m j k r h g = tested_length w n x m j k r h g
   elements (Some c) w n x m j k r h g = by_test (nat_lt c n)
     where
-      by_test : (b : Bool) → length (cond b (moved (4 * (c * w)) x) (tested_spot sc w n x m r)).code + 3 ≤ 14 * (j + k + 1)
+      by_test : (b : Bool) → length (cond b (displaced (4 * (c * w)) x) (tested_spot sc w n x m r)).code + 3 ≤ 14 * (j + k + 1)
       by_test true = omega (arith, h)
       by_test false = tested_length w n x m j k r h g
 

@@ -3,7 +3,7 @@ mod Paths
 mod Words
 mod Offsets
 mod Steps
-mod Spots
+mod AddressingModes
 mod Nodes
 mod Products
 mod Scales
@@ -12,8 +12,8 @@ mod Ranges
 mod Operators
 mod Immediates
 mod Lengths
-mod Found
-mod Whole
+mod NodeTypes
+mod EveryExpression
 mod TestLengths
 mod Tests
 mod TestsWhole
@@ -22,10 +22,10 @@ mod Filled
 mod Names
 mod Stores
 mod Parts
-mod Ready
+mod ScalarStores
 mod Areas
 mod Storing
-mod Elsewhere
+mod OtherFrames
 mod InRange
 mod Patches
 mod Exits

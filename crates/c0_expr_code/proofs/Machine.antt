@@ -7,8 +7,8 @@ use Rattle.std.proofs.lemmas.Bool.{cond-true, cond-false}
 use Rattle.mips_table.specs.Arith.{extended}
 use Rattle.mips_table.specs.Effect.{branch, next}
 use Rattle.mips_table.specs.Device.{Idle}
-use Rattle.mips_table.specs.Code.{Contents, reg, Behind, World, Sound, Configuration, at_with, settling, settle, effect_at, Steps, Reaches, CodeAt}
-use Rattle.masm.specs.Says.{Says, Said, said, told, goes_on}
+use Rattle.mips_table.specs.Code.{Contents, reg, Behind, World, Sound, CodeState, at_with, settling, settle, effect_at, Steps, Reaches, CodeAt}
+use Rattle.masm.specs.Says.{Says, Said, said, ports_after, falls_through}
 use Rattle.masm.specs.Laws.{StraightRuns, JumpsLead}
 
 -- what is known of runs in a world
@@ -27,28 +27,28 @@ code_back w n (i ∷ a) b h =
     let e : n + 1 + length a ≡ n + length (i ∷ a) = omega arith in
     subst (λ m. CodeAt w m b) e (code_back w (n + 1) a b h.1)
 
-steps_on : (w : World) (n m : ℕ) (s t u : Configuration) → Steps w n s t → Steps w m t u → Steps w (n + m) s u
+steps_on : (w : World) (n m : ℕ) (s t u : CodeState) → Steps w n s t → Steps w m t u → Steps w (n + m) s u
 steps_on w zero m s t u a b = let e : m ≡ 0 + m = omega arith in subst (λ k. Steps w k s u) e (subst (λ x. Steps w m x u) (sym a.1) b)
 steps_on w (suc n) m s t u a b =
     let e : suc (n + m) ≡ suc n + m = omega arith in
     let rest = steps_on w n m _ t u (a.0.1, a.1) b in
     subst (λ k. Steps w k s u) e ((a.0.0, rest.0), rest.1)
 
-pub stays : (w : World) (s t : Configuration) → s ≡ t → Reaches w 0 s t
+pub stays : (w : World) (s t : CodeState) → s ≡ t → Reaches w 0 s t
 stays w s t e = record { steps = 0; within = omega arith; run = (tt, e) }
 
-pub joined : (w : World) (n m : ℕ) (s t u : Configuration) → Reaches w n s t → Reaches w m t u → Reaches w (n + m) s u
+pub joined : (w : World) (n m : ℕ) (s t u : CodeState) → Reaches w n s t → Reaches w m t u → Reaches w (n + m) s u
 joined w n m s t u a b = record { steps = a.steps + b.steps; within = omega (arith, a.within, b.within); run = steps_on w a.steps b.steps s t u a.run b.run }
 
-pub later : (w : World) (n m : ℕ) (s t : Configuration) → n ≤ m → Reaches w n s t → Reaches w m s t
+pub later : (w : World) (n m : ℕ) (s t : CodeState) → n ≤ m → Reaches w n s t → Reaches w m s t
 later w n m s t le a = record { steps = a.steps; within = omega (arith, a.within); run = a.run }
 
 pub idle_settle : (n : ℕ) (c : Contents) (d : Behind) → d.pending ≡ Idle → settle n c d ≡ at_with n c d
 idle_settle n c d h = ap (λ p. settling p n c d) h
 
 module _ (w : World) (f : Machine w) where
-  pub said_step : (i : Inst) (h : Says) (n : ℕ) (c : Contents) (d : Behind) → w.code n ≡ Some i → goes_on i ≡ true → d.pending ≡ Idle
-      → Said w i c d (effect_at i n c) h → Reaches w 1 (at_with n c d) (at_with (n + 1) (said i c (effect_at i n c) h) (told d h))
+  pub said_step : (i : Inst) (h : Says) (n : ℕ) (c : Contents) (d : Behind) → w.code n ≡ Some i → falls_through i ≡ true → d.pending ≡ Idle
+      → Said w i c d (effect_at i n c) h → Reaches w 1 (at_with n c d) (at_with (n + 1) (said i c (effect_at i n c) h) (ports_after d h))
   said_step i h n c d at g idle s = f.straight.next i h n c d at g idle s
 
   -- a branch or a jump, where it is known where it leads

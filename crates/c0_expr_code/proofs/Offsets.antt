@@ -5,7 +5,7 @@ use Rattle.c0_meaning.specs.Ty.{Ty, is_scalar}
 use Rattle.c0_meaning.specs.Env.{Shape}
 use Rattle.c0_meaning.specs.Words.{fields_named, words}
 use Rattle.c0_meaning.specs.Value.{Value, int, bool, null, at, group, Values, empty, part, nth, get}
-use Rattle.c0_meaning.specs.TypedState.{types_of, LeadsFrom, Fits, AllFit, AreParts, Leads as PathLeads}
+use Rattle.c0_meaning.specs.TypedState.{types_of, LeadsFrom, Fits, AllFit, AreParts, PathLeads}
 use Rattle.c0_expr_code.proofs.Paths.{there}
 use Rattle.c0_expr_code.specs.Scope.{Scope}
 use Rattle.c0_expr_code.specs.Bases.{Bases, words_of_all, word, Held, AllHeld, RegionHeld}

@@ -11,7 +11,7 @@ use Rattle.c0_tree.specs.Tree.{CExpr}
 use Rattle.c0_expr_code.specs.Scope.{Scope}
 use Rattle.c0_expr_code.specs.Code.{made}
 use Rattle.c0_expr_code.specs.Test.{immediate_test_of, compare_test, plain_test, test_code}
-use Rattle.c0_expr_code.specs.Jumps.{Open, last_open, joined_open, test_open, patched}
+use Rattle.c0_expr_code.specs.Jumps.{Unpatched, last_open, joined_open, test_open, patched}
 use Rattle.c0_expr_code.specs.Opened.{IsOpened, bool_code, order_code, registers_code, over_open}
 use Rattle.c0_expr_code.proofs.Patches.{assoc, map_append, map_length, shifted, EndsIn, aims, patches, within, plain_ends, IsCompared, lt, le, gt, ge, eq, compared, test_of}
 
@@ -56,7 +56,7 @@ last r old new seen marked marks is h e v =
     on_ok r _ _ (λ w. record { words = e; places = w ∙ ap (λ k. marked ++ k ∷ []) p })
 
 -- two stand side by side
-pub joined : (old mid new marked marks all : List ℕ) (x y : Open) → IsOpened old mid marked marks x → IsOpened mid new marks all y → IsOpened old new marked all (joined_open x y)
+pub joined : (old mid new marked marks all : List ℕ) (x y : Unpatched) → IsOpened old mid marked marks x → IsOpened mid new marks all y → IsOpened old new marked all (joined_open x y)
 joined old mid new marked marks all x y h k = record {
   words = k.words ∙ ap (λ l. l ++ map encoding y.code) h.words ∙ assoc old (map encoding x.code) (map encoding y.code) ∙ ap (λ l. old ++ l) (sym (map_append encoding x.code y.code));
   places =
@@ -66,7 +66,7 @@ joined old mid new marked marks all x y h k = record {
 }
 
 -- where the second of two stands, the result being that of both
-pub then : {A E : Type 0} (r : Result A E) (old mid new marked marks all : List ℕ) (x y : Open) → IsOpened old mid marked marks x → OnOk r (IsOpened mid new marks all y)
+pub then : {A E : Type 0} (r : Result A E) (old mid new marked marks all : List ℕ) (x y : Unpatched) → IsOpened old mid marked marks x → OnOk r (IsOpened mid new marks all y)
     → OnOk r (IsOpened old new marked all (joined_open x y))
 then r old mid new marked marks all x y h = on_ok r _ _ (λ k. joined old mid new marked marks all x y h k)
 

@@ -11,14 +11,14 @@ use Rattle.mips_table.specs.declared.inst.Inst.TheVariants.{Div as Divide, Addu,
 use Rattle.mips_table.specs.Arith.{sum, difference, less, flag, extended, upper, lower, signed_product, signed_quotient, signed_remainder}
 use Rattle.mips_table.specs.Effect.{branch}
 use Rattle.mips_table.specs.Device.{Idle}
-use Rattle.mips_table.specs.Code.{Contents, reg, with_reg, Behind, World, at_with, Reaches, CodeAt, with_wide, Configuration}
+use Rattle.mips_table.specs.Code.{Contents, reg, with_reg, Behind, World, at_with, Reaches, CodeAt, with_wide, CodeState}
 use Rattle.c0_tree.specs.declared.tree.UnaryOp.TheVariants.{Negate, Not}
 use Rattle.c0_tree.specs.declared.tree.BinaryOp.{BinaryOp}
 use Rattle.c0_tree.specs.declared.tree.BinaryOp.TheVariants.{Add, Sub, Lt, Le, Gt, Ge, Mul, Div, Rem}
 use Rattle.c0_meaning.specs.Ty.{Ty, is_scalar}
 use Rattle.c0_meaning.specs.Judgement.{IsOrder, lt, le, gt, ge, IsEquality, eq, ne}
 use Rattle.c0_meaning.specs.Value.{Region, globals, heap, locals, Location, Value, int, bool, null, at, group}
-use Rattle.c0_meaning.specs.State.{State}
+use Rattle.c0_meaning.specs.State.{C0State}
 use Rattle.c0_meaning.specs.Operators.{Failure, same_region, same, on_unary, on_binary, faulted, stuck, divided, DivZero}
 use Rattle.c0_meaning.specs.Evaluation.{Costed, at_no_cost, paying, ◌>>=◌, truth, bool_of, costs}
 use Rattle.c0_meaning.specs.TypedState.{Fits, PointsTo}
@@ -26,9 +26,9 @@ use Rattle.masm.specs.Says.{Gives as Becomes, Widens}
 use Rattle.c0_expr_code.proofs.Machine.{Machine, joined, later, stays, code_front, code_back, said_step, differ_goes, taken, passed}
 use Rattle.cvm_words.specs.Words.{word_of, quotient, remainder}
 use Rattle.c0_expr_code.specs.Scope.{Scope}
-use Rattle.c0_expr_code.specs.Bases.{Bases, word_at, word}
+use Rattle.c0_expr_code.specs.Bases.{Bases, location_word, word}
 use Rattle.c0_expr_code.specs.Code.{Made, operand_code, operand_register, two_code, one_code, to_code, logic_code, operator_code, divisor_code}
-use Rattle.c0_expr_code.specs.Relation.{layout, IsTyped, Ready, Keeps, Area, Comes, Gives, ValueRuns, OperandRuns}
+use Rattle.c0_expr_code.specs.Relation.{layout, StateIsTyped, Ready, KeepsRegisters, Area, Evaluates, HoldsValue, ValueRuns, OperandRuns}
 use Rattle.c0_expr_code.proofs.Words.{plain, word_sum, word_difference, word_negative, word_less, xor_tests, xor_differs, int_words, bool_words, not_flag, not_less}
 use Rattle.c0_expr_code.proofs.Steps.{same_read, keeps_all, keeps_on, keeps_in, keeps_put, keeps_low, ready_on, source_kept, node, after, binds, says, onward, ends_at, arrives, other_reg, faults, jumps}
 use Rattle.c0_expr_code.proofs.Nodes.{word_small, pointer_room, skips, falls}
@@ -62,7 +62,7 @@ pub any_answer : (e : Costed Value) → Answers (λ v. Unit {0}) e
 any_answer (costs u (Ok v)) = tt
 any_answer (costs u (Err e)) = tt
 
-answered : (w : World) (sc : Scope) (m from to : ℕ) (c : Contents) (k : Behind) (Q : Value → Contents → Type 0) (P : Value → Type 0) (e : Costed Value) → Answers P e → Comes w sc m from to c k Q e → Comes w sc m from to c k (λ v c'. P v × Q v c') e
+answered : (w : World) (sc : Scope) (m from to : ℕ) (c : Contents) (k : Behind) (Q : Value → Contents → Type 0) (P : Value → Type 0) (e : Costed Value) → Answers P e → Evaluates w sc m from to c k Q e → Evaluates w sc m from to c k (λ v c'. P v × Q v c') e
 answered w sc m from to c k Q P (costs u (Ok x)) a h = (h.0, (a, h.1), h.2)
 answered w sc m from to c k Q P (costs u (Err (faulted f))) a h = h
 answered w sc m from to c k Q P (costs u (Err stuck)) a h = absurd h
@@ -71,20 +71,20 @@ not_zero : (y : ℤ) → FitsSigned w32 y → 0 < unsigned_abs y → word_of y �
 not_zero (pos n) f some e = absurd (omega (arith, ints, some, e))
 not_zero (negsuc n) f some e = let g = f.sfits in absurd (omega (arith, ints, g, e))
 
-module _ (w : World) (sc : Scope) (p : Bases) (s : State) (f : Machine w) (area : Area w sc p) (is_typed : IsTyped sc p s) where
+module _ (w : World) (sc : Scope) (p : Bases) (s : C0State) (f : Machine w) (area : Area w sc p) (is_typed : StateIsTyped sc p s) where
   -- what an operator's own code does, from a state in which both sides are in registers
   abbrev pub FinishesFor : (Value → Type 0) → (ℕ → ℕ → List Inst) → ℕ → ℕ → Ty → Ty → Ty → (Value → Value → Result Value Failure) → Type 0
   FinishesFor P code d r t u z on = (x y : Value) → P y → (q g n : ℕ) (a : Contents) (k : Behind) → k.pending ≡ Idle
       → Fits sc.env.structs (layout sc p) t x → Fits sc.env.structs (layout sc p) u y → reg a.regs q ≡ word sc p x → reg a.regs g ≡ word sc p y
       → CodeAt w n (code q g) →
-      Comes w sc 5 n (n + length (code q g)) a k (Gives sc p d r d z a) (at_no_cost (on x y))
+      Evaluates w sc 5 n (n + length (code q g)) a k (HoldsValue sc p d r d z a) (at_no_cost (on x y))
 
   abbrev pub Finishes : (ℕ → ℕ → List Inst) → ℕ → ℕ → Ty → Ty → Ty → (Value → Value → Result Value Failure) → Type 0
   Finishes code d r t u z on = FinishesFor (λ y. Unit {0}) code d r t u z on
 
   -- both sides, and then the operator
   pub twos : (P : Value → Type 0) (code : ℕ → ℕ → List Inst) (ma mb : Made) (na nb : ℕ) (on : Value → Value → Result Value Failure) (t u z : Ty) (d r n : ℕ) (c : Contents) (k : Behind) (x y : Costed Value) → k.pending ≡ Idle → 8 ≤ r → r + na ≤ 20 → r + (nb + 1) ≤ 20 → 1 ≤ nb → Ready sc p s c → CodeAt w n (two_code code ma mb r) →
-      OperandRuns w sc p s ma na t x → OperandRuns w sc p s mb nb u y → Answers P y → FinishesFor P code d r t u z on → Comes w sc 0 n (n + length (two_code code ma mb r)) c k (Gives sc p d r d z c) (paying 1 (x >>= λ v. y >>= λ w. at_no_cost (on v w)))
+      OperandRuns w sc p s ma na t x → OperandRuns w sc p s mb nb u y → Answers P y → FinishesFor P code d r t u z on → Evaluates w sc 0 n (n + length (two_code code ma mb r)) c k (HoldsValue sc p d r d z c) (paying 1 (x >>= λ v. y >>= λ w. at_no_cost (on v w)))
   twos P code ma mb na nb on t u z d r n c k x y idle lo ha hb some ready there oa ob answers finish =
       let qa = operand_register ma r in
       let qb = operand_register mb (r + 1) in
@@ -96,66 +96,66 @@ module _ (w : World) (sc : Scope) (p : Bases) (s : State) (f : Machine w) (area 
       let last = code_back w (n + length (operand_code ma r)) (operand_code mb (r + 1)) (code (operand_register ma r) (operand_register mb (r + 1))) rest in
       let to : ℕ = n + length (two_code code ma mb r) in
       let len : n + length (operand_code ma r) + length (operand_code mb (r + 1)) + length (code (operand_register ma r) (operand_register mb (r + 1))) ≡ n + length (two_code code ma mb r) = omega (arith, length-append (operand_code ma r) (operand_code mb (r + 1) ++ code (operand_register ma r) (operand_register mb (r + 1))), length-append (operand_code mb (r + 1)) (code (operand_register ma r) (operand_register mb (r + 1)))) in
-      node w sc 5 n (n + length (two_code code ma mb r)) c k (Gives sc p d r d z c) (x >>= λ v. y >>= λ w. at_no_cost (on v w)) (omega arith)
-      (binds w sc 0 5 n (n + length (operand_code ma r)) (n + length (two_code code ma mb r)) c k (Gives sc p (operand_register ma r) r r t c) (Gives sc p d r d z c) x _ a.1
+      node w sc 5 n (n + length (two_code code ma mb r)) c k (HoldsValue sc p d r d z c) (x >>= λ v. y >>= λ w. at_no_cost (on v w)) (omega arith)
+      (binds w sc 0 5 n (n + length (operand_code ma r)) (n + length (two_code code ma mb r)) c k (HoldsValue sc p (operand_register ma r) r r t c) (HoldsValue sc p d r d z c) x _ a.1
       (λ v b g. keeps_low r r c b (omega arith) g.keeps)
       (λ v b g.
       let ready_b = ready_on sc p s c b (keeps_low r r c b (omega arith) g.keeps) ready in
       let o = ob (r + 1) (n + length (operand_code ma r)) b k idle ready_b (code_front w _ (operand_code mb (r + 1)) (code (operand_register ma r) (operand_register mb (r + 1))) rest) (omega arith) (omega arith) in
-      binds w sc 0 5 (n + length (operand_code ma r)) (n + length (operand_code ma r) + length (operand_code mb (r + 1))) (n + length (two_code code ma mb r)) b k (λ v c'. P v × Gives sc p (operand_register mb (r + 1)) (r + 1) (r + 1) u b v c') (Gives sc p d r d z c) y _ (answered w sc 0 _ _ b k (Gives sc p (operand_register mb (r + 1)) (r + 1) (r + 1) u b) P y answers o.1)
+      binds w sc 0 5 (n + length (operand_code ma r)) (n + length (operand_code ma r) + length (operand_code mb (r + 1))) (n + length (two_code code ma mb r)) b k (λ v c'. P v × HoldsValue sc p (operand_register mb (r + 1)) (r + 1) (r + 1) u b v c') (HoldsValue sc p d r d z c) y _ (answered w sc 0 _ _ b k (HoldsValue sc p (operand_register mb (r + 1)) (r + 1) (r + 1) u b) P y answers o.1)
       (λ e i h. keeps_low (r + 1) (r + 1) b i (omega arith) h.1.keeps)
       (λ e i h.
-      let kept : Keeps r d c i = keeps_on r d c b i (keeps_in r r d c b (omega arith) (omega arith) g.keeps) (keeps_in r (r + 1) d b i (omega arith) (omega arith) h.1.keeps) in
-      ends_at w sc 5 (n + length (operand_code ma r) + length (operand_code mb (r + 1))) _ (n + length (two_code code ma mb r)) i k (Gives sc p d r d z c) (at_no_cost (on v e)) len
-      (says w sc 5 _ _ i k (Gives sc p d r d z i) (Gives sc p d r d z c) (at_no_cost (on v e)) (λ x j m. record { is = m.is; fits = m.fits; keeps = keeps_on r d c i j kept m.keeps })
+      let kept : KeepsRegisters r d c i = keeps_on r d c b i (keeps_in r r d c b (omega arith) (omega arith) g.keeps) (keeps_in r (r + 1) d b i (omega arith) (omega arith) h.1.keeps) in
+      ends_at w sc 5 (n + length (operand_code ma r) + length (operand_code mb (r + 1))) _ (n + length (two_code code ma mb r)) i k (HoldsValue sc p d r d z c) (at_no_cost (on v e)) len
+      (says w sc 5 _ _ i k (HoldsValue sc p d r d z i) (HoldsValue sc p d r d z c) (at_no_cost (on v e)) (λ x j m. record { is = m.is; fits = m.fits; keeps = keeps_on r d c i j kept m.keeps })
       (finish v e h.0 (operand_register ma r) (operand_register mb (r + 1)) _ i k idle g.fits h.1.fits (source_kept r (operand_register ma r) b i lo (omega arith) a.0 h.1.keeps ∙ g.is) h.1.is last)))))
 
   abbrev pub FinishesOne : (ℕ → List Inst) → ℕ → ℕ → Ty → Ty → (Value → Result Value Failure) → Type 0
   FinishesOne code d r t z on = (x : Value) (q n : ℕ) (a : Contents) (k : Behind) → k.pending ≡ Idle → Fits sc.env.structs (layout sc p) t x
-      → reg a.regs q ≡ word sc p x → CodeAt w n (code q) → Comes w sc 5 n (n + length (code q)) a k (Gives sc p d r d z a) (at_no_cost (on x))
+      → reg a.regs q ≡ word sc p x → CodeAt w n (code q) → Evaluates w sc 5 n (n + length (code q)) a k (HoldsValue sc p d r d z a) (at_no_cost (on x))
 
   pub ones : (code : ℕ → List Inst) (m : Made) (need : ℕ) (on : Value → Result Value Failure) (t z : Ty) (d r n : ℕ) (c : Contents) (k : Behind) (x : Costed Value) → k.pending ≡ Idle → 8 ≤ r → r + need ≤ 20 → 1 ≤ need → Ready sc p s c → CodeAt w n (one_code code m r) →
-      OperandRuns w sc p s m need t x → FinishesOne code d r t z on → Comes w sc 0 n (n + length (one_code code m r)) c k (Gives sc p d r d z c) (paying 1 (x >>= λ v. at_no_cost (on v)))
+      OperandRuns w sc p s m need t x → FinishesOne code d r t z on → Evaluates w sc 0 n (n + length (one_code code m r)) c k (HoldsValue sc p d r d z c) (paying 1 (x >>= λ v. at_no_cost (on v)))
   ones code m need on t z d r n c k x idle lo hi some ready there o finish =
       let a = o r n c k idle ready (code_front w n (operand_code m r) (code (operand_register m r)) there) lo hi in
       let len : n + length (operand_code m r) + length (code (operand_register m r)) ≡ n + length (one_code code m r) = omega (arith, length-append (operand_code m r) (code (operand_register m r))) in
-      node w sc 5 n (n + length (one_code code m r)) c k (Gives sc p d r d z c) (x >>= λ v. at_no_cost (on v)) (omega arith)
-      (binds w sc 0 5 n (n + length (operand_code m r)) (n + length (one_code code m r)) c k (Gives sc p (operand_register m r) r r t c) (Gives sc p d r d z c) x _ a.1
+      node w sc 5 n (n + length (one_code code m r)) c k (HoldsValue sc p d r d z c) (x >>= λ v. at_no_cost (on v)) (omega arith)
+      (binds w sc 0 5 n (n + length (operand_code m r)) (n + length (one_code code m r)) c k (HoldsValue sc p (operand_register m r) r r t c) (HoldsValue sc p d r d z c) x _ a.1
       (λ v b g. keeps_low r r c b (omega arith) g.keeps)
       (λ v b g.
-      ends_at w sc 5 (n + length (operand_code m r)) _ (n + length (one_code code m r)) b k (Gives sc p d r d z c) (at_no_cost (on v)) len
-      (says w sc 5 _ _ b k (Gives sc p d r d z b) (Gives sc p d r d z c) (at_no_cost (on v)) (λ y j h. record { is = h.is; fits = h.fits; keeps = keeps_on r d c b j (keeps_in r r d c b (omega arith) (omega arith) g.keeps) h.keeps })
+      ends_at w sc 5 (n + length (operand_code m r)) _ (n + length (one_code code m r)) b k (HoldsValue sc p d r d z c) (at_no_cost (on v)) len
+      (says w sc 5 _ _ b k (HoldsValue sc p d r d z b) (HoldsValue sc p d r d z c) (at_no_cost (on v)) (λ y j h. record { is = h.is; fits = h.fits; keeps = keeps_on r d c b j (keeps_in r r d c b (omega arith) (omega arith) g.keeps) h.keeps })
       (finish v (operand_register m r) _ b k idle g.fits g.is (code_back w n (operand_code m r) (code (operand_register m r)) there)))))
 
   -- one instruction, or two, that leave a word in d
   pub once : (d r v n : ℕ) (z : Ty) (x : Value) (a : Contents) (k : Behind) → d ≢ 0 → v ≡ word sc p x → Fits sc.env.structs (layout sc p) z x
-      → Reaches w 1 (at_with n a k) (at_with (n + 1) (with_reg a d v) k) → Comes w sc 5 n (n + 1) a k (Gives sc p d r d z a) (at_no_cost (Ok x))
-  once d r v n z x a k nz e fits run = arrives w sc 5 n (n + 1) a (with_reg a d v) k (Gives sc p d r d z a) x (record { is = same_read a.regs d v nz ∙ e; fits = fits; keeps = keeps_put r d v a }) (later w 1 5 _ _ (omega arith) run)
+      → Reaches w 1 (at_with n a k) (at_with (n + 1) (with_reg a d v) k) → Evaluates w sc 5 n (n + 1) a k (HoldsValue sc p d r d z a) (at_no_cost (Ok x))
+  once d r v n z x a k nz e fits run = arrives w sc 5 n (n + 1) a (with_reg a d v) k (HoldsValue sc p d r d z a) x (record { is = same_read a.regs d v nz ∙ e; fits = fits; keeps = keeps_put r d v a }) (later w 1 5 _ _ (omega arith) run)
 
   pub twice : (d r u v n : ℕ) (z : Ty) (x : Value) (a : Contents) (k : Behind) → d ≢ 0 → v ≡ word sc p x → Fits sc.env.structs (layout sc p) z x
       → Reaches w 1 (at_with n a k) (at_with (n + 1) (with_reg a d u) k)
       → Reaches w 1 (at_with (n + 1) (with_reg a d u) k) (at_with (n + 1 + 1) (with_reg (with_reg a d u) d v) k)
-      → Comes w sc 5 n (n + 2) a k (Gives sc p d r d z a) (at_no_cost (Ok x))
+      → Evaluates w sc 5 n (n + 2) a k (HoldsValue sc p d r d z a) (at_no_cost (Ok x))
   twice d r u v n z x a k nz e fits one two =
       let b : Contents = with_reg a d u in
       let end : n + 1 + 1 ≡ n + 2 = omega arith in
-      ends_at w sc 5 n (n + 1 + 1) (n + 2) a k (Gives sc p d r d z a) (at_no_cost (Ok x)) end
-      (arrives w sc 5 n (n + 1 + 1) a (with_reg b d v) k (Gives sc p d r d z a) x (record { is = same_read b.regs d v nz ∙ e; fits = fits; keeps = keeps_on r d a b (with_reg b d v) (keeps_put r d u a) (keeps_put r d v b) }) (later w 2 5 _ _ (omega arith) (joined w 1 1 _ _ _ one two)))
+      ends_at w sc 5 n (n + 1 + 1) (n + 2) a k (HoldsValue sc p d r d z a) (at_no_cost (Ok x)) end
+      (arrives w sc 5 n (n + 1 + 1) a (with_reg b d v) k (HoldsValue sc p d r d z a) x (record { is = same_read b.regs d v nz ∙ e; fits = fits; keeps = keeps_on r d a b (with_reg b d v) (keeps_put r d u a) (keeps_put r d v b) }) (later w 2 5 _ _ (omega arith) (joined w 1 1 _ _ _ one two)))
 
   -- one instruction that takes hi or lo
   widened : (d r hi lo v n to : ℕ) (z : Ty) (x : Value) (a : Contents) (k : Behind) → d ≢ 0 → v ≡ word sc p x → Fits sc.env.structs (layout sc p) z x
       → Reaches w 5 (at_with n a k) (at_with to (with_reg (with_wide a hi lo) d v) k)
-      → Comes w sc 5 n to a k (Gives sc p d r d z a) (at_no_cost (Ok x))
+      → Evaluates w sc 5 n to a k (HoldsValue sc p d r d z a) (at_no_cost (Ok x))
   widened d r hi lo v n to z x a k nz e fits run =
-      arrives w sc 5 n to a (with_reg (with_wide a hi lo) d v) k (Gives sc p d r d z a) x
+      arrives w sc 5 n to a (with_reg (with_wide a hi lo) d v) k (HoldsValue sc p d r d z a) x
       (record { is = same_read a.regs d v nz ∙ e; fits = fits; keeps = record { memory = refl; special = refl; below = λ x n m l. other_reg a.regs d v x m; above = λ x n l. other_reg a.regs d v x n } }) run
 
-  moved_to : (m n i : ℕ) (s : Configuration) (c : Contents) (k : Behind) → m ≡ n → Reaches w i s (at_with m c k) → Reaches w i s (at_with n c k)
+  moved_to : (m n i : ℕ) (s : CodeState) (c : Contents) (k : Behind) → m ≡ n → Reaches w i s (at_with m c k) → Reaches w i s (at_with n c k)
   moved_to m n i s c k e run = subst (λ t. Reaches w i s (at_with t c k)) e run
 
   -- operators on ints
   on_numbers : (code : ℕ → ℕ → List Inst) (d r : ℕ) (z : Ty) (on : Value → Value → Result Value Failure) →
-      ((x y : ℤ) (q g n : ℕ) (a : Contents) (k : Behind) → k.pending ≡ Idle → FitsSigned w32 x → FitsSigned w32 y → reg a.regs q ≡ word_of x → reg a.regs g ≡ word_of y → CodeAt w n (code q g) → Comes w sc 5 n (n + length (code q g)) a k (Gives sc p d r d z a) (at_no_cost (on (int x) (int y)))) →
+      ((x y : ℤ) (q g n : ℕ) (a : Contents) (k : Behind) → k.pending ≡ Idle → FitsSigned w32 x → FitsSigned w32 y → reg a.regs q ≡ word_of x → reg a.regs g ≡ word_of y → CodeAt w n (code q g) → Evaluates w sc 5 n (n + length (code q g)) a k (HoldsValue sc p d r d z a) (at_no_cost (on (int x) (int y)))) →
       Finishes code d r ty.int ty.int z on
   on_numbers code d r z on h (int x) (int y) o q g n a k idle fx fy ex ey there = h x y q g n a k idle fx fy ex ey there
   on_numbers code d r z on h (int x) (bool b) o q g n a k idle fx fy ex ey there = absurd fy
@@ -214,7 +214,7 @@ module _ (w : World) (sc : Scope) (p : Bases) (s : State) (f : Machine w) (area 
   parts : (i : Inst) (d r : ℕ) (pick : ℕ → ℕ → ℕ) (div : ℤ → ℤ → ℤ) → Takes i d pick div → d ≢ 0
       → (x y : ℤ) (q g n m : ℕ) (a : Contents) (k : Behind) → k.pending ≡ Idle → FitsSigned w32 x → FitsSigned w32 y → 0 < unsigned_abs y
       → reg a.regs q ≡ word_of x → reg a.regs g ≡ word_of y → CodeAt w m (Divide q g ∷ i ∷ []) →
-      Reaches w 1 (at_with n a k) (at_with m a k) → Comes w sc 5 n (m + 2) a k (Gives sc p d r d ty.int a) (at_no_cost (Ok (int (div x y))))
+      Reaches w 1 (at_with n a k) (at_with m a k) → Evaluates w sc 5 n (m + 2) a k (HoldsValue sc p d r d ty.int a) (at_no_cost (Ok (int (div x y))))
   parts i d r pick div takes nz x y q g n m a k idle fx fy some ex ey there before =
       let u : ℕ = signed_remainder (reg a.regs q) (reg a.regs g) in
       let v : ℕ = signed_quotient (reg a.regs q) (reg a.regs g) in
@@ -228,25 +228,25 @@ module _ (w : World) (sc : Scope) (p : Bases) (s : State) (f : Machine w) (area 
   divisions : (o : BinaryOp) (i : Inst) (d r : ℕ) (pick : ℕ → ℕ → ℕ) (div : ℤ → ℤ → ℤ) → Takes i d pick div → d ≢ 0
       → ((x y : ℤ) → on_binary o (int x) (int y) ≡ divided div x y) → (sure : Bool)
       → FinishesFor (λ y. sure ≡ true → word sc p y ≢ 0) (λ q g. divisor_code sc sure g ++ (Divide q g ∷ i ∷ [])) d r ty.int ty.int ty.int (on_binary o)
-  divisions o i d r pick div takes nz on sure (int x) (int y) known q g n a k idle fx fy ex ey there = subst (λ e. Comes w sc 5 n (n + length (divisor_code sc sure g ++ (Divide q g ∷ i ∷ []))) a k (Gives sc p d r d ty.int a) (at_no_cost e)) (sym (on x y)) (by_divisor sure y known fy ey there)
+  divisions o i d r pick div takes nz on sure (int x) (int y) known q g n a k idle fx fy ex ey there = subst (λ e. Evaluates w sc 5 n (n + length (divisor_code sc sure g ++ (Divide q g ∷ i ∷ []))) a k (HoldsValue sc p d r d ty.int a) (at_no_cost e)) (sym (on x y)) (by_divisor sure y known fy ey there)
     where
       whole : (sure : Bool) (y : ℤ) → 0 < unsigned_abs y → FitsSigned w32 y → reg a.regs g ≡ word_of y
           → CodeAt w n (divisor_code sc sure g ++ (Divide q g ∷ i ∷ []))
-          → Comes w sc 5 n (n + length (divisor_code sc sure g ++ (Divide q g ∷ i ∷ []))) a k (Gives sc p d r d ty.int a) (at_no_cost (Ok (int (div x y))))
+          → Evaluates w sc 5 n (n + length (divisor_code sc sure g ++ (Divide q g ∷ i ∷ []))) a k (HoldsValue sc p d r d ty.int a) (at_no_cost (Ok (int (div x y))))
       whole true y some fy ey there = parts i d r pick div takes nz x y q g n n a k idle fx fy some ex ey there (later w 0 1 _ _ (omega arith) (stays w _ _ refl))
       whole false y some fy ey there =
           let go = skips w sc p s f area is_typed n g 0 a k idle there.0 (λ z. absurd (not_zero y fy some (sym ey ∙ z))) in
           let z : n + 1 + 1 ≡ n + 2 = omega arith in
-          ends_at w sc 5 n (n + 2 + 2) (n + 4) a k (Gives sc p d r d ty.int a) (at_no_cost (Ok (int (div x y)))) (omega arith)
+          ends_at w sc 5 n (n + 2 + 2) (n + 4) a k (HoldsValue sc p d r d ty.int a) (at_no_cost (Ok (int (div x y)))) (omega arith)
           (parts i d r pick div takes nz x y q g n (n + 2) a k idle fx fy some ex ey (subst (λ m. CodeAt w m (Divide q g ∷ i ∷ [])) z there.1.1) go)
 
       by_divisor : (sure : Bool) (y : ℤ) → (sure ≡ true → word_of y ≢ 0) → FitsSigned w32 y → reg a.regs g ≡ word_of y
           → CodeAt w n (divisor_code sc sure g ++ (Divide q g ∷ i ∷ []))
-          → Comes w sc 5 n (n + length (divisor_code sc sure g ++ (Divide q g ∷ i ∷ []))) a k (Gives sc p d r d ty.int a) (at_no_cost (divided div x y))
+          → Evaluates w sc 5 n (n + length (divisor_code sc sure g ++ (Divide q g ∷ i ∷ []))) a k (HoldsValue sc p d r d ty.int a) (at_no_cost (divided div x y))
       by_divisor true (pos zero) known fy ey there = absurd (known refl refl)
       by_divisor false (pos zero) known fy ey there =
           let go = falls w sc p s f area is_typed n g 0 a k idle there.0 ey in
-          faults w sc 5 n (n + 4) a a k (Gives sc p d r d ty.int a) DivZero (keeps_all 0 0 a) (later w 2 5 _ _ (omega arith) (joined w 1 1 _ _ _ go (jumps w f (n + 1) (sc.exit DivZero) a k idle there.1.0)))
+          faults w sc 5 n (n + 4) a a k (HoldsValue sc p d r d ty.int a) DivZero (keeps_all 0 0 a) (later w 2 5 _ _ (omega arith) (joined w 1 1 _ _ _ go (jumps w f (n + 1) (sc.exit DivZero) a k idle there.1.0)))
       by_divisor sure (pos (suc m)) known fy ey there = whole sure (pos (suc m)) (omega arith) fy ey there
       by_divisor sure (negsuc m) known fy ey there = whole sure (negsuc m) (omega arith) fy ey there
   divisions o i d r pick div takes nz on sure (int x) (bool z) known q g n a k idle fx fy ex ey there = absurd fy
@@ -299,8 +299,8 @@ module _ (w : World) (sc : Scope) (p : Bases) (s : State) (f : Machine w) (area 
 
   at_same : (t : Ty) (l m : Location) → PointsTo sc.env.structs (layout sc p) l.region l.path t
       → PointsTo sc.env.structs (layout sc p) m.region m.path t
-      → (same_region l.region m.region && bytes_eq l.path m.path) ≡ nat_eq (4 * word_at sc p l) (4 * word_at sc p m)
-  at_same t l m h g = elim (cases_eq (4 * word_at sc p l) (4 * word_at sc p m)) [
+      → (same_region l.region m.region && bytes_eq l.path m.path) ≡ nat_eq (4 * location_word sc p l) (4 * location_word sc p m)
+  at_same t l m h g = elim (cases_eq (4 * location_word sc p l) (4 * location_word sc p m)) [
     | inl e ↦
         let q = area.apart t l m h g (omega (arith, e)) in
         subst (λ x. (same_region l.region x.region && bytes_eq l.path x.path) ≡ true) q (and_from (same_region l.region l.region) (bytes_eq l.path l.path) (region_same l.region) ((bytes_eq-Decides l.path l.path).1 refl)) ∙ sym (eq-eqb _ _ e)
@@ -308,7 +308,7 @@ module _ (w : World) (sc : Scope) (p : Bases) (s : State) (f : Machine w) (area 
         false_from_ne_true (same_region l.region m.region && bytes_eq l.path m.path) (λ e.
         let z = and_parts (same_region l.region m.region) (bytes_eq l.path m.path) e in
         let q : l ≡ m = ap₂ (λ g path. record { region = g; path = path }) (region_is l.region m.region z.0) ((bytes_eq-Decides l.path m.path).0 z.1) in
-        n (ap (λ x. 4 * word_at sc p x) q)) ∙ sym (ne_eqb _ _ n)
+        n (ap (λ x. 4 * location_word sc p x) q)) ∙ sym (ne_eqb _ _ n)
   ]
 
   pub same_words : (t : Ty) (x y : Value) → is_scalar t ≡ true → Fits sc.env.structs (layout sc p) t x → Fits sc.env.structs (layout sc p) t y
@@ -316,8 +316,8 @@ module _ (w : World) (sc : Scope) (p : Bases) (s : State) (f : Machine w) (area 
   same_words ty.int (int x) (int y) e h g = int_words x y h g
   same_words ty.bool (bool x) (bool y) e h g = bool_words x y
   same_words (ty.pointer t) null null e h g = refl
-  same_words (ty.pointer t) null (at m) e h g = let r = (pointer_room w sc p s f area is_typed m.region m.path t g).0 in sym (ne_eqb 0 (4 * word_at sc p m) (λ z. absurd (omega (arith, z, r))))
-  same_words (ty.pointer t) (at l) null e h g = let r = (pointer_room w sc p s f area is_typed l.region l.path t h).0 in sym (ne_eqb (4 * word_at sc p l) 0 (λ z. absurd (omega (arith, z, r))))
+  same_words (ty.pointer t) null (at m) e h g = let r = (pointer_room w sc p s f area is_typed m.region m.path t g).0 in sym (ne_eqb 0 (4 * location_word sc p m) (λ z. absurd (omega (arith, z, r))))
+  same_words (ty.pointer t) (at l) null e h g = let r = (pointer_room w sc p s f area is_typed l.region l.path t h).0 in sym (ne_eqb (4 * location_word sc p l) 0 (λ z. absurd (omega (arith, z, r))))
   same_words (ty.pointer t) (at l) (at m) e h g = at_same t l m h g
   same_words ty.int (int x) _ e h g = absurd g
   same_words ty.bool (bool x) _ e h g = absurd g
@@ -386,7 +386,7 @@ module _ (w : World) (sc : Scope) (p : Bases) (s : State) (f : Machine w) (area 
   record Brought (d r v n : ℕ) (b : Contents) (k : Behind) : Type 0 where
     core : Contents
     is : reg core.regs d ≡ v
-    keeps : Keeps r d b core
+    keeps : KeepsRegisters r d b core
     run : Reaches w 1 (at_with n b k) (at_with (n + length (to_code d r)) core k)
 
   brings : (d r v n : ℕ) (b : Contents) (k : Behind) → k.pending ≡ Idle → d ≢ 0 → reg b.regs r ≡ v → v < 2 ^ 32 → CodeAt w n (to_code d r)
@@ -404,13 +404,13 @@ module _ (w : World) (sc : Scope) (p : Bases) (s : State) (f : Machine w) (area 
   ]
 
   -- the bool that a value in a register is
-  truths : (r n to : ℕ) (c : Contents) (k : Behind) (x : Costed Value) → r < 20 → Comes w sc 0 n to c k (Gives sc p r r r ty.bool c) x
-      → Comes w sc 0 n to c k (λ y b. (reg b.regs r ≡ flag y) × Keeps r r c b) (truth x)
-  truths r n to c k x hi h = binds w sc 0 0 n to to c k (Gives sc p r r r ty.bool c) (λ y b. (reg b.regs r ≡ flag y) × Keeps r r c b) x _ h (λ v b g. keeps_low r r c b hi g.keeps) by_value
+  truths : (r n to : ℕ) (c : Contents) (k : Behind) (x : Costed Value) → r < 20 → Evaluates w sc 0 n to c k (HoldsValue sc p r r r ty.bool c) x
+      → Evaluates w sc 0 n to c k (λ y b. (reg b.regs r ≡ flag y) × KeepsRegisters r r c b) (truth x)
+  truths r n to c k x hi h = binds w sc 0 0 n to to c k (HoldsValue sc p r r r ty.bool c) (λ y b. (reg b.regs r ≡ flag y) × KeepsRegisters r r c b) x _ h (λ v b g. keeps_low r r c b hi g.keeps) by_value
     where
-      by_value : (v : Value) (b : Contents) → Gives sc p r r r ty.bool c v b
-          → Comes w sc 0 to to b k (λ y b. (reg b.regs r ≡ flag y) × Keeps r r c b) (at_no_cost (bool_of v))
-      by_value (bool z) b g = arrives w sc 0 to to b b k (λ y b. (reg b.regs r ≡ flag y) × Keeps r r c b) z (g.is, g.keeps) (stays w _ _ refl)
+      by_value : (v : Value) (b : Contents) → HoldsValue sc p r r r ty.bool c v b
+          → Evaluates w sc 0 to to b k (λ y b. (reg b.regs r ≡ flag y) × KeepsRegisters r r c b) (at_no_cost (bool_of v))
+      by_value (bool z) b g = arrives w sc 0 to to b b k (λ y b. (reg b.regs r ≡ flag y) × KeepsRegisters r r c b) z (g.is, g.keeps) (stays w _ _ refl)
       by_value (int z) b g = absurd g.fits
       by_value null b g = absurd g.fits
       by_value (at l) b g = absurd g.fits
@@ -429,7 +429,7 @@ module _ (w : World) (sc : Scope) (p : Bases) (s : State) (f : Machine w) (area 
   pub logics : (i : ℕ → Inst) (decides : Bool) (ma mb : Made) (na nb d r n : ℕ) (c : Contents) (k : Behind) (x y : Costed Value) (rest : Bool → Costed Value) → k.pending ≡ Idle → 8 ≤ r → r + na ≤ 20 → r + nb ≤ 20 → 1 ≤ nb → d ≢ 0 → d ≢ 1 → Ready sc p s c → CodeAt w n (logic_code i ma mb d r) →
       ((m : ℕ) → w.code m ≡ Some (i (length (mb.value r r) % 2 ^ 16)) → Skip (i (length (mb.value r r) % 2 ^ 16)) decides r (length (mb.value r r)) m k) →
       rest decides ≡ at_no_cost (Ok (bool decides)) → rest (not decides) ≡ y →
-      ValueRuns w sc p s ma na ty.bool x → ValueRuns w sc p s mb nb ty.bool y → Comes w sc 0 n (n + length (logic_code i ma mb d r)) c k (Gives sc p d r d ty.bool c) (paying 1 (truth x >>= rest))
+      ValueRuns w sc p s ma na ty.bool x → ValueRuns w sc p s mb nb ty.bool y → Evaluates w sc 0 n (n + length (logic_code i ma mb d r)) c k (HoldsValue sc p d r d ty.bool c) (paying 1 (truth x >>= rest))
   logics i decides ma mb na nb d r n c k x y rest idle lo ha hb some nz no1 ready there skip stop go va vb =
       node w sc 2 n to c k R (truth x >>= rest) (omega arith)
       (binds w sc 0 2 n n1 to c k Q R (truth x) rest (truths r n n1 c k x (omega arith) (va r r n c k idle ready (code_front w n is tail there) lo ha (λ z. absurd (omega (arith, z, lo))) (λ z. absurd (omega (arith, z, lo)))))
@@ -457,10 +457,10 @@ module _ (w : World) (sc : Scope) (p : Bases) (s : State) (f : Machine w) (area 
       len = omega (arith, length-append (ma.value r r) (i (length (mb.value r r) % 2 ^ 16) ∷ (mb.value r r ++ to_code d r)), length-append (mb.value r r) (to_code d r))
 
       Q : Bool → Contents → Type 0
-      Q = λ z b. (reg b.regs r ≡ flag z) × Keeps r r c b
+      Q = λ z b. (reg b.regs r ≡ flag z) × KeepsRegisters r r c b
 
       R : Value → Contents → Type 0
-      R = Gives sc p d r d ty.bool c
+      R = HoldsValue sc p d r d ty.bool c
 
       tail_there : CodeAt w n1 tail
       tail_there = code_back w n is tail there
@@ -468,24 +468,24 @@ module _ (w : World) (sc : Scope) (p : Bases) (s : State) (f : Machine w) (area 
       to_there : CodeAt w n2 (to_code d r)
       to_there = code_back w (n1 + 1) js (to_code d r) tail_there.1
 
-      decided : (b : Contents) → reg b.regs r ≡ flag decides → Keeps r r c b → Comes w sc 2 n1 to b k R (at_no_cost (Ok (bool decides)))
+      decided : (b : Contents) → reg b.regs r ≡ flag decides → KeepsRegisters r r c b → Evaluates w sc 2 n1 to b k R (at_no_cost (Ok (bool decides)))
       decided b e keeps =
           let a = brings d r (flag decides) n2 b k idle nz e (flag_below decides) to_there in
           let run = joined w 1 1 _ _ _ ((skip n1 tail_there.0).over b e) a.run in
           arrives w sc 2 n1 to b a.core k R (bool decides) (record { is = a.is; fits = tt; keeps = keeps_on r d c b a.core (keeps_in r r d c b (omega arith) (omega arith) keeps) a.keeps }) (subst (λ m. Reaches w (1 + 1) (at_with n1 b k) (at_with m a.core k)) len run)
 
-      undecided : (b : Contents) → reg b.regs r ≡ flag (not decides) → Keeps r r c b → Comes w sc 2 n1 to b k R y
+      undecided : (b : Contents) → reg b.regs r ≡ flag (not decides) → KeepsRegisters r r c b → Evaluates w sc 2 n1 to b k R y
       undecided b e keeps =
           let ready_b = ready_on sc p s c b (keeps_low r r c b (omega arith) keeps) ready in
           after w sc 1 1 n1 (n1 + 1) to b b k R y (keeps_all 0 0 b) ((skip n1 tail_there.0).on b e)
-          (onward w sc 0 1 (n1 + 1) n2 to b k (Gives sc p r r r ty.bool b) R y
+          (onward w sc 0 1 (n1 + 1) n2 to b k (HoldsValue sc p r r r ty.bool b) R y
           (vb r r (n1 + 1) b k idle ready_b (code_front w (n1 + 1) js (to_code d r) tail_there.1) lo hb (λ z. absurd (omega (arith, z, lo))) (λ z. absurd (omega (arith, z, lo))))
           (λ v j h.
           let a = brings d r (word sc p v) n2 j k idle nz h.is (word_small w sc p s f area is_typed v ty.bool h.fits refl) to_there in
           (a.core, record { is = a.is; fits = h.fits; keeps = keeps_on r d c b a.core (keeps_in r r d c b (omega arith) (omega arith) keeps) (keeps_on r d b j a.core (keeps_in r r d b j (omega arith) (omega arith) h.keeps) a.keeps) }, subst (λ m. Reaches w 1 (at_with n2 j k) (at_with m a.core k)) len a.run)))
 
-      by_bool : (z : Bool) (b : Contents) → Q z b → Comes w sc 2 n1 to b k R (rest z)
+      by_bool : (z : Bool) (b : Contents) → Q z b → Evaluates w sc 2 n1 to b k R (rest z)
       by_bool z b g = elim (either z decides) [
-        | inl e ↦ subst (λ o. Comes w sc 2 n1 to b k R o) (sym (ap rest e ∙ stop)) (decided b (g.0 ∙ ap flag e) g.1)
-        | inr e ↦ subst (λ o. Comes w sc 2 n1 to b k R o) (sym (ap rest e ∙ go)) (undecided b (g.0 ∙ ap flag e) g.1)
+        | inl e ↦ subst (λ o. Evaluates w sc 2 n1 to b k R o) (sym (ap rest e ∙ stop)) (decided b (g.0 ∙ ap flag e) g.1)
+        | inr e ↦ subst (λ o. Evaluates w sc 2 n1 to b k R o) (sym (ap rest e ∙ go)) (undecided b (g.0 ∙ ap flag e) g.1)
       ]

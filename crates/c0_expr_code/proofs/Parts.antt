@@ -5,8 +5,8 @@ use Rattle.c0_meaning.specs.Ty.{Ty}
 use Rattle.c0_meaning.specs.Ty as ty
 use Rattle.c0_meaning.specs.Env.{Shape}
 use Rattle.c0_meaning.specs.Words.{fields_named}
-use Rattle.c0_meaning.specs.Value.{Region, globals, heap, locals, Value, int, bool, null, at, group, Values, empty, part, change_nth, put}
-use Rattle.c0_meaning.specs.TypedState.{Layout, types_of, Leads, LeadsFrom, PointsTo, Fits, AllFit, AreParts}
+use Rattle.c0_meaning.specs.Value.{Region, globals, heap, locals, Value, int, bool, null, at, group, Values, empty, part, change_nth, value_with}
+use Rattle.c0_meaning.specs.TypedState.{StoreTyping, types_of, PathLeads, LeadsFrom, PointsTo, Fits, AllFit, AreParts}
 use Rattle.c0_expr_code.specs.Laws.{with_more}
 use Rattle.c0_expr_code.proofs.Paths.{there}
 
@@ -15,7 +15,7 @@ get_before [] more i t e = cc
 get_before (u ∷ types) more zero t e = e
 get_before (u ∷ types) more (suc i) t e = get_before types more i t e
 
-module _ (structs : List Shape) (layout : Layout) where
+module _ (structs : List Shape) (layout : StoreTyping) where
   pub change_fits : (ts : List Ty) (vs : Values) (i : ℕ) (t : Ty) (f : Value → Value) → AllFit structs layout ts vs → slice_get ts i ≡ Some t
       → ((v : Value) → Fits structs layout t v → Fits structs layout t (f v)) → AllFit structs layout ts (change_nth vs i f)
   change_fits [] empty i t f h e g = h
@@ -26,11 +26,11 @@ module _ (structs : List Shape) (layout : Layout) where
   change_fits [] (part v vs) i t f h e g = absurd h
   change_fits (u ∷ ts) empty i t f h e g = absurd h
 
-  pub put_fits : (t : Ty) (path : List ℕ) (u : Ty) (v x : Value) → Leads structs t path u → Fits structs layout t v → Fits structs layout u x
-      → Fits structs layout t (put v path x)
+  pub put_fits : (t : Ty) (path : List ℕ) (u : Ty) (v x : Value) → PathLeads structs t path u → Fits structs layout t v → Fits structs layout u x
+      → Fits structs layout t (value_with v path x)
   put_fits t [] u v x l h g = subst (λ w. Fits structs layout w x) (sym l) g
-  put_fits (ty.named y) (i ∷ path) u (group vs) x l h g = change_fits (types_of (fields_named structs y)) vs i l.0 (λ w. put w path x) h l.1 (λ v k. put_fits l.0 path u v x l.2 k g)
-  put_fits (ty.array t n) (i ∷ path) u (group vs) x l h g = change_fits (replicate n t) vs i t (λ w. put w path x) h (there t n i l.0) (λ v k. put_fits t path u v x l.1 k g)
+  put_fits (ty.named y) (i ∷ path) u (group vs) x l h g = change_fits (types_of (fields_named structs y)) vs i l.0 (λ w. value_with w path x) h l.1 (λ v k. put_fits l.0 path u v x l.2 k g)
+  put_fits (ty.array t n) (i ∷ path) u (group vs) x l h g = change_fits (replicate n t) vs i t (λ w. value_with w path x) h (there t n i l.0) (λ v k. put_fits t path u v x l.1 k g)
   put_fits (ty.named y) (i ∷ path) u _ x l h g = absurd h
   put_fits (ty.array t n) (i ∷ path) u _ x l h g = absurd h
   put_fits ty.int (i ∷ path) u _ x l h g = absurd l
@@ -38,15 +38,15 @@ module _ (structs : List Shape) (layout : Layout) where
   put_fits (ty.pointer t) (i ∷ path) u _ x l h g = absurd l
 
   pub put_parts : (types : List Ty) (path : List ℕ) (u : Ty) (v x : Value) → LeadsFrom structs types path u → AreParts structs layout types v
-      → Fits structs layout u x → AreParts structs layout types (put v path x)
+      → Fits structs layout u x → AreParts structs layout types (value_with v path x)
   put_parts types [] u v x l h g = absurd l
-  put_parts types (i ∷ path) u (group vs) x l h g = change_fits types vs i l.0 (λ w. put w path x) h l.1 (λ v k. put_fits l.0 path u v x l.2 k g)
+  put_parts types (i ∷ path) u (group vs) x l h g = change_fits types vs i l.0 (λ w. value_with w path x) h l.1 (λ v k. put_fits l.0 path u v x l.2 k g)
   put_parts types (i ∷ path) u (int z) x l h g = absurd h
   put_parts types (i ∷ path) u (bool b) x l h g = absurd h
   put_parts types (i ∷ path) u null x l h g = absurd h
   put_parts types (i ∷ path) u (at m) x l h g = absurd h
 
-module _ (structs : List Shape) (layout : Layout) (more : List Ty) where
+module _ (structs : List Shape) (layout : StoreTyping) (more : List Ty) where
   pub from_more : (types : List Ty) (path : List ℕ) (t : Ty) → LeadsFrom structs types path t → LeadsFrom structs (types ++ more) path t
   from_more types [] t h = absurd h
   from_more types (i ∷ path) t h = (h.0, get_before types more i h.0 h.1, h.2)

@@ -12,7 +12,7 @@ use Rattle.c0_tree.specs.Tree.{CExpr, unary, binary}
 use Rattle.c0_expr_code.specs.Scope.{Scope}
 use Rattle.c0_expr_code.specs.Code.{low, is_near, Made, operand_code, operand_register, made}
 use Rattle.c0_expr_code.specs.Test.{branch_code, negative_branch, positive_branch, below_code, compare_code, ImmediateTest, immediate_test, immediate_test_of, compare_test, both_code, plain_test, test_code}
-use Rattle.c0_expr_code.specs.Jumps.{Open, last_open, behind_open, joined_open, both_open, test_open, aimed_word, patched}
+use Rattle.c0_expr_code.specs.Jumps.{Unpatched, last_open, behind_open, joined_open, both_open, test_open, aimed_word, patched}
 
 -- lists
 pub assoc : {A : Type 0} (xs ys zs : List A) → (xs ++ ys) ++ zs ≡ xs ++ (ys ++ zs)
@@ -54,7 +54,7 @@ pub record EndsIn (f : ℕ → List Inst) : Type 0 where
   pub is : (far : ℕ) → f far ≡ before ++ (branch far ∷ [])
   pub words : (far : ℕ) → far < 2 ^ 16 → encoding (branch far) ≡ encoding (branch 0) / 2 ^ 16 * 2 ^ 16 + far
 
-pub record AimsAt (x : Open) (f : ℕ → List Inst) : Type 0 where
+pub record AimsAt (x : Unpatched) (f : ℕ → List Inst) : Type 0 where
   pub same : (far : ℕ) → length (f far) ≡ length x.code
   pub within : (at n : ℕ) → at + length x.code ≤ n → All (λ j. j < n) (map (λ j. at + j) x.jumps)
   pub law : (far to : ℕ) (before after : List ℕ) → far < 2 ^ 16 → length before + length x.code < 2 ^ 64 → (length before + length x.code + far) % 2 ^ 16 ≡ to % 2 ^ 16
@@ -86,7 +86,7 @@ lasts f h = record { same = λ far. len far ∙ sym (len 0); within = within; la
         ∙ patch_one (before ++ map encoding h.before) (encoding (h.branch 0)) after (length before + (length (f 0) - 1)) to (encoding (h.branch far)) there value
         ∙ sym end
 
-behinds : (is : List Inst) (x : Open) (f : ℕ → List Inst) → AimsAt x f → AimsAt (behind_open is x) (λ far. is ++ f far)
+behinds : (is : List Inst) (x : Unpatched) (f : ℕ → List Inst) → AimsAt x f → AimsAt (behind_open is x) (λ far. is ++ f far)
 behinds is x f h = record { same = same; within = within; law = law }
   where
     within : (at n : ℕ) → at + length (is ++ x.code) ≤ n → All (λ j. j < n) (map (λ j. at + j) (map (λ j. length is + j) x.jumps))
@@ -109,7 +109,7 @@ behinds is x f h = record { same = same; within = within; law = law }
         ∙ h.law far to (before ++ map encoding is) after short (omega (arith, n, m, small)) (let z : length (before ++ map encoding is) + length x.code + far ≡ length before + length (is ++ x.code) + far = omega (arith, n, m) in ap (λ y. y % 2 ^ 16) z ∙ aim)
         ∙ sym (over (f far))
 
-joins : (x y : Open) (f g : ℕ → List Inst) → AimsAt x f → AimsAt y g → AimsAt (joined_open x y) (λ far. f ((far + length (g far)) % 2 ^ 16) ++ g far)
+joins : (x y : Unpatched) (f g : ℕ → List Inst) → AimsAt x f → AimsAt y g → AimsAt (joined_open x y) (λ far. f ((far + length (g far)) % 2 ^ 16) ++ g far)
 joins x y f g h k = record { same = same; within = within; law = law }
   where
     within : (at n : ℕ) → at + length (x.code ++ y.code) ≤ n → All (λ j. j < n) (map (λ j. at + j) (x.jumps ++ map (λ j. length x.code + j) y.jumps))
@@ -231,7 +231,7 @@ plains : (m : Made) (s : Bool) (r : ℕ) → AimsAt (last_open (plain_test m s 0
 plains m s r = lasts (λ far. plain_test m s far r) (plain_ends m s r)
 
 -- code of a test that is passed over has a fixed distance
-over : (one : ℕ → List Inst) (y : Open) (g : ℕ → List Inst) → AimsAt y g → AimsAt (behind_open (one (length y.code % 2 ^ 16)) y) (λ far. one (length (g far) % 2 ^ 16) ++ g far)
+over : (one : ℕ → List Inst) (y : Unpatched) (g : ℕ → List Inst) → AimsAt y g → AimsAt (behind_open (one (length y.code % 2 ^ 16)) y) (λ far. one (length (g far) % 2 ^ 16) ++ g far)
 over one y g h =
     let b = behinds (one (length y.code % 2 ^ 16)) y g h in
     record {

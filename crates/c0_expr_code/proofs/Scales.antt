@@ -9,11 +9,11 @@ use Rattle.mips_table.specs.Arith.{signed_product, upper, lower}
 use Rattle.mips_table.specs.Device.{Idle}
 use Rattle.mips_table.specs.Code.{Contents, reg, with_reg, with_wide, Behind, World, at_with, Reaches, CodeAt}
 use Rattle.masm.specs.Says.{Gives as Becomes, Widens}
-use Rattle.c0_meaning.specs.State.{State}
+use Rattle.c0_meaning.specs.State.{C0State}
 use Rattle.c0_expr_code.specs.Scope.{Scope}
 use Rattle.c0_expr_code.specs.Bases.{Bases}
 use Rattle.c0_expr_code.specs.Code.{constant_code, shift_within, POWERS, scaled_code, scale_code}
-use Rattle.c0_expr_code.specs.Relation.{IsTyped, Area, Keeps}
+use Rattle.c0_expr_code.specs.Relation.{StateIsTyped, Area, KeepsRegisters}
 use Rattle.c0_expr_code.proofs.Machine.{Machine, joined, later, code_front, code_back, said_step}
 use Rattle.c0_expr_code.proofs.Products.{number_product}
 use Rattle.c0_expr_code.proofs.Steps.{other_reg, other_read, keeps_on, keeps_one}
@@ -38,20 +38,20 @@ shift_is (suc n) k by e = elim (cases_Bool (nat_eq k (2 ^ n))) [
 read_raw : (g : ℕ → ℕ) (x : ℕ) → x ≢ 0 → reg g x ≡ g x
 read_raw g x nz = cond-false (nat_eq x 0) 0 (g x) (ne_eqb x 0 nz)
 
-raw_kept : (a b : Contents) → Keeps 1 1 a b → ((x : ℕ) → x ≢ 1 → reg b.regs x ≡ reg a.regs x) → (x : ℕ) → x ≢ 1 → b.regs x ≡ a.regs x
+raw_kept : (a b : Contents) → KeepsRegisters 1 1 a b → ((x : ℕ) → x ≢ 1 → reg b.regs x ≡ reg a.regs x) → (x : ℕ) → x ≢ 1 → b.regs x ≡ a.regs x
 raw_kept a b h o x n = elim (cases_eq x 0) [
   | inl z ↦ h.below x n n (omega (arith, z))
   | inr nz ↦ sym (read_raw b.regs x nz) ∙ o x n ∙ read_raw a.regs x nz
 ]
 
-pub all_kept : (r : ℕ) (a b : Contents) → Keeps 1 1 a b → ((x : ℕ) → x ≢ 1 → reg b.regs x ≡ reg a.regs x) → Keeps r r a b
+pub all_kept : (r : ℕ) (a b : Contents) → KeepsRegisters 1 1 a b → ((x : ℕ) → x ≢ 1 → reg b.regs x ≡ reg a.regs x) → KeepsRegisters r r a b
 all_kept r a b h o = record { memory = h.memory; special = h.special; below = λ x n m l. raw_kept a b h o x n; above = λ x n l. raw_kept a b h o x (λ e. absurd (omega (arith, e, l))) }
 
-module _ (w : World) (sc : Scope) (p : Bases) (s : State) (f : Machine w) (area : Area w sc p) (is_typed : IsTyped sc p s) where
+module _ (w : World) (sc : Scope) (p : Bases) (s : C0State) (f : Machine w) (area : Area w sc p) (is_typed : StateIsTyped sc p s) where
   pub record Scaled (code : List Inst) (k q n : ℕ) (a : Contents) (d : Behind) : Type 0 where
     pub core : Contents
     pub is : reg core.regs 1 ≡ 4 * (k * reg a.regs q) % 2 ^ 32
-    pub keeps : (r : ℕ) → Keeps r r a core
+    pub keeps : (r : ℕ) → KeepsRegisters r r a core
     pub others : (x : ℕ) → x ≢ 1 → reg core.regs x ≡ reg a.regs x
     pub run : Reaches w 4 (at_with n a d) (at_with (n + length code) core d)
 
@@ -83,7 +83,7 @@ module _ (w : World) (sc : Scope) (p : Bases) (s : State) (f : Machine w) (area 
       let three = said_step w f (Mflo 1) (Becomes (4 * (k * reg a.regs q) % 2 ^ 32)) (n + length (constant_code 1 (4 * k % 2 ^ 32)) + 1) b2 d rest.1.0 refl idle refl in
       let len : n + length (constant_code 1 (4 * k % 2 ^ 32)) + 1 + 1 ≡ n + length (scaled_code None k q) = omega (arith, length-append (constant_code 1 (4 * k % 2 ^ 32)) (Mult q 1 ∷ Mflo 1 ∷ [])) in
       let run = joined w 2 2 _ _ _ first.4 (joined w 1 1 _ _ _ two three) in
-      let here : (r : ℕ) → Keeps r r first.0 (with_reg b2 1 (4 * (k * reg a.regs q) % 2 ^ 32)) = λ r. record { memory = refl; special = refl; below = λ x n m l. other_reg first.0.regs 1 _ x n; above = λ x n l. other_reg first.0.regs 1 _ x (λ e. absurd (omega (arith, e, l))) } in
+      let here : (r : ℕ) → KeepsRegisters r r first.0 (with_reg b2 1 (4 * (k * reg a.regs q) % 2 ^ 32)) = λ r. record { memory = refl; special = refl; below = λ x n m l. other_reg first.0.regs 1 _ x n; above = λ x n l. other_reg first.0.regs 1 _ x (λ e. absurd (omega (arith, e, l))) } in
       record {
         core = with_reg b2 1 (4 * (k * reg a.regs q) % 2 ^ 32);
         is = refl;

@@ -5,7 +5,7 @@ use Rattle.c0_tree.specs.Tree.{CFunction}
 use Rattle.c0_tree.specs.View.{unit_view}
 use Rattle.masm.specs.declared.registers.Places.{Places}
 use Rattle.c0_meaning.specs.Env.{Env}
-use Rattle.c0_meaning.specs.Limits.{frame}
+use Rattle.c0_meaning.specs.Limits.{words_of_frame}
 use Rattle.c0_meaning.specs.Sound.{shapes}
 use Rattle.c0_meaning.specs.Operators.{KernelFault}
 use Rattle.c0_expr_code.specs.declared.layout.Layout.{Layout}
@@ -22,7 +22,7 @@ same e e' b b' n n' l l' p q r s =
     ap (λ (z : Env). made_of z b n l) p ∙ ap (λ (z : Bool). made_of e' z n l) q ∙ ap (λ (z : ℕ). made_of e' b' z l) r ∙ ap (λ (z : List ℕ). made_of e' b' n' z) s
 
 pub scope_is : {E : Type 0} (result : Result Scene E) (layout : Layout) (n : ℕ) (places : Places) (f : CFunction) → IfOk result (λ x. x.layout.now ≡ layout) → IfOk result (λ x. x.function ≡ n) → IfOk result (λ x. exits_of x.exits ≡ places.faults)
-    → IfOk result (λ x. x.frame ≡ frame (shapes (unit_view layout.unit.now)) f) → IfOk result (λ x. x.in_registers ≡ keeps_registers f) → slice_get (unit_view layout.unit.now).functions n ≡ Some f
+    → IfOk result (λ x. x.frame ≡ words_of_frame (shapes (unit_view layout.unit.now)) f) → IfOk result (λ x. x.in_registers ≡ keeps_registers f) → slice_get (unit_view layout.unit.now).functions n ≡ Some f
     → IfOk result (λ x. scope_in x ≡ scope_of (unit_view layout.unit.now) f places)
 unfolding made_of
 scope_is (Err e) layout n places f a b c d g h = a

@@ -3,8 +3,8 @@ use Rattle.std.specs.Prelude.{slice_get, replicate, unwrap_or}
 use Rattle.std.proofs.Common.{◌≡◌, ◌≢◌, inl, inr, true, ℕ, zero, suc, ◌+◌, ◌*◌, ◌<◌, ◌≤◌, ◌⊎◌, List, [], ◌∷◌, Some, sym, ap, ◌∙◌, subst, arith}
 use Rattle.c0_meaning.specs.Ty.{Ty, is_scalar}
 use Rattle.c0_meaning.specs.Words.{fields_named, words}
-use Rattle.c0_meaning.specs.Value.{Value, int, bool, null, at, group, Values, empty, part, change_nth, put}
-use Rattle.c0_meaning.specs.TypedState.{types_of, LeadsFrom, Leads as PathLeads}
+use Rattle.c0_meaning.specs.Value.{Value, int, bool, null, at, group, Values, empty, part, change_nth, value_with}
+use Rattle.c0_meaning.specs.TypedState.{types_of, LeadsFrom, PathLeads}
 use Rattle.c0_expr_code.proofs.Paths.{there}
 use Rattle.c0_expr_code.specs.Scope.{Scope}
 use Rattle.c0_expr_code.specs.Bases.{Bases, words_of_all, word, Held, AllHeld, RegionHeld}
@@ -75,7 +75,7 @@ module _ (sc : Scope) (p : Bases) (opened : (x : List ℕ) → words sc.env.stru
 
   pub put_held : (a : ℕ) (t : Ty) (path : List ℕ) (u : Ty) (v x : Value) → PathLeads sc.env.structs t path u → Held sc p m a t v
       → Held sc p m' (a + words_to sc.env.structs t path) u x
-      → Others a (words sc.env.structs t) (a + words_to sc.env.structs t path) (words sc.env.structs u) → Held sc p m' a t (put v path x)
+      → Others a (words sc.env.structs t) (a + words_to sc.env.structs t path) (words sc.env.structs u) → Held sc p m' a t (value_with v path x)
   put_held a t [] u v x l h g others = let e : a + 0 ≡ a = omega arith in subst (λ z. Held sc p m' a z x) (sym l) (subst (λ b. Held sc p m' b u x) e g)
   put_held a (ty.named y) (i ∷ path) u (group vs) x l h g others =
       let c : words_to sc.env.structs (unwrap_or (slice_get (types_of (fields_named sc.env.structs y)) i) ty.int) path ≡ words_to sc.env.structs l.0 path = ap (λ o. words_to sc.env.structs (unwrap_or o ty.int) path) l.1 in
@@ -83,7 +83,7 @@ module _ (sc : Scope) (p : Bases) (opened : (x : List ℕ) → words sc.env.stru
       let r = room l.0 path u l.2 in
       let s = before_room sc.env.structs (types_of (fields_named sc.env.structs y)) i l.0 l.1 in
       let to : a + words_to sc.env.structs (ty.named y) (i ∷ path) ≡ a + words_before sc.env.structs (types_of (fields_named sc.env.structs y)) i + words_to sc.env.structs l.0 path = omega (arith, c) in
-      all_put a (types_of (fields_named sc.env.structs y)) vs i l.0 (λ w. put w path x) h l.1
+      all_put a (types_of (fields_named sc.env.structs y)) vs i l.0 (λ w. value_with w path x) h l.1
       (λ b w q k.
       let d : a + words_before sc.env.structs (types_of (fields_named sc.env.structs y)) i + words_to sc.env.structs l.0 path ≡ b + words_to sc.env.structs l.0 path = omega (arith, q) in
       put_held b l.0 path u w x l.2 k (subst (λ z. Held sc p m' z u x) (to ∙ d) g) (λ z le less side. others z (omega (arith, q, le)) (omega (arith, q, less, s, o)) (sided z _ _ (words sc.env.structs u) (sym (to ∙ d)) side)))
@@ -94,7 +94,7 @@ module _ (sc : Scope) (p : Bases) (opened : (x : List ℕ) → words sc.env.stru
       let s = before_room sc.env.structs (replicate n t) i t (there t n i l.0) in
       let c = before_replicate sc.env.structs n i t l.0 in
       let to : a + words_to sc.env.structs (ty.array t n) (i ∷ path) ≡ a + words_before sc.env.structs (replicate n t) i + words_to sc.env.structs t path = omega (arith, c) in
-      all_put a (replicate n t) vs i t (λ w. put w path x) h (there t n i l.0)
+      all_put a (replicate n t) vs i t (λ w. value_with w path x) h (there t n i l.0)
       (λ b w q k.
       let d : a + words_before sc.env.structs (replicate n t) i + words_to sc.env.structs t path ≡ b + words_to sc.env.structs t path = omega (arith, q) in
       put_held b t path u w x l.1 k (subst (λ z. Held sc p m' z u x) (to ∙ d) g) (λ z le less side. others z (omega (arith, q, le)) (omega (arith, q, less, s, o)) (sided z _ _ (words sc.env.structs u) (sym (to ∙ d)) side)))
@@ -117,14 +117,14 @@ module _ (sc : Scope) (p : Bases) (opened : (x : List ℕ) → words sc.env.stru
   pub put_region : (a : ℕ) (ts : List Ty) (path : List ℕ) (u : Ty) (v x : Value) → LeadsFrom sc.env.structs ts path u → RegionHeld sc p m a ts v
       → Held sc p m' (a + words_to_part sc.env.structs ts path) u x
       → Others a (words_of_all sc.env.structs ts) (a + words_to_part sc.env.structs ts path) (words sc.env.structs u)
-      → RegionHeld sc p m' a ts (put v path x)
+      → RegionHeld sc p m' a ts (value_with v path x)
   put_region a ts [] u v x l h g others = absurd l
   put_region a ts (i ∷ path) u (group vs) x l h g others =
       let c : words_to sc.env.structs (unwrap_or (slice_get ts i) ty.int) path ≡ words_to sc.env.structs l.0 path = ap (λ o. words_to sc.env.structs (unwrap_or o ty.int) path) l.1 in
       let r = room l.0 path u l.2 in
       let s = before_room sc.env.structs ts i l.0 l.1 in
       let to : a + words_to_part sc.env.structs ts (i ∷ path) ≡ a + words_before sc.env.structs ts i + words_to sc.env.structs l.0 path = omega (arith, c) in
-      all_put a ts vs i l.0 (λ w. put w path x) h l.1
+      all_put a ts vs i l.0 (λ w. value_with w path x) h l.1
       (λ b w q k.
       let d : a + words_before sc.env.structs ts i + words_to sc.env.structs l.0 path ≡ b + words_to sc.env.structs l.0 path = omega (arith, q) in
       put_held b l.0 path u w x l.2 k (subst (λ z. Held sc p m' z u x) (to ∙ d) g) (λ z le less side. others z (omega (arith, q, le)) (omega (arith, q, less, s)) (sided z _ _ (words sc.env.structs u) (sym (to ∙ d)) side)))
@@ -145,7 +145,7 @@ module _ (sc : Scope) (p : Bases) (opened : (x : List ℕ) → words sc.env.stru
   -- where one word alone changes, a scalar is put there
   pub put_word : (a b : ℕ) (ts : List Ty) (path : List ℕ) (u : Ty) (v x : Value) → LeadsFrom sc.env.structs ts path u → is_scalar u ≡ true
       → b ≡ a + words_to_part sc.env.structs ts path → m' b ≡ word sc p x → ((y : ℕ) → y ≢ b → m' y ≡ m y)
-      → RegionHeld sc p m a ts v → RegionHeld sc p m' a ts (put v path x)
+      → RegionHeld sc p m a ts v → RegionHeld sc p m' a ts (value_with v path x)
   put_word a b ts path u v x l scalar is here others h =
       let one = one_word sc.env.structs u scalar in
       put_region a ts path u v x l h (scalar_held (a + words_to_part sc.env.structs ts path) u x scalar (ap m' (sym is) ∙ here))

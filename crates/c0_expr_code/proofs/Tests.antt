@@ -14,7 +14,7 @@ use Rattle.c0_meaning.specs.Operators.{Failure, faulted, stuck}
 use Rattle.c0_meaning.specs.Evaluation.{Costed, costs, at_no_cost, paying, ◌>>=◌, truth, bool_of}
 use Rattle.c0_expr_code.proofs.Machine.{Machine, joined, later, goes}
 use Rattle.c0_expr_code.specs.Scope.{Scope}
-use Rattle.c0_expr_code.specs.Relation.{Keeps, Comes, Splits, ends, Aims}
+use Rattle.c0_expr_code.specs.Relation.{KeepsRegisters, Evaluates, Splits, ends, Aims}
 use Rattle.c0_expr_code.specs.Test.{branch_code, negative_branch, positive_branch}
 use Rattle.c0_expr_code.proofs.Steps.{keeps_on}
 
@@ -32,21 +32,21 @@ module _ (w : World) (sc : Scope) where
   split_paid u m from to c k Q (costs v (Err stuck)) h = absurd h
 
   pub split_after : {A : Type 0} (m n from mid : ℕ) (to : A → ℕ) (a b : Contents) (k : Behind) (Q : A → Contents → Type 0) (e : Costed A)
-      → Keeps 0 0 a b → Reaches w m (at_with from a k) (at_with mid b k) → Splits w sc n mid to b k Q e → Splits w sc (m + n) from to a k Q e
+      → KeepsRegisters 0 0 a b → Reaches w m (at_with from a k) (at_with mid b k) → Splits w sc n mid to b k Q e → Splits w sc (m + n) from to a k Q e
   split_after m n from mid to a b k Q (costs u (Ok x)) i run h = (h.0, h.1, later w (m + (n + 16 * u)) (m + n + 16 * u) _ _ (omega arith) (joined w m (n + 16 * u) _ _ _ run h.2))
   split_after m n from mid to a b k Q (costs u (Err (faulted f))) i run h = (h.0, keeps_on 0 0 a b h.0 i h.1, later w (m + (n + 16 * u)) (m + n + 16 * u) _ _ (omega arith) (joined w m (n + 16 * u) _ _ _ run h.2))
   split_after m n from mid to a b k Q (costs u (Err stuck)) i run h = absurd h
 
   -- an evaluation that has two ends, and then another from each
   pub split_binds : {A B : Type 0} (m n from : ℕ) (mid : A → ℕ) (to : B → ℕ) (c : Contents) (k : Behind) (Q : A → Contents → Type 0) (R : B → Contents → Type 0) (e : Costed A) (f : A → Costed B) →
-      Splits w sc m from mid c k Q e → ((x : A) (b : Contents) → Q x b → Keeps 0 0 c b) → ((x : A) (b : Contents) → Q x b → Splits w sc n (mid x) to b k R (f x)) → Splits w sc (m + n) from to c k R (e >>= f)
+      Splits w sc m from mid c k Q e → ((x : A) (b : Contents) → Q x b → KeepsRegisters 0 0 c b) → ((x : A) (b : Contents) → Q x b → Splits w sc n (mid x) to b k R (f x)) → Splits w sc (m + n) from to c k R (e >>= f)
   split_binds m n from mid to c k Q R (costs u (Ok x)) f h i g =
       split_paid u (m + n) from to c k R (f x) (split_more (m + 16 * u + n) (m + n + 16 * u) from to c k R (f x) (omega arith) (split_after (m + 16 * u) n from (mid x) to c h.0 k R (f x) (i x h.0 h.1) h.2 (g x h.0 h.1)))
   split_binds m n from mid to c k Q R (costs u (Err (faulted x))) f h i g = (h.0, h.1, later w (m + 16 * u) (m + n + 16 * u) _ _ (omega arith) h.2)
   split_binds m n from mid to c k Q R (costs u (Err stuck)) f h i g = absurd h
 
   -- one end
-  pub as_split : {A : Type 0} (m from to : ℕ) (c : Contents) (k : Behind) (Q : A → Contents → Type 0) (e : Costed A) → Comes w sc m from to c k Q e
+  pub as_split : {A : Type 0} (m from to : ℕ) (c : Contents) (k : Behind) (Q : A → Contents → Type 0) (e : Costed A) → Evaluates w sc m from to c k Q e
       → Splits w sc m from (λ x. to) c k Q e
   as_split m from to c k Q (costs u (Ok x)) h = h
   as_split m from to c k Q (costs u (Err (faulted f))) h = h

@@ -20,7 +20,7 @@ use Rattle.c0_meaning.specs.Judgement.{IsOrder, lt, le, gt, ge, IsEquality, eq, 
 use Rattle.c0_meaning.specs.Numbered.{HasNumberedType, a_number, a_true, a_false, a_variable, a_field, a_target_field, an_element, a_target, an_address, a_negative, a_negation, arithmetic, order, logic, equality, null_left, null_right, IsNumberedGiven, a_value}
 use Rattle.c0_meaning.specs.Value.{Value, int, bool, at, group}
 use Rattle.c0_meaning.specs.Value as value
-use Rattle.c0_meaning.specs.State.{State}
+use Rattle.c0_meaning.specs.State.{C0State}
 use Rattle.c0_meaning.specs.Operators.{Failure, faulted, stuck, same, on_unary, on_binary}
 use Rattle.c0_meaning.specs.Evaluation.{Costed, costs, at_no_cost, paying, ◌>>=◌, truth, bool_of, both, value_of}
 use Rattle.c0_meaning.specs.TypedState.{Fits}
@@ -30,14 +30,14 @@ use Rattle.c0_expr_code.specs.Scope.{Scope}
 use Rattle.c0_expr_code.specs.Code.{low, is_near, Made, operand_code, operand_register, one_code, two_code, made}
 use Rattle.c0_expr_code.specs.Test.{branch_code, negative_branch, positive_branch, compare_code, ImmediateTest, below_code, immediate_test, immediate_test_of, Testing, compare_test, both_code, binary_test, plain_test, test_code}
 use Rattle.c0_expr_code.specs.Bases.{Bases, word}
-use Rattle.c0_expr_code.specs.Relation.{layout, IsTyped, Ready, Keeps, Area, Gives, OperandRuns, Right, Splits, ends, Aims, TestRuns}
+use Rattle.c0_expr_code.specs.Relation.{layout, StateIsTyped, Ready, KeepsRegisters, Area, HoldsValue, OperandRuns, Right, Splits, ends, Aims, TestRuns}
 use Rattle.c0_expr_code.proofs.Machine.{Machine, joined, later, stays, code_front, code_back, said_step}
 use Rattle.c0_expr_code.proofs.Words.{word_less, not_less}
 use Rattle.c0_expr_code.proofs.Steps.{keeps_all, keeps_on, keeps_in, keeps_one, keeps_low, ready_on, source_kept}
 use Rattle.c0_expr_code.proofs.Operators.{same_words}
 use Rattle.c0_expr_code.proofs.Immediates.{near_some, less_near}
-use Rattle.c0_expr_code.proofs.Found.{KnownAs, known_is}
-use Rattle.c0_expr_code.proofs.Whole.{need_some, right, null_right_is}
+use Rattle.c0_expr_code.proofs.NodeTypes.{KnownAs, known_is}
+use Rattle.c0_expr_code.proofs.EveryExpression.{need_some, right, null_right_is}
 use Rattle.c0_expr_code.proofs.TestLengths.{both_length, test_length}
 use Rattle.c0_expr_code.proofs.Tests.{split_more, split_paid, split_binds, as_split, split_says, split_at, split_arrives, truth_paying, truth_binds, branches, negative_branches, positive_branches}
 
@@ -62,7 +62,7 @@ aims_in n m e far to before h = record { same = h.same; short = h.short; ahead =
 aims_at : (n e e' far to : ℕ) → e ≡ e' → Aims n e far to → Aims n e' far to
 aims_at n e e' far to q h = subst (λ x. Aims n x far to) q h
 
-module _ (w : World) (sc : Scope) (p : Bases) (s : State) (f : Machine w) (area : Area w sc p) (is_typed : IsTyped sc p s) where
+module _ (w : World) (sc : Scope) (p : Bases) (s : C0State) (f : Machine w) (area : Area w sc p) (is_typed : StateIsTyped sc p s) where
   -- a node pays for its test
   pays : (m n : ℕ) (to : Bool → ℕ) (c : Contents) (k : Behind) (Q : Bool → Contents → Type 0) (e : Costed Value) → m ≤ 16
       → Splits w sc m n to c k Q (truth e) → Splits w sc 0 n to c k Q (truth (paying 1 e))
@@ -72,23 +72,23 @@ module _ (w : World) (sc : Scope) (p : Bases) (s : State) (f : Machine w) (area 
   plain : (m : Made) (need : ℕ) (x : Costed Value) → OperandRuns w sc p s m need ty.bool x → (b : Bool) (far to r n : ℕ) (c : Contents) (k : Behind)
       → k.pending ≡ Idle → Ready sc p s c → CodeAt w n (plain_test m b far r) → 8 ≤ r → r < 20 → r + need ≤ 20
       → Aims n (n + length (plain_test m b far r)) far to →
-      Splits w sc 1 n (ends b to (n + length (plain_test m b far r))) c k (λ y c'. Keeps r r c c') (truth x)
+      Splits w sc 1 n (ends b to (n + length (plain_test m b far r))) c k (λ y c'. KeepsRegisters r r c c') (truth x)
   plain m need x o b far to r n c k idle ready code lo hi room aims =
       let a = o r n c k idle ready (code_front w n (operand_code m r) (branch_code (not b) (operand_register m r) 0 far ∷ []) code) lo room in
       let last = code_back w n (operand_code m r) (branch_code (not b) (operand_register m r) 0 far ∷ []) code in
       let len : n + length (operand_code m r) + 1 ≡ n + length (plain_test m b far r) = omega (arith, length-append (operand_code m r) (branch_code (not b) (operand_register m r) 0 far ∷ [])) in
-      split_binds w sc 0 1 n (λ y. n + length (operand_code m r)) (ends b to (n + length (plain_test m b far r))) c k (Gives sc p (operand_register m r) r r ty.bool c) (λ y c'. Keeps r r c c') x _ (as_split w sc 0 n (n + length (operand_code m r)) c k (Gives sc p (operand_register m r) r r ty.bool c) x a.1)
+      split_binds w sc 0 1 n (λ y. n + length (operand_code m r)) (ends b to (n + length (plain_test m b far r))) c k (HoldsValue sc p (operand_register m r) r r ty.bool c) (λ y c'. KeepsRegisters r r c c') x _ (as_split w sc 0 n (n + length (operand_code m r)) c k (HoldsValue sc p (operand_register m r) r r ty.bool c) x a.1)
       (λ v e g. keeps_low r r c e hi g.keeps) (by_value last.0 len)
     where
       by_value : w.code (n + length (operand_code m r)) ≡ Some (branch_code (not b) (operand_register m r) 0 far)
           → n + length (operand_code m r) + 1 ≡ n + length (plain_test m b far r) → (v : Value) (e : Contents)
-          → Gives sc p (operand_register m r) r r ty.bool c v e
-          → Splits w sc 1 (n + length (operand_code m r)) (ends b to (n + length (plain_test m b far r))) e k (λ y c'. Keeps r r c c') (at_no_cost (bool_of v))
+          → HoldsValue sc p (operand_register m r) r r ty.bool c v e
+          → Splits w sc 1 (n + length (operand_code m r)) (ends b to (n + length (plain_test m b far r))) e k (λ y c'. KeepsRegisters r r c c') (at_no_cost (bool_of v))
       by_value there len (bool z) e g =
           let run = branches w f (not b) (operand_register m r) 0 far to n (n + length (operand_code m r)) e k idle there (omega arith) (aims_at n _ _ far to (sym len) aims) in
           let which : ends (not b) to (n + length (operand_code m r) + 1) (nat_eq (reg e.regs (operand_register m r)) 0) ≡ ends b to (n + length (plain_test m b far r)) z =
           ap (λ x. ends (not b) to (n + length (operand_code m r) + 1) (nat_eq x 0)) g.is ∙ ap (ends (not b) to (n + length (operand_code m r) + 1)) (zero_flag z) ∙ turned b to (n + length (operand_code m r) + 1) z ∙ same_end b to _ _ z len in
-          split_arrives w sc 1 (n + length (operand_code m r)) (ends b to (n + length (plain_test m b far r))) e e k (λ y c'. Keeps r r c c') z g.keeps (subst (λ t. Reaches w 1 (at_with (n + length (operand_code m r)) e k) (at_with t e k)) which run)
+          split_arrives w sc 1 (n + length (operand_code m r)) (ends b to (n + length (plain_test m b far r))) e e k (λ y c'. KeepsRegisters r r c c') z g.keeps (subst (λ t. Reaches w 1 (at_with (n + length (operand_code m r)) e k) (at_with t e k)) which run)
       by_value there len (int z) e g = absurd g.fits
       by_value there len value.null e g = absurd g.fits
       by_value there len (at l) e g = absurd g.fits
@@ -99,32 +99,32 @@ module _ (w : World) (sc : Scope) (p : Bases) (s : State) (f : Machine w) (area 
   Compares o t u = (b : Bool) (far to r n' n : ℕ) (q g : ℕ) (x y : Value) (a : Contents) (k : Behind) → k.pending ≡ Idle → n' ≤ n
       → Fits sc.env.structs (layout sc p) t x → Fits sc.env.structs (layout sc p) u y → reg a.regs q ≡ word sc p x → reg a.regs g ≡ word sc p y
       → CodeAt w n (compare_code o b far q g) → Aims n' (n + length (compare_code o b far q g)) far to →
-      Splits w sc 2 n (ends b to (n + length (compare_code o b far q g))) a k (λ z c'. Keeps r r a c') (truth (at_no_cost (on_binary o x y)))
+      Splits w sc 2 n (ends b to (n + length (compare_code o b far q g))) a k (λ z c'. KeepsRegisters r r a c') (truth (at_no_cost (on_binary o x y)))
 
   compared : (o : BinaryOp) (ma mb : Made) (na nb : ℕ) (t u : Ty) (x y : Costed Value) → Compares o t u → OperandRuns w sc p s ma na t x
       → OperandRuns w sc p s mb nb u y → (b : Bool) (far to r n : ℕ) (c : Contents) (k : Behind) → k.pending ≡ Idle → Ready sc p s c
       → CodeAt w n (two_code (λ q t. compare_code o b far q t) ma mb r) → 8 ≤ r → r + na ≤ 20 → r + (nb + 1) ≤ 20 → 1 ≤ nb
       → Aims n (n + length (two_code (λ q t. compare_code o b far q t) ma mb r)) far to →
-      Splits w sc 2 n (ends b to (n + length (two_code (λ q t. compare_code o b far q t) ma mb r))) c k (λ z c'. Keeps r r c c') (truth (x >>= λ v. y >>= λ w. at_no_cost (on_binary o v w)))
+      Splits w sc 2 n (ends b to (n + length (two_code (λ q t. compare_code o b far q t) ma mb r))) c k (λ z c'. KeepsRegisters r r c c') (truth (x >>= λ v. y >>= λ w. at_no_cost (on_binary o v w)))
   compared o ma mb na nb t u x y own oa ob b far to r n c k idle ready code lo ha hb some aims =
       let last : List Inst = compare_code o b far (operand_register ma r) (operand_register mb (r + 1)) in
       let rest = code_back w n (operand_code ma r) (operand_code mb (r + 1) ++ compare_code o b far (operand_register ma r) (operand_register mb (r + 1))) code in
       let there = code_back w (n + length (operand_code ma r)) (operand_code mb (r + 1)) (compare_code o b far (operand_register ma r) (operand_register mb (r + 1))) rest in
       let a = oa r n c k idle ready (code_front w n (operand_code ma r) (operand_code mb (r + 1) ++ compare_code o b far (operand_register ma r) (operand_register mb (r + 1))) code) lo ha in
       let len : n + length (operand_code ma r) + length (operand_code mb (r + 1)) + length (compare_code o b far (operand_register ma r) (operand_register mb (r + 1))) ≡ n + length (two_code (λ q t. compare_code o b far q t) ma mb r) = omega (arith, length-append (operand_code ma r) (operand_code mb (r + 1) ++ compare_code o b far (operand_register ma r) (operand_register mb (r + 1))), length-append (operand_code mb (r + 1)) (compare_code o b far (operand_register ma r) (operand_register mb (r + 1)))) in
-      subst (λ e. Splits w sc 2 n (ends b to (n + length (two_code (λ q t. compare_code o b far q t) ma mb r))) c k (λ z c'. Keeps r r c c') e) (sym (truth_binds x (λ v. y >>= λ w. at_no_cost (on_binary o v w))))
-      (split_binds w sc 0 2 n (λ z. n + length (operand_code ma r)) (ends b to (n + length (two_code (λ q t. compare_code o b far q t) ma mb r))) c k (Gives sc p (operand_register ma r) r r t c) (λ z c'. Keeps r r c c') x _ (as_split w sc 0 n (n + length (operand_code ma r)) c k (Gives sc p (operand_register ma r) r r t c) x a.1)
+      subst (λ e. Splits w sc 2 n (ends b to (n + length (two_code (λ q t. compare_code o b far q t) ma mb r))) c k (λ z c'. KeepsRegisters r r c c') e) (sym (truth_binds x (λ v. y >>= λ w. at_no_cost (on_binary o v w))))
+      (split_binds w sc 0 2 n (λ z. n + length (operand_code ma r)) (ends b to (n + length (two_code (λ q t. compare_code o b far q t) ma mb r))) c k (HoldsValue sc p (operand_register ma r) r r t c) (λ z c'. KeepsRegisters r r c c') x _ (as_split w sc 0 n (n + length (operand_code ma r)) c k (HoldsValue sc p (operand_register ma r) r r t c) x a.1)
       (λ v e g. keeps_low r r c e (omega arith) g.keeps)
       (λ v e g.
       let ready_e = ready_on sc p s c e (keeps_low r r c e (omega arith) g.keeps) ready in
       let o2 = ob (r + 1) (n + length (operand_code ma r)) e k idle ready_e (code_front w _ (operand_code mb (r + 1)) (compare_code o b far (operand_register ma r) (operand_register mb (r + 1))) rest) (omega arith) (omega arith) in
-      subst (λ z. Splits w sc 2 (n + length (operand_code ma r)) (ends b to (n + length (two_code (λ q t. compare_code o b far q t) ma mb r))) e k (λ z c'. Keeps r r c c') z) (sym (truth_binds y (λ w. at_no_cost (on_binary o v w))))
-      (split_binds w sc 0 2 (n + length (operand_code ma r)) (λ z. n + length (operand_code ma r) + length (operand_code mb (r + 1))) (ends b to (n + length (two_code (λ q t. compare_code o b far q t) ma mb r))) e k (Gives sc p (operand_register mb (r + 1)) (r + 1) (r + 1) u e) (λ z c'. Keeps r r c c') y _ (as_split w sc 0 _ _ e k (Gives sc p (operand_register mb (r + 1)) (r + 1) (r + 1) u e) y o2.1)
+      subst (λ z. Splits w sc 2 (n + length (operand_code ma r)) (ends b to (n + length (two_code (λ q t. compare_code o b far q t) ma mb r))) e k (λ z c'. KeepsRegisters r r c c') z) (sym (truth_binds y (λ w. at_no_cost (on_binary o v w))))
+      (split_binds w sc 0 2 (n + length (operand_code ma r)) (λ z. n + length (operand_code ma r) + length (operand_code mb (r + 1))) (ends b to (n + length (two_code (λ q t. compare_code o b far q t) ma mb r))) e k (HoldsValue sc p (operand_register mb (r + 1)) (r + 1) (r + 1) u e) (λ z c'. KeepsRegisters r r c c') y _ (as_split w sc 0 _ _ e k (HoldsValue sc p (operand_register mb (r + 1)) (r + 1) (r + 1) u e) y o2.1)
       (λ v2 i h. keeps_low (r + 1) (r + 1) e i (omega arith) h.keeps)
       (λ v2 i h.
-      let kept : Keeps r r c i = keeps_on r r c e i g.keeps (keeps_in r (r + 1) r e i (omega arith) (omega arith) h.keeps) in
-      split_at w sc 2 _ (ends b to (n + length (operand_code ma r) + length (operand_code mb (r + 1)) + length (compare_code o b far (operand_register ma r) (operand_register mb (r + 1))))) (ends b to (n + length (two_code (λ q t. compare_code o b far q t) ma mb r))) i k (λ z c'. Keeps r r c c') (truth (at_no_cost (on_binary o v v2))) (λ z. same_end b to _ _ z len)
-      (split_says w sc 2 _ _ i k (λ z c'. Keeps r r i c') (λ z c'. Keeps r r c c') (truth (at_no_cost (on_binary o v v2))) (λ z j m. keeps_on r r c i j kept m)
+      let kept : KeepsRegisters r r c i = keeps_on r r c e i g.keeps (keeps_in r (r + 1) r e i (omega arith) (omega arith) h.keeps) in
+      split_at w sc 2 _ (ends b to (n + length (operand_code ma r) + length (operand_code mb (r + 1)) + length (compare_code o b far (operand_register ma r) (operand_register mb (r + 1))))) (ends b to (n + length (two_code (λ q t. compare_code o b far q t) ma mb r))) i k (λ z c'. KeepsRegisters r r c c') (truth (at_no_cost (on_binary o v v2))) (λ z. same_end b to _ _ z len)
+      (split_says w sc 2 _ _ i k (λ z c'. KeepsRegisters r r i c') (λ z c'. KeepsRegisters r r c c') (truth (at_no_cost (on_binary o v v2))) (λ z j m. keeps_on r r c i j kept m)
       (own b far to r n (n + length (operand_code ma r) + length (operand_code mb (r + 1))) (operand_register ma r) (operand_register mb (r + 1)) v v2 i k idle (omega arith) g.fits h.fits (source_kept r (operand_register ma r) e i lo (omega arith) a.0 h.keeps ∙ g.is) h.is there (aims_at n _ _ far to (sym len) aims)))))))
 
   -- equality
@@ -132,12 +132,12 @@ module _ (w : World) (sc : Scope) (p : Bases) (s : State) (f : Machine w) (area 
   equal _ eq t scalar b far to r n' n q g x y a k idle before fx fy ex ey there aims =
       let run = branches w f b q g far to n' n a k idle there.0 before aims in
       let which : nat_eq (reg a.regs q) (reg a.regs g) ≡ same x y = ap₂ nat_eq ex ey ∙ sym (same_words w sc p s f area is_typed t x y scalar fx fy) in
-      split_arrives w sc 2 n (ends b to (n + 1)) a a k (λ z c'. Keeps r r a c') (same x y) (keeps_all r r a) (later w 1 2 _ _ (omega arith) (subst (λ z. Reaches w 1 (at_with n a k) (at_with (ends b to (n + 1) z) a k)) which run))
+      split_arrives w sc 2 n (ends b to (n + 1)) a a k (λ z c'. KeepsRegisters r r a c') (same x y) (keeps_all r r a) (later w 1 2 _ _ (omega arith) (subst (λ z. Reaches w 1 (at_with n a k) (at_with (ends b to (n + 1) z) a k)) which run))
   equal _ ne t scalar b far to r n' n q g x y a k idle before fx fy ex ey there aims =
       let run = branches w f (not b) q g far to n' n a k idle there.0 before aims in
       let which : nat_eq (reg a.regs q) (reg a.regs g) ≡ same x y = ap₂ nat_eq ex ey ∙ sym (same_words w sc p s f area is_typed t x y scalar fx fy) in
       let end : ends (not b) to (n + 1) (nat_eq (reg a.regs q) (reg a.regs g)) ≡ ends b to (n + 1) (not (same x y)) = ap (ends (not b) to (n + 1)) which ∙ twisted b to (n + 1) (same x y) in
-      split_arrives w sc 2 n (ends b to (n + 1)) a a k (λ z c'. Keeps r r a c') (not (same x y)) (keeps_all r r a) (later w 1 2 _ _ (omega arith) (subst (λ z. Reaches w 1 (at_with n a k) (at_with z a k)) end run))
+      split_arrives w sc 2 n (ends b to (n + 1)) a a k (λ z c'. KeepsRegisters r r a c') (not (same x y)) (keeps_all r r a) (later w 1 2 _ _ (omega arith) (subst (λ z. Reaches w 1 (at_with n a k) (at_with z a k)) end run))
     where
       twisted : (b : Bool) (to end : ℕ) (x : Bool) → ends (not b) to end x ≡ ends b to end (not x)
       twisted true to end true = refl
@@ -157,7 +157,7 @@ module _ (w : World) (sc : Scope) (p : Bases) (s : State) (f : Machine w) (area 
       joined w 1 1 _ _ _ one (subst (λ x. Reaches w 1 (at_with (n + 1) (with_reg a 1 (flag y)) k) (at_with x (with_reg a 1 (flag y)) k)) end run)
 
   ints : (o : BinaryOp) → ((b : Bool) (far to r n' n : ℕ) (q g : ℕ) (x y : ℤ) (a : Contents) (k : Behind) → k.pending ≡ Idle → n' ≤ n → FitsSigned w32 x → FitsSigned w32 y → reg a.regs q ≡ word_of x → reg a.regs g ≡ word_of y → CodeAt w n (compare_code o b far q g) → Aims n' (n + length (compare_code o b far q g)) far to →
-      Splits w sc 2 n (ends b to (n + length (compare_code o b far q g))) a k (λ z c'. Keeps r r a c') (truth (at_no_cost (on_binary o (int x) (int y))))) → Compares o ty.int ty.int
+      Splits w sc 2 n (ends b to (n + length (compare_code o b far q g))) a k (λ z c'. KeepsRegisters r r a c') (truth (at_no_cost (on_binary o (int x) (int y))))) → Compares o ty.int ty.int
   ints o h b far to r n' n q g (int x) (int y) a k idle before fx fy ex ey there aims = h b far to r n' n q g x y a k idle before fx fy ex ey there aims
   ints o h b far to r n' n q g (int x) (bool z) a k idle before fx fy ex ey there aims = absurd fy
   ints o h b far to r n' n q g (int x) value.null a k idle before fx fy ex ey there aims = absurd fy
@@ -171,26 +171,26 @@ module _ (w : World) (sc : Scope) (p : Bases) (s : State) (f : Machine w) (area 
   ordered : (o : BinaryOp) → IsOrder o → Compares o ty.int ty.int
   ordered _ lt = ints Lt (λ b far to r n' n q g x y a k idle before fx fy ex ey there aims.
       let e : flag (less (reg a.regs q) (reg a.regs g)) ≡ flag (int_lt x y) = ap flag (ap₂ less ex ey ∙ word_less x y fx fy) in
-      split_arrives w sc 2 n (ends b to (n + 2)) a (with_reg a 1 (flag (int_lt x y))) k (λ z c'. Keeps r r a c') (int_lt x y) (keeps_one r r (flag (int_lt x y)) a)
+      split_arrives w sc 2 n (ends b to (n + 2)) a (with_reg a 1 (flag (int_lt x y))) k (λ z c'. KeepsRegisters r r a c') (int_lt x y) (keeps_one r r (flag (int_lt x y)) a)
       (subst (λ z. Reaches w 2 (at_with n a k) (at_with z (with_reg a 1 (flag (int_lt x y))) k)) (turned b to (n + 2) (int_lt x y)) (flagged (not b) q g 0 far to r n' n (int_lt x y) a k idle before there.0 there.1.0 e aims)))
   ordered _ gt = ints Gt (λ b far to r n' n q g x y a k idle before fx fy ex ey there aims.
       let e : flag (less (reg a.regs g) (reg a.regs q)) ≡ flag (int_lt y x) = ap flag (ap₂ less ey ex ∙ word_less y x fy fx) in
-      split_arrives w sc 2 n (ends b to (n + 2)) a (with_reg a 1 (flag (int_lt y x))) k (λ z c'. Keeps r r a c') (int_lt y x) (keeps_one r r (flag (int_lt y x)) a)
+      split_arrives w sc 2 n (ends b to (n + 2)) a (with_reg a 1 (flag (int_lt y x))) k (λ z c'. KeepsRegisters r r a c') (int_lt y x) (keeps_one r r (flag (int_lt y x)) a)
       (subst (λ z. Reaches w 2 (at_with n a k) (at_with z (with_reg a 1 (flag (int_lt y x))) k)) (turned b to (n + 2) (int_lt y x)) (flagged (not b) g q 0 far to r n' n (int_lt y x) a k idle before there.0 there.1.0 e aims)))
   ordered _ le = ints Le (λ b far to r n' n q g x y a k idle before fx fy ex ey there aims.
       let e : flag (less (reg a.regs g) (reg a.regs q)) ≡ flag (int_lt y x) = ap flag (ap₂ less ey ex ∙ word_less y x fy fx) in
-      split_arrives w sc 2 n (ends b to (n + 2)) a (with_reg a 1 (flag (int_lt y x))) k (λ z c'. Keeps r r a c') (int_le x y) (keeps_one r r (flag (int_lt y x)) a)
+      split_arrives w sc 2 n (ends b to (n + 2)) a (with_reg a 1 (flag (int_lt y x))) k (λ z c'. KeepsRegisters r r a c') (int_le x y) (keeps_one r r (flag (int_lt y x)) a)
       (subst (λ z. Reaches w 2 (at_with n a k) (at_with (ends b to (n + 2) z) (with_reg a 1 (flag (int_lt y x))) k)) (not_less x y) (flagged b g q 0 far to r n' n (int_lt y x) a k idle before there.0 there.1.0 e aims)))
   ordered _ ge = ints Ge (λ b far to r n' n q g x y a k idle before fx fy ex ey there aims.
       let e : flag (less (reg a.regs q) (reg a.regs g)) ≡ flag (int_lt x y) = ap flag (ap₂ less ex ey ∙ word_less x y fx fy) in
-      split_arrives w sc 2 n (ends b to (n + 2)) a (with_reg a 1 (flag (int_lt x y))) k (λ z c'. Keeps r r a c') (int_le y x) (keeps_one r r (flag (int_lt x y)) a)
+      split_arrives w sc 2 n (ends b to (n + 2)) a (with_reg a 1 (flag (int_lt x y))) k (λ z c'. KeepsRegisters r r a c') (int_le y x) (keeps_one r r (flag (int_lt x y)) a)
       (subst (λ z. Reaches w 2 (at_with n a k) (at_with (ends b to (n + 2) z) (with_reg a 1 (flag (int_lt x y))) k)) (not_less y x) (flagged b q g 0 far to r n' n (int_lt x y) a k idle before there.0 there.1.0 e aims)))
 
   -- comparisons with a constant: the code goes by a bool of the value
   abbrev GoesBy : (Bool → ℕ → ℕ → List Inst) → (ℤ → Bool) → Type 0
   GoesBy g by = (b : Bool) (far to r n' n q : ℕ) (x : ℤ) (a : Contents) (k : Behind) → k.pending ≡ Idle → n' ≤ n → FitsSigned w32 x
       → reg a.regs q ≡ word_of x → CodeAt w n (g b far q) → Aims n' (n + length (g b far q)) far to
-      → (c : Contents) × Keeps r r a c × Reaches w 2 (at_with n a k) (at_with (ends b to (n + length (g b far q)) (by x)) c k)
+      → (c : Contents) × KeepsRegisters r r a c × Reaches w 2 (at_with n a k) (at_with (ends b to (n + length (g b far q)) (by x)) c k)
 
   by_negative : GoesBy (λ b far q. negative_branch b q far ∷ []) (λ x. int_lt x (pos 0))
   by_negative b far to r n' n q x a k idle before fx ex there aims =
@@ -276,23 +276,23 @@ module _ (w : World) (sc : Scope) (p : Bases) (s : State) (f : Machine w) (area 
       → ((z : ℤ) → on (int z) ≡ Ok (bool (by z))) → GoesBy g by → OperandRuns w sc p s ma na ty.int x
       → (b : Bool) (far to r n : ℕ) (c : Contents) (k : Behind) → k.pending ≡ Idle → Ready sc p s c → CodeAt w n (one_code (λ q. g b far q) ma r)
       → 8 ≤ r → r < 20 → r + na ≤ 20 → Aims n (n + length (one_code (λ q. g b far q) ma r)) far to →
-      Splits w sc 2 n (ends b to (n + length (one_code (λ q. g b far q) ma r))) c k (λ y c'. Keeps r r c c') (truth (x >>= λ v. at_no_cost (on v)))
+      Splits w sc 2 n (ends b to (n + length (one_code (λ q. g b far q) ma r))) c k (λ y c'. KeepsRegisters r r c c') (truth (x >>= λ v. at_no_cost (on v)))
   compared_with g by on ma na x says own o b far to r n c k idle ready code lo hi room aims =
       let a = o r n c k idle ready (code_front w n (operand_code ma r) (g b far (operand_register ma r)) code) lo room in
       let last = code_back w n (operand_code ma r) (g b far (operand_register ma r)) code in
       let len : n + length (operand_code ma r) + length (g b far (operand_register ma r)) ≡ n + length (one_code (λ q. g b far q) ma r) = omega (arith, length-append (operand_code ma r) (g b far (operand_register ma r))) in
-      subst (λ e. Splits w sc 2 n (ends b to (n + length (one_code (λ q. g b far q) ma r))) c k (λ y c'. Keeps r r c c') e) (sym (truth_binds x (λ v. at_no_cost (on v))))
-      (split_binds w sc 0 2 n (λ y. n + length (operand_code ma r)) (ends b to (n + length (one_code (λ q. g b far q) ma r))) c k (Gives sc p (operand_register ma r) r r ty.int c) (λ y c'. Keeps r r c c') x _ (as_split w sc 0 n (n + length (operand_code ma r)) c k (Gives sc p (operand_register ma r) r r ty.int c) x a.1)
+      subst (λ e. Splits w sc 2 n (ends b to (n + length (one_code (λ q. g b far q) ma r))) c k (λ y c'. KeepsRegisters r r c c') e) (sym (truth_binds x (λ v. at_no_cost (on v))))
+      (split_binds w sc 0 2 n (λ y. n + length (operand_code ma r)) (ends b to (n + length (one_code (λ q. g b far q) ma r))) c k (HoldsValue sc p (operand_register ma r) r r ty.int c) (λ y c'. KeepsRegisters r r c c') x _ (as_split w sc 0 n (n + length (operand_code ma r)) c k (HoldsValue sc p (operand_register ma r) r r ty.int c) x a.1)
       (λ v e g. keeps_low r r c e hi g.keeps) (by_value last len))
     where
       by_value : CodeAt w (n + length (operand_code ma r)) (g b far (operand_register ma r))
           → n + length (operand_code ma r) + length (g b far (operand_register ma r)) ≡ n + length (one_code (λ q. g b far q) ma r)
-          → (v : Value) (e : Contents) → Gives sc p (operand_register ma r) r r ty.int c v e
-          → Splits w sc 2 (n + length (operand_code ma r)) (ends b to (n + length (one_code (λ q. g b far q) ma r))) e k (λ y c'. Keeps r r c c') (truth (at_no_cost (on v)))
+          → (v : Value) (e : Contents) → HoldsValue sc p (operand_register ma r) r r ty.int c v e
+          → Splits w sc 2 (n + length (operand_code ma r)) (ends b to (n + length (one_code (λ q. g b far q) ma r))) e k (λ y c'. KeepsRegisters r r c c') (truth (at_no_cost (on v)))
       by_value there len (int z) e h =
           let run = own b far to r n (n + length (operand_code ma r)) (operand_register ma r) z e k idle (omega arith) h.fits h.is there (aims_at n _ _ far to (sym len) aims) in
-          subst (λ y. Splits w sc 2 (n + length (operand_code ma r)) (ends b to (n + length (one_code (λ q. g b far q) ma r))) e k (λ y c'. Keeps r r c c') (truth (at_no_cost y))) (sym (says z))
-          (split_arrives w sc 2 (n + length (operand_code ma r)) (ends b to (n + length (one_code (λ q. g b far q) ma r))) e run.0 k (λ y c'. Keeps r r c c') (by z) (keeps_on r r c e run.0 h.keeps run.1) (subst (λ t. Reaches w 2 (at_with (n + length (operand_code ma r)) e k) (at_with t run.0 k)) (same_end b to _ _ (by z) len) run.2))
+          subst (λ y. Splits w sc 2 (n + length (operand_code ma r)) (ends b to (n + length (one_code (λ q. g b far q) ma r))) e k (λ y c'. KeepsRegisters r r c c') (truth (at_no_cost y))) (sym (says z))
+          (split_arrives w sc 2 (n + length (operand_code ma r)) (ends b to (n + length (one_code (λ q. g b far q) ma r))) e run.0 k (λ y c'. KeepsRegisters r r c c') (by z) (keeps_on r r c e run.0 h.keeps run.1) (subst (λ t. Reaches w 2 (at_with (n + length (operand_code ma r)) e k) (at_with t run.0 k)) (same_end b to _ _ (by z) len) run.2))
       by_value there len (bool z) e h = absurd h.fits
       by_value there len value.null e h = absurd h.fits
       by_value there len (at l) e h = absurd h.fits
@@ -321,16 +321,16 @@ module _ (w : World) (sc : Scope) (p : Bases) (s : State) (f : Machine w) (area 
   abbrev TestsAs : Testing → ℕ → Costed Bool → Type 0
   TestsAs code need e = (b : Bool) (far to r n : ℕ) (c : Contents) (k : Behind) → k.pending ≡ Idle → Ready sc p s c → CodeAt w n (code b far r)
       → 8 ≤ r → r + need ≤ 20 → Aims n (n + length (code b far r)) far to
-      → Splits w sc 1 n (ends b to (n + length (code b far r))) c k (λ y c'. Keeps r r c c') e
+      → Splits w sc 1 n (ends b to (n + length (code b far r))) c k (λ y c'. KeepsRegisters r r c c') e
 
   -- the first decides for the whole test's place: the first goes there, or on to the second
   straight_two : (decides : Bool) (one two : Testing) (na nb : ℕ) (x y : Costed Bool) (rest : Bool → Costed Bool) → TestsAs one na x
       → TestsAs two nb y → rest decides ≡ at_no_cost (Ok decides) → rest (not decides) ≡ y →
       (far to r n : ℕ) (c : Contents) (k : Behind) → k.pending ≡ Idle → Ready sc p s c → 8 ≤ r → r < 20 → r + na ≤ 20 → r + nb ≤ 20 →
       CodeAt w n (one decides ((far + length (two decides far r)) % 2 ^ 16) r ++ two decides far r) → Aims n (n + length (one decides ((far + length (two decides far r)) % 2 ^ 16) r ++ two decides far r)) far to →
-      Splits w sc 2 n (ends decides to (n + length (one decides ((far + length (two decides far r)) % 2 ^ 16) r ++ two decides far r))) c k (λ z c'. Keeps r r c c') (x >>= rest)
+      Splits w sc 2 n (ends decides to (n + length (one decides ((far + length (two decides far r)) % 2 ^ 16) r ++ two decides far r))) c k (λ z c'. KeepsRegisters r r c c') (x >>= rest)
   straight_two decides one two na nb x y rest t1 t2 stop go far to r n c k idle ready lo hi ha hb code aims =
-      split_binds w sc 1 1 n (ends decides to n1) (ends decides to end) c k (λ z c'. Keeps r r c c') (λ z c'. Keeps r r c c') x rest
+      split_binds w sc 1 1 n (ends decides to n1) (ends decides to end) c k (λ z c'. KeepsRegisters r r c c') (λ z c'. KeepsRegisters r r c c') x rest
       (t1 decides far1 to r n c k idle ready (code_front w n is js code) lo ha first_aims)
       (λ z b g. keeps_low r r c b hi g)
       (λ z b g. by_answer z b g (answers z decides))
@@ -372,18 +372,18 @@ module _ (w : World) (sc : Scope) (p : Bases) (s : State) (f : Machine w) (area 
       at_end true to e = refl
       at_end false to e = refl
 
-      by_answer : (z : Bool) (b : Contents) → Keeps r r c b → (z ≡ decides) ⊎ (z ≡ not decides)
-          → Splits w sc 1 (ends decides to n1 z) (ends decides to end) b k (λ z c'. Keeps r r c c') (rest z)
+      by_answer : (z : Bool) (b : Contents) → KeepsRegisters r r c b → (z ≡ decides) ⊎ (z ≡ not decides)
+          → Splits w sc 1 (ends decides to n1 z) (ends decides to end) b k (λ z c'. KeepsRegisters r r c c') (rest z)
       by_answer z b g (inl e) =
-          subst (λ z. Splits w sc 1 (ends decides to n1 z) (ends decides to end) b k (λ z c'. Keeps r r c c') (rest z)) (sym e)
-          (subst (λ o. Splits w sc 1 (ends decides to n1 decides) (ends decides to end) b k (λ z c'. Keeps r r c c') o) (sym stop)
-          (split_arrives w sc 1 _ (ends decides to end) b b k (λ z c'. Keeps r r c c') decides g (later w 0 1 _ _ (omega arith) (stays w _ _ (ap (λ m. at_with m b k) (at_place decides to n1 ∙ sym (at_place decides to end)))))))
+          subst (λ z. Splits w sc 1 (ends decides to n1 z) (ends decides to end) b k (λ z c'. KeepsRegisters r r c c') (rest z)) (sym e)
+          (subst (λ o. Splits w sc 1 (ends decides to n1 decides) (ends decides to end) b k (λ z c'. KeepsRegisters r r c c') o) (sym stop)
+          (split_arrives w sc 1 _ (ends decides to end) b b k (λ z c'. KeepsRegisters r r c c') decides g (later w 0 1 _ _ (omega arith) (stays w _ _ (ap (λ m. at_with m b k) (at_place decides to n1 ∙ sym (at_place decides to end)))))))
       by_answer z b g (inr e) =
-          subst (λ z. Splits w sc 1 (ends decides to n1 z) (ends decides to end) b k (λ z c'. Keeps r r c c') (rest z)) (sym e)
-          (subst (λ o. Splits w sc 1 (ends decides to n1 (not decides)) (ends decides to end) b k (λ z c'. Keeps r r c c') o) (sym go)
-          (subst (λ m. Splits w sc 1 m (ends decides to end) b k (λ z c'. Keeps r r c c') y) (sym (at_end decides to n1))
-          (split_at w sc 1 n1 (ends decides to (n1 + length js)) (ends decides to end) b k (λ z c'. Keeps r r c c') y (λ q. same_end decides to _ _ q len)
-          (split_says w sc 1 n1 _ b k (λ z c'. Keeps r r b c') (λ z c'. Keeps r r c c') y (λ q j h. keeps_on r r c b j g h)
+          subst (λ z. Splits w sc 1 (ends decides to n1 z) (ends decides to end) b k (λ z c'. KeepsRegisters r r c c') (rest z)) (sym e)
+          (subst (λ o. Splits w sc 1 (ends decides to n1 (not decides)) (ends decides to end) b k (λ z c'. KeepsRegisters r r c c') o) (sym go)
+          (subst (λ m. Splits w sc 1 m (ends decides to end) b k (λ z c'. KeepsRegisters r r c c') y) (sym (at_end decides to n1))
+          (split_at w sc 1 n1 (ends decides to (n1 + length js)) (ends decides to end) b k (λ z c'. KeepsRegisters r r c c') y (λ q. same_end decides to _ _ q len)
+          (split_says w sc 1 n1 _ b k (λ z c'. KeepsRegisters r r b c') (λ z c'. KeepsRegisters r r c c') y (λ q j h. keeps_on r r c b j g h)
           (t2 decides far to r n1 b k idle (ready_on sc p s c b (keeps_low r r c b hi g) ready) (code_back w n is js code) lo hb (aims_in n n1 (n1 + length js) far to (omega arith) (aims_at n end (n1 + length js) far to (sym len) aims)))))))
 
   -- the first decides against it: it goes over the second, or on to it
@@ -392,9 +392,9 @@ module _ (w : World) (sc : Scope) (p : Bases) (s : State) (f : Machine w) (area 
       (far to r n : ℕ) (c : Contents) (k : Behind) → k.pending ≡ Idle → Ready sc p s c → 8 ≤ r → r < 20 → r + na ≤ 20 → r + nb ≤ 20
       → length (one decides (length (two (not decides) far r) % 2 ^ 16) r ++ two (not decides) far r) ≤ 32768 →
       CodeAt w n (one decides (length (two (not decides) far r) % 2 ^ 16) r ++ two (not decides) far r) → Aims n (n + length (one decides (length (two (not decides) far r) % 2 ^ 16) r ++ two (not decides) far r)) far to →
-      Splits w sc 2 n (ends (not decides) to (n + length (one decides (length (two (not decides) far r) % 2 ^ 16) r ++ two (not decides) far r))) c k (λ z c'. Keeps r r c c') (x >>= rest)
+      Splits w sc 2 n (ends (not decides) to (n + length (one decides (length (two (not decides) far r) % 2 ^ 16) r ++ two (not decides) far r))) c k (λ z c'. KeepsRegisters r r c c') (x >>= rest)
   over_two decides one two na nb x y rest t1 t2 stop go far to r n c k idle ready lo hi ha hb small code aims =
-      split_binds w sc 1 1 n (ends decides end n1) (ends (not decides) to end) c k (λ z c'. Keeps r r c c') (λ z c'. Keeps r r c c') x rest
+      split_binds w sc 1 1 n (ends decides end n1) (ends (not decides) to end) c k (λ z c'. KeepsRegisters r r c c') (λ z c'. KeepsRegisters r r c c') x rest
       (t1 decides far1 end r n c k idle ready (code_front w n is js code) lo ha first_aims)
       (λ z b g. keeps_low r r c b hi g)
       (λ z b g. by_answer z b g (answers z decides))
@@ -434,18 +434,18 @@ module _ (w : World) (sc : Scope) (p : Bases) (s : State) (f : Machine w) (area 
       at_end true e m = refl
       at_end false e m = refl
 
-      by_answer : (z : Bool) (b : Contents) → Keeps r r c b → (z ≡ decides) ⊎ (z ≡ not decides)
-          → Splits w sc 1 (ends decides end n1 z) (ends (not decides) to end) b k (λ z c'. Keeps r r c c') (rest z)
+      by_answer : (z : Bool) (b : Contents) → KeepsRegisters r r c b → (z ≡ decides) ⊎ (z ≡ not decides)
+          → Splits w sc 1 (ends decides end n1 z) (ends (not decides) to end) b k (λ z c'. KeepsRegisters r r c c') (rest z)
       by_answer z b g (inl e) =
-          subst (λ z. Splits w sc 1 (ends decides end n1 z) (ends (not decides) to end) b k (λ z c'. Keeps r r c c') (rest z)) (sym e)
-          (subst (λ o. Splits w sc 1 (ends decides end n1 decides) (ends (not decides) to end) b k (λ z c'. Keeps r r c c') o) (sym stop)
-          (split_arrives w sc 1 _ (ends (not decides) to end) b b k (λ z c'. Keeps r r c c') decides g (later w 0 1 _ _ (omega arith) (stays w _ _ (ap (λ m. at_with m b k) (over decides end n1 to))))))
+          subst (λ z. Splits w sc 1 (ends decides end n1 z) (ends (not decides) to end) b k (λ z c'. KeepsRegisters r r c c') (rest z)) (sym e)
+          (subst (λ o. Splits w sc 1 (ends decides end n1 decides) (ends (not decides) to end) b k (λ z c'. KeepsRegisters r r c c') o) (sym stop)
+          (split_arrives w sc 1 _ (ends (not decides) to end) b b k (λ z c'. KeepsRegisters r r c c') decides g (later w 0 1 _ _ (omega arith) (stays w _ _ (ap (λ m. at_with m b k) (over decides end n1 to))))))
       by_answer z b g (inr e) =
-          subst (λ z. Splits w sc 1 (ends decides end n1 z) (ends (not decides) to end) b k (λ z c'. Keeps r r c c') (rest z)) (sym e)
-          (subst (λ o. Splits w sc 1 (ends decides end n1 (not decides)) (ends (not decides) to end) b k (λ z c'. Keeps r r c c') o) (sym go)
-          (subst (λ m. Splits w sc 1 m (ends (not decides) to end) b k (λ z c'. Keeps r r c c') y) (sym (at_end decides end n1))
-          (split_at w sc 1 n1 (ends (not decides) to (n1 + length js)) (ends (not decides) to end) b k (λ z c'. Keeps r r c c') y (λ q. same_end (not decides) to _ _ q len)
-          (split_says w sc 1 n1 _ b k (λ z c'. Keeps r r b c') (λ z c'. Keeps r r c c') y (λ q j h. keeps_on r r c b j g h)
+          subst (λ z. Splits w sc 1 (ends decides end n1 z) (ends (not decides) to end) b k (λ z c'. KeepsRegisters r r c c') (rest z)) (sym e)
+          (subst (λ o. Splits w sc 1 (ends decides end n1 (not decides)) (ends (not decides) to end) b k (λ z c'. KeepsRegisters r r c c') o) (sym go)
+          (subst (λ m. Splits w sc 1 m (ends (not decides) to end) b k (λ z c'. KeepsRegisters r r c c') y) (sym (at_end decides end n1))
+          (split_at w sc 1 n1 (ends (not decides) to (n1 + length js)) (ends (not decides) to end) b k (λ z c'. KeepsRegisters r r c c') y (λ q. same_end (not decides) to _ _ q len)
+          (split_says w sc 1 n1 _ b k (λ z c'. KeepsRegisters r r b c') (λ z c'. KeepsRegisters r r c c') y (λ q j h. keeps_on r r c b j g h)
           (t2 (not decides) far to r n1 b k idle (ready_on sc p s c b (keeps_low r r c b hi g) ready) (code_back w n is js code) lo hb (aims_in n n1 (n1 + length js) far to (omega arith) (aims_at n end (n1 + length js) far to (sym len) aims)))))))
 
   -- `!`
@@ -469,8 +469,8 @@ module _ (w : World) (sc : Scope) (p : Bases) (s : State) (f : Machine w) (area 
 
   -- a node's own steps are paid by its unit
   node_test : (code : Testing) (need : ℕ) (x : Costed Value)
-      → ((b : Bool) (far to r n : ℕ) (c : Contents) (k : Behind) → k.pending ≡ Idle → Ready sc p s c → CodeAt w n (code b far r) → 8 ≤ r → r + need ≤ 20 → Aims n (n + length (code b far r)) far to → Splits w sc 2 n (ends b to (n + length (code b far r))) c k (λ y c'. Keeps r r c c') (truth x)) → TestsAs code need (truth (paying 1 x))
-  node_test code need x h b far to r n c k idle ready there lo hi aims = split_more w sc 0 1 n (ends b to (n + length (code b far r))) c k (λ y c'. Keeps r r c c') (truth (paying 1 x)) (omega arith) (pays 2 n (ends b to (n + length (code b far r))) c k (λ y c'. Keeps r r c c') x (omega arith) (h b far to r n c k idle ready there lo hi aims))
+      → ((b : Bool) (far to r n : ℕ) (c : Contents) (k : Behind) → k.pending ≡ Idle → Ready sc p s c → CodeAt w n (code b far r) → 8 ≤ r → r + need ≤ 20 → Aims n (n + length (code b far r)) far to → Splits w sc 2 n (ends b to (n + length (code b far r))) c k (λ y c'. KeepsRegisters r r c c') (truth x)) → TestsAs code need (truth (paying 1 x))
+  node_test code need x h b far to r n c k idle ready there lo hi aims = split_more w sc 0 1 n (ends b to (n + length (code b far r))) c k (λ y c'. KeepsRegisters r r c c') (truth (paying 1 x)) (omega arith) (pays 2 n (ends b to (n + length (code b far r))) c k (λ y c'. KeepsRegisters r r c c') x (omega arith) (h b far to r n c k idle ready there lo hi aims))
 
   equal_tests : (o : BinaryOp) → IsEquality o → (t : Ty) → is_scalar t ≡ true → (m ma mb : Made) (ta tb : Testing) (na nb : ℕ) (x y : Costed Value)
       → 1 ≤ nb → OperandRuns w sc p s ma na t x → OperandRuns w sc p s mb nb t y
@@ -511,7 +511,7 @@ module _ (w : World) (sc : Scope) (p : Bases) (s : State) (f : Machine w) (area 
       → TestsAs (compare_test im o ma mb) (max na (nb + 1)) (truth (paying 1 (x >>= λ v. y >>= λ u. at_no_cost (on_binary o v u))))
   compare_tests (Some g) o ma mb na nb x y more_than some own knows oa ob = node_test (compare_test (Some g) o ma mb) (max na (nb + 1)) _ (λ b far to r n c k idle ready code lo hi aims.
       let v = knows g refl in
-      known_right 2 v.units n _ c k (λ z c'. Keeps r r c c') x y (int v.value) (on_binary o) v.is
+      known_right 2 v.units n _ c k (λ z c'. KeepsRegisters r r c c') x y (int v.value) (on_binary o) v.is
       (compared_with g v.by (λ e. on_binary o e (int v.value)) ma na x v.says v.runs oa b far to r n c k idle ready code lo (omega arith) (omega arith) aims))
   compare_tests None o ma mb na nb x y more_than some own knows oa ob = node_test (compare_test None o ma mb) (max na (nb + 1)) _ (λ b far to r n c k idle ready code lo hi aims. compared o ma mb na nb ty.int ty.int x y own oa ob b far to r n c k idle ready code lo (omega arith) (omega arith) some aims)
 
@@ -531,25 +531,25 @@ module _ (w : World) (sc : Scope) (p : Bases) (s : State) (f : Machine w) (area 
     where
       by_side : (b : Bool) (far to r n : ℕ) (c : Contents) (d : Behind) → d.pending ≡ Idle → Ready sc p s c
           → CodeAt w n (both_code false b ta tb far r) → 8 ≤ r → r + max na nb ≤ 20 → Aims n (n + length (both_code false b ta tb far r)) far to
-          → Splits w sc 2 n (ends b to (n + length (both_code false b ta tb far r))) c d (λ y c'. Keeps r r c c') (truth (truth x >>= λ b. if b then y else at_no_cost (Ok (bool false))))
+          → Splits w sc 2 n (ends b to (n + length (both_code false b ta tb far r))) c d (λ y c'. KeepsRegisters r r c c') (truth (truth x >>= λ b. if b then y else at_no_cost (Ok (bool false))))
       by_side true far to r n c d idle ready code lo hi aims =
           let size = both_length sc false true ta tb j k far r la lb in
-          subst (λ e. Splits w sc 2 n (ends true to (n + length (both_code false true ta tb far r))) c d (λ y c'. Keeps r r c c') e) (sym (truth_binds (truth x) (λ b. if b then y else at_no_cost (Ok (bool false)))))
+          subst (λ e. Splits w sc 2 n (ends true to (n + length (both_code false true ta tb far r))) c d (λ y c'. KeepsRegisters r r c c') e) (sym (truth_binds (truth x) (λ b. if b then y else at_no_cost (Ok (bool false)))))
           (over_two false ta tb na nb (truth x) (truth y) (λ b. truth (if b then y else at_no_cost (Ok (bool false)))) t1 t2 refl refl far to r n c d idle ready lo (omega arith) (omega arith) (omega arith) (omega (arith, size, few)) code aims)
       by_side false far to r n c d idle ready code lo hi aims =
-          subst (λ e. Splits w sc 2 n (ends false to (n + length (both_code false false ta tb far r))) c d (λ y c'. Keeps r r c c') e) (sym (truth_binds (truth x) (λ b. if b then y else at_no_cost (Ok (bool false)))))
+          subst (λ e. Splits w sc 2 n (ends false to (n + length (both_code false false ta tb far r))) c d (λ y c'. KeepsRegisters r r c c') e) (sym (truth_binds (truth x) (λ b. if b then y else at_no_cost (Ok (bool false)))))
           (straight_two false ta tb na nb (truth x) (truth y) (λ b. truth (if b then y else at_no_cost (Ok (bool false)))) t1 t2 refl refl far to r n c d idle ready lo (omega arith) (omega arith) (omega arith) code aims)
   logic_tests _ or m ma mb ta tb na nb j k x y some la lb few t1 t2 = node_test (binary_test Or m ma mb ta tb) (max na nb) _ by_side
     where
       by_side : (b : Bool) (far to r n : ℕ) (c : Contents) (d : Behind) → d.pending ≡ Idle → Ready sc p s c
           → CodeAt w n (both_code true b ta tb far r) → 8 ≤ r → r + max na nb ≤ 20 → Aims n (n + length (both_code true b ta tb far r)) far to
-          → Splits w sc 2 n (ends b to (n + length (both_code true b ta tb far r))) c d (λ y c'. Keeps r r c c') (truth (truth x >>= λ b. if b then at_no_cost (Ok (bool true)) else y))
+          → Splits w sc 2 n (ends b to (n + length (both_code true b ta tb far r))) c d (λ y c'. KeepsRegisters r r c c') (truth (truth x >>= λ b. if b then at_no_cost (Ok (bool true)) else y))
       by_side false far to r n c d idle ready code lo hi aims =
           let size = both_length sc true false ta tb j k far r la lb in
-          subst (λ e. Splits w sc 2 n (ends false to (n + length (both_code true false ta tb far r))) c d (λ y c'. Keeps r r c c') e) (sym (truth_binds (truth x) (λ b. if b then at_no_cost (Ok (bool true)) else y)))
+          subst (λ e. Splits w sc 2 n (ends false to (n + length (both_code true false ta tb far r))) c d (λ y c'. KeepsRegisters r r c c') e) (sym (truth_binds (truth x) (λ b. if b then at_no_cost (Ok (bool true)) else y)))
           (over_two true ta tb na nb (truth x) (truth y) (λ b. truth (if b then at_no_cost (Ok (bool true)) else y)) t1 t2 refl refl far to r n c d idle ready lo (omega arith) (omega arith) (omega arith) (omega (arith, size, few)) code aims)
       by_side true far to r n c d idle ready code lo hi aims =
-          subst (λ e. Splits w sc 2 n (ends true to (n + length (both_code true true ta tb far r))) c d (λ y c'. Keeps r r c c') e) (sym (truth_binds (truth x) (λ b. if b then at_no_cost (Ok (bool true)) else y)))
+          subst (λ e. Splits w sc 2 n (ends true to (n + length (both_code true true ta tb far r))) c d (λ y c'. KeepsRegisters r r c c') e) (sym (truth_binds (truth x) (λ b. if b then at_no_cost (Ok (bool true)) else y)))
           (straight_two true ta tb na nb (truth x) (truth y) (λ b. truth (if b then at_no_cost (Ok (bool true)) else y)) t1 t2 refl refl far to r n c d idle ready lo (omega arith) (omega arith) (omega arith) code aims)
 
   operand_of : (e : CExpr) (t : Ty) → is_scalar t ≡ true → HasNumberedType sc.env e t → nodes e ≤ 2000
@@ -562,9 +562,9 @@ module _ (w : World) (sc : Scope) (p : Bases) (s : State) (f : Machine w) (area 
       let inner = tests e ty.bool h refl (omega arith) in
       node_test (λ b far r. test_code sc e (not b) far r) (need e) _ (λ b far to r n c k idle ready code lo hi aims.
       let one = inner (not b) far to r n c k idle ready code lo hi aims in
-      split_more w sc 1 2 n _ c k (λ y c'. Keeps r r c c') (truth (value_of e s >>= λ v. at_no_cost (on_unary Not v))) (omega arith)
-      (split_at w sc 1 n (λ z. ends (not b) to (n + length (test_code sc e (not b) far r)) (not z)) (ends b to (n + length (test_code sc e (not b) far r))) c k (λ y c'. Keeps r r c c') (truth (value_of e s >>= λ v. at_no_cost (on_unary Not v))) (turned b to (n + length (test_code sc e (not b) far r)))
-      (negated 1 n (ends (not b) to (n + length (test_code sc e (not b) far r))) c k (λ c'. Keeps r r c c') (value_of e s) one)))
+      split_more w sc 1 2 n _ c k (λ y c'. KeepsRegisters r r c c') (truth (value_of e s >>= λ v. at_no_cost (on_unary Not v))) (omega arith)
+      (split_at w sc 1 n (λ z. ends (not b) to (n + length (test_code sc e (not b) far r)) (not z)) (ends b to (n + length (test_code sc e (not b) far r))) c k (λ y c'. KeepsRegisters r r c c') (truth (value_of e s >>= λ v. at_no_cost (on_unary Not v))) (turned b to (n + length (test_code sc e (not b) far r)))
+      (negated 1 n (ends (not b) to (n + length (test_code sc e (not b) far r))) c k (λ c'. KeepsRegisters r r c c') (value_of e s) one)))
   tests _ _ (order {s = span} {o = o} {a = a} {b = b} k h g) q few = order_tests o k (made sc (binary span o a b)) (made sc a) (made sc b) (test_code sc a) (test_code sc b) (need a) (need b) (value_of a s) (value_of b s) (need_some a) (need_some b) (λ k e. known_is sc p b ty.int s k g e) (operand_of a ty.int refl h (omega arith)) (operand_of b ty.int refl g (omega arith))
   tests _ _ (logic {s = span} {o = o} {a = a} {b = b} k h g) q few = logic_tests o k (made sc (binary span o a b)) (made sc a) (made sc b) (test_code sc a) (test_code sc b) (need a) (need b) (nodes a) (nodes b) (value_of a s) (value_of b s) (need_some a) (λ y far r. test_length sc a y far r) (λ y far r. test_length sc b y far r) few (tests a ty.bool h refl (omega arith)) (tests b ty.bool g refl (omega arith))
   tests _ _ (equality {s = span} {o = o} {a = a} {b = b} {t = t} k z h g) q few = equal_tests o k t z (made sc (binary span o a b)) (made sc a) (made sc b) (test_code sc a) (test_code sc b) (need a) (need b) (value_of a s) (value_of b s) (need_some b) (operand_of a t z h (omega arith)) (operand_of b t z g (omega arith))

@@ -40,15 +40,15 @@ types_in sc p heap = p.objects
 types_in sc p locals = types_of sc.env.locals
 
 -- the word number of a location
-abbrev pub word_at : Scope → Bases → Location → ℕ
-word_at sc p l = start_of sc p l.region + words_to_part sc.env.structs (types_in sc p l.region) l.path
+abbrev pub location_word : Scope → Bases → Location → ℕ
+location_word sc p l = start_of sc p l.region + words_to_part sc.env.structs (types_in sc p l.region) l.path
 
 -- the word of a scalar: a pointer is an address, and null is 0
 abbrev pub word : Scope → Bases → Value → ℕ
 word sc p (int z) = word_of z
 word sc p (bool b) = flag b
 word sc p null = 0
-word sc p (at l) = 4 * word_at sc p l
+word sc p (at l) = 4 * location_word sc p l
 word sc p (group vs) = 0
 
 -- a value of a type stands in these words from a on, and so do values one after another

@@ -39,7 +39,7 @@ length_in (Some (ty.array t n)) = n
 length_in _ = 0
 
 -- a place: the code that has to run first, and then a register plus a displacement in bytes is its address, modulo 2 ^ 32
-pub record Spot : Type 0 where
+pub record AddressingMode : Type 0 where
   pub code : List Inst
   pub base : ℕ
   pub displacement : ℕ
@@ -48,13 +48,13 @@ pub record Spot : Type 0 where
 -- does; the number that is written there, if it is one; and the word that it is known to be, if it is.
 pub record Made : Type 0 where
   pub value : (target free : ℕ) → List Inst
-  pub place : (free : ℕ) → Spot
+  pub place : (free : ℕ) → AddressingMode
   pub stands : Option ℕ
   pub literal : Option ℕ
   pub known : Option ℕ
 
 -- no place
-abbrev pub no_spot : ℕ → Spot
+abbrev pub no_spot : ℕ → AddressingMode
 no_spot r = record { code = []; base = 0; displacement = 0 }
 
 -- the lower half of a word
@@ -75,17 +75,17 @@ constant_code d n =
     if nat_lt n (2 ^ 16) then Ori d 0 n ∷ [] else if is_near n then Addiu d 0 (low n) ∷ [] else Lui d (n / 2 ^ 16 % 2 ^ 16) ∷ Ori d d (low n) ∷ []
 
 -- an instruction on a place, with a register for the address where the displacement is far
-abbrev pub on_spot : (ℕ → ℕ → Inst) → ℕ → Spot → List Inst
+abbrev pub on_spot : (ℕ → ℕ → Inst) → ℕ → AddressingMode → List Inst
 on_spot f r x =
     x.code ++ (if is_near x.displacement then f x.base (low x.displacement) ∷ []
     else Lui SCRATCH (high x.displacement) ∷ Addu r x.base SCRATCH ∷ f r (low x.displacement) ∷ [])
 
 -- what stands at a place, into a register
-abbrev pub load_code : ℕ → ℕ → Spot → List Inst
+abbrev pub load_code : ℕ → ℕ → AddressingMode → List Inst
 load_code d r x = on_spot (λ b k. Lw d b k) r x
 
 -- a register's word, to a place
-abbrev pub store_code : ℕ → ℕ → Spot → List Inst
+abbrev pub store_code : ℕ → ℕ → AddressingMode → List Inst
 store_code q r x = on_spot (λ b k. Sw q b k) r x
 
 -- no code, where a value stands already
@@ -101,7 +101,7 @@ abbrev pub operand_register : Made → ℕ → ℕ
 operand_register m r = unwrap_or m.stands r
 
 -- a place as value
-abbrev pub at_place : (ℕ → Spot) → Made
+abbrev pub at_place : (ℕ → AddressingMode) → Made
 at_place place = record { value = λ d r. load_code d r (place r); place = place; stands = None; literal = None; known = None }
 
 -- a constant word, which a number may be written for
@@ -114,7 +114,7 @@ abbrev pub only_value : (ℕ → ℕ → List Inst) → Made
 only_value code = record { value = code; place = no_spot; stands = None; literal = None; known = None }
 
 -- the global of a number
-abbrev pub global_spot : Scope → ℕ → Spot
+abbrev pub global_spot : Scope → ℕ → AddressingMode
 global_spot sc n = record { code = []; base = GLOBALS; displacement = 4 * words_before sc.env.structs (types_of sc.env.globals) n % 2 ^ 32 }
 
 -- the bytes from the frame's end back to its beginning, modulo 2 ^ 32
@@ -122,7 +122,7 @@ abbrev pub frame_back : Scope → ℕ
 frame_back sc = 2 ^ 32 - 4 * sc.frame % 2 ^ 32
 
 -- the variable of a number in the frame, which begins with three words of its own
-abbrev pub local_spot : Scope → ℕ → Spot
+abbrev pub local_spot : Scope → ℕ → AddressingMode
 local_spot sc n =
     record { code = []; base = FRAME_END; displacement = (frame_back sc + (12 + 4 * words_before sc.env.structs (types_of sc.env.locals) n)) % 2 ^ 32 }
 
@@ -149,11 +149,11 @@ variable_made sc Function n = at_place no_spot
 variable_made sc Primitive n = at_place no_spot
 
 -- the place so many bytes further
-abbrev pub moved : ℕ → Spot → Spot
-moved k x = record { code = x.code; base = x.base; displacement = (x.displacement + k) % 2 ^ 32 }
+abbrev pub displaced : ℕ → AddressingMode → AddressingMode
+displaced k x = record { code = x.code; base = x.base; displacement = (x.displacement + k) % 2 ^ 32 }
 
 -- what a pointer points to
-abbrev pub target_spot : Scope → Made → ℕ → Spot
+abbrev pub target_spot : Scope → Made → ℕ → AddressingMode
 target_spot sc m r =
     record { code = operand_code m r ++ (Bne (operand_register m r) 0 1 ∷ J (sc.exit NullUse) ∷ []); base = operand_register m r; displacement = 0 }
 
@@ -183,14 +183,14 @@ abbrev pub element_code : Scope → (q b r w n : ℕ) → List Inst
 element_code sc q b r w n = bound_code q n ++ (Bne SCRATCH 0 1 ∷ J (sc.exit Bounds) ∷ (scale_code w q ++ (Addu r b SCRATCH ∷ [])))
 
 -- an element whose index is tested
-abbrev pub tested_spot : Scope → (w n : ℕ) → Spot → Made → ℕ → Spot
+abbrev pub tested_spot : Scope → (w n : ℕ) → AddressingMode → Made → ℕ → AddressingMode
 tested_spot sc w n x m r =
     record { code = x.code ++ (operand_code m (r + 1) ++ element_code sc (operand_register m (r + 1)) x.base r w n); base = r; displacement = x.displacement }
 
 -- an element: a number below the length needs no test
-abbrev pub element_spot : Scope → (w n : ℕ) → Option ℕ → Spot → Made → ℕ → Spot
+abbrev pub element_spot : Scope → (w n : ℕ) → Option ℕ → AddressingMode → Made → ℕ → AddressingMode
 element_spot sc w n None x m r = tested_spot sc w n x m r
-element_spot sc w n (Some c) x m r = if nat_lt c n then moved (4 * (c * w)) x else tested_spot sc w n x m r
+element_spot sc w n (Some c) x m r = if nat_lt c n then displaced (4 * (c * w)) x else tested_spot sc w n x m r
 
 -- both sides, and then code that has them in registers
 abbrev pub two_code : (ℕ → ℕ → List Inst) → Made → Made → ℕ → List Inst
@@ -313,11 +313,11 @@ binary_made sc And a b = only_value (λ d r. logic_code (λ k. Beq r 0 k) a b d 
 binary_made sc Or a b = only_value (λ d r. logic_code (λ k. Bne r 0 k) a b d r)
 
 -- a field of a place
-abbrev pub field_made : Scope → Option Ty → (ℕ → Spot) → ℕ → Made
-field_made sc t place n = at_place (λ r. moved (4 * words_before sc.env.structs (fields_in sc.env.structs t) n) (place r))
+abbrev pub field_made : Scope → Option Ty → (ℕ → AddressingMode) → ℕ → Made
+field_made sc t place n = at_place (λ r. displaced (4 * words_before sc.env.structs (fields_in sc.env.structs t) n) (place r))
 
 -- an element of a place
-abbrev pub index_made : Scope → Option Ty → (ℕ → Spot) → Made → Made
+abbrev pub index_made : Scope → Option Ty → (ℕ → AddressingMode) → Made → Made
 index_made sc t place m = at_place (λ r. element_spot sc (element_words sc.env.structs t) (length_in t) m.literal (place r) m r)
 
 -- every node
@@ -340,5 +340,5 @@ abbrev pub value_code : Scope → CExpr → (d r : ℕ) → List Inst
 value_code sc e d r = (made sc e).value d r
 
 -- the place of an expression that is one, with free registers from r
-abbrev pub place_spot : Scope → CExpr → (r : ℕ) → Spot
+abbrev pub place_spot : Scope → CExpr → (r : ℕ) → AddressingMode
 place_spot sc e r = (made sc e).place r

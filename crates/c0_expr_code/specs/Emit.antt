@@ -19,7 +19,7 @@ use Rattle.c0_meaning.specs.TypeAt.{type_at}
 use Rattle.c0_expr_code.specs.declared.scene.Scene.{Scene}
 use Rattle.c0_expr_code.specs.Scope.{Scope}
 use Rattle.c0_expr_code.specs.Scene.{made_in, scope_in}
-use Rattle.c0_expr_code.specs.Code.{Spot, Made, made, low, high, shift_within, POWERS, Immediate, immediate_of, load_code, element_spot, element_words, fields_in, length_in}
+use Rattle.c0_expr_code.specs.Code.{AddressingMode, Made, made, low, high, shift_within, POWERS, Immediate, immediate_of, load_code, element_spot, element_words, fields_in, length_in}
 use Rattle.c0_expr_code.specs.Code.{one_code, two_code, logic_code, operator_code, operator_made, binary_made, is_sure, divisor_code, operand_code, operand_register, bound_code, constant_code}
 
 -- the words of this code were appended, unless memory was wanting
@@ -34,11 +34,11 @@ access_inst Store d b k = Sw d b k
 access_inst Address d b k = Addiu d b k
 
 -- a place whose code stands already
-abbrev pub spot_at : Near → Spot
+abbrev pub spot_at : Near → AddressingMode
 spot_at x = record { code = []; base = x.base; displacement = x.displacement }
 
 -- the access to a place that is too far for an immediate
-abbrev pub far_code : (ℕ → ℕ → Inst) → ℕ → Spot → List Inst
+abbrev pub far_code : (ℕ → ℕ → Inst) → ℕ → AddressingMode → List Inst
 far_code f r x = Lui SCRATCH (high x.displacement) ∷ Addu r x.base SCRATCH ∷ f r (low x.displacement) ∷ []
 
 -- what is known of elements of so many words, for the code that multiplies by them
@@ -74,11 +74,11 @@ taken_inst true d = Mflo d
 taken_inst false d = Mfhi d
 
 -- a place whose code stands already is another place
-abbrev pub IsSpot : Near → Spot → Type 0
+abbrev pub IsSpot : Near → AddressingMode → Type 0
 IsSpot x y = (x.base ≡ y.base) × (x.displacement ≡ y.displacement)
 
 -- a variable as value: it stands in a register, or is loaded
-abbrev pub held_code : Option ℕ → Spot → (d r : ℕ) → List Inst
+abbrev pub held_code : Option ℕ → AddressingMode → (d r : ℕ) → List Inst
 held_code (Some q) x d r = Addu d q 0 ∷ []
 held_code None x d r = load_code d r x
 
@@ -87,7 +87,7 @@ abbrev pub held_in : Scene → Expr → (d r : ℕ) → List Inst
 held_in scene e d r = held_code (made_in scene e).stands ((made_in scene e).place r) d r
 
 -- the place of an element
-abbrev pub index_spot : Scope → CExpr → CExpr → ℕ → Spot
+abbrev pub index_spot : Scope → CExpr → CExpr → ℕ → AddressingMode
 index_spot sc e i r =
     element_spot sc (element_words sc.env.structs (type_at sc.env e)) (length_in (type_at sc.env e)) (made sc i).literal ((made sc e).place r) (made sc i) r
 

@@ -12,28 +12,28 @@ use Rattle.c0_expr_code.specs.Code.{Made, made}
 use Rattle.c0_expr_code.specs.Test.{immediate_test_of, Testing, compare_test, plain_test, test_code}
 
 -- code with distances 0, and where the branches to the place stand in it
-pub record Open : Type 0 where
+pub record Unpatched : Type 0 where
   pub code : List Inst
   pub jumps : List ℕ
 
 -- a test's, by s and the free registers
 abbrev pub Opening : Type 0
-Opening = Bool → (r : ℕ) → Open
+Opening = Bool → (r : ℕ) → Unpatched
 
 -- code whose last instruction is the branch
-abbrev pub last_open : List Inst → Open
+abbrev pub last_open : List Inst → Unpatched
 last_open is = record { code = is; jumps = (length is - 1) ∷ [] }
 
 -- behind other code
-abbrev pub behind_open : List Inst → Open → Open
+abbrev pub behind_open : List Inst → Unpatched → Unpatched
 behind_open is x = record { code = is ++ x.code; jumps = map (λ j. length is + j) x.jumps }
 
 -- both go to the place
-abbrev pub joined_open : Open → Open → Open
+abbrev pub joined_open : Unpatched → Unpatched → Unpatched
 joined_open x y = record { code = x.code ++ y.code; jumps = x.jumps ++ map (λ j. length x.code + j) y.jumps }
 
 -- both tests: where the first alone decides for s both go to the place, and else the first goes over the second
-abbrev pub both_open : (decides s : Bool) → Testing → Opening → Opening → (r : ℕ) → Open
+abbrev pub both_open : (decides s : Bool) → Testing → Opening → Opening → (r : ℕ) → Unpatched
 both_open true true one x y r = joined_open (x true r) (y true r)
 both_open true false one x y r = behind_open (one true (length (y false r).code % 2 ^ 16) r) (y false r)
 both_open false true one x y r = behind_open (one false (length (y true r).code % 2 ^ 16) r) (y true r)

@@ -13,35 +13,35 @@ use Rattle.c0_meaning.specs.Ty.{Ty, bool, named, ty_of, is_scalar}
 use Rattle.c0_meaning.specs.Env.{Env, Shape}
 use Rattle.c0_meaning.specs.Words.{fields_named, words}
 use Rattle.c0_meaning.specs.Addresses.{words_to_part}
-use Rattle.c0_meaning.specs.Value.{locals, Location, Value, put as put_value}
-use Rattle.c0_meaning.specs.TypedState.{Layout, types_of, LeadsFrom, Fits, AreParts}
+use Rattle.c0_meaning.specs.Value.{locals, Location, Value, value_with as put_value}
+use Rattle.c0_meaning.specs.TypedState.{StoreTyping, types_of, LeadsFrom, Fits, AreParts}
 use Rattle.c0_meaning.specs.Evaluation.{value_of, place_of}
 use Rattle.c0_meaning.specs.Numbered.{HasNumberedType, IsNumberedGiven}
-use Rattle.c0_meaning.specs.State.{State, write}
+use Rattle.c0_meaning.specs.State.{C0State, write}
 use Rattle.c0_meaning.specs.Sound.{shapes}
 use Rattle.c0_meaning.specs.Typed.{IsDeclarable}
 use Rattle.c0_meaning.specs.Unit.{IsWellFormed}
 use Rattle.masm.specs.declared.registers.Places.{Places}
 use Rattle.masm.specs.Places.{ArePlaces}
 use Rattle.c0_expr_code.specs.Scope.{Scope, scope_of}
-use Rattle.c0_expr_code.specs.Code.{Spot, store_code, operand_code, operand_register, made, value_code, place_spot}
+use Rattle.c0_expr_code.specs.Code.{AddressingMode, store_code, operand_code, operand_register, made, value_code, place_spot}
 use Rattle.c0_expr_code.specs.Test.{test_code}
-use Rattle.c0_expr_code.specs.Bases.{words_of_all, Bases, types_in, word_at, word, RegionHeld}
-use Rattle.c0_expr_code.specs.Relation.{layout, IsTyped, Ready, Keeps, Area, Source, units_of, Right, TestRuns}
+use Rattle.c0_expr_code.specs.Bases.{words_of_all, Bases, types_in, location_word, word, RegionHeld}
+use Rattle.c0_expr_code.specs.Relation.{layout, StateIsTyped, Ready, KeepsRegisters, Area, Source, units_of, Right, TestRuns}
 
 -- the code of every typed expression comes to what it means: as a value, as an operand, and as a place
 abbrev pub ExpressionsRun : Type 0
-ExpressionsRun = (w : World) (sc : Scope) (p : Bases) (s : State) → Sound w → Area w sc p → IsTyped sc p s
+ExpressionsRun = (w : World) (sc : Scope) (p : Bases) (s : C0State) → Sound w → Area w sc p → StateIsTyped sc p s
     → (e : CExpr) (t : Ty) → HasNumberedType sc.env e t → nodes e ≤ 2000 → Right w sc p s e t
 
 -- so does the code of an expression that may stand where a type is asked, as `null` where a pointer is
 abbrev pub GivenRun : Type 0
-GivenRun = (w : World) (sc : Scope) (p : Bases) (s : State) → Sound w → Area w sc p → IsTyped sc p s
+GivenRun = (w : World) (sc : Scope) (p : Bases) (s : C0State) → Sound w → Area w sc p → StateIsTyped sc p s
     → (e : CExpr) (t : Ty) → IsNumberedGiven sc.env e t → nodes e ≤ 2000 → Right w sc p s e t
 
 -- the code of every typed test goes where its answer says
 abbrev pub TestsRun : Type 0
-TestsRun = (w : World) (sc : Scope) (p : Bases) (s : State) → Sound w → Area w sc p → IsTyped sc p s
+TestsRun = (w : World) (sc : Scope) (p : Bases) (s : C0State) → Sound w → Area w sc p → StateIsTyped sc p s
     → (e : CExpr) → IsNumberedGiven sc.env e bool → nodes e ≤ 2000 → TestRuns w sc p s e
 
 -- The code is short: at most 14 words a node, with room for three more behind a place, and 15 for a test; never empty as a value or a test; and
@@ -57,8 +57,8 @@ pub record CodesAreShort : Type 0 where
 
 -- no evaluation costs more units than its expression has nodes
 pub record CostsAreFew : Type 0 where
-  pub value : (e : CExpr) (s : State) → units_of (value_of e s) ≤ nodes e
-  pub place : (e : CExpr) (s : State) → units_of (place_of e s) ≤ nodes e
+  pub value : (e : CExpr) (s : C0State) → units_of (value_of e s) ≤ nodes e
+  pub place : (e : CExpr) (s : C0State) → units_of (place_of e s) ≤ nodes e
 
 -- two environments with the same structs, globals and variables: their functions and primitives may differ
 pub record HaveSameNames (a b : Env) : Type 0 where
@@ -71,29 +71,29 @@ abbrev pub NamesAreEnough : Type 0
 NamesAreEnough = (a b : Env) → HaveSameNames a b → (e : CExpr) (t : Ty) → HasNumberedType a e t → HasNumberedType b e t
 
 -- globals, heap and the frame stand one behind the other
-pub record AreSpread (sc : Scope) (p : Bases) : Type 0 where
+pub record RegionsApart (sc : Scope) (p : Bases) : Type 0 where
   pub heap_behind : p.globals + words_of_all sc.env.structs (types_of sc.env.globals) ≤ p.heap
   pub frame_behind : p.heap + words_of_all sc.env.structs p.objects ≤ p.frame_end - sc.frame
 
 -- the contents with a word of memory written
-abbrev pub with_word : Contents → ℕ → ℕ → Contents
-with_word c k v = record c { memory = put c.memory k v }
+abbrev pub memory_with : Contents → ℕ → ℕ → Contents
+memory_with c k v = record c { memory = put c.memory k v }
 
 -- a layout with more objects
-abbrev pub with_more : Layout → List Ty → Layout
+abbrev pub with_more : StoreTyping → List Ty → StoreTyping
 with_more layout more = record { globals = layout.globals; objects = layout.objects ++ more }
 
 -- Where a scalar's word is stored at a location, in memory or in a register, the state that has the scalar there stands in the machine;
 -- and it is typed where the scalar fits.
 pub record StoresHold : Type 0 where
-  pub in_memory : (w : World) (sc : Scope) (p : Bases) (s : State) (c : Contents) → Area w sc p → AreSpread sc p → Ready sc p s c
+  pub in_memory : (w : World) (sc : Scope) (p : Bases) (s : C0State) (c : Contents) → Area w sc p → RegionsApart sc p → Ready sc p s c
       → (l : Location) (t : Ty) (x : Value) → LeadsFrom sc.env.structs (types_in sc p l.region) l.path t
-      → (l.region ≡ locals → sc.in_registers ≡ false) → is_scalar t ≡ true → Ready sc p (write s l x) (with_word c (word_at sc p l) (word sc p x))
-  pub in_register : (w : World) (sc : Scope) (p : Bases) (s : State) (c : Contents) → Area w sc p → Ready sc p s c → (n : ℕ) (t : Ty) (x : Value)
+      → (l.region ≡ locals → sc.in_registers ≡ false) → is_scalar t ≡ true → Ready sc p (write s l x) (memory_with c (location_word sc p l) (word sc p x))
+  pub in_register : (w : World) (sc : Scope) (p : Bases) (s : C0State) (c : Contents) → Area w sc p → Ready sc p s c → (n : ℕ) (t : Ty) (x : Value)
       → sc.in_registers ≡ true → slice_get (types_of sc.env.locals) n ≡ Some t
       → Ready sc p (write s (record { region = locals; path = n ∷ [] }) x) (with_reg c (ARGUMENTS + n) (word sc p x))
-  pub typed : (sc : Scope) (p : Bases) (s : State) → IsTyped sc p s → (l : Location) (t : Ty) (x : Value)
-      → LeadsFrom sc.env.structs (types_in sc p l.region) l.path t → Fits sc.env.structs (layout sc p) t x → IsTyped sc p (write s l x)
+  pub typed : (sc : Scope) (p : Bases) (s : C0State) → StateIsTyped sc p s → (l : Location) (t : Ty) (x : Value)
+      → LeadsFrom sc.env.structs (types_in sc p l.region) l.path t → Fits sc.env.structs (layout sc p) t x → StateIsTyped sc p (write s l x)
 
 -- a struct's words are those of its fields
 abbrev pub IsOpened : List Shape → Type 0
@@ -102,7 +102,7 @@ IsOpened structs = (x : List ℕ) → words structs (named x) ≡ words_of_all s
 -- What code keeps by registers and words it keeps of the state; a region stands where its words are the same; and where one word of a region
 -- alone changes, the region with the scalar there.
 pub record HeldStays : Type 0 where
-  pub ready : (sc : Scope) (p : Bases) (s : State) (a b : Contents) → Keeps 0 0 a b → Ready sc p s a → Ready sc p s b
+  pub ready : (sc : Scope) (p : Bases) (s : C0State) (a b : Contents) → KeepsRegisters 0 0 a b → Ready sc p s a → Ready sc p s b
   pub same : (sc : Scope) (p : Bases) → IsOpened sc.env.structs → (m other : ℕ → ℕ) (a : ℕ) (types : List Ty) (v : Value)
       → ((k : ℕ) → a ≤ k → k < a + words_of_all sc.env.structs types → other k ≡ m k) → RegionHeld sc p m a types v → RegionHeld sc p other a types v
   pub written : (sc : Scope) (p : Bases) → IsOpened sc.env.structs
@@ -113,11 +113,11 @@ pub record HeldStays : Type 0 where
 
 -- typed values stay typed with a part changed, and with more objects
 pub record PartsFit : Type 0 where
-  pub changed : (structs : List Shape) (layout : Layout) (types : List Ty) (path : List ℕ) (t : Ty) (v x : Value) → LeadsFrom structs types path t
+  pub changed : (structs : List Shape) (layout : StoreTyping) (types : List Ty) (path : List ℕ) (t : Ty) (v x : Value) → LeadsFrom structs types path t
       → AreParts structs layout types v → Fits structs layout t x → AreParts structs layout types (put_value v path x)
-  pub more : (structs : List Shape) (layout : Layout) (objects : List Ty) (types : List Ty) (v : Value) → AreParts structs layout types v
+  pub more : (structs : List Shape) (layout : StoreTyping) (objects : List Ty) (types : List Ty) (v : Value) → AreParts structs layout types v
       → AreParts structs (with_more layout objects) types v
-  pub more_of : (structs : List Shape) (layout : Layout) (objects : List Ty) (t : Ty) (v : Value) → Fits structs layout t v
+  pub more_of : (structs : List Shape) (layout : StoreTyping) (objects : List Ty) (t : Ty) (v : Value) → Fits structs layout t v
       → Fits structs (with_more layout objects) t v
 
 -- a type is one that may be declared, and so are types
@@ -128,7 +128,7 @@ abbrev pub AreDeclared : List Shape → List Ty → Type 0
 AreDeclared structs types = (i : ℕ) (t : Ty) → slice_get types i ≡ Some t → IsDeclared structs t
 
 -- heap and frame lie in memory, the globals don't begin at word 0, and the frame is in the stack whole
-pub record HasRoom (w : World) (sc : Scope) (p : Bases) : Type 0 where
+pub record RegionsHaveRoom (w : World) (sc : Scope) (p : Bases) : Type 0 where
   pub from : 0 < p.globals
   pub heap : p.heap + words_of_all sc.env.structs p.objects ≤ w.words
   pub frame : p.frame_end ≤ w.words
@@ -138,14 +138,14 @@ pub record HasRoom (w : World) (sc : Scope) (p : Bases) : Type 0 where
 abbrev pub AreasHold : Type 0
 AreasHold = (primitives : List CPrimitive) (u : CUnit) → IsWellFormed primitives u → (f : CFunction) (number : ℕ)
     → slice_get u.functions number ≡ Some f → (places : Places) (w : World) (p : Bases)
-    → HasRoom w (scope_of u f places) p → AreSpread (scope_of u f places) p → AreDeclared (shapes u) p.objects → Area w (scope_of u f places) p
+    → RegionsHaveRoom w (scope_of u f places) p → RegionsApart (scope_of u f places) p → AreDeclared (shapes u) p.objects → Area w (scope_of u f places) p
 
 -- The code that stores a register's word at a place, from behind the place's code: the word stands there, and the rest is kept, in at most three steps.
 abbrev pub StoresRun : World → Type 0
-StoresRun w = (x : Spot) (q r n a v : ℕ) (c : Contents) (k : Behind) → k.pending ≡ Idle → 8 ≤ r → r < 20 → Source r x.base → q ≢ r → q ≢ SCRATCH
+StoresRun w = (x : AddressingMode) (q r n a v : ℕ) (c : Contents) (k : Behind) → k.pending ≡ Idle → 8 ≤ r → r < 20 → Source r x.base → q ≢ r → q ≢ SCRATCH
     → CodeAt w n (store_code q r x)
     → (reg c.regs x.base + x.displacement) % 2 ^ 32 ≡ 4 * a → a < w.words → w.kept a ≡ None → reg c.regs q ≡ v
-    → (c' : Contents) × Keeps r r (with_word c a v) c' × Reaches w 3 (at_with (n + length x.code) c k) (at_with (n + length (store_code q r x)) c' k)
+    → (c' : Contents) × KeepsRegisters r r (memory_with c a v) c' × Reaches w 3 (at_with (n + length x.code) c k) (at_with (n + length (store_code q r x)) c' k)
 
 -- another scope of the same unit, and bases with the same beginnings of globals and heap, where there may be more objects
 pub record IsLater (sc : Scope) (p : Bases) (other : Scope) (q : Bases) : Type 0 where

@@ -5,32 +5,32 @@ use Rattle.mips_table.specs.Code.{Contents, reg, Behind, World, at_with, Reaches
 use Rattle.c0_tree.specs.Size.{need}
 use Rattle.c0_tree.specs.Tree.{CExpr}
 use Rattle.c0_meaning.specs.Ty.{Ty, named, is_scalar}
-use Rattle.c0_meaning.specs.Expression.{is_place}
+use Rattle.c0_meaning.specs.Expression.{is_lvalue}
 use Rattle.c0_meaning.specs.Words.{fields_named, words}
 use Rattle.c0_meaning.specs.Numbered.{is_frame_place}
 use Rattle.c0_meaning.specs.Value.{Region, locals, Location, Value}
-use Rattle.c0_meaning.specs.State.{State, variables_of}
+use Rattle.c0_meaning.specs.State.{C0State, variables_of}
 use Rattle.c0_meaning.specs.Operators.{faulted, stuck}
 use Rattle.c0_meaning.specs.Evaluation.{Costed, costs, truth, value_of, place_of}
-use Rattle.c0_meaning.specs.TypedState.{Layout, types_of, LeadsFrom, PointsTo, Fits, AreParts}
+use Rattle.c0_meaning.specs.TypedState.{StoreTyping, types_of, LeadsFrom, PointsTo, Fits, AreParts}
 use Rattle.c0_expr_code.specs.Scope.{Scope}
 use Rattle.c0_expr_code.specs.Code.{Made, operand_code, operand_register, made}
 use Rattle.c0_expr_code.specs.Test.{test_code}
-use Rattle.c0_expr_code.specs.Bases.{words_of_all, Bases, locals_start, types_in, word_at, word, RegionHeld}
+use Rattle.c0_expr_code.specs.Bases.{words_of_all, Bases, locals_start, types_in, location_word, word, RegionHeld}
 
 -- the types that pointers may lead to
-abbrev pub layout : Scope → Bases → Layout
+abbrev pub layout : Scope → Bases → StoreTyping
 layout sc p = record { globals = types_of sc.env.globals; objects = p.objects }
 
 -- the state is typed
-pub record IsTyped (sc : Scope) (p : Bases) (s : State) : Type 0 where
+pub record StateIsTyped (sc : Scope) (p : Bases) (s : C0State) : Type 0 where
   pub global_values : AreParts sc.env.structs (layout sc p) (types_of sc.env.globals) s.global_values
   pub heap_values : AreParts sc.env.structs (layout sc p) p.objects s.heap_values
   pub local_values : AreParts sc.env.structs (layout sc p) (types_of sc.env.locals) (variables_of s.frames)
 
 -- the state stands in the machine: r28 is the globals' address, r29 the frame's end; the variables of a register function stand in
 -- the registers from 20 on, as words one after another
-pub record Ready (sc : Scope) (p : Bases) (s : State) (c : Contents) : Type 0 where
+pub record Ready (sc : Scope) (p : Bases) (s : C0State) (c : Contents) : Type 0 where
   pub globals_at : c.regs 28 ≡ 4 * p.globals
   pub frame_at : sc.in_registers ≡ false → c.regs 29 ≡ 4 * p.frame_end
   pub global_values : RegionHeld sc p c.memory p.globals (types_of sc.env.globals) s.global_values
@@ -38,7 +38,7 @@ pub record Ready (sc : Scope) (p : Bases) (s : State) (c : Contents) : Type 0 wh
   pub local_values : RegionHeld sc p (if sc.in_registers then c.regs else c.memory) (locals_start sc p) (types_of sc.env.locals) (variables_of s.frames)
 
 -- what the code may change: hi and lo, register 1, those from r to 19, and d
-pub record Keeps (r d : ℕ) (c c' : Contents) : Type 0 where
+pub record KeepsRegisters (r d : ℕ) (c c' : Contents) : Type 0 where
   pub memory : c'.memory ≡ c.memory
   pub special : c'.special ≡ c.special
   pub below : (x : ℕ) → x ≢ 1 → x ≢ d → x < r → c'.regs x ≡ c.regs x
@@ -58,32 +58,32 @@ pub record Area (w : World) (sc : Scope) (p : Bases) : Type 0 where
   pub scalars : sc.in_registers ≡ true → (n : ℕ) (t : Ty) → slice_get (types_of sc.env.locals) n ≡ Some t → (is_scalar t ≡ true) × (n < 8)
   pub filled : (g : Region) (path : List ℕ) (t : Ty) → LeadsFrom sc.env.structs (types_in sc p g) path t → 1 ≤ words sc.env.structs t
   pub apart : (t : Ty) (l m : Location) → PointsTo sc.env.structs (layout sc p) l.region l.path t
-      → PointsTo sc.env.structs (layout sc p) m.region m.path t → word_at sc p l ≡ word_at sc p m → l ≡ m
+      → PointsTo sc.env.structs (layout sc p) m.region m.path t → location_word sc p l ≡ location_word sc p m → l ≡ m
 
 -- the units that an evaluation took
 abbrev pub units_of : {A : Type 0} → Costed A → ℕ
 units_of (costs k r) = k
 
 -- an evaluation's code goes from n to to with Q, or leaves by the exit of its fault; it takes so many steps and 16 for each unit, and is never stuck
-abbrev pub Comes : {A : Type 0} → World → Scope → (own n to : ℕ) → Contents → Behind → (A → Contents → Type 0) → Costed A → Type 0
-Comes w sc own n to c d Q (costs k (Ok x)) = (c' : Contents) × Q x c' × Reaches w (own + 16 * k) (at_with n c d) (at_with to c' d)
-Comes w sc own n to c d Q (costs k (Err (faulted f))) = (c' : Contents) × Keeps 0 0 c c'
+abbrev pub Evaluates : {A : Type 0} → World → Scope → (own n to : ℕ) → Contents → Behind → (A → Contents → Type 0) → Costed A → Type 0
+Evaluates w sc own n to c d Q (costs k (Ok x)) = (c' : Contents) × Q x c' × Reaches w (own + 16 * k) (at_with n c d) (at_with to c' d)
+Evaluates w sc own n to c d Q (costs k (Err (faulted f))) = (c' : Contents) × KeepsRegisters 0 0 c c'
     × Reaches w (own + 16 * k) (at_with n c d) (at_with (sc.exit f) c' d)
-Comes w sc own n to c d Q (costs k (Err stuck)) = ⊥
+Evaluates w sc own n to c d Q (costs k (Err stuck)) = ⊥
 
 -- a value in a register
-pub record Gives (sc : Scope) (p : Bases) (q r d : ℕ) (t : Ty) (c : Contents) (v : Value) (c' : Contents) : Type 0 where
+pub record HoldsValue (sc : Scope) (p : Bases) (q r d : ℕ) (t : Ty) (c : Contents) (v : Value) (c' : Contents) : Type 0 where
   pub is : reg c'.regs q ≡ word sc p v
   pub fits : Fits sc.env.structs (layout sc p) t v
-  pub keeps : Keeps r d c c'
+  pub keeps : KeepsRegisters r d c c'
 
 -- a location's address: a register plus a displacement; a place that is no part of the frame may be pointed to
-pub record Leads (sc : Scope) (p : Bases) (b k r : ℕ) (local : Bool) (t : Ty) (c : Contents) (l : Location) (c' : Contents) : Type 0 where
-  pub is : (reg c'.regs b + k) % 2 ^ 32 ≡ 4 * word_at sc p l
+pub record HoldsAddress (sc : Scope) (p : Bases) (b k r : ℕ) (local : Bool) (t : Ty) (c : Contents) (l : Location) (c' : Contents) : Type 0 where
+  pub is : (reg c'.regs b + k) % 2 ^ 32 ≡ 4 * location_word sc p l
   pub leads : LeadsFrom sc.env.structs (types_in sc p l.region) l.path t
   pub away : local ≡ false → PointsTo sc.env.structs (layout sc p) l.region l.path t
   pub standing : l.region ≡ locals → sc.in_registers ≡ false
-  pub keeps : Keeps r r c c'
+  pub keeps : KeepsRegisters r r c c'
 
 -- a register that code with the free registers from r + 1 keeps, and so does a step that writes register 1
 pub data Source (r : ℕ) : ℕ → Type 0 where
@@ -92,38 +92,38 @@ pub data Source (r : ℕ) : ℕ → Type 0 where
   far : {q : ℕ} → 20 ≤ q → Source r q
 
 -- A node as value, from any place and any state of the machine in which the state of C0 stands: into d, with free registers from r.
-abbrev pub ValueRuns : World → Scope → Bases → State → Made → ℕ → Ty → Costed Value → Type 0
+abbrev pub ValueRuns : World → Scope → Bases → C0State → Made → ℕ → Ty → Costed Value → Type 0
 ValueRuns w sc p s m need t e = (d r n : ℕ) (c : Contents) (k : Behind) → k.pending ≡ Idle → Ready sc p s c → CodeAt w n (m.value d r) → 8 ≤ r
     → r + need ≤ 20 → d ≢ 0 → d ≢ 1
-    → Comes w sc 0 n (n + length (m.value d r)) c k (Gives sc p d r d t c) e
+    → Evaluates w sc 0 n (n + length (m.value d r)) c k (HoldsValue sc p d r d t c) e
 
 -- as an operand, where it stands then
-abbrev pub OperandRuns : World → Scope → Bases → State → Made → ℕ → Ty → Costed Value → Type 0
+abbrev pub OperandRuns : World → Scope → Bases → C0State → Made → ℕ → Ty → Costed Value → Type 0
 OperandRuns w sc p s m need t e = (r n : ℕ) (c : Contents) (k : Behind) → k.pending ≡ Idle → Ready sc p s c → CodeAt w n (operand_code m r) → 8 ≤ r
     → r + need ≤ 20
-    → Source r (operand_register m r) × Comes w sc 0 n (n + length (operand_code m r)) c k (Gives sc p (operand_register m r) r r t c) e
+    → Source r (operand_register m r) × Evaluates w sc 0 n (n + length (operand_code m r)) c k (HoldsValue sc p (operand_register m r) r r t c) e
 
 -- as a place
-abbrev pub PlaceRuns : World → Scope → Bases → State → Made → ℕ → Bool → Ty → Costed Location → Type 0
+abbrev pub PlaceRuns : World → Scope → Bases → C0State → Made → ℕ → Bool → Ty → Costed Location → Type 0
 PlaceRuns w sc p s m need local t e = (r n : ℕ) (c : Contents) (k : Behind) → k.pending ≡ Idle → Ready sc p s c → CodeAt w n (m.place r).code → 8 ≤ r
     → r + need ≤ 20
-    → Source r (m.place r).base × Comes w sc 0 n (n + length (m.place r).code) c k (Leads sc p (m.place r).base (m.place r).displacement r local t c) e
+    → Source r (m.place r).base × Evaluates w sc 0 n (n + length (m.place r).code) c k (HoldsAddress sc p (m.place r).base (m.place r).displacement r local t c) e
 
 -- all that is said of a node's code: as a value and as an operand, where its type is scalar; and as a place, unless it stands in a register
-pub record Claims (w : World) (sc : Scope) (p : Bases) (s : State) (m : Made) (need : ℕ) (placed local : Bool)
+pub record Claims (w : World) (sc : Scope) (p : Bases) (s : C0State) (m : Made) (need : ℕ) (placed local : Bool)
     (t : Ty) (v : Costed Value) (l : Costed Location) : Type 0 where
   pub value : is_scalar t ≡ true → ValueRuns w sc p s m need t v
   pub operand : is_scalar t ≡ true → OperandRuns w sc p s m need t v
   pub place : placed ≡ true → m.stands ≡ None → PlaceRuns w sc p s m need local t l
 
 -- of an expression of a type
-abbrev pub Right : World → Scope → Bases → State → CExpr → Ty → Type 0
-Right w sc p s e t = Claims w sc p s (made sc e) (need e) (is_place e) (is_frame_place e) t (value_of e s) (place_of e s)
+abbrev pub Right : World → Scope → Bases → C0State → CExpr → Ty → Type 0
+Right w sc p s e t = Claims w sc p s (made sc e) (need e) (is_lvalue e) (is_frame_place e) t (value_of e s) (place_of e s)
 
 -- an evaluation's code goes to one place or another, by the answer, or leaves by the exit of its fault
 abbrev pub Splits : {A : Type 0} → World → Scope → (own n : ℕ) (to : A → ℕ) → Contents → Behind → (A → Contents → Type 0) → Costed A → Type 0
 Splits w sc own n to c d Q (costs k (Ok x)) = (c' : Contents) × Q x c' × Reaches w (own + 16 * k) (at_with n c d) (at_with (to x) c' d)
-Splits w sc own n to c d Q (costs k (Err (faulted f))) = (c' : Contents) × Keeps 0 0 c c'
+Splits w sc own n to c d Q (costs k (Err (faulted f))) = (c' : Contents) × KeepsRegisters 0 0 c c'
     × Reaches w (own + 16 * k) (at_with n c d) (at_with (sc.exit f) c' d)
 Splits w sc own n to c d Q (costs k (Err stuck)) = ⊥
 
@@ -140,7 +140,7 @@ pub record Aims (n e far to : ℕ) : Type 0 where
   pub behind : e ≤ to + 32768
 
 -- a test goes where its answer says, within 16 steps a unit, and one more
-abbrev pub TestRuns : World → Scope → Bases → State → CExpr → Type 0
+abbrev pub TestRuns : World → Scope → Bases → C0State → CExpr → Type 0
 TestRuns w sc p s e = (b : Bool) (far to r n : ℕ) (c : Contents) (k : Behind) → k.pending ≡ Idle → Ready sc p s c
     → CodeAt w n (test_code sc e b far r) → 8 ≤ r → r + need e ≤ 20 → Aims n (n + length (test_code sc e b far r)) far to
-    → Splits w sc 1 n (ends b to (n + length (test_code sc e b far r))) c k (λ y c'. Keeps r r c c') (truth (value_of e s))
+    → Splits w sc 1 n (ends b to (n + length (test_code sc e b far r))) c k (λ y c'. KeepsRegisters r r c c') (truth (value_of e s))

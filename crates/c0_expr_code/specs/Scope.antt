@@ -5,7 +5,7 @@ use Rattle.c0_tree.specs.Tree.{CStmt, assign, call, new, choice, loop, CStmts, d
 use Rattle.masm.specs.declared.registers.Places.{Places}
 use Rattle.c0_meaning.specs.Ty.{is_scalar}
 use Rattle.c0_meaning.specs.Env.{Env}
-use Rattle.c0_meaning.specs.Limits.{frame}
+use Rattle.c0_meaning.specs.Limits.{words_of_frame}
 use Rattle.c0_meaning.specs.Operators.{KernelFault, NullUse, Bounds, DivZero, StackOut}
 use Rattle.c0_meaning.specs.Sound.{shapes}
 use Rattle.c0_meaning.specs.TypeAt.{env_in}
@@ -58,4 +58,4 @@ exit_of places fault = slice_index places.faults (exit_number fault) / 4
 
 -- the scope of a function of a unit, where the places are these
 abbrev pub scope_of : CUnit → CFunction → Places → Scope
-scope_of u f places = record { env = env_in u f; in_registers = keeps_registers f; frame = frame (shapes u) f; exit = exit_of places }
+scope_of u f places = record { env = env_in u f; in_registers = keeps_registers f; frame = words_of_frame (shapes u) f; exit = exit_of places }

@@ -1,7 +1,7 @@
 // Where faults leave.
 
 ghost use Rattle.std.specs.Prelude.{◌≡◌, ◌<◌, ◌^◌, [], ◌∷◌, All};
-ghost use Rattle.masm.specs.Places.{IsPlace};
+ghost use Rattle.masm.specs.Places.{IsJumpTarget};
 
 /// The addresses of the exits of faults, in bytes, each below 2^28.
 #[derive(Drop)]
@@ -20,7 +20,7 @@ pub struct FaultExits {
 impl FaultExits {
     /// Those at these addresses, in the order of their power words.
     pub fn new(faults: [u32; 4]) -> FaultExits
-        requires { All IsPlace faults }
+        requires { All IsJumpTarget faults }
         ensures { result.null_use ∷ result.bounds ∷ result.zero_division ∷ result.stack ∷ [] ≡ faults }
     {
         let [null_use, bounds, zero_division, stack] = faults;

@@ -3,7 +3,7 @@
 ghost use Rattle.std.specs.Prelude.{◌≡◌, ◌<◌, ◌+◌, ◌*◌, ◌%◌, ◌^◌, length, IfOk};
 ghost use Rattle.c0_tree.specs.View.{unit_view};
 ghost use Rattle.masm.specs.Places.{ArePlaces};
-ghost use Rattle.c0_meaning.specs.Limits.{frame as frame_of};
+ghost use Rattle.c0_meaning.specs.Limits.{words_of_frame as frame_of};
 ghost use Rattle.c0_meaning.specs.Offsets.{offsets};
 ghost use Rattle.c0_meaning.specs.Sound.{shapes};
 ghost use Rattle.c0_meaning.specs.TypedState.{variable_types};

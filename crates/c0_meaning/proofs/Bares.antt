@@ -11,36 +11,36 @@ use Rattle.c0_meaning.specs.Ty as types
 use Rattle.c0_meaning.specs.Env.{Typed, Shape, typed_of, shape_of}
 use Rattle.c0_meaning.specs.Words.{words, all_words}
 use Rattle.c0_meaning.specs.Sound.{shapes}
-use Rattle.c0_meaning.specs.Limits.{frame, locals_of, is_asm, are_three_ints, is_dispatch, is_main, first_number}
+use Rattle.c0_meaning.specs.Limits.{words_of_frame, locals_of, is_asm, are_three_ints, is_dispatch, is_main, first_number}
 use Rattle.c0_meaning.specs.Operators.{on_unary, StackOut, faulted, stuck}
-use Rattle.c0_meaning.specs.Value.{heap, Value, at, Values, group, part, empty, parts, zero_of, zeros_of, followed_by}
+use Rattle.c0_meaning.specs.Value.{heap, Value, at, Values, group, part, empty, part_count, zero_of, zeros_of, followed_by}
 use Rattle.c0_meaning.specs.Value as value
-use Rattle.c0_meaning.specs.State.{State, Frame, first_state, stack_words, with_object, pushed}
-use Rattle.c0_meaning.specs.Evaluation.{Costed, costs, paying, ◌>>=◌, at_no_cost, loaded, field_of, pointed, indexed, both, truth, value_of, values_of, place_of}
+use Rattle.c0_meaning.specs.State.{C0State, Frame, first_state, stack_words, with_object, pushed}
+use Rattle.c0_meaning.specs.Evaluation.{Costed, costs, paying, ◌>>=◌, at_no_cost, load_from, field_of, pointed, indexed, both, truth, value_of, values_of, place_of}
 use Rattle.c0_meaning.specs.World.{Setting, Cost, units, total, plus, Configuration, with_state, beginning}
 use Rattle.c0_meaning.specs.Running.{Work, act_on, finish, again, leave, begin, Target, into, outward, Step, Go, Stop, push, then_go, store, deliver, enter, call_function, call_with, allocate, test_loop, act_statement, act}
 use Rattle.c0_meaning.specs.Execution.{Outcome, NotYet, then_run, run, run_within, call_first, dispatch}
 use Rattle.c0_tree.specs.declared.primitive.Program.TheVariants.{User}
-use Rattle.c0_meaning.specs.UserProgram.{trap, up_to, seen}
+use Rattle.c0_meaning.specs.UserProgram.{trap, up_to, outcome_seen}
 use Rattle.c0_meaning.specs.ProgramLaws.{ProgramsIgnorePlaces}
 use Rattle.c0_meaning.specs.Bare.{bare_ty, bare_expr, bare_stmt, bare_stmts, bare_decl, bare_struct, bare_body, bare_function, bare, UnitsIgnorePlaces, DispatchesIgnorePlaces}
 
 mutual
-  value_bare : (e : CExpr) (s : State) → value_of (bare_expr e) s ≡ value_of e s
+  value_bare : (e : CExpr) (s : C0State) → value_of (bare_expr e) s ≡ value_of e s
   value_bare (num x n) s = refl
   value_bare (true_ x) s = refl
   value_bare (false_ x) s = refl
   value_bare (null x) s = refl
   value_bare (var x) s = refl
-  value_bare (field x e f) s = ap (λ r. paying 1 (loaded s (field_of f r))) (place_bare e s)
-  value_bare (arrow x e f) s = ap (λ v. paying 1 (loaded s (field_of f (pointed v)))) (value_bare e s)
-  value_bare (index x e i) s = ap₂ (λ r v. paying 1 (loaded s (indexed s r v))) (place_bare e s) (value_bare i s)
-  value_bare (deref x e) s = ap (λ v. paying 1 (loaded s (pointed v))) (value_bare e s)
+  value_bare (field x e f) s = ap (λ r. paying 1 (load_from s (field_of f r))) (place_bare e s)
+  value_bare (arrow x e f) s = ap (λ v. paying 1 (load_from s (field_of f (pointed v)))) (value_bare e s)
+  value_bare (index x e i) s = ap₂ (λ r v. paying 1 (load_from s (indexed s r v))) (place_bare e s) (value_bare i s)
+  value_bare (deref x e) s = ap (λ v. paying 1 (load_from s (pointed v))) (value_bare e s)
   value_bare (address x e) s = ap (λ r. paying 1 (r >>= λ l. at_no_cost (Ok (at l)))) (place_bare e s)
   value_bare (unary x op e) s = ap (λ v. paying 1 (v >>= λ v. at_no_cost (on_unary op v))) (value_bare e s)
   value_bare (binary x op a b) s = ap₂ (λ v w. paying 1 (both op v w)) (value_bare a s) (value_bare b s)
 
-  place_bare : (e : CExpr) (s : State) → place_of (bare_expr e) s ≡ place_of e s
+  place_bare : (e : CExpr) (s : C0State) → place_of (bare_expr e) s ≡ place_of e s
   place_bare (var x) s = refl
   place_bare (field x e f) s = ap (λ r. paying 1 (field_of f r)) (place_bare e s)
   place_bare (arrow x e f) s = ap (λ v. paying 1 (field_of f (pointed v))) (value_bare e s)
@@ -48,11 +48,11 @@ mutual
   place_bare (deref x e) s = ap (λ v. paying 1 (pointed v)) (value_bare e s)
   place_bare _ s = refl
 
-values_bare : (es : List CExpr) (s : State) → values_of (map bare_expr es) s ≡ values_of es s
+values_bare : (es : List CExpr) (s : C0State) → values_of (map bare_expr es) s ≡ values_of es s
 values_bare [] s = refl
 values_bare (e ∷ es) s = ap₂ (λ v vs. v >>= λ x. vs >>= λ xs. at_no_cost (Ok (part x xs))) (value_bare e s) (values_bare es s)
 
-truth_bare : (e : CExpr) (s : State) → truth (value_of (bare_expr e) s) ≡ truth (value_of e s)
+truth_bare : (e : CExpr) (s : C0State) → truth (value_of (bare_expr e) s) ≡ truth (value_of e s)
 truth_bare e s = ap truth (value_bare e s)
 
 ty_bare : (t : CTy) → ty_of (bare_ty t) ≡ ty_of t
@@ -80,7 +80,7 @@ locals_bare : (b : CBody) → map typed_of (locals_of (bare_body b)) ≡ map typ
 locals_bare (code locals stmts answer) = typeds_bare locals
 locals_bare (asm text span words) = refl
 
-frame_bare : (structs : List Shape) (f : CFunction) → frame structs (bare_function f) ≡ frame structs f
+frame_bare : (structs : List Shape) (f : CFunction) → words_of_frame structs (bare_function f) ≡ words_of_frame structs f
 frame_bare structs f = ap₂ (λ a b. all_words structs a + all_words structs b + 3) (typeds_bare f.params) (locals_bare f.body)
 
 function_at : (fs : List CFunction) (n : ℕ) → slice_get (map bare_function fs) n ≡ option_map bare_function (slice_get fs n)
@@ -88,7 +88,7 @@ function_at [] n = refl
 function_at (f ∷ fs) zero = refl
 function_at (f ∷ fs) (suc n) = function_at fs n
 
-frame_at : (structs : List Shape) (o : Option CFunction) → unwrap_or (option_map (frame structs) (option_map bare_function o)) 0 ≡ unwrap_or (option_map (frame structs) o) 0
+frame_at : (structs : List Shape) (o : Option CFunction) → unwrap_or (option_map (words_of_frame structs) (option_map bare_function o)) 0 ≡ unwrap_or (option_map (words_of_frame structs) o) 0
 frame_at structs None = refl
 frame_at structs (Some f) = frame_bare structs f
 
@@ -96,7 +96,7 @@ stack_bare : (u : CUnit) (fs : List Frame) → stack_words (bare u) fs ≡ stack
 stack_bare u [] = refl
 stack_bare u (f ∷ fs) =
     ap₂ (λ a b. a + b)
-    (ap₂ (λ structs o. unwrap_or (option_map (frame structs) o) 0) (shapes_bare u) (function_at u.functions f.function) ∙ frame_at (shapes u) (slice_get u.functions f.function))
+    (ap₂ (λ structs o. unwrap_or (option_map (words_of_frame structs) o) 0) (shapes_bare u) (function_at u.functions f.function) ∙ frame_at (shapes u) (slice_get u.functions f.function))
     (stack_bare u fs)
 
 three_bare : (ds : List CDecl) → are_three_ints (map bare_decl ds) ≡ are_three_ints ds
@@ -174,21 +174,21 @@ module _ (W E : Type 0) (p : Setting W E) where
   either false x y x' y' h k = k
 
   abbrev entered : ℕ → Values → Target → List Work → Configuration W E → Cost → CFunction → Step W E
-  entered n args t w c k f = if nat_lt p.stack (stack_words (bare p.unit) c.state.frames + frame (shapes (bare p.unit)) f) then Stop k (faulted StackOut) c else enter bared k n f.body args (bare_target t) (map bare_work w) c
+  entered n args t w c k f = if nat_lt p.stack (stack_words (bare p.unit) c.state.frames + words_of_frame (shapes (bare p.unit)) f) then Stop k (faulted StackOut) c else enter bared k n f.body args (bare_target t) (map bare_work w) c
 
   entered_bare : (n : ℕ) (args : Values) (t : Target) (w : List Work) (c : Configuration W E) (k : Cost) (f : CFunction) → entered n args t w c k (bare_function f)
-      ≡ bare_step (if nat_lt p.stack (stack_words p.unit c.state.frames + frame (shapes p.unit) f) then Stop k (faulted StackOut) c else enter p k n f.body args t w c)
+      ≡ bare_step (if nat_lt p.stack (stack_words p.unit c.state.frames + words_of_frame (shapes p.unit) f) then Stop k (faulted StackOut) c else enter p k n f.body args t w c)
   entered_bare n args t w c k f =
       ap (λ m. if nat_lt p.stack m then Stop k (faulted StackOut) c else enter bared k n (bare_body f.body) args (bare_target t) (map bare_work w) c)
-      (ap₂ (λ a b. a + b) (stack_bare p.unit c.state.frames) (ap (λ structs. frame structs (bare_function f)) (shapes_bare p.unit) ∙ frame_bare (shapes p.unit) f))
-      ∙ either (nat_lt p.stack (stack_words p.unit c.state.frames + frame (shapes p.unit) f)) (Stop k (faulted StackOut) c) (enter p k n f.body args t w c) _ _ refl (enter_bare k n f.body args t w c)
+      (ap₂ (λ a b. a + b) (stack_bare p.unit c.state.frames) (ap (λ structs. words_of_frame structs (bare_function f)) (shapes_bare p.unit) ∙ frame_bare (shapes p.unit) f))
+      ∙ either (nat_lt p.stack (stack_words p.unit c.state.frames + words_of_frame (shapes p.unit) f)) (Stop k (faulted StackOut) c) (enter p k n f.body args t w c) _ _ refl (enter_bare k n f.body args t w c)
 
   function_bare : (cost : Cost) (n : ℕ) (args : Values) (t : Target) (w : List Work) (c : Configuration W E) → call_function bared cost n args (bare_target t) (map bare_work w) c ≡ bare_step (call_function p cost n args t w c)
   function_bare cost n args t w c =
       ap (λ o. then_go (plus cost (units 1)) c (at_no_cost (ok_or o stuck)) (entered n args t w c)) (function_at p.unit.functions n) ∙ by (slice_get p.unit.functions n)
     where
       by : (o : Option CFunction) → then_go (plus cost (units 1)) c (at_no_cost (ok_or (option_map bare_function o) stuck)) (entered n args t w c)
-          ≡ bare_step (then_go (plus cost (units 1)) c (at_no_cost (ok_or o stuck)) (λ k f. if nat_lt p.stack (stack_words p.unit c.state.frames + frame (shapes p.unit) f) then Stop k (faulted StackOut) c else enter p k n f.body args t w c))
+          ≡ bare_step (then_go (plus cost (units 1)) c (at_no_cost (ok_or o stuck)) (λ k f. if nat_lt p.stack (stack_words p.unit c.state.frames + words_of_frame (shapes p.unit) f) then Stop k (faulted StackOut) c else enter p k n f.body args t w c))
       by None = refl
       by (Some f) = entered_bare n args t w c (plus (plus cost (units 1)) (units 0)) f
 
@@ -200,13 +200,13 @@ module _ (W E : Type 0) (p : Setting W E) where
   abbrev allocated : List Shape → Ty → Target → List Work → Configuration W E → Step W E
   allocated structs t target work c =
       if nat_lt p.heap (c.state.heap_words + words structs t) then deliver (units 1) target value.null work c
-      else deliver (units (1 + words structs t)) target (at (record { region = heap; path = parts c.state.heap_values ∷ [] })) work (with_state c (with_object (zero_of structs t) (words structs t) c.state))
+      else deliver (units (1 + words structs t)) target (at (record { region = heap; path = part_count c.state.heap_values ∷ [] })) work (with_state c (with_object (zero_of structs t) (words structs t) c.state))
 
   allocate_bare : (ty : CTy) (t : Target) (w : List Work) (c : Configuration W E) → allocate bared (ty_of (bare_ty ty)) (bare_target t) (map bare_work w) c ≡ bare_step (allocate p (ty_of ty) t w c)
   allocate_bare ty t w c =
       ap₂ (λ structs x. allocated structs x (bare_target t) (map bare_work w) c) (shapes_bare p.unit) (ty_bare ty)
       ∙ either (nat_lt p.heap (c.state.heap_words + words (shapes p.unit) (ty_of ty))) (deliver (units 1) t value.null w c)
-      (deliver (units (1 + words (shapes p.unit) (ty_of ty))) t (at (record { region = heap; path = parts c.state.heap_values ∷ [] })) w (with_state c (with_object (zero_of (shapes p.unit) (ty_of ty)) (words (shapes p.unit) (ty_of ty)) c.state)))
+      (deliver (units (1 + words (shapes p.unit) (ty_of ty))) t (at (record { region = heap; path = part_count c.state.heap_values ∷ [] })) w (with_state c (with_object (zero_of (shapes p.unit) (ty_of ty)) (words (shapes p.unit) (ty_of ty)) c.state)))
       _ _ (deliver_bare _ t _ w c) (deliver_bare _ t _ w _)
 
   loop_bare : (cost : Cost) (test : CExpr) (body rest : CStmts) (w : List Work) (c : Configuration W E) → test_loop cost (bare_expr test) (bare_stmts body) (bare_stmts rest) (map bare_work w) c ≡ bare_step (test_loop cost test body rest w c)
@@ -245,13 +245,13 @@ module _ (W E : Type 0) (p : Setting W E) where
   run_bare (suc s) limit used (item ∷ w) c =
       ap (λ x. then_run x limit used c (run bared s limit)) (act_bare item w c) ∙ after_bare limit used c (run p s limit) (run bared s limit) (λ k v d. run_bare s limit k v d) (act p item w c)
 
-  pub dispatch_bare : (n : ℕ) (cause edata user : ℤ) (s : State) (world : W) → dispatch bared n cause edata user s world ≡ dispatch p n cause edata user s world
+  pub dispatch_bare : (n : ℕ) (cause edata user : ℤ) (s : C0State) (world : W) → dispatch bared n cause edata user s world ≡ dispatch p n cause edata user s world
   dispatch_bare n cause edata user s world =
       ap (λ (o : Option ℕ). run_within bared n (begin (unwrap_or o 0) (part (value.int cause) (part (value.int edata) (part (value.int user) empty))) ∷ []) (beginning (record s { frames = [] }) world)) (position_bare p.unit.functions)
       ∙ run_bare (suc n) n (units 0) (begin (unwrap_or (position is_dispatch p.unit.functions) 0) (part (value.int cause) (part (value.int edata) (part (value.int user) empty))) ∷ []) _
 
   -- so a call of any function
-  pub first_bare : (n number other : ℕ) (args : Values) (s : State) (world : W) → other ≡ number → call_first bared n other args s world ≡ call_first p n number args s world
+  pub first_bare : (n number other : ℕ) (args : Values) (s : C0State) (world : W) → other ≡ number → call_first bared n other args s world ≡ call_first p n number args s world
   first_bare n number other args s world e =
       ap (λ k. run_within bared n (begin k args ∷ []) (beginning (record s { frames = [] }) world)) e ∙ run_bare (suc n) n (units 0) (begin number args ∷ []) _
 
@@ -286,7 +286,7 @@ dispatches_ignore_places W E p n cause edata user s world = dispatch_bare W E p 
 
 pub programs_ignore_places : ProgramsIgnorePlaces
 programs_ignore_places u answers n =
-    ap (λ o. up_to answers (seen o))
+    ap (λ o. up_to answers (outcome_seen o))
     (ap (λ s. call_first (record { unit = bare u; heap = 1024; stack = 1024; meaning = trap }) n (first_number User (bare u)) empty s answers) (units_ignore_places.first u)
     ∙ first_bare (List ℤ) ℤ (record { unit = u; heap = 1024; stack = 1024; meaning = trap }) n (first_number User u) (first_number User (bare u)) empty (first_state u) answers
     (ap (λ o. unwrap_or o 0) (main_bare u.functions)))

@@ -9,9 +9,9 @@ use Rattle.c0_tree.specs.Tree.{CName, CExpr, num, true_, false_, null, var, fiel
 use Rattle.c0_meaning.specs.Ty.{Ty, int, bool, pointer, named, array, same_ty, is_scalar}
 use Rattle.c0_meaning.specs.Env.{Env, Typed, Variable, variable_named, field_named}
 use Rattle.c0_meaning.specs.Fault.{Fault, fault, WRONG_TYPE}
-use Rattle.c0_meaning.specs.Expression.{Verdict, has, wrong, own, one, both, span_of, is_place, is_local, is_null, is_pointer, filled, variable_rule, sought_rule, member, target, field_rule, place_field_rule, arrow_rule, element_rule, index_rule, deref_rule, address_rule, unary_rule, ints_rule, bools_rule, alike_rule, binary_rule, compares, asks, type_of, faults}
+use Rattle.c0_meaning.specs.Expression.{Verdict, has, wrong, own, one, both, span_of, is_lvalue, is_local, is_null, is_pointer, filled, variable_rule, sought_rule, member, target, field_rule, place_field_rule, arrow_rule, element_rule, index_rule, deref_rule, address_rule, unary_rule, ints_rule, bools_rule, alike_rule, binary_rule, compares, operand_type, type_of, faults}
 use Rattle.c0_meaning.specs.Judgement.{IsArithmetic, add, sub, mul, div, rem, IsOrder, lt, le, gt, ge, IsEquality, eq, ne, IsLogical, and, or, HasType, a_number, a_true, a_false, a_variable, a_field, a_target_field, an_element, a_target, an_address, a_negative, a_negation, arithmetic, order, logic, equality, null_left, null_right, FaultlessIsTyped}
-use Rattle.c0_meaning.proofs.Ty.{equal-same_ty}
+use Rattle.c0_meaning.proofs.TypeEquality.{equal-same_ty}
 use Rattle.c0_meaning.proofs.Operands.{right_free, Filled, filled_tells}
 use Rattle.c0_meaning.proofs.Typed.{typed_is_faultless}
 
@@ -94,25 +94,25 @@ of_unary env s Negate e int h k = (int, a_negative h)
 of_unary env s Not e bool h k = (bool, a_negation h)
 of_unary env s _ e _ h k = nonempty k
 
-of_element : (env : Env) (s : Span) (e i : CExpr) (t u : Ty) → is_place e ≡ true → HasType env e t → HasType env i u → own (element_rule s t u) ≡ [] → IsTyped env (index s e i)
+of_element : (env : Env) (s : Span) (e i : CExpr) (t u : Ty) → is_lvalue e ≡ true → HasType env e t → HasType env i u → own (element_rule s t u) ≡ [] → IsTyped env (index s e i)
 of_element env s e i (array t n) int p h k x = (t, an_element p h k)
 of_element env s e i _ _ p h k x = nonempty x
 
-of_index : (env : Env) (s at : Span) (e i : CExpr) (t u : Ty) (p : Bool) → is_place e ≡ p → HasType env e t → HasType env i u → own (index_rule s p at t u) ≡ [] → IsTyped env (index s e i)
+of_index : (env : Env) (s at : Span) (e i : CExpr) (t u : Ty) (p : Bool) → is_lvalue e ≡ p → HasType env e t → HasType env i u → own (index_rule s p at t u) ≡ [] → IsTyped env (index s e i)
 of_index env s at e i t u true p h k x = of_element env s e i t u p h k x
 of_index env s at e i t u false p h k x = nonempty x
 
-of_address : (env : Env) (s at : Span) (e : CExpr) (t : Ty) (p l : Bool) → is_place e ≡ p → is_local env e ≡ l → HasType env e t → own (address_rule p l at t) ≡ [] → IsTyped env (address s e)
+of_address : (env : Env) (s at : Span) (e : CExpr) (t : Ty) (p l : Bool) → is_lvalue e ≡ p → is_local env e ≡ l → HasType env e t → own (address_rule p l at t) ≡ [] → IsTyped env (address s e)
 of_address env s at e t true false p l h x = (pointer t, an_address p l h)
 of_address env s at e t true true p l h x = nonempty x
 of_address env s at e t false l' p l h x = nonempty x
 
-of_member : (env : Env) (s : Span) (e : CExpr) (f : CName) (x : List ℕ) (found : Option (ℕ × Typed)) → is_place e ≡ true → HasType env e (named x)
+of_member : (env : Env) (s : Span) (e : CExpr) (f : CName) (x : List ℕ) (found : Option (ℕ × Typed)) → is_lvalue e ≡ true → HasType env e (named x)
     → field_named env x f.text ≡ found → own (sought_rule f.span found) ≡ [] → IsTyped env (field s e f)
 of_member env s e f x (Some p) place h found k = (p.1.ty, a_field place h found)
 of_member env s e f x None place h found k = nonempty k
 
-of_struct : (env : Env) (s : Span) (e : CExpr) (f : CName) (t : Ty) → is_place e ≡ true → HasType env e t
+of_struct : (env : Env) (s : Span) (e : CExpr) (f : CName) (t : Ty) → is_lvalue e ≡ true → HasType env e t
     → own (field_rule s f.span (member env (Some t) f.text) t) ≡ [] → IsTyped env (field s e f)
 of_struct env s e f (named x) place h k = of_member env s e f x (field_named env x f.text) place h refl k
 of_struct env s e f int place h k = nonempty k
@@ -120,7 +120,7 @@ of_struct env s e f bool place h k = nonempty k
 of_struct env s e f (pointer t) place h k = nonempty k
 of_struct env s e f (array t n) place h k = nonempty k
 
-of_field : (env : Env) (s at : Span) (e : CExpr) (f : CName) (t : Ty) (p : Bool) → is_place e ≡ p → HasType env e t
+of_field : (env : Env) (s at : Span) (e : CExpr) (f : CName) (t : Ty) (p : Bool) → is_lvalue e ≡ p → HasType env e t
     → own (place_field_rule s p at f.span (member env (Some t) f.text) t) ≡ [] → IsTyped env (field s e f)
 of_field env s at e f t true place h k = of_struct env s e f t place h k
 of_field env s at e f t false place h k = nonempty k
@@ -183,10 +183,10 @@ null_on_right env s o a b t f h =
 abbrev Clean : Env → Span → BinaryOp → CExpr → CExpr → Bool → Bool → Type 0
 Clean env s o a b p q =
     (if p then [] else faults env a) ++ ((if q then [] else faults env b)
-    ++ own (both (if p then asks o (type_of env b) else type_of env a) (if q then asks o (type_of env a) else type_of env b) (binary_rule s o))) ≡ []
+    ++ own (both (if p then operand_type o (type_of env b) else type_of env a) (if q then operand_type o (type_of env a) else type_of env b) (binary_rule s o))) ≡ []
 
 of_binary : (env : Env) (s : Span) (o : BinaryOp) (a b : CExpr) → (faults env a ≡ [] → IsTyped env a) → (faults env b ≡ [] → IsTyped env b) → (p q : Bool)
-    → filled (asks o (type_of env b)) a ≡ p → filled (asks o (type_of env a)) b ≡ q → Clean env s o a b p q → IsTyped env (binary s o a b)
+    → filled (operand_type o (type_of env b)) a ≡ p → filled (operand_type o (type_of env a)) b ≡ q → Clean env s o a b p q → IsTyped env (binary s o a b)
 of_binary env s o a b ia ib false false fp fq x =
     let v = ia (left_nil (faults env a) _ x) in
     let r = right_nil (faults env a) _ x in
@@ -212,8 +212,8 @@ faultless_is_typed env (null s) x = nonempty x
 faultless_is_typed env (var y) x = of_variable env y (variable_named env y.text) refl x
 faultless_is_typed env (field s e f) x =
     let a = faultless_is_typed env e (left_nil (faults env e) _ x) in
-    of_field env s (span_of e) e f a.0 (is_place e) refl a.1
-    (open_one env e a.0 (λ o. one o (place_field_rule s (is_place e) (span_of e) f.span (member env o f.text))) a.1 (right_nil (faults env e) _ x))
+    of_field env s (span_of e) e f a.0 (is_lvalue e) refl a.1
+    (open_one env e a.0 (λ o. one o (place_field_rule s (is_lvalue e) (span_of e) f.span (member env o f.text))) a.1 (right_nil (faults env e) _ x))
 faultless_is_typed env (arrow s e f) x =
     let a = faultless_is_typed env e (left_nil (faults env e) _ x) in
     of_arrow env s e f a.0 a.1 (open_one env e a.0 (λ o. one o (arrow_rule s f.span (member env (target o) f.text))) a.1 (right_nil (faults env e) _ x))
@@ -221,17 +221,17 @@ faultless_is_typed env (index s e i) x =
     let a = faultless_is_typed env e (left_nil (faults env e) _ x) in
     let r = right_nil (faults env e) _ x in
     let b = faultless_is_typed env i (left_nil (faults env i) _ r) in
-    of_index env s (span_of e) e i a.0 b.0 (is_place e) refl a.1 b.1
-    (open_two env e i a.0 b.0 (index_rule s (is_place e) (span_of e)) a.1 b.1 (right_nil (faults env i) _ r))
+    of_index env s (span_of e) e i a.0 b.0 (is_lvalue e) refl a.1 b.1
+    (open_two env e i a.0 b.0 (index_rule s (is_lvalue e) (span_of e)) a.1 b.1 (right_nil (faults env i) _ r))
 faultless_is_typed env (deref s e) x =
     let a = faultless_is_typed env e (left_nil (faults env e) _ x) in
     of_target env s e a.0 a.1 (open_one env e a.0 (λ o. one o (deref_rule s)) a.1 (right_nil (faults env e) _ x))
 faultless_is_typed env (address s e) x =
     let a = faultless_is_typed env e (left_nil (faults env e) _ x) in
-    of_address env s (span_of e) e a.0 (is_place e) (is_local env e) refl refl a.1
-    (open_one env e a.0 (λ o. one o (address_rule (is_place e) (is_local env e) (span_of e))) a.1 (right_nil (faults env e) _ x))
+    of_address env s (span_of e) e a.0 (is_lvalue e) (is_local env e) refl refl a.1
+    (open_one env e a.0 (λ o. one o (address_rule (is_lvalue e) (is_local env e) (span_of e))) a.1 (right_nil (faults env e) _ x))
 faultless_is_typed env (unary s o e) x =
     let a = faultless_is_typed env e (left_nil (faults env e) _ x) in
     of_unary env s o e a.0 a.1 (open_one env e a.0 (λ t. one t (unary_rule s o)) a.1 (right_nil (faults env e) _ x))
 faultless_is_typed env (binary s o a b) x =
-    of_binary env s o a b (faultless_is_typed env a) (faultless_is_typed env b) (filled (asks o (type_of env b)) a) (filled (asks o (type_of env a)) b) refl refl x
+    of_binary env s o a b (faultless_is_typed env a) (faultless_is_typed env b) (filled (operand_type o (type_of env b)) a) (filled (operand_type o (type_of env a)) b) refl refl x

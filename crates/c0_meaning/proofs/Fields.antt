@@ -7,7 +7,7 @@ use Rattle.std.proofs.lemmas.Slice.Eq.{bytes_eq-Decides}
 use Rattle.std.specs.Prelude.{is_some, ◌==◌, replicate}
 use Rattle.std.specs.List.{All, list_all}
 use Rattle.std.specs.Str.{bytes_eq}
-use Rattle.c0_tree.specs.Plain.{has_part, is_short, is_plain_struct, is_plain}
+use Rattle.c0_tree.specs.Plain.{is_nonempty, is_short, is_plain_struct, is_plain}
 use Rattle.c0_tree.specs.Tree.{CTy, int, bool, pointer, named, array, CDecl, CStruct, CUnit}
 use Rattle.c0_meaning.specs.Ty.{ty_of}
 use Rattle.c0_meaning.specs.Ty as ty
@@ -16,10 +16,10 @@ use Rattle.c0_meaning.specs.Words.{is_made_of, have_field, fields_named, holds, 
 use Rattle.c0_meaning.specs.DeclaredTypes.{has_empty_array}
 use Rattle.c0_meaning.specs.Sound.{shapes}
 use Rattle.c0_meaning.specs.Typed.{AreKnown, IsDeclarable, IsTypedStruct}
-use Rattle.c0_meaning.proofs.Holding.{Among, holds_as_tested}
-use Rattle.c0_meaning.proofs.Opening.{rank, rank_below, rank_falls, fields_words}
+use Rattle.c0_meaning.proofs.StructHolding.{Among, holds_as_tested}
+use Rattle.c0_meaning.proofs.StructWords.{rank, rank_below, rank_falls, fields_words}
 use Rattle.c0_meaning.specs.Value.{Value, group, empty, repeated, zero_with, zeros_with, zero_within, zero_of, zeros_of}
-use Rattle.c0_meaning.specs.TypedState.{Layout, types_of, Fits, AllFit}
+use Rattle.c0_meaning.specs.TypedState.{StoreTyping, types_of, Fits, AllFit}
 use Rattle.c0_meaning.specs.RunLaws.{TypesHaveWords, ZerosFit}
 use Rattle.c0_meaning.proofs.Units.{units_are_faultless}
 
@@ -28,9 +28,9 @@ abbrev HaveFields : List CStruct → Type 0
 HaveFields structs = All (λ s. 1 ≤ length s.fields) structs
 
 struct_has_field : (s : CStruct) → is_plain_struct s ≡ true → 1 ≤ length s.fields
-struct_has_field s h = counted s.fields (and_parts (has_part s.fields) (is_short s.fields) h).0
+struct_has_field s h = counted s.fields (and_parts (is_nonempty s.fields) (is_short s.fields) h).0
   where
-    counted : (ds : List CDecl) → has_part ds ≡ true → 1 ≤ length ds
+    counted : (ds : List CDecl) → is_nonempty ds ≡ true → 1 ≤ length ds
     counted [] h = absurd (cc)
     counted (d ∷ ds) h = omega arith
 
@@ -135,7 +135,7 @@ module _ (all : List CStruct) (typed : All (IsTypedStruct (map shape_of all)) al
       subst (λ n. 1 ≤ n) (sym (fields_words (map shape_of all) x (loose x e) ∙ ap (all_words (map shape_of all)) d.its)) r
 
   -- a variable of a type starts with a value of it, where those of the structs that it is made of do
-  type_zero : (layout : Layout) (f : List ℕ → Value) (t : CTy) → AreKnown (map shape_of all) t
+  type_zero : (layout : StoreTyping) (f : List ℕ → Value) (t : CTy) → AreKnown (map shape_of all) t
       → ((y : List ℕ) → is_made_of y (ty_of t) ≡ true → is_some (first_named (λ s. s.text) y 0 (map shape_of all)) ≡ true → Fits (map shape_of all) layout (ty.named y) (f y)) → Fits (map shape_of all) layout (ty_of t) (zero_with f (ty_of t))
   type_zero layout f int known h = record { sfits = omega arith }
   type_zero layout f bool known h = tt
@@ -147,7 +147,7 @@ module _ (all : List CStruct) (typed : All (IsTypedStruct (map shape_of all)) al
       repeats zero v g = tt
       repeats (suc n) v g = (g, repeats n v g)
 
-  decls_zero : (layout : Layout) (f : List ℕ → Value) (decls : List CDecl) → All (λ d. IsDeclarable (map shape_of all) d.ty) decls
+  decls_zero : (layout : StoreTyping) (f : List ℕ → Value) (decls : List CDecl) → All (λ d. IsDeclarable (map shape_of all) d.ty) decls
       → ((y : List ℕ) → have_field (map typed_of decls) y ≡ true → is_some (first_named (λ s. s.text) y 0 (map shape_of all)) ≡ true → Fits (map shape_of all) layout (ty.named y) (f y)) → AllFit (map shape_of all) layout (types_of (map typed_of decls)) (zeros_with f (map typed_of decls))
   decls_zero layout f [] a h = tt
   decls_zero layout f (d ∷ rest) a h = (
@@ -155,7 +155,7 @@ module _ (all : List CStruct) (typed : All (IsTypedStruct (map shape_of all)) al
     decls_zero layout f rest (All-tail (λ d. IsDeclarable (map shape_of all) d.ty) d rest a) (λ y field known. h y (or_right (is_made_of y (ty_of d.ty)) (have_field (map typed_of rest) y) field) known),
   )
 
-  named_zero : (layout : Layout) (k : ℕ) (x : List ℕ) → rank (map shape_of all) x < k → is_some (first_named (λ s. s.text) x 0 (map shape_of all)) ≡ true → Fits (map shape_of all) layout (ty.named x) (zero_within k (map shape_of all) x)
+  named_zero : (layout : StoreTyping) (k : ℕ) (x : List ℕ) → rank (map shape_of all) x < k → is_some (first_named (λ s. s.text) x 0 (map shape_of all)) ≡ true → Fits (map shape_of all) layout (ty.named x) (zero_within k (map shape_of all) x)
   named_zero layout zero x less e = absurd (omega (arith, less))
   named_zero layout (suc k) x less e =
       let d = defined (map shape_of all) all x 0 typed e in
@@ -164,15 +164,15 @@ module _ (all : List CStruct) (typed : All (IsTypedStruct (map shape_of all)) al
       subst (Fits (map shape_of all) layout (ty.named x)) (sym (cond-false (holds (map shape_of all) x x) (group empty) (group (zeros_with (zero_within k (map shape_of all)) (fields_named (map shape_of all) x))) (loose x e)))
       (subst (λ fs. AllFit (map shape_of all) layout (types_of fs) (zeros_with (zero_within k (map shape_of all)) fs)) (sym d.its) r)
 
-  known_zero : (layout : Layout) (y : List ℕ) → is_some (first_named (λ s. s.text) y 0 (map shape_of all)) ≡ true → Fits (map shape_of all) layout (ty.named y) (zero_within (length (map shape_of all)) (map shape_of all) y)
+  known_zero : (layout : StoreTyping) (y : List ℕ) → is_some (first_named (λ s. s.text) y 0 (map shape_of all)) ≡ true → Fits (map shape_of all) layout (ty.named y) (zero_within (length (map shape_of all)) (map shape_of all) y)
   known_zero layout y known = named_zero layout (length (map shape_of all)) y (rank_below (map shape_of all) y (among (map shape_of all) y 0 known) (loose y known)) known
 
   -- a variable or an object starts with a value of its type
-  pub zero_fits : (layout : Layout) (t : CTy) → AreKnown (map shape_of all) t → Fits (map shape_of all) layout (ty_of t) (zero_of (map shape_of all) (ty_of t))
+  pub zero_fits : (layout : StoreTyping) (t : CTy) → AreKnown (map shape_of all) t → Fits (map shape_of all) layout (ty_of t) (zero_of (map shape_of all) (ty_of t))
   zero_fits layout t known = type_zero layout (zero_within (length (map shape_of all)) (map shape_of all)) t known (λ y made there. known_zero layout y there)
 
   -- so do declarations
-  pub zeros_fit : (layout : Layout) (decls : List CDecl) → All (λ d. IsDeclarable (map shape_of all) d.ty) decls → AllFit (map shape_of all) layout (types_of (map typed_of decls)) (zeros_of (map shape_of all) (map typed_of decls))
+  pub zeros_fit : (layout : StoreTyping) (decls : List CDecl) → All (λ d. IsDeclarable (map shape_of all) d.ty) decls → AllFit (map shape_of all) layout (types_of (map typed_of decls)) (zeros_of (map shape_of all) (map typed_of decls))
   zeros_fit layout decls a = decls_zero layout (zero_within (length (map shape_of all)) (map shape_of all)) decls a (λ y field known. known_zero layout y known)
 
 pub types_have_words : TypesHaveWords

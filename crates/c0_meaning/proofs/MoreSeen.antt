@@ -10,10 +10,10 @@ use Rattle.c0_meaning.specs.State.{first_state}
 use Rattle.c0_meaning.specs.World.{beginning, entries_of, journal}
 use Rattle.c0_meaning.specs.Running.{begin}
 use Rattle.c0_meaning.specs.Execution.{Outcome, call_first}
-use Rattle.c0_meaning.specs.UserProgram.{trap, seen, prog}
+use Rattle.c0_meaning.specs.UserProgram.{trap, outcome_seen, prog}
 use Rattle.c0_meaning.specs.RunLaws.{HasEnded, stands_at}
 use Rattle.c0_meaning.specs.ProgramLaws.{ArgumentsStay}
-use Rattle.c0_meaning.proofs.Ahead.{entries_join, seen_there, cut}
+use Rattle.c0_meaning.proofs.LaterAnswers.{entries_join, seen_there, cut}
 use Rattle.c0_meaning.proofs.Programs.{programs_end}
 use Rattle.c0_meaning.proofs.Steps.{calls_extend}
 
@@ -41,8 +41,8 @@ extend u given m n le =
     let r = calls_extend (List ℤ) ℤ (record { unit = u; heap = 1024; stack = 1024; meaning = trap }) (begin (first_number User u) empty ∷ []) (beginning (record (first_state u) { frames = [] }) given) m n le in
     let t = take_front (suc (length given)) (journal (stands_at (ran m))) (entries_of r.0) in (
       t.0,
-      cut given (seen (ran n)) ∙ ap (take (suc (length given))) (seen_there (ran n) ∙ ap entries_of r.1 ∙ entries_join (stands_at (ran m)).calls r.0)
-          ∙ t.1 ∙ ap (λ xs. xs ++ t.0) (ap (take (suc (length given))) (sym (seen_there (ran m))) ∙ sym (cut given (seen (ran m)))),
+      cut given (outcome_seen (ran n)) ∙ ap (take (suc (length given))) (seen_there (ran n) ∙ ap entries_of r.1 ∙ entries_join (stands_at (ran m)).calls r.0)
+          ∙ t.1 ∙ ap (λ xs. xs ++ t.0) (ap (take (suc (length given))) (sym (seen_there (ran m))) ∙ sym (cut given (outcome_seen (ran m)))),
     )
 
 later : (u : CUnit) (given : List ℤ) (m n i : ℕ) (a : ℤ) → m ≤ n → slice_get (prog u given m).arguments i ≡ Some a → slice_get (prog u given n).arguments i ≡ Some a

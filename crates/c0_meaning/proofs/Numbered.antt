@@ -14,10 +14,10 @@ use Rattle.c0_meaning.specs.Ty.{Ty, ty_of}
 use Rattle.c0_meaning.specs.Ty as ty
 use Rattle.c0_meaning.specs.Env.{Env, Typed, Signature, Variable, variable_of, variable_named, Callee, callee_of, callee_named, field_named, first_named, env_of}
 use Rattle.c0_meaning.specs.Words.{fields_named}
-use Rattle.c0_meaning.specs.Expression.{is_place, is_local, is_local_kind, type_of, member, target, resolved, numbered_variable, numbered_field}
+use Rattle.c0_meaning.specs.Expression.{is_lvalue, is_local, is_local_kind, type_of, member, target, resolved, numbered_variable, numbered_field}
 use Rattle.c0_meaning.specs.Judgement.{HasType, IsGiven}
 use Rattle.c0_meaning.specs.Judgement as rule
-use Rattle.c0_meaning.specs.Rules.{IsLeft, AreGiven, IsTested, IsTyped, AreTyped}
+use Rattle.c0_meaning.specs.Rules.{IsLvalue, AreGiven, IsTested, IsTyped, AreTyped}
 use Rattle.c0_meaning.specs.Rules as stmt
 use Rattle.c0_meaning.specs.Statement.{numbered_callee, stmt_resolved, stmts_resolved}
 use Rattle.c0_meaning.specs.DeclaredTypes.{type_faults, unknown_structs}
@@ -27,7 +27,7 @@ use Rattle.c0_meaning.specs.Limits.{locals_of}
 use Rattle.c0_meaning.specs.Unit.{resolved_body, resolved_function, resolved_functions}
 use Rattle.c0_meaning.specs.Numbered.{variable_at, callee_at, field_at, is_in_frame, is_frame_place, HasNumberedType, IsNumberedGiven, IsNumberedLeft, AreNumberedGiven, IsNumberedTest, IsNumbered, AreNumbered, IsNumberedBody, NumbersTell}
 use Rattle.c0_meaning.specs.Numbered as number
-use Rattle.c0_meaning.proofs.Found.{found_there}
+use Rattle.c0_meaning.proofs.SearchByName.{found_there}
 use Rattle.c0_meaning.proofs.Typed.{typed_is_faultless}
 use Rattle.c0_meaning.proofs.Units.{units_are_faultless, none_type}
 use Rattle.c0_meaning.proofs.WellFormed.{none_in_left, type_resolved}
@@ -111,7 +111,7 @@ module _ (env : Env) where
       ap is_in_frame (sym p.0) ∙ (d.framed ∙ (ap is_local_kind (sym e) ∙ away))
 
   -- a place that isn't local by its names isn't by its kinds
-  away_is : (e : CExpr) (t : Ty) → HasType env e t → is_place e ≡ true → resolved env e ≡ e → is_local env e ≡ false → is_frame_place e ≡ false
+  away_is : (e : CExpr) (t : Ty) → HasType env e t → is_lvalue e ≡ true → resolved env e ≡ e → is_local env e ≡ false → is_frame_place e ≡ false
   away_is _ _ (rule.a_variable {x = x} {v = v} h) pl q away = let r : numbered_variable x (variable_named env x.text) ≡ x = cc in variable_away x v h r away
   away_is _ _ (rule.a_field {e = e} {x = x} p2 h n) pl q away = let r : resolved env e ≡ e = cc in away_is e (ty.named x) h p2 r away
   away_is _ _ (rule.an_element {e = e} {t = t} {n = n} p2 h g) pl q away = let r : resolved env e ≡ e = cc in away_is e (ty.array t n) h p2 r away
@@ -172,7 +172,7 @@ module _ (env : Env) where
   given e t (rule.a_value h) q p = number.a_value (by_numbers e t h q p)
   given _ _ rule.a_null q p = number.a_null
 
-  left : (e : CExpr) (t : Ty) → IsLeft env e t → resolved env e ≡ e → is_plain_expr e ≡ true → IsNumberedLeft env e t
+  left : (e : CExpr) (t : Ty) → IsLvalue env e t → resolved env e ≡ e → is_plain_expr e ≡ true → IsNumberedLeft env e t
   left e t l q p = record { place = l.place; scalar = l.scalar; typed = by_numbers e t l.typed q p }
 
   all_given : (es : List CExpr) (ts : List Ty) → AreGiven env es ts → map (resolved env) es ≡ es → list_all is_plain_expr es ≡ true → AreNumberedGiven env es ts

@@ -5,8 +5,8 @@ use Rattle.c0_meaning.specs.Ty.{Ty}
 use Rattle.c0_meaning.specs.Ty as ty
 use Rattle.c0_meaning.specs.Env.{Shape}
 use Rattle.c0_meaning.specs.Words.{fields_named}
-use Rattle.c0_meaning.specs.Value.{Region, globals, heap, locals, Value, int, bool, null, at, group, Values, empty, part, nth, change_nth, followed_by, count, get, put}
-use Rattle.c0_meaning.specs.TypedState.{Layout, types_of, Leads, LeadsFrom, PointsTo, Fits, AllFit, AreParts}
+use Rattle.c0_meaning.specs.Value.{Region, globals, heap, locals, Value, int, bool, null, at, group, Values, empty, part, nth, change_nth, followed_by, count, get, value_with}
+use Rattle.c0_meaning.specs.TypedState.{StoreTyping, types_of, PathLeads, LeadsFrom, PointsTo, Fits, AllFit, AreParts}
 
 pub there : (t : Ty) (n i : ℕ) → i < n → slice_get (replicate n t) i ≡ Some t
 there t zero i h = absurd (omega (arith, h))
@@ -19,24 +19,24 @@ get_before (u ∷ types) more zero t e = e
 get_before (u ∷ types) more (suc i) t e = get_before types more i t e
 
 -- a path, and one part more
-pub leads_on : (structs : List Shape) (t : Ty) (path : List ℕ) (u : Ty) (i : ℕ) (w : Ty) → Leads structs t path u → Leads structs u (i ∷ []) w → Leads structs t (path ++ i ∷ []) w
-leads_on structs t [] u i w h g = subst (λ v. Leads structs v (i ∷ []) w) (sym h) g
+pub leads_on : (structs : List Shape) (t : Ty) (path : List ℕ) (u : Ty) (i : ℕ) (w : Ty) → PathLeads structs t path u → PathLeads structs u (i ∷ []) w → PathLeads structs t (path ++ i ∷ []) w
+leads_on structs t [] u i w h g = subst (λ v. PathLeads structs v (i ∷ []) w) (sym h) g
 leads_on structs (ty.named x) (j ∷ path) u i w h g = (h.0, h.1, leads_on structs h.0 path u i w h.2 g)
 leads_on structs (ty.array t n) (j ∷ path) u i w h g = (h.0, leads_on structs t path u i w h.1 g)
 leads_on structs ty.int (j ∷ path) u i w h g = absurd h
 leads_on structs ty.bool (j ∷ path) u i w h g = absurd h
 leads_on structs (ty.pointer t) (j ∷ path) u i w h g = absurd h
 
-pub leads_from_on : (structs : List Shape) (types : List Ty) (path : List ℕ) (u : Ty) (i : ℕ) (w : Ty) → LeadsFrom structs types path u → Leads structs u (i ∷ []) w → LeadsFrom structs types (path ++ i ∷ []) w
+pub leads_from_on : (structs : List Shape) (types : List Ty) (path : List ℕ) (u : Ty) (i : ℕ) (w : Ty) → LeadsFrom structs types path u → PathLeads structs u (i ∷ []) w → LeadsFrom structs types (path ++ i ∷ []) w
 leads_from_on structs types [] u i w h g = absurd h
 leads_from_on structs types (j ∷ path) u i w h g = (h.0, h.1, leads_on structs h.0 path u i w h.2 g)
 
-pub points_on : (structs : List Shape) (layout : Layout) (r : Region) (path : List ℕ) (u : Ty) (i : ℕ) (w : Ty) → PointsTo structs layout r path u → Leads structs u (i ∷ []) w → PointsTo structs layout r (path ++ i ∷ []) w
+pub points_on : (structs : List Shape) (layout : StoreTyping) (r : Region) (path : List ℕ) (u : Ty) (i : ℕ) (w : Ty) → PointsTo structs layout r path u → PathLeads structs u (i ∷ []) w → PointsTo structs layout r (path ++ i ∷ []) w
 points_on structs layout globals path u i w h g = leads_from_on structs layout.globals path u i w h g
 points_on structs layout heap path u i w h g = leads_from_on structs layout.objects path u i w h g
 points_on structs layout locals path u i w h g = absurd h
 
-module _ (structs : List Shape) (layout : Layout) where
+module _ (structs : List Shape) (layout : StoreTyping) where
   -- a part that is there
   pub record Has (found : Option Value) (t : Ty) : Type 0 where
     pub value : Value
@@ -55,7 +55,7 @@ module _ (structs : List Shape) (layout : Layout) where
       let r = f h.value h.fits in
       record { value = r.value; is = ap (option_and_then (λ w. get w path)) h.is ∙ r.is; fits = r.fits }
 
-  pub get_fits : (t : Ty) (path : List ℕ) (u : Ty) (v : Value) → Leads structs t path u → Fits structs layout t v → Has (get v path) u
+  pub get_fits : (t : Ty) (path : List ℕ) (u : Ty) (v : Value) → PathLeads structs t path u → Fits structs layout t v → Has (get v path) u
   get_fits t [] u v l h = record { value = v; is = refl; fits = subst (λ w. Fits structs layout w v) l h }
   get_fits (ty.named x) (i ∷ path) u (group vs) l h = get_from path u (nth vs i) l.0 (nth_fits (types_of (fields_named structs x)) vs i l.0 h l.1) (λ v g. get_fits l.0 path u v l.2 g)
   get_fits (ty.array t n) (i ∷ path) u (group vs) l h = get_from path u (nth vs i) t (nth_fits (replicate n t) vs i t h (there t n i l.0)) (λ v g. get_fits t path u v l.1 g)
@@ -74,10 +74,10 @@ module _ (structs : List Shape) (layout : Layout) where
   change_fits [] (part v vs) i t f h e g = absurd h
   change_fits (u ∷ ts) empty i t f h e g = absurd h
 
-  pub put_fits : (t : Ty) (path : List ℕ) (u : Ty) (v x : Value) → Leads structs t path u → Fits structs layout t v → Fits structs layout u x → Fits structs layout t (put v path x)
+  pub put_fits : (t : Ty) (path : List ℕ) (u : Ty) (v x : Value) → PathLeads structs t path u → Fits structs layout t v → Fits structs layout u x → Fits structs layout t (value_with v path x)
   put_fits t [] u v x l h g = subst (λ w. Fits structs layout w x) (sym l) g
-  put_fits (ty.named y) (i ∷ path) u (group vs) x l h g = change_fits (types_of (fields_named structs y)) vs i l.0 (λ w. put w path x) h l.1 (λ v k. put_fits l.0 path u v x l.2 k g)
-  put_fits (ty.array t n) (i ∷ path) u (group vs) x l h g = change_fits (replicate n t) vs i t (λ w. put w path x) h (there t n i l.0) (λ v k. put_fits t path u v x l.1 k g)
+  put_fits (ty.named y) (i ∷ path) u (group vs) x l h g = change_fits (types_of (fields_named structs y)) vs i l.0 (λ w. value_with w path x) h l.1 (λ v k. put_fits l.0 path u v x l.2 k g)
+  put_fits (ty.array t n) (i ∷ path) u (group vs) x l h g = change_fits (replicate n t) vs i t (λ w. value_with w path x) h (there t n i l.0) (λ v k. put_fits t path u v x l.1 k g)
   put_fits (ty.named y) (i ∷ path) u _ x l h g = absurd h
   put_fits (ty.array t n) (i ∷ path) u _ x l h g = absurd h
   put_fits ty.int (i ∷ path) u _ x l h g = absurd l
@@ -92,9 +92,9 @@ module _ (structs : List Shape) (layout : Layout) where
   get_parts types (i ∷ path) u null l h = absurd h
   get_parts types (i ∷ path) u (at m) l h = absurd h
 
-  pub put_parts : (types : List Ty) (path : List ℕ) (u : Ty) (v x : Value) → LeadsFrom structs types path u → AreParts structs layout types v → Fits structs layout u x → AreParts structs layout types (put v path x)
+  pub put_parts : (types : List Ty) (path : List ℕ) (u : Ty) (v x : Value) → LeadsFrom structs types path u → AreParts structs layout types v → Fits structs layout u x → AreParts structs layout types (value_with v path x)
   put_parts types [] u v x l h g = absurd l
-  put_parts types (i ∷ path) u (group vs) x l h g = change_fits types vs i l.0 (λ w. put w path x) h l.1 (λ v k. put_fits l.0 path u v x l.2 k g)
+  put_parts types (i ∷ path) u (group vs) x l h g = change_fits types vs i l.0 (λ w. value_with w path x) h l.1 (λ v k. put_fits l.0 path u v x l.2 k g)
   put_parts types (i ∷ path) u (int z) x l h g = absurd h
   put_parts types (i ∷ path) u (bool b) x l h g = absurd h
   put_parts types (i ∷ path) u null x l h g = absurd h
@@ -114,10 +114,10 @@ module _ (structs : List Shape) (layout : Layout) where
   length_fits (suc n) t empty h = absurd h
 
 -- a layout with more objects
-abbrev pub with_more : Layout → List Ty → Layout
+abbrev pub with_more : StoreTyping → List Ty → StoreTyping
 with_more layout more = record { globals = layout.globals; objects = layout.objects ++ more }
 
-module _ (structs : List Shape) (layout : Layout) (more : List Ty) where
+module _ (structs : List Shape) (layout : StoreTyping) (more : List Ty) where
   pub from_more : (types : List Ty) (path : List ℕ) (t : Ty) → LeadsFrom structs types path t → LeadsFrom structs (types ++ more) path t
   from_more types [] t h = absurd h
   from_more types (i ∷ path) t h = (h.0, get_before types more i h.0 h.1, h.2)

@@ -6,13 +6,13 @@ use Rattle.std.proofs.lemmas.Bool.{or_left, or_right, ltb-true, ltb-false, false
 use Rattle.std.proofs.lemmas.Slice.Eq.{bytes_eq-Decides}
 use Rattle.c0_meaning.specs.Ty.{Ty, int, bool, pointer, named, array}
 use Rattle.c0_meaning.specs.Env.{Typed, Shape}
-use Rattle.c0_meaning.specs.Words.{is_made_of, have_field, fields_named, Holds, by_field, by_part, holds, words, all_words}
+use Rattle.c0_meaning.specs.Words.{is_made_of, have_field, fields_named, StructHolds, by_field, by_part, holds, words, all_words}
 use Rattle.c0_meaning.specs.Sound.{shapes}
 use Rattle.c0_meaning.specs.Sizes.{words_before}
-use Rattle.c0_meaning.specs.TypedState.{types_of, Leads, LeadsFrom}
+use Rattle.c0_meaning.specs.TypedState.{types_of, PathLeads, LeadsFrom}
 use Rattle.c0_meaning.specs.Addresses.{type_at, words_to, words_to_part, PartsAreApart}
-use Rattle.c0_meaning.proofs.Holding.{holds_as_tested}
-use Rattle.c0_meaning.proofs.Opening.{fields_words}
+use Rattle.c0_meaning.proofs.StructHolding.{holds_as_tested}
+use Rattle.c0_meaning.proofs.StructWords.{fields_words}
 use Rattle.c0_meaning.proofs.OpenTy.{well_formed_loose}
 use Rattle.c0_meaning.proofs.Parts.{leads_on}
 
@@ -51,7 +51,7 @@ module _ (structs : List Shape) where
   part_before (u ∷ ts) (suc i) (suc j) t e h = let k = part_before ts i j t e (omega (arith, h)) in omega (arith, k)
 
   -- a type with a part that is a struct is made of that struct, or of one that holds it
-  made : (u : Ty) (p : List ℕ) (y : List ℕ) → Leads structs u p (named y) → ((is_made_of y u ≡ true) ⊎ ((z : List ℕ) × (is_made_of z u ≡ true) × Holds structs z y))
+  made : (u : Ty) (p : List ℕ) (y : List ℕ) → PathLeads structs u p (named y) → ((is_made_of y u ≡ true) ⊎ ((z : List ℕ) × (is_made_of z u ≡ true) × StructHolds structs z y))
   made u [] y h = inl (subst (λ v. is_made_of y v ≡ true) (sym h) ((bytes_eq-Decides y y).1 refl))
   made (named z) (i ∷ p) y h =
       let itself = (bytes_eq-Decides z z).1 refl in
@@ -64,9 +64,9 @@ module _ (structs : List Shape) where
   made bool (i ∷ p) y h = absurd h
   made (pointer t) (i ∷ p) y h = absurd h
 
-  module _ (loose : (x : List ℕ) → Holds structs x x → ⊥) where
+  module _ (loose : (x : List ℕ) → StructHolds structs x x → ⊥) where
     -- no part of a value has the value's own type
-    no_self : (t : Ty) (p : List ℕ) → Leads structs t p t → p ≡ []
+    no_self : (t : Ty) (p : List ℕ) → PathLeads structs t p t → p ≡ []
     no_self t [] h = refl
     no_self (named x) (i ∷ p) h =
         absurd (loose x (elim (made h.0 p x h.2) [
@@ -79,7 +79,7 @@ module _ (structs : List Shape) where
     no_self (pointer t) (i ∷ p) h = absurd h
 
     -- a part stands inside the value that it is of
-    inside : (t : Ty) (p : List ℕ) (u : Ty) → Leads structs t p u → words_to structs t p + words structs u ≤ words structs t
+    inside : (t : Ty) (p : List ℕ) (u : Ty) → PathLeads structs t p u → words_to structs t p + words structs u ≤ words structs t
     inside t [] u h = subst (λ v. 0 + words structs v ≤ words structs t) h (omega arith)
     inside (named x) (i ∷ p) u h =
         let fs = fields_named structs x in
@@ -93,8 +93,8 @@ module _ (structs : List Shape) where
     inside (pointer t) (i ∷ p) u h = absurd h
 
     -- parts of values one after another: of the same value they are apart where that value's are, and parts of two values don't overlap
-    apart_among : (types : List Ty) (i j : ℕ) (v w : Ty) (p q : List ℕ) (t : Ty) → slice_get types i ≡ Some v → slice_get types j ≡ Some w → Leads structs v p t → Leads structs w q t → 1 ≤ words structs t
-        → (Leads structs v q t → words_to structs v p ≡ words_to structs v q → p ≡ q)
+    apart_among : (types : List Ty) (i j : ℕ) (v w : Ty) (p q : List ℕ) (t : Ty) → slice_get types i ≡ Some v → slice_get types j ≡ Some w → PathLeads structs v p t → PathLeads structs w q t → 1 ≤ words structs t
+        → (PathLeads structs v q t → words_to structs v p ≡ words_to structs v q → p ≡ q)
         → words_before structs types i + words_to structs (type_at types i) p ≡ words_before structs types j + words_to structs (type_at types j) q → i ∷ p ≡ j ∷ q
     apart_among types i j v w p q t found other a b h below e = by_order (nat_lt i j) (nat_lt j i) refl refl
       where
@@ -109,13 +109,13 @@ module _ (structs : List Shape) where
             let same : i ≡ j = omega (arith, ltb-false i j f, ltb-false j i g) in
             let type_too : w ≡ v = sym (type_found types j w other) ∙ (ap (type_at types) (sym same) ∙ type_found types i v found) in
             let words_too : words_to structs v p ≡ words_to structs w q = omega (arith, here, ap (words_before structs types) same) in
-            let path = below (subst (λ x. Leads structs x q t) type_too b) (words_too ∙ ap (λ x. words_to structs x q) type_too) in
+            let path = below (subst (λ x. PathLeads structs x q t) type_too b) (words_too ∙ ap (λ x. words_to structs x q) type_too) in
             cc
 
-    apart : (s : Ty) (p q : List ℕ) (t : Ty) → Leads structs s p t → Leads structs s q t → 1 ≤ words structs t → words_to structs s p ≡ words_to structs s q → p ≡ q
+    apart : (s : Ty) (p q : List ℕ) (t : Ty) → PathLeads structs s p t → PathLeads structs s q t → 1 ≤ words structs t → words_to structs s p ≡ words_to structs s q → p ≡ q
     apart s [] [] t a b h e = refl
-    apart s [] (j ∷ q) t a b h e = sym (no_self s (j ∷ q) (subst (λ u. Leads structs s (j ∷ q) u) (sym a) b))
-    apart s (i ∷ p) [] t a b h e = no_self s (i ∷ p) (subst (λ u. Leads structs s (i ∷ p) u) (sym b) a)
+    apart s [] (j ∷ q) t a b h e = sym (no_self s (j ∷ q) (subst (λ u. PathLeads structs s (j ∷ q) u) (sym a) b))
+    apart s (i ∷ p) [] t a b h e = no_self s (i ∷ p) (subst (λ u. PathLeads structs s (i ∷ p) u) (sym b) a)
     apart (named x) (i ∷ p) (j ∷ q) t a b h e =
         apart_among (types_of (fields_named structs x)) i j a.0 b.0 p q t a.1 b.1 a.2 b.2 h (λ c d. apart a.0 p q t a.2 c h d) e
     apart (array u n) (i ∷ p) (j ∷ q) t a b h e = by_order (λ words_too. apart u p q t a.1 b.1 h words_too) (nat_lt i j) (nat_lt j i) refl refl

@@ -6,7 +6,7 @@ use Rattle.c0_meaning.specs.State.{first_state}
 use Rattle.c0_meaning.specs.World.{beginning, journal}
 use Rattle.c0_meaning.specs.Running.{begin}
 use Rattle.c0_meaning.specs.Execution.{Outcome, Done, Failed, NotYet, call_first}
-use Rattle.c0_meaning.specs.UserProgram.{trap, is_main, Seen, not_yet, up_to, seen}
+use Rattle.c0_meaning.specs.UserProgram.{trap, is_main, Seen, not_yet, up_to, outcome_seen}
 use Rattle.c0_meaning.proofs.Runs.{more_units}
 use Rattle.c0_meaning.specs.RunLaws.{HasEnded, ProgramsEnd, IsOver}
 
@@ -18,13 +18,13 @@ not_ended : (b : Bool) (xs ys : List ℤ) → HasEnded (standing b xs ys).ending
 not_ended true xs ys h = h
 not_ended false xs ys h = h
 
-over : (answers : List ℤ) (o : Outcome (List ℤ) ℤ) → HasEnded (up_to answers (seen o)).ending → IsOver o
+over : (answers : List ℤ) (o : Outcome (List ℤ) ℤ) → HasEnded (up_to answers (outcome_seen o)).ending → IsOver o
 over answers (Done k c) h = tt
 over answers (Failed k f c) h = tt
 over answers (NotYet k c) h = not_ended (nat_lt (length answers) (length (journal c))) (take (suc (length answers)) (journal c)) (journal c) h
 
 pub programs_end : ProgramsEnd
 programs_end u answers m n le h =
-    ap (λ o. up_to answers (seen o))
+    ap (λ o. up_to answers (outcome_seen o))
     (more_units (List ℤ) ℤ (record { unit = u; heap = 1024; stack = 1024; meaning = trap }) (begin (unwrap_or (position is_main u.functions) 0) empty ∷ []) (beginning (first_state u) answers) m n le
     (over answers (call_first (record { unit = u; heap = 1024; stack = 1024; meaning = trap }) m (unwrap_or (position is_main u.functions) 0) empty (first_state u) answers) h))

@@ -10,9 +10,9 @@ use Rattle.mips_table.specs.declared.effect.Effect.TheVariants.{Set, Wide, Load,
 use Rattle.mips_table.specs.Effect.{effect_of}
 use Rattle.mips_table.specs.Arith.{sum, difference, less, shifted_left, shifted_right, shifted_signed, nor, flag, extended}
 use Rattle.mips_table.specs.Decoding.{decoding}
-use Rattle.mips_table.specs.Processor.{write}
+use Rattle.mips_table.specs.Processor.{write_register}
 use Rattle.c0_meaning.specs.Asm.{may_use, is_allowed, is_allowed_word, are_allowed_words}
-use Rattle.c0_meaning.specs.AsmBody.{registers_after, performed}
+use Rattle.c0_meaning.specs.AsmBody.{registers_after, after_instruction}
 use Rattle.c0_meaning.proofs.Allowed.{left, right, IsNot}
 use Rattle.c0_meaning.specs.RunLaws.{AreSame, LookAtTheirs}
 
@@ -26,7 +26,7 @@ small r ok = by_test (r == 0) refl ok
     by_test true e h = omega (arith, eqb-true r 0 e)
     by_test false e h = omega (arith, leb-true r 7 (right (nat_le 2 r) (nat_le r 7) h))
 
-write_length : (xs : List ℕ) (r v : ℕ) → length (write xs r v) ≡ length xs
+write_length : (xs : List ℕ) (r v : ℕ) → length (write_register xs r v) ≡ length xs
 write_length xs r v = by_test (r == 0)
   where
     by_test : (b : Bool) → length (if b then xs else slice_set xs r v) ≡ length xs
@@ -43,23 +43,23 @@ module _ (regs others : List ℕ) (long : 8 ≤ length regs) (wide : 8 ≤ lengt
           (get_or-set_same regs d v 0 (omega (arith, h, long)) ∙ (e ∙ sym (get_or-set_same others d w 0 (omega (arith, h, wide)))))
       by_test false q = get_or-set_other regs d r v 0 (eqb-false r d q) ∙ (same r ok ∙ sym (get_or-set_other others d r w 0 (eqb-false r d q)))
 
-  written : (d v w : ℕ) → IsTrue (may_use d) → v ≡ w → AreSame (write regs d v) (write others d w)
+  written : (d v w : ℕ) → IsTrue (may_use d) → v ≡ w → AreSame (write_register regs d v) (write_register others d w)
   written d v w ok e = by_test (d == 0)
     where
       by_test : (b : Bool) → AreSame (if b then regs else slice_set regs d v) (if b then others else slice_set others d w)
       by_test true = same
       by_test false = set_same d v w (small d ok) e
 
-  from_one : (f : ℕ → ℕ) (d r : ℕ) → may_use d && may_use r ≡ true → AreSame (write regs d (f (slice_index regs r))) (write others d (f (slice_index others r)))
+  from_one : (f : ℕ → ℕ) (d r : ℕ) → may_use d && may_use r ≡ true → AreSame (write_register regs d (f (slice_index regs r))) (write_register others d (f (slice_index others r)))
   from_one f d r ok = written d _ _ (left (may_use d) (may_use r) ok) (ap f (same r (right (may_use d) (may_use r) ok)))
 
-  from_two : (f : ℕ → ℕ → ℕ) (d r s : ℕ) → may_use d && (may_use r && may_use s) ≡ true → AreSame (write regs d (f (slice_index regs r) (slice_index regs s))) (write others d (f (slice_index others r) (slice_index others s)))
+  from_two : (f : ℕ → ℕ → ℕ) (d r s : ℕ) → may_use d && (may_use r && may_use s) ≡ true → AreSame (write_register regs d (f (slice_index regs r) (slice_index regs s))) (write_register others d (f (slice_index others r) (slice_index others s)))
   from_two f d r s ok =
       let rest = right (may_use d) (may_use r && may_use s) ok in
       written d _ _ (left (may_use d) (may_use r && may_use s) ok)
       (ap (λ x. f x (slice_index regs s)) (same r (left (may_use r) (may_use s) rest)) ∙ ap (λ y. f (slice_index others r) y) (same s (right (may_use r) (may_use s) rest)))
 
-  kept : (inst : Inst) → is_allowed inst ≡ true → AreSame (performed regs (Some inst)) (performed others (Some inst))
+  kept : (inst : Inst) → is_allowed inst ≡ true → AreSame (after_instruction regs (Some inst)) (after_instruction others (Some inst))
   kept (Sll rd rt sa) ok = from_one (λ x. shifted_left x sa) rd rt ok
   kept (Srl rd rt sa) ok = from_one (λ x. shifted_right x sa) rd rt ok
   kept (Sra rd rt sa) ok = from_one (λ x. shifted_signed x sa) rd rt ok
@@ -114,7 +114,7 @@ abbrev tested : Option Inst → Bool
 tested None = false
 tested (Some inst) = is_allowed inst
 
-kept_word : (regs others : List ℕ) → 8 ≤ length regs → 8 ≤ length others → AreSame regs others → (i : Option Inst) → tested i ≡ true → AreSame (performed regs i) (performed others i)
+kept_word : (regs others : List ℕ) → 8 ≤ length regs → 8 ≤ length others → AreSame regs others → (i : Option Inst) → tested i ≡ true → AreSame (after_instruction regs i) (after_instruction others i)
 kept_word regs others long wide same None ok = absurd (is_not ok)
 kept_word regs others long wide same (Some inst) ok = kept regs others long wide same inst ok
 
@@ -127,14 +127,14 @@ after_length xs Overflow = refl
 after_length xs Call = refl
 after_length xs System = refl
 
-performed_length : (xs : List ℕ) (i : Option Inst) → length (performed xs i) ≡ length xs
+performed_length : (xs : List ℕ) (i : Option Inst) → length (after_instruction xs i) ≡ length xs
 performed_length xs None = refl
 performed_length xs (Some inst) = after_length xs (effect_of inst 0 (slice_index xs) 0 0)
 
 pub look_at_theirs : LookAtTheirs
 look_at_theirs [] regs others ok long wide same = same
 look_at_theirs (x ∷ words) regs others ok long wide same =
-    look_at_theirs words (performed regs (decoding x)) (performed others (decoding x)) (right (is_allowed_word x) (are_allowed_words words) ok)
+    look_at_theirs words (after_instruction regs (decoding x)) (after_instruction others (decoding x)) (right (is_allowed_word x) (are_allowed_words words) ok)
     (omega (arith, long, performed_length regs (decoding x)))
     (omega (arith, wide, performed_length others (decoding x)))
     (kept_word regs others long wide same (decoding x) (left (is_allowed_word x) (are_allowed_words words) ok))

@@ -24,12 +24,12 @@ use Rattle.c0_meaning.specs.Env.{typed_of}
 use Rattle.c0_meaning.specs.Words.{words, all_words}
 use Rattle.c0_meaning.specs.Sound.{shapes}
 use Rattle.c0_meaning.specs.State.{stack_words, with_object}
-use Rattle.c0_meaning.specs.Limits.{frame}
+use Rattle.c0_meaning.specs.Limits.{words_of_frame}
 use Rattle.c0_meaning.specs.Operators.{StackOut, faulted, stuck}
-use Rattle.c0_meaning.specs.Value.{heap, Value, null, at, Values, parts, zero_of}
+use Rattle.c0_meaning.specs.Value.{heap, Value, null, at, Values, part_count, zero_of}
 use Rattle.c0_meaning.specs.Running.{Work, act_on, finish, again, leave, begin, Target, into, outward, Step, Go, Stop, push, then_go, store, deliver, enter, call_function, call_with, allocate, test_loop, act_statement, act}
 use Rattle.c0_meaning.specs.Execution.{Outcome, Failed, NotYet, then_run, run}
-use Rattle.c0_meaning.specs.Reasoning.{Comes, Ends, behind, after_step, steps, LeadTo, entering}
+use Rattle.c0_meaning.specs.Reasoning.{DoneWith, Ends, with_cost, after_step, steps, LeadTo, entering}
 
 module _ (W E : Type 0) (p : Setting W E) where
   abbrev Post : Type 1
@@ -39,26 +39,26 @@ module _ (W E : Type 0) (p : Setting W E) where
   After = Cost → List Work → Configuration W E → Outcome W E
 
   -- with as much left, what was done is done
-  paid : (over : Bool) (k : Cost) (c : Configuration W E) (o : Outcome W E) (Q : Post) → Comes (if over then NotYet k c else o) Q → (over ≡ false) × Comes o Q
+  paid : (over : Bool) (k : Cost) (c : Configuration W E) (o : Outcome W E) (Q : Post) → DoneWith (if over then NotYet k c else o) Q → (over ≡ false) × DoneWith o Q
   paid true k c o Q h = absurd h
   paid false k c o Q h = (refl, h)
 
-  pays : (l m spent spending : ℕ) (k b : Cost) (c : Configuration W E) (y z : Outcome W E) (Q : Post) → (spent ≤ l → spending ≤ m) → (Comes y Q → Comes z Q)
-      → Comes (if nat_lt l spent then NotYet k c else y) Q → Comes (if nat_lt m spending then NotYet b c else z) Q
+  pays : (l m spent spending : ℕ) (k b : Cost) (c : Configuration W E) (y z : Outcome W E) (Q : Post) → (spent ≤ l → spending ≤ m) → (DoneWith y Q → DoneWith z Q)
+      → DoneWith (if nat_lt l spent then NotYet k c else y) Q → DoneWith (if nat_lt m spending then NotYet b c else z) Q
   pays l m spent spending k b c y z Q less same h =
       let d = paid (nat_lt l spent) k c y Q h in
       let inside : spent ≤ l = omega (arith, ltb-false l spent d.0) in
       let e : nat_lt m spending ≡ false = le-ltb m spending (less inside) in
-      subst (λ over. Comes (if over then NotYet b c else z) Q) (sym e) (same d.1)
+      subst (λ over. DoneWith (if over then NotYet b c else z) Q) (sym e) (same d.1)
 
   step_shifts : (t : Step W E) (l m : ℕ) (a b : Cost) (c : Configuration W E) (f g : After) (Q : Post) → total b + l ≤ total a + m
-      → ((k : Cost) (w : List Work) (d : Configuration W E) → Comes (f (plus a k) w d) Q → Comes (g (plus b k) w d) Q)
-      → Comes (then_run t l a c f) Q → Comes (then_run t m b c g) Q
+      → ((k : Cost) (w : List Work) (d : Configuration W E) → DoneWith (f (plus a k) w d) Q → DoneWith (g (plus b k) w d) Q)
+      → DoneWith (then_run t l a c f) Q → DoneWith (then_run t m b c g) Q
   step_shifts (Go k w d) l m a b c f g Q room same h = pays l m (total (plus a k)) (total (plus b k)) a b c _ _ Q (λ inside. omega arith) (same k w d) h
   step_shifts (Stop k x d) l m a b c f g Q room same h = pays l m (total (plus a k)) (total (plus b k)) a b c _ _ Q (λ inside. omega arith) (λ x. x) h
 
   -- a run that is done is done from any cost and within any limit that leave it as much
-  shifts : (s t l m : ℕ) (a b : Cost) (w : List Work) (c : Configuration W E) (Q : Post) → s ≤ t → total b + l ≤ total a + m → Comes (run p s l a w c) Q → Comes (run p t m b w c) Q
+  shifts : (s t l m : ℕ) (a b : Cost) (w : List Work) (c : Configuration W E) (Q : Post) → s ≤ t → total b + l ≤ total a + m → DoneWith (run p s l a w c) Q → DoneWith (run p t m b w c) Q
   shifts zero t l m a b w c Q st room h = absurd h
   shifts (suc s) zero l m a b w c Q st room h = absurd (omega arith)
   shifts (suc s) (suc t) l m a b [] c Q st room h = h
@@ -74,9 +74,9 @@ module _ (W E : Type 0) (p : Setting W E) where
       → act p item w c ≡ Go k v d → 1 ≤ m → total k ≤ m → Ends p n v d Q → Ends p (m + n) (item ∷ w) c Q
   one item w c k v d m n Q e some small h =
       let over : nat_lt (m + n) (total (plus (units 0) k)) ≡ false = le-ltb (m + n) (total (plus (units 0) k)) (omega arith) in
-      let r : Comes (run p (m + n) (m + n) (plus (units 0) k) v d) Q = shifts (suc n) (m + n) n (m + n) (units 0) (plus (units 0) k) v d Q (omega arith) (omega arith) h in
-      subst (λ t. Comes (then_run t (m + n) (units 0) c (run p (m + n) (m + n))) Q) (sym e)
-      (subst (λ b. Comes (if b then NotYet (units 0) c else run p (m + n) (m + n) (plus (units 0) k) v d) Q) (sym over) r)
+      let r : DoneWith (run p (m + n) (m + n) (plus (units 0) k) v d) Q = shifts (suc n) (m + n) n (m + n) (units 0) (plus (units 0) k) v d Q (omega arith) (omega arith) h in
+      subst (λ t. DoneWith (then_run t (m + n) (units 0) c (run p (m + n) (m + n))) Q) (sym e)
+      (subst (λ b. DoneWith (if b then NotYet (units 0) c else run p (m + n) (m + n) (plus (units 0) k) v d) Q) (sym over) r)
 
   -- SO MANY STEPS, which compute: to come through plain code up to the place where the computation stops, or to the end of the work
   step_leads : (item : Work) (w : List Work) (c : Configuration W E) (m j n : ℕ) (Q : Post)
@@ -84,7 +84,7 @@ module _ (W E : Type 0) (p : Setting W E) where
       → (x : Step W E) → act p item w c ≡ x → LeadTo p (suc m) j n (after_step x (steps p m)) Q → Ends p (j + n) (item ∷ w) c Q
   step_leads item w c m j n Q ih (Go k v d) e h = by (steps p m v d) h (ih (j - suc (total k)) v d)
     where
-      by : (y : Step W E) → LeadTo p (suc m) j n (behind k y) Q → (LeadTo p m (j - suc (total k)) n y Q → Ends p (j - suc (total k) + n) v d Q) → Ends p (j + n) (item ∷ w) c Q
+      by : (y : Step W E) → LeadTo p (suc m) j n (with_cost k y) Q → (LeadTo p m (j - suc (total k)) n y Q → Ends p (j - suc (total k) + n) v d Q) → Ends p (j + n) (item ∷ w) c Q
       by (Go i u f) g go =
           more (suc (total k) + (j - suc (total k) + n)) (j + n) (item ∷ w) c Q (omega (arith, g.0))
           (one item w c k v d (suc (total k)) (j - suc (total k) + n) Q e (omega arith) (omega arith) (go (omega (arith, g.0), g.1)))
@@ -142,7 +142,7 @@ module _ (W E : Type 0) (p : Setting W E) where
     either_onto false x y z h k = h
 
     function_onto : (cost : Cost) (n : ℕ) (args : Values) (t : Target) (w : List Work) (c : Configuration W E) → call_function p cost n args t (w ++ r) c ≡ onto r (call_function p cost n args t w c)
-    function_onto cost n args t w c = then_go_onto (plus cost (units 1)) c (at_no_cost (ok_or (slice_get p.unit.functions n) stuck)) _ _ (λ k (f : CFunction). either_onto (nat_lt p.stack (stack_words p.unit c.state.frames + frame (shapes p.unit) f)) (Stop k (faulted StackOut) c) _ _ (enter_onto k n f.body args t w c) refl)
+    function_onto cost n args t w c = then_go_onto (plus cost (units 1)) c (at_no_cost (ok_or (slice_get p.unit.functions n) stuck)) _ _ (λ k (f : CFunction). either_onto (nat_lt p.stack (stack_words p.unit c.state.frames + words_of_frame (shapes p.unit) f)) (Stop k (faulted StackOut) c) _ _ (enter_onto k n f.body args t w c) refl)
 
     call_onto : (cost : Cost) (kind : Kind) (n : ℕ) (args : Values) (t : Target) (w : List Work) (c : Configuration W E) → call_with p cost kind n args t (w ++ r) c ≡ onto r (call_with p cost kind n args t w c)
     call_onto cost Function n args t w c = function_onto cost n args t w c
@@ -153,9 +153,9 @@ module _ (W E : Type 0) (p : Setting W E) where
     allocate_onto ty t w c = cases (nat_lt p.heap (c.state.heap_words + words (shapes p.unit) ty))
       where
         cases : (b : Bool) → (if b then deliver (units 1) t null (w ++ r) c else
-            deliver (units (1 + words (shapes p.unit) ty)) t (at (record { region = heap; path = parts c.state.heap_values ∷ [] })) (w ++ r) (with_state c (with_object (zero_of (shapes p.unit) ty) (words (shapes p.unit) ty) c.state)))
+            deliver (units (1 + words (shapes p.unit) ty)) t (at (record { region = heap; path = part_count c.state.heap_values ∷ [] })) (w ++ r) (with_state c (with_object (zero_of (shapes p.unit) ty) (words (shapes p.unit) ty) c.state)))
             ≡ onto r (if b then deliver (units 1) t null w c else
-            deliver (units (1 + words (shapes p.unit) ty)) t (at (record { region = heap; path = parts c.state.heap_values ∷ [] })) w (with_state c (with_object (zero_of (shapes p.unit) ty) (words (shapes p.unit) ty) c.state)))
+            deliver (units (1 + words (shapes p.unit) ty)) t (at (record { region = heap; path = part_count c.state.heap_values ∷ [] })) w (with_state c (with_object (zero_of (shapes p.unit) ty) (words (shapes p.unit) ty) c.state)))
         cases true = deliver_onto _ t _ w _
         cases false = deliver_onto _ t _ w _
 
@@ -183,22 +183,22 @@ module _ (W E : Type 0) (p : Setting W E) where
   -- ONE AFTER THE OTHER: what is left to do in two parts, as the body of a loop or of a function and what stands behind it
   -- a step of the first part
   goes_onto : (r : List Work) (s l t m : ℕ) (a b : Cost) (c : Configuration W E) (R Q : Post) → (n : ℕ) → total b + l + n ≤ total a + m
-      → ((k : Cost) (v : List Work) (d : Configuration W E) → total (plus a k) ≤ l → Comes (run p s l (plus a k) v d) R → Comes (run p t m (plus b k) (v ++ r) d) Q)
-      → (x : Step W E) → Comes (then_run x l a c (run p s l)) R → Comes (then_run (onto r x) m b c (run p t m)) Q
+      → ((k : Cost) (v : List Work) (d : Configuration W E) → total (plus a k) ≤ l → DoneWith (run p s l (plus a k) v d) R → DoneWith (run p t m (plus b k) (v ++ r) d) Q)
+      → (x : Step W E) → DoneWith (then_run x l a c (run p s l)) R → DoneWith (then_run (onto r x) m b c (run p t m)) Q
   goes_onto r s l t m a b c R Q n room ih (Go k v d) h =
       let over = paid (nat_lt l (total (plus a k))) a c (run p s l (plus a k) v d) R h in
       let inside : total (plus a k) ≤ l = omega (arith, ltb-false l (total (plus a k)) over.0) in
       let e : nat_lt m (total (plus b k)) ≡ false = le-ltb m (total (plus b k)) (omega arith) in
-      subst (λ o. Comes (if o then NotYet b c else run p t m (plus b k) (v ++ r) d) Q) (sym e) (ih k v d inside over.1)
+      subst (λ o. DoneWith (if o then NotYet b c else run p t m (plus b k) (v ++ r) d) Q) (sym e) (ih k v d inside over.1)
   goes_onto r s l t m a b c R Q n room ih (Stop k f d) h = absurd (paid (nat_lt l (total (plus a k))) a c (Failed (plus a k) f d) R h).1
 
   append_onto : (r : List Work) (n : ℕ) (R Q : Post) → ((d : Configuration W E) → R d → Ends p n r d Q)
-      → (s l : ℕ) (a b : Cost) (w : List Work) (c : Configuration W E) (t m : ℕ) → s + suc n ≤ t → total b + l + n ≤ total a + m → total a ≤ l → Comes (run p s l a w c) R → Comes (run p t m b (w ++ r) c) Q
+      → (s l : ℕ) (a b : Cost) (w : List Work) (c : Configuration W E) (t m : ℕ) → s + suc n ≤ t → total b + l + n ≤ total a + m → total a ≤ l → DoneWith (run p s l a w c) R → DoneWith (run p t m b (w ++ r) c) Q
   append_onto r n R Q go zero l a b w c t m st room under h = absurd h
   append_onto r n R Q go (suc s) l a b [] c t m st room under h = shifts (suc n) t n m (units 0) b r c Q (omega arith) (omega arith) (go c h)
   append_onto r n R Q go (suc s) l a b (item ∷ w) c zero m st room under h = absurd (omega arith)
   append_onto r n R Q go (suc s) l a b (item ∷ w) c (suc t) m st room under h =
-      subst (λ x. Comes (then_run x m b c (run p t m)) Q) (sym (act_onto r item w c))
+      subst (λ x. DoneWith (then_run x m b c (run p t m)) Q) (sym (act_onto r item w c))
       (goes_onto r s l t m a b c R Q n room (λ k v d inside g. append_onto r n R Q go s l (plus a k) (plus b k) v d t m (omega arith) (omega arith) inside g) (act p item w c) h)
 
   -- w, and then r: with a fact R of where w is done
@@ -250,8 +250,8 @@ module _ (W E : Type 0) (p : Setting W E) where
   by_while span test body rest w n c Q h = by (truth (value_of test c.state)) h
     where
       by : (e : Costed Bool)
-          → Comes (then_run (then_go (units 1) c e (λ cost b. Go cost (if b then push body (again test body rest ∷ w) else push rest w) c)) n (units 0) c (run p n n)) Q
-          → Comes (then_run (then_go (units 2) c e (λ cost b. Go cost (if b then push body (again test body rest ∷ w) else push rest w) c)) (suc n) (units 0) c (run p (suc n) (suc n))) Q
+          → DoneWith (then_run (then_go (units 1) c e (λ cost b. Go cost (if b then push body (again test body rest ∷ w) else push rest w) c)) n (units 0) c (run p n n)) Q
+          → DoneWith (then_run (then_go (units 2) c e (λ cost b. Go cost (if b then push body (again test body rest ∷ w) else push rest w) c)) (suc n) (units 0) c (run p (suc n) (suc n))) Q
       by (costs k (Ok b)) h =
           pays n (suc n) (total (plus (units 0) (plus (units 1) (units k)))) (total (plus (units 0) (plus (units 2) (units k)))) (units 0) (units 0) c _ _ Q (λ inside. omega (arith, inside))
           (λ g. shifts n (suc n) n (suc n) (plus (units 0) (plus (units 1) (units k))) (plus (units 0) (plus (units 2) (units k))) _ c Q (omega arith) (omega arith) g) h
@@ -262,7 +262,7 @@ module _ (W E : Type 0) (p : Setting W E) where
   pub by_call : (span : Span) (place : CExpr) (call_span : Span) (f : CName) (args : List CExpr) (rest : CStmts) (w : List Work) (c : Configuration W E)
       (g : CFunction) (locals : List CDecl) (stmts : CStmts) (answer : CExpr) (vs : Values) (k b n : ℕ) (R Q : Post)
       → f.kind ≡ Function → slice_get p.unit.functions f.number ≡ Some g → g.body ≡ code locals stmts answer
-      → nat_lt p.stack (stack_words p.unit c.state.frames + frame (shapes p.unit) g) ≡ false → values_of args c.state ≡ costs k (Ok vs)
+      → nat_lt p.stack (stack_words p.unit c.state.frames + words_of_frame (shapes p.unit) g) ≡ false → values_of args c.state ≡ costs k (Ok vs)
       → Ends p b (push stmts []) (entering p f.number locals vs c) R → ((d : Configuration W E) → R d → Ends p n (leave answer (into place rest) ∷ w) d Q)
       → Ends p (2 + k + all_words (shapes p.unit) (map typed_of locals) + (b + suc n)) (act_on (call span place call_span f args) rest ∷ w) c Q
   by_call span place call_span f args rest w c g locals stmts answer vs k b n R Q is_function found body room e h go =
@@ -271,7 +271,7 @@ module _ (W E : Type 0) (p : Setting W E) where
       let inside : Configuration W E = entering p f.number locals vs c in
       let back : List Work = leave answer (into place rest) ∷ w in
       let entered : CFunction → Cost → Step W E = λ (h : CFunction) (cost : Cost).
-      if nat_lt p.stack (stack_words p.unit c.state.frames + frame (shapes p.unit) h) then Stop cost (faulted StackOut) c else enter p cost f.number h.body vs (into place rest) w c in
+      if nat_lt p.stack (stack_words p.unit c.state.frames + words_of_frame (shapes p.unit) h) then Stop cost (faulted StackOut) c else enter p cost f.number h.body vs (into place rest) w c in
       one (act_on (call span place call_span f args) rest) w c (plus spent (units zeroed)) (push stmts back) inside (2 + k + zeroed) (b + suc n) Q
       (ap (λ t. then_go (units 1) c t (λ cost vs. call_with p cost f.kind f.number vs (into place rest) w c)) e
       ∙ ap (λ kind. call_with p (plus (units 1) (units k)) kind f.number vs (into place rest) w c) is_function
@@ -296,24 +296,24 @@ module _ (W E : Type 0) (p : Setting W E) where
   -- what a `new` comes to, by whether the heap is full
   abbrev made : CExpr → Ty → CStmts → List Work → Configuration W E → Bool → Step W E
   made place t rest w c full =
-      if full then deliver (units 1) (into place rest) null w c else deliver (units (1 + words (shapes p.unit) t)) (into place rest) (at (record { region = heap; path = parts c.state.heap_values ∷ [] })) w
+      if full then deliver (units 1) (into place rest) null w c else deliver (units (1 + words (shapes p.unit) t)) (into place rest) (at (record { region = heap; path = part_count c.state.heap_values ∷ [] })) w
       (with_state c (with_object (zero_of (shapes p.unit) t) (words (shapes p.unit) t) c.state))
 
   -- A `new`: null where the heap has no room, else an object of its own
   pub by_new : (span : Span) (place : CExpr) (t : CTy) (ty_span : Span) (rest : CStmts) (w : List Work) (c : Configuration W E) (n : ℕ) (full : Bool) (Q : Post)
       → nat_lt p.heap (c.state.heap_words + words (shapes p.unit) (ty_of t)) ≡ full
       → (full ≡ true → Ends p n (finish place null rest ∷ w) c Q)
-      → (full ≡ false → Ends p n (finish place (at (record { region = heap; path = parts c.state.heap_values ∷ [] })) rest ∷ w)
+      → (full ≡ false → Ends p n (finish place (at (record { region = heap; path = part_count c.state.heap_values ∷ [] })) rest ∷ w)
       (with_state c (with_object (zero_of (shapes p.unit) (ty_of t)) (words (shapes p.unit) (ty_of t)) c.state)) Q)
       → Ends p (1 + words (shapes p.unit) (ty_of t) + n) (act_on (new span place t ty_span) rest ∷ w) c Q
   by_new span place t ty_span rest w c n full Q e none some = by full none some (ap (made place (ty_of t) rest w c) e)
     where
       by : (b : Bool) → (b ≡ true → Ends p n (finish place null rest ∷ w) c Q)
-          → (b ≡ false → Ends p n (finish place (at (record { region = heap; path = parts c.state.heap_values ∷ [] })) rest ∷ w)
+          → (b ≡ false → Ends p n (finish place (at (record { region = heap; path = part_count c.state.heap_values ∷ [] })) rest ∷ w)
           (with_state c (with_object (zero_of (shapes p.unit) (ty_of t)) (words (shapes p.unit) (ty_of t)) c.state)) Q)
           → act p (act_on (new span place t ty_span) rest) w c ≡ made place (ty_of t) rest w c b → Ends p (1 + words (shapes p.unit) (ty_of t) + n) (act_on (new span place t ty_span) rest ∷ w) c Q
       by true none some e =
           one (act_on (new span place t ty_span) rest) w c (units 1) (finish place null rest ∷ w) c (1 + words (shapes p.unit) (ty_of t)) n Q e (omega arith) (omega arith) (none refl)
       by false none some e =
-          one (act_on (new span place t ty_span) rest) w c (units (1 + words (shapes p.unit) (ty_of t))) (finish place (at (record { region = heap; path = parts c.state.heap_values ∷ [] })) rest ∷ w)
+          one (act_on (new span place t ty_span) rest) w c (units (1 + words (shapes p.unit) (ty_of t))) (finish place (at (record { region = heap; path = part_count c.state.heap_values ∷ [] })) rest ∷ w)
           (with_state c (with_object (zero_of (shapes p.unit) (ty_of t)) (words (shapes p.unit) (ty_of t)) c.state)) (1 + words (shapes p.unit) (ty_of t)) n Q e (omega arith) (omega arith) (some refl)

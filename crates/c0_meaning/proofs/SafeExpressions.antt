@@ -15,21 +15,21 @@ use Rattle.c0_tree.specs.declared.tree.BinaryOp.{BinaryOp}
 use Rattle.c0_tree.specs.declared.tree.BinaryOp.TheVariants.{Add, Sub, Mul, Div, Rem, Lt, Le, Gt, Ge, Eq, Ne}
 use Rattle.c0_tree.specs.Tree.{CName, CExpr, var, field, arrow}
 use Rattle.c0_tree.specs.Plain.{is_plain_expr}
-use Rattle.c0_meaning.proofs.Found.{found_there, got_mapped}
+use Rattle.c0_meaning.proofs.SearchByName.{found_there, got_mapped}
 use Rattle.c0_meaning.specs.Ty.{Ty}
 use Rattle.c0_meaning.specs.Ty as ty
 use Rattle.c0_meaning.specs.Env.{Env, Typed, Variable, variable_of, variable_named, field_named, first_named}
 use Rattle.c0_meaning.specs.Words.{fields_named}
-use Rattle.c0_meaning.specs.Expression.{is_place, is_local, is_local_kind, type_of, member, target, resolved, numbered_variable, numbered_field}
+use Rattle.c0_meaning.specs.Expression.{is_lvalue, is_local, is_local_kind, type_of, member, target, resolved, numbered_variable, numbered_field}
 use Rattle.c0_meaning.specs.Judgement.{IsArithmetic, add, sub, mul, div, rem, IsOrder, lt, le, gt, ge, IsEquality, eq, ne, IsLogical, and, or, HasType, a_number, a_true, a_false, a_variable, a_field, a_target_field, an_element, a_target, an_address, a_negative, a_negation, arithmetic, order, logic, equality, null_left, null_right, IsGiven, a_value, a_null}
 use Rattle.c0_meaning.specs.Rules.{AreGiven, none, more}
 use Rattle.c0_meaning.proofs.Typed.{typed_is_faultless}
 use Rattle.cvm_words.specs.Words.{quotient, remainder, word_of}
 use Rattle.c0_meaning.specs.Value.{Region, globals, heap, locals, Location, Value, int, bool, null, at, group, Values, count, below}
-use Rattle.c0_meaning.specs.State.{State, variables_of, read}
+use Rattle.c0_meaning.specs.State.{C0State, variables_of, read}
 use Rattle.c0_meaning.specs.Operators.{Failure, Bounds, faulted, stuck, on_unary, on_binary, divided}
-use Rattle.c0_meaning.specs.Evaluation.{Costed, costs, at_no_cost, paying, ◌>>=◌, bool_of, variable_location, behind, element_of, truth, both, loaded, indexed, field_of, pointed, value_of, place_of, values_of}
-use Rattle.c0_meaning.specs.TypedState.{Layout, types_of, Leads, LeadsFrom, PointsTo, Fits, AllFit, AreParts}
+use Rattle.c0_meaning.specs.Evaluation.{Costed, costs, at_no_cost, paying, ◌>>=◌, bool_of, variable_location, pointed_to, element_of, truth, both, load_from, indexed, field_of, pointed, value_of, place_of, values_of}
+use Rattle.c0_meaning.specs.TypedState.{StoreTyping, types_of, PathLeads, LeadsFrom, PointsTo, Fits, AllFit, AreParts}
 use Rattle.c0_meaning.proofs.Parts.{Has, get_parts, leads_from_on, points_on, length_fits}
 use Rattle.c0_meaning.proofs.Ranges.{small, int_of_fits, remainder_fits}
 
@@ -79,37 +79,37 @@ field_is : (f : CName) (o : Option (ℕ × Typed)) (found : ℕ × Typed) → o 
 field_is f o found e q = sym (ap (λ n. n.number) (sym (ap (numbered_field f) e) ∙ q))
 
 -- a state in which a function with this environment runs
-pub record SafeState (env : Env) (layout : Layout) (s : State) : Type 0 where
+pub record SafeState (env : Env) (layout : StoreTyping) (s : C0State) : Type 0 where
   pub globals_are : layout.globals ≡ types_of env.globals
   pub global_values : AreParts env.structs layout layout.globals s.global_values
   pub heap_values : AreParts env.structs layout layout.objects s.heap_values
   pub local_values : AreParts env.structs layout (types_of env.locals) (variables_of s.frames)
 
 -- a location of a type
-abbrev pub Stands : Env → Layout → Region → List ℕ → Ty → Type 0
+abbrev pub Stands : Env → StoreTyping → Region → List ℕ → Ty → Type 0
 Stands env layout globals path t = LeadsFrom env.structs layout.globals path t
 Stands env layout heap path t = LeadsFrom env.structs layout.objects path t
 Stands env layout locals path t = LeadsFrom env.structs (types_of env.locals) path t
 
 -- a location of a type, where a pointer may lead unless it is local
-pub record IsAt (env : Env) (layout : Layout) (local : Bool) (t : Ty) (l : Location) : Type 0 where
+pub record IsAt (env : Env) (layout : StoreTyping) (local : Bool) (t : Ty) (l : Location) : Type 0 where
   pub stands : Stands env layout l.region l.path t
   pub away : local ≡ false → PointsTo env.structs layout l.region l.path t
 
-pub pointed_stands : (env : Env) (layout : Layout) (r : Region) (path : List ℕ) (t : Ty) → PointsTo env.structs layout r path t → Stands env layout r path t
+pub pointed_stands : (env : Env) (layout : StoreTyping) (r : Region) (path : List ℕ) (t : Ty) → PointsTo env.structs layout r path t → Stands env layout r path t
 pointed_stands env layout globals path t h = h
 pointed_stands env layout heap path t h = h
 pointed_stands env layout locals path t h = absurd h
 
-stands_on : (env : Env) (layout : Layout) (r : Region) (path : List ℕ) (u : Ty) (i : ℕ) (w : Ty) → Stands env layout r path u → Leads env.structs u (i ∷ []) w → Stands env layout r (path ++ i ∷ []) w
+stands_on : (env : Env) (layout : StoreTyping) (r : Region) (path : List ℕ) (u : Ty) (i : ℕ) (w : Ty) → Stands env layout r path u → PathLeads env.structs u (i ∷ []) w → Stands env layout r (path ++ i ∷ []) w
 stands_on env layout globals path u i w h g = leads_from_on env.structs layout.globals path u i w h g
 stands_on env layout heap path u i w h g = leads_from_on env.structs layout.objects path u i w h g
 stands_on env layout locals path u i w h g = leads_from_on env.structs (types_of env.locals) path u i w h g
 
-below_is : (env : Env) (layout : Layout) (local : Bool) (u : Ty) (l : Location) (i : ℕ) (w : Ty) → IsAt env layout local u l → Leads env.structs u (i ∷ []) w → IsAt env layout local w (below l i)
+below_is : (env : Env) (layout : StoreTyping) (local : Bool) (u : Ty) (l : Location) (i : ℕ) (w : Ty) → IsAt env layout local u l → PathLeads env.structs u (i ∷ []) w → IsAt env layout local w (below l i)
 below_is env layout local u l i w h g = record { stands = stands_on env layout l.region l.path u i w h.stands g; away = λ e. points_on env.structs layout l.region l.path u i w (h.away e) g }
 
-module _ (env : Env) (layout : Layout) (s : State) (scene : SafeState env layout s) where
+module _ (env : Env) (layout : StoreTyping) (s : C0State) (scene : SafeState env layout s) where
   abbrev ValueOf : Ty → Value → Type 0
   ValueOf t v = Fits env.structs layout t v
 
@@ -121,7 +121,7 @@ module _ (env : Env) (layout : Layout) (s : State) (scene : SafeState env layout
   found_good : (t : Ty) (o : Option Value) → Has env.structs layout o t → Good (ValueOf t) (at_no_cost (ok_or o stuck))
   found_good t o h = subst (λ p. Good (ValueOf t) (at_no_cost (ok_or p stuck))) (sym h.is) h.fits
 
-  loads : (local : Bool) (t : Ty) (e : Costed Location) → Good (IsAt env layout local t) e → Good (ValueOf t) (loaded s e)
+  loads : (local : Bool) (t : Ty) (e : Costed Location) → Good (IsAt env layout local t) e → Good (ValueOf t) (load_from s e)
   loads local t e h = binds (IsAt env layout local t) (ValueOf t) e _ h (λ l g. found_good t (read s l) (read_at l.region l.path t g.stands))
 
   by_kind : (k : Kind) (n : ℕ) (t : Ty) (local : Bool) → (kind : Kind) → k ≡ kind → Good (IsAt env layout local t) (at_no_cost (variable_location kind n)) → Good (IsAt env layout local t) (at_no_cost (variable_location k n))
@@ -153,7 +153,7 @@ module _ (env : Env) (layout : Layout) (s : State) (scene : SafeState env layout
   pointed_good : (t : Ty) (e : Costed Value) → Good (ValueOf (ty.pointer t)) e → Good (IsAt env layout false t) (pointed e)
   pointed_good t e h = binds (ValueOf (ty.pointer t)) (IsAt env layout false t) e _ h by_value
     where
-      by_value : (v : Value) → ValueOf (ty.pointer t) v → Good (IsAt env layout false t) (at_no_cost (behind v))
+      by_value : (v : Value) → ValueOf (ty.pointer t) v → Good (IsAt env layout false t) (at_no_cost (pointed_to v))
       by_value null g = tt
       by_value (at l) g = record { stands = pointed_stands env layout l.region l.path t g; away = λ e. g }
       by_value (int z) g = absurd g
@@ -274,19 +274,19 @@ module _ (env : Env) (layout : Layout) (s : State) (scene : SafeState env layout
     value_good _ _ a_false q p = tt
     value_good _ _ (a_variable {x = x} {v = v} h) q p =
         let r : numbered_variable x (variable_named env x.text) ≡ x = cc in
-        pays (ValueOf v.ty) 1 (loaded s (at_no_cost (variable_location x.kind x.number))) (loads (is_local env (var x)) v.ty (at_no_cost (variable_location x.kind x.number)) (variable_good x v h r))
+        pays (ValueOf v.ty) 1 (load_from s (at_no_cost (variable_location x.kind x.number))) (loads (is_local env (var x)) v.ty (at_no_cost (variable_location x.kind x.number)) (variable_good x v h r))
     value_good _ _ (a_field {e = e} {f = f} {x = x} {found = found} pl h n) q p =
-        pays (ValueOf found.1.ty) 1 (loaded s (field_of f (place_of e s))) (loads (is_local env e) found.1.ty (field_of f (place_of e s)) (let r : resolved env e ≡ e = cc in part_good _ e f x found h n q (place_good e (ty.named x) h pl r p)))
+        pays (ValueOf found.1.ty) 1 (load_from s (field_of f (place_of e s))) (loads (is_local env e) found.1.ty (field_of f (place_of e s)) (let r : resolved env e ≡ e = cc in part_good _ e f x found h n q (place_good e (ty.named x) h pl r p)))
     value_good _ _ (a_target_field {e = e} {f = f} {x = x} {found = found} h n) q p =
-        pays (ValueOf found.1.ty) 1 (loaded s (field_of f (pointed (value_of e s)))) (loads false found.1.ty (field_of f (pointed (value_of e s))) (let r : resolved env e ≡ e = cc in target_good _ e f x found h n q (value_good e (ty.pointer (ty.named x)) h r p)))
+        pays (ValueOf found.1.ty) 1 (load_from s (field_of f (pointed (value_of e s)))) (loads false found.1.ty (field_of f (pointed (value_of e s))) (let r : resolved env e ≡ e = cc in target_good _ e f x found h n q (value_good e (ty.pointer (ty.named x)) h r p)))
     value_good _ _ (an_element {e = e} {i = i} {t = t} {n = n} pl h g) q p =
-        pays (ValueOf t) 1 (loaded s (indexed s (place_of e s) (value_of i s))) (loads (is_local env e) t (indexed s (place_of e s) (value_of i s)) (let r : resolved env e ≡ e = cc in
+        pays (ValueOf t) 1 (load_from s (indexed s (place_of e s) (value_of i s))) (loads (is_local env e) t (indexed s (place_of e s) (value_of i s)) (let r : resolved env e ≡ e = cc in
         let w : resolved env i ≡ i = cc in
         let c = and_parts (is_plain_expr e) (is_plain_expr i) p in
         indexed_good (is_local env e) t n (place_of e s) (value_of i s) (place_good e (ty.array t n) h pl r c.0) (value_good i ty.int g w c.1)))
     value_good _ _ (a_target {e = e} {t = t} h) q p =
         let r : resolved env e ≡ e = cc in
-        pays (ValueOf t) 1 (loaded s (pointed (value_of e s))) (loads false t (pointed (value_of e s)) (pointed_good t (value_of e s) (value_good e (ty.pointer t) h r p)))
+        pays (ValueOf t) 1 (load_from s (pointed (value_of e s))) (loads false t (pointed (value_of e s)) (pointed_good t (value_of e s) (value_good e (ty.pointer t) h r p)))
     value_good _ _ (an_address {e = e} {t = t} pl away h) q p =
         let r : resolved env e ≡ e = cc in
         pays (ValueOf (ty.pointer t)) 1 (place_of e s >>= λ l. at_no_cost (Ok (at l)))
@@ -325,7 +325,7 @@ module _ (env : Env) (layout : Layout) (s : State) (scene : SafeState env layout
         let c = and_parts (is_plain_expr a) true p in
         pays (ValueOf ty.bool) 1 (both o (value_of a s) (costs 1 (Ok null))) (equality_good o k (ty.pointer t) (ty.pointer t) (value_of a s) (costs 1 (Ok null)) (value_good a (ty.pointer t) h r c.0) tt)
 
-    pub place_good : (e : CExpr) (t : Ty) → HasType env e t → IsTrue (is_place e) → resolved env e ≡ e → is_plain_expr e ≡ true → Good (IsAt env layout (is_local env e) t) (place_of e s)
+    pub place_good : (e : CExpr) (t : Ty) → HasType env e t → IsTrue (is_lvalue e) → resolved env e ≡ e → is_plain_expr e ≡ true → Good (IsAt env layout (is_local env e) t) (place_of e s)
     place_good _ _ (a_variable {x = x} {v = v} h) there q p =
         let r : numbered_variable x (variable_named env x.text) ≡ x = cc in
         pays (IsAt env layout (is_local env (var x)) v.ty) 1 (at_no_cost (variable_location x.kind x.number)) (variable_good x v h r)

@@ -14,11 +14,11 @@ use Rattle.c0_meaning.specs.State.{first_state}
 use Rattle.c0_meaning.specs.Operators.{faulted, stuck}
 use Rattle.c0_meaning.specs.World.{Setting, journal}
 use Rattle.c0_meaning.specs.Execution.{Outcome, Done, Failed, NotYet, call_first}
-use Rattle.c0_meaning.specs.TypedState.{Layout, types_of, AllFit, layout_of, IsScalar, AnswersFit, IsSafe}
-use Rattle.c0_meaning.specs.UserProgram.{user_primitives, trap, is_main, Seen, up_to, seen}
+use Rattle.c0_meaning.specs.TypedState.{StoreTyping, types_of, AllFit, store_typing, IsScalar, AnswersFit, RunIsSafe}
+use Rattle.c0_meaning.specs.UserProgram.{user_primitives, trap, is_main, Seen, up_to, outcome_seen}
 use Rattle.c0_meaning.specs.RunLaws.{IsNotStuck, ProgramsAreSafe}
 use Rattle.c0_meaning.proofs.FirstFunction.{position_found}
-use Rattle.c0_meaning.proofs.Safe.{first_is_typed, same_row}
+use Rattle.c0_meaning.proofs.CallsAreSafe.{first_is_typed, same_row}
 use Rattle.c0_meaning.proofs.SafeRuns.{first_call_safe}
 
 int_fits : (z : ℤ) → is_int z ≡ true → FitsSigned w32 z
@@ -40,7 +40,7 @@ others_right (z ∷ answers) n args e = (and_parts (is_int z) (list_all is_int a
 traps_fit : AnswersFit (λ answers. list_all is_int answers) user_primitives trap
 traps_fit = record { answer = λ n row args w e a r. trap_answers n row args w e r; world = λ n row args w e a r. others_right w n args r }
 
-no_params : (structs : List Shape) (layout : Layout) (ds : List CDecl) → length ds ≡ 0 → AllFit structs layout (types_of (map typed_of ds)) empty
+no_params : (structs : List Shape) (layout : StoreTyping) (ds : List CDecl) → length ds ≡ 0 → AllFit structs layout (types_of (map typed_of ds)) empty
 no_params structs layout [] e = tt
 no_params structs layout (d ∷ ds) e = absurd (omega (arith, e))
 
@@ -48,11 +48,11 @@ cut : (b : Bool) (s t : Seen) → IsNotStuck s.ending → IsNotStuck t.ending �
 cut true s t h g = h
 cut false s t h g = g
 
-seen_safe : (u : CUnit) (answers : List ℤ) (o : Outcome (List ℤ) ℤ) → IsSafe (λ ws. list_all is_int ws) u o → IsNotStuck (up_to answers (seen o)).ending
-seen_safe u answers (Done k c) h = cut (nat_lt (length answers) (length (journal c))) _ (seen (Done k c)) tt tt
-seen_safe u answers (Failed k (faulted f) c) h = cut (nat_lt (length answers) (length (journal c))) _ (seen (Failed k (faulted f) c)) tt tt
+seen_safe : (u : CUnit) (answers : List ℤ) (o : Outcome (List ℤ) ℤ) → RunIsSafe (λ ws. list_all is_int ws) u o → IsNotStuck (up_to answers (outcome_seen o)).ending
+seen_safe u answers (Done k c) h = cut (nat_lt (length answers) (length (journal c))) _ (outcome_seen (Done k c)) tt tt
+seen_safe u answers (Failed k (faulted f) c) h = cut (nat_lt (length answers) (length (journal c))) _ (outcome_seen (Failed k (faulted f) c)) tt tt
 seen_safe u answers (Failed k stuck c) h = absurd h
-seen_safe u answers (NotYet k c) h = cut (nat_lt (length answers) (length (journal c))) _ (seen (NotYet k c)) tt tt
+seen_safe u answers (NotYet k c) h = cut (nat_lt (length answers) (length (journal c))) _ (outcome_seen (NotYet k c)) tt tt
 
 pub programs_are_safe : ProgramsAreSafe
 programs_are_safe u answers n well main ints =
@@ -61,6 +61,6 @@ programs_are_safe u answers n well main ints =
     let setting : Setting (List ℤ) ℤ = record { unit = u; heap = 1024; stack = 1024; meaning = trap } in
     let typed = first_is_typed user_primitives u well in
     seen_safe u answers (call_first setting n (unwrap_or (position is_main u.functions) 0) empty (first_state u) answers)
-    (subst (λ m. IsSafe (λ ws. list_all is_int ws) u (call_first setting n m empty (first_state u) answers)) (sym (ap (λ o. unwrap_or o 0) p.1))
+    (subst (λ m. RunIsSafe (λ ws. list_all is_int ws) u (call_first setting n m empty (first_state u) answers)) (sym (ap (λ o. unwrap_or o 0) p.1))
     (first_call_safe (List ℤ) ℤ user_primitives setting (λ ws. list_all is_int ws) well traps_fit typed.0 n p.0.number p.0.function empty (first_state u) answers p.0.there typed.1 typed.2
-    (no_params (shapes u) (layout_of u typed.0) p.0.function.params none) ints))
+    (no_params (shapes u) (store_typing u typed.0) p.0.function.params none) ints))

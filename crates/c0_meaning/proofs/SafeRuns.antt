@@ -12,7 +12,7 @@ use Rattle.c0_meaning.specs.Ty as ty
 use Rattle.c0_meaning.specs.Env.{Env, Shape, Callee, callee_named, typed_of, scalar_ty}
 use Rattle.c0_meaning.specs.DeclaredTypes.{type_faults, may_pass}
 use Rattle.c0_meaning.specs.Expression.{is_local, resolved}
-use Rattle.c0_meaning.specs.Limits.{locals_of, frame, is_asm}
+use Rattle.c0_meaning.specs.Limits.{locals_of, words_of_frame, is_asm}
 use Rattle.c0_meaning.specs.Resolved.{resolved_type}
 use Rattle.c0_meaning.specs.Rules.{AreGiven, IsTyped, an_assignment, a_call, an_object, a_choice, a_loop}
 use Rattle.c0_meaning.specs.Sound.{shapes}
@@ -20,17 +20,17 @@ use Rattle.c0_meaning.specs.Statement.{numbered_callee, stmt_resolved, stmts_res
 use Rattle.c0_meaning.specs.Typed.{IsTypedUnit, IsTypedBody, IsDeclarable}
 use Rattle.c0_meaning.specs.Unit.{IsWellFormed, resolved_body}
 use Rattle.c0_meaning.specs.Words.{words}
-use Rattle.c0_meaning.proofs.Ty.{equal-same_ty}
+use Rattle.c0_meaning.proofs.TypeEquality.{equal-same_ty}
 use Rattle.c0_meaning.proofs.Units.{none_type, units_are_faultless}
-use Rattle.c0_meaning.specs.Value.{Region, globals, heap, locals, Value, int, null, at, group, Values, followed_by, parts, with_part, zero_of, zeros_of}
-use Rattle.c0_meaning.specs.State.{Frame, State, write, stack_words}
+use Rattle.c0_meaning.specs.Value.{Region, globals, heap, locals, Value, int, null, at, group, Values, followed_by, part_count, with_part, zero_of, zeros_of}
+use Rattle.c0_meaning.specs.State.{Frame, C0State, write, stack_words}
 use Rattle.c0_meaning.specs.Operators.{StackOut, faulted, stuck}
 use Rattle.c0_meaning.specs.Evaluation.{Costed, costs, at_no_cost, truth, value_of, place_of, values_of}
 use Rattle.c0_meaning.specs.AsmBody.{asm_result}
 use Rattle.c0_meaning.specs.World.{Setting, Cost, units, plus, total, Configuration, call_cost, after_call, beginning}
 use Rattle.c0_meaning.specs.Running.{Target, into, outward, Work, act_on, finish, again, leave, begin, Step, Go, Stop, push, then_go, store, deliver, enter, call_function, call_with, allocate, test_loop, act_statement, act}
 use Rattle.c0_meaning.specs.Execution.{Outcome, Failed, NotYet, then_run, run, call_first}
-use Rattle.c0_meaning.specs.TypedState.{Layout, types_of, Fits, AllFit, variable_types, IsTypedFrame, layout_of, IsTypedWith, AreDeclared, AnswersFit, IsSafeAt, IsSafe, Answers}
+use Rattle.c0_meaning.specs.TypedState.{StoreTyping, types_of, Fits, AllFit, variable_types, IsTypedFrame, store_typing, IsTypedWith, AreDeclared, AnswersFit, IsSafeAt, RunIsSafe, AnswersTyped}
 use Rattle.c0_meaning.proofs.Fields.{zero_fits, zeros_fit}
 use Rattle.c0_meaning.proofs.Parts.{fits_more, joined_fit}
 use Rattle.c0_meaning.proofs.Ranges.{int_of_fits}
@@ -45,7 +45,7 @@ Awaits first primitives u goes t (into place rest) work (g ∷ fs) =
     (h : CFunction) × (slice_get u.functions g.function ≡ Some h) × RightPlace (env_in primitives u h) place t × RightStatements (env_in primitives u h) rest × goes h fs
 Awaits first primitives u goes t _ work fs = ⊥
 
-abbrev Goes : (first : Ty) (primitives : List CPrimitive) (u : CUnit) → Layout → List Work → CFunction → List Frame → Type 0
+abbrev Goes : (first : Ty) (primitives : List CPrimitive) (u : CUnit) → StoreTyping → List Work → CFunction → List Frame → Type 0
 Goes first primitives u layout [] f fs = ⊥
 Goes first primitives u layout (act_on s rest ∷ work) f fs = RightStatement (env_in primitives u f) s × RightStatements (env_in primitives u f) rest × Goes first primitives u layout work f fs
 Goes first primitives u layout (finish place v rest ∷ work) f fs =
@@ -57,25 +57,25 @@ Goes first primitives u layout (leave answer target ∷ work) f fs =
 Goes first primitives u layout (begin n args ∷ work) f fs = ⊥
 
 -- what is left to do in a state with these frames
-abbrev AtEnds : (first : Ty) → CUnit → Layout → List Work → Type 0
+abbrev AtEnds : (first : Ty) → CUnit → StoreTyping → List Work → Type 0
 AtEnds first u layout [] = Unit {0}
 AtEnds first u layout (begin n args ∷ []) =
     (f : CFunction) × (slice_get u.functions n ≡ Some f) × AllFit (shapes u) layout (types_of (map typed_of f.params)) args × (ty_of f.answer ≡ first)
 AtEnds first u layout _ = ⊥
 
-abbrev Ready : (first : Ty) → List CPrimitive → CUnit → Layout → List Work → List Frame → Type 0
+abbrev Ready : (first : Ty) → List CPrimitive → CUnit → StoreTyping → List Work → List Frame → Type 0
 Ready first primitives u layout work [] = AtEnds first u layout work
 Ready first primitives u layout work (g ∷ fs) = (f : CFunction) × (slice_get u.functions g.function ≡ Some f) × Goes first primitives u layout work f fs
 
-push_goes : (first : Ty) (primitives : List CPrimitive) (u : CUnit) (layout : Layout) (f : CFunction) (fs : List Frame) (rest : CStmts) (work : List Work) → RightStatements (env_in primitives u f) rest → Goes first primitives u layout work f fs → Goes first primitives u layout (push rest work) f fs
+push_goes : (first : Ty) (primitives : List CPrimitive) (u : CUnit) (layout : StoreTyping) (f : CFunction) (fs : List Frame) (rest : CStmts) (work : List Work) → RightStatements (env_in primitives u f) rest → Goes first primitives u layout work f fs → Goes first primitives u layout (push rest work) f fs
 push_goes first primitives u layout f fs done work h g = g
 push_goes first primitives u layout f fs (next s rest) work h g = let r = first_right (env_in primitives u f) s rest h in (r.0, r.1, g)
 
 -- values that work holds fit with more objects too
-goes_more : (first : Ty) (primitives : List CPrimitive) (u : CUnit) (objects more : List Ty) (work : List Work) (f : CFunction) (fs : List Frame) → Goes first primitives u (layout_of u objects) work f fs → Goes first primitives u (layout_of u (objects ++ more)) work f fs
+goes_more : (first : Ty) (primitives : List CPrimitive) (u : CUnit) (objects more : List Ty) (work : List Work) (f : CFunction) (fs : List Frame) → Goes first primitives u (store_typing u objects) work f fs → Goes first primitives u (store_typing u (objects ++ more)) work f fs
 goes_more first primitives u objects more [] f fs h = absurd h
 goes_more first primitives u objects more (act_on s rest ∷ work) f fs h = (h.0, h.1, goes_more first primitives u objects more work f fs h.2)
-goes_more first primitives u objects more (finish place v rest ∷ work) f fs h = (h.0, h.1, fits_more (shapes u) (layout_of u objects) more h.0 v h.2, h.3, goes_more first primitives u objects more work f fs h.4)
+goes_more first primitives u objects more (finish place v rest ∷ work) f fs h = (h.0, h.1, fits_more (shapes u) (store_typing u objects) more h.0 v h.2, h.3, goes_more first primitives u objects more work f fs h.4)
 goes_more first primitives u objects more (again test body rest ∷ work) f fs h = (h.0, h.1, h.2, goes_more first primitives u objects more work f fs h.3)
 goes_more first primitives u objects more (leave answer outward ∷ []) f [] h = h
 goes_more first primitives u objects more (leave answer (into place rest) ∷ work) f (g ∷ fs) h = (h.0, (h.1.0, h.1.1, h.1.2, h.1.3, goes_more first primitives u objects more work h.1.0 fs h.1.4))
@@ -94,16 +94,16 @@ declared_more structs (y ∷ ys) t d a (suc i) x e = declared_more structs ys t 
 module _ (W E : Type 0) (primitives : List CPrimitive) (p : Setting W E) (is_right : W → Bool) (well : IsWellFormed primitives p.unit) (answers : AnswersFit is_right primitives p.meaning) (first : Ty) where
   -- where nothing is left to do, the first function has answered a value of its type
   abbrev Answered : List Ty → List Work → Option Value → Type 0
-  Answered objects [] answer = (v : Value) × (answer ≡ Some v) × Fits (shapes p.unit) (layout_of p.unit objects) first v
+  Answered objects [] answer = (v : Value) × (answer ≡ Some v) × Fits (shapes p.unit) (store_typing p.unit objects) first v
   Answered objects (item ∷ work) answer = Unit {0}
 
   -- the function of the newest frame has something left to do
-  unanswered : (objects : List Ty) (work : List Work) (f : CFunction) (fs : List Frame) (answer : Option Value) → Goes first primitives p.unit (layout_of p.unit objects) work f fs → Answered objects work answer
+  unanswered : (objects : List Ty) (work : List Work) (f : CFunction) (fs : List Frame) (answer : Option Value) → Goes first primitives p.unit (store_typing p.unit objects) work f fs → Answered objects work answer
   unanswered objects [] f fs answer h = absurd h
   unanswered objects (item ∷ work) f fs answer h = tt
 
   -- a typed state, whose objects have types that may be declared
-  abbrev Declared : List Ty → State → Type 0
+  abbrev Declared : List Ty → C0State → Type 0
   Declared objects s = IsTypedWith p.unit objects s × AreDeclared (shapes p.unit) objects
 
   -- a typed state, and work that is ready for it
@@ -111,7 +111,7 @@ module _ (W E : Type 0) (primitives : List CPrimitive) (p : Setting W E) (is_rig
     objects : List Ty
     answered : Answered objects work c.answer
     typed : Declared objects c.state
-    ready : Ready first primitives p.unit (layout_of p.unit objects) work c.state.frames
+    ready : Ready first primitives p.unit (store_typing p.unit objects) work c.state.frames
     right : IsTrue (is_right c.world)
 
   abbrev SafeStep : Step W E → Type 0
@@ -128,14 +128,14 @@ module _ (W E : Type 0) (primitives : List CPrimitive) (p : Setting W E) (is_rig
   either_safe true x y h g = h
   either_safe false x y h g = g
 
-  abbrev state_of : Value → Value → ℕ → List Frame → State
+  abbrev state_of : Value → Value → ℕ → List Frame → C0State
   state_of gv hv hw frames = record { global_values = gv; heap_values = hv; heap_words = hw; frames = frames }
 
   abbrev standing_at : Value → Value → ℕ → List Frame → W → List (List E) → Option Value → Configuration W E
   standing_at gv hv hw frames world calls answer = record { state = state_of gv hv hw frames; world = world; calls = calls; answer = answer }
 
-  abbrev lay : List Ty → Layout
-  lay objects = layout_of p.unit objects
+  abbrev lay : List Ty → StoreTyping
+  lay objects = store_typing p.unit objects
 
   abbrev WaitsFor : List Ty → Ty → Target → List Work → List Frame → Type 0
   WaitsFor objects t target work frames = Awaits first primitives p.unit (λ h gs. Goes first primitives p.unit (lay objects) work h gs) t target work frames
@@ -202,8 +202,8 @@ module _ (W E : Type 0) (primitives : List CPrimitive) (p : Setting W E) (is_rig
   called objects gv hv hw frames world calls answer k n h args target work typed right is fits waits =
       goes_safe (λ x. x ≡ h) (plus k (units 1)) (standing_at gv hv hw frames world calls answer) (at_no_cost (ok_or (slice_get p.unit.functions n) stuck)) _
       (subst (λ o. Good (λ x. x ≡ h) (at_no_cost (ok_or o stuck))) (sym is) refl) ((objects, typed.0, typed.1), right)
-      (λ j x q. subst (λ y. SafeStep (if nat_lt p.stack (stack_words p.unit frames + frame (shapes p.unit) y) then Stop j (faulted StackOut) (standing_at gv hv hw frames world calls answer) else enter p j n y.body args target work (standing_at gv hv hw frames world calls answer))) (sym q)
-      (either_safe (nat_lt p.stack (stack_words p.unit frames + frame (shapes p.unit) h)) _ _ ((objects, typed.0, typed.1), right)
+      (λ j x q. subst (λ y. SafeStep (if nat_lt p.stack (stack_words p.unit frames + words_of_frame (shapes p.unit) y) then Stop j (faulted StackOut) (standing_at gv hv hw frames world calls answer) else enter p j n y.body args target work (standing_at gv hv hw frames world calls answer))) (sym q)
+      (either_safe (nat_lt p.stack (stack_words p.unit frames + words_of_frame (shapes p.unit) h)) _ _ ((objects, typed.0, typed.1), right)
       (entered objects gv hv hw frames world calls answer j n h args target work h.body refl typed right is fits waits)))
 
   -- the work of the function of the newest frame
@@ -293,7 +293,7 @@ module _ (W E : Type 0) (primitives : List CPrimitive) (p : Setting W E) (is_rig
         either_safe (nat_lt p.heap (hw + words (shapes p.unit) (ty_of t))) _ _
         (delivered objects gv hv hw (g ∷ fs) world calls answer (units 1) (ty.pointer (ty_of t)) (into place rest) null work typed right tt (f, is, h, more, left))
         (delivered (objects ++ ty_of t ∷ []) gv (with_part hv (zero_of (shapes p.unit) (ty_of t))) (hw + words (shapes p.unit) (ty_of t)) (g ∷ fs) world calls answer (units (1 + words (shapes p.unit) (ty_of t))) (ty.pointer (ty_of t)) (into place rest)
-        (at (record { region = heap; path = parts hv ∷ [] })) work
+        (at (record { region = heap; path = part_count hv ∷ [] })) work
         (allocated primitives p.unit objects gv hv hw (hw + words (shapes p.unit) (ty_of t)) (g ∷ fs) (ty_of t) (zero_of (shapes p.unit) (ty_of t)) typed.0 (zero_fits p.unit.structs typed_unit.structs (lay (objects ++ ty_of t ∷ [])) t there.known), declared_more (shapes p.unit) objects t there typed.1) right
         (objects_count primitives p.unit objects hv (ty_of t) typed.0.heap_values)
         (f, is, h, more, goes_more first primitives p.unit objects (ty_of t ∷ []) work f fs left))
@@ -379,7 +379,7 @@ module _ (W E : Type 0) (primitives : List CPrimitive) (p : Setting W E) (is_rig
 
   -- so is the end of a run, with an answer of that type where it is done
   abbrev Ends : Outcome W E → Type 0
-  Ends o = IsSafe is_right p.unit o × Answers p.unit first o
+  Ends o = RunIsSafe is_right p.unit o × AnswersTyped p.unit first o
 
   runs_on : (t : Step W E) (l : ℕ) (used : Cost) (c : Configuration W E) (go : Cost → List Work → Configuration W E → Outcome W E) → IsSafeAt is_right p.unit c → SafeStep t → ((k : Cost) (w : List Work) (d : Configuration W E) → Stays w d → Ends (go k w d)) → Ends (then_run t l used c go)
   runs_on (Go k w d) l used c go s h rest = by_test (nat_lt l (total (plus used k)))
@@ -399,19 +399,19 @@ module _ (W E : Type 0) (primitives : List CPrimitive) (p : Setting W E) (is_rig
   runs_safe (suc steps) l used [] c h = (stays_safe [] c h, (h.objects, h.typed.0, h.answered))
   runs_safe (suc steps) l used (item ∷ work) c h = runs_on (act p item work c) l used c (run p steps l) (stays_safe (item ∷ work) c h) (acts_safe item work c h) (λ k w d s. runs_safe steps l k w d s)
 
-  no_frames : (layout : Layout) → All (IsTypedFrame p.unit layout) []
+  no_frames : (layout : StoreTyping) → All (IsTypedFrame p.unit layout) []
   no_frames layout k d h = absurd (omega (arith, h))
 
-  first_call_ends : (objects : List Ty) (n number : ℕ) (f : CFunction) (args : Values) (s : State) (world : W) → slice_get p.unit.functions number ≡ Some f → ty_of f.answer ≡ first → Declared objects s → AllFit (shapes p.unit) (lay objects) (types_of (map typed_of f.params)) args → IsTrue (is_right world) → Ends (call_first p n number args s world)
+  first_call_ends : (objects : List Ty) (n number : ℕ) (f : CFunction) (args : Values) (s : C0State) (world : W) → slice_get p.unit.functions number ≡ Some f → ty_of f.answer ≡ first → Declared objects s → AllFit (shapes p.unit) (lay objects) (types_of (map typed_of f.params)) args → IsTrue (is_right world) → Ends (call_first p n number args s world)
   first_call_ends objects n number f args s world is gives typed fits right =
       runs_safe (suc n) n (units 0) (begin number args ∷ []) (beginning (record s { frames = [] }) world)
       (record { objects = objects; answered = tt; typed = (record { global_values = typed.0.global_values; heap_values = typed.0.heap_values; frames = no_frames (lay objects) }, typed.1); ready = (f, is, fits, gives); right = right })
 
 module _ (W E : Type 0) (primitives : List CPrimitive) (p : Setting W E) (is_right : W → Bool) (well : IsWellFormed primitives p.unit) (answers : AnswersFit is_right primitives p.meaning)
-    (objects : List Ty) (n number : ℕ) (f : CFunction) (args : Values) (s : State) (world : W) (is : slice_get p.unit.functions number ≡ Some f) (typed : IsTypedWith p.unit objects s) (declared : AreDeclared (shapes p.unit) objects)
-    (fits : AllFit (shapes p.unit) (layout_of p.unit objects) (types_of (map typed_of f.params)) args) (right : IsTrue (is_right world)) where
-  pub first_call_safe : IsSafe is_right p.unit (call_first p n number args s world)
+    (objects : List Ty) (n number : ℕ) (f : CFunction) (args : Values) (s : C0State) (world : W) (is : slice_get p.unit.functions number ≡ Some f) (typed : IsTypedWith p.unit objects s) (declared : AreDeclared (shapes p.unit) objects)
+    (fits : AllFit (shapes p.unit) (store_typing p.unit objects) (types_of (map typed_of f.params)) args) (right : IsTrue (is_right world)) where
+  pub first_call_safe : RunIsSafe is_right p.unit (call_first p n number args s world)
   first_call_safe = (first_call_ends W E primitives p is_right well answers (ty_of f.answer) objects n number f args s world is refl (typed, declared) fits right).0
 
-  pub first_call_answers : Answers p.unit (ty_of f.answer) (call_first p n number args s world)
+  pub first_call_answers : AnswersTyped p.unit (ty_of f.answer) (call_first p n number args s world)
   first_call_answers = (first_call_ends W E primitives p is_right well answers (ty_of f.answer) objects n number f args s world is refl (typed, declared) fits right).1

@@ -17,7 +17,7 @@ use Rattle.c0_meaning.specs.Ty.{Ty, ty_of}
 use Rattle.c0_meaning.specs.Env.{Env, Shape, Signature, Callee, callee_of, callee_named, env_of, typed_of, signature_of, primitive_signature, scalar_ty, first_named}
 use Rattle.c0_meaning.specs.Expression.{resolved}
 use Rattle.c0_meaning.specs.Judgement.{IsGiven}
-use Rattle.c0_meaning.specs.Rules.{IsLeft, IsTyped, AreTyped, a_statement}
+use Rattle.c0_meaning.specs.Rules.{IsLvalue, IsTyped, AreTyped, a_statement}
 use Rattle.c0_meaning.specs.DeclaredTypes.{type_faults, unknown_structs}
 use Rattle.c0_meaning.specs.Fault.{fault, UNKNOWN_NAME}
 use Rattle.c0_meaning.specs.Limits.{locals_of}
@@ -28,11 +28,11 @@ use Rattle.c0_meaning.specs.Typed.{AreKnown, IsTypedFunction}
 use Rattle.c0_meaning.specs.Unit.{IsWellFormed, resolved_function, resolved_functions, resolved_body}
 use Rattle.c0_meaning.proofs.Faultless.{nonempty}
 use Rattle.c0_meaning.proofs.Units.{units_are_faultless}
-use Rattle.c0_meaning.specs.Value.{Region, globals, heap, locals, Value, int, bool, null, at, group, Values, empty, part, count, parts, with_part, put}
+use Rattle.c0_meaning.specs.Value.{Region, globals, heap, locals, Value, int, bool, null, at, group, Values, empty, part, count, part_count, with_part, value_with}
 use Rattle.c0_meaning.specs.State.{Frame, write}
-use Rattle.c0_meaning.specs.TypedState.{Layout, types_of, Fits, AllFit, AreParts, PointsTo, variable_types, IsTypedFrame, layout_of, IsTypedWith}
+use Rattle.c0_meaning.specs.TypedState.{StoreTyping, types_of, Fits, AllFit, AreParts, PointsTo, variable_types, IsTypedFrame, store_typing, IsTypedWith}
 use Rattle.c0_meaning.proofs.Parts.{put_parts, parts_more, joined_fit}
-use Rattle.c0_meaning.proofs.Found.{found_there}
+use Rattle.c0_meaning.proofs.SearchByName.{found_there}
 use Rattle.c0_meaning.proofs.SafeExpressions.{SafeState, Stands}
 
 -- a value of a type, at a place of which it is asked
@@ -43,7 +43,7 @@ pub record RightValue (env : Env) (e : CExpr) (t : Ty) : Type 0 where
 
 -- a place to store values of a type
 pub record RightPlace (env : Env) (e : CExpr) (t : Ty) : Type 0 where
-  pub left : IsLeft env e t
+  pub left : IsLvalue env e t
   pub settled : resolved env e ≡ e
   pub plain : is_plain_expr e ≡ true
 
@@ -127,10 +127,10 @@ callee_is x o c e q =
     (sym (ap (λ n. n.kind) r), sym (ap (λ n. n.number) r))
 
 -- values of scalar types that aren't pointers fit in every layout
-abbrev pub no_layout : Layout
+abbrev pub no_layout : StoreTyping
 no_layout = record { globals = []; objects = [] }
 
-pub scalar_everywhere : (structs others : List Shape) (layout other : Layout) (t : Scalar) (v : Value) → Fits structs layout (scalar_ty t) v → Fits others other (scalar_ty t) v
+pub scalar_everywhere : (structs others : List Shape) (layout other : StoreTyping) (t : Scalar) (v : Value) → Fits structs layout (scalar_ty t) v → Fits others other (scalar_ty t) v
 scalar_everywhere structs others layout other scalar.Int (int z) h = h
 scalar_everywhere structs others layout other scalar.Bool (bool b) h = tt
 scalar_everywhere structs others layout other scalar.Int (bool b) h = absurd h
@@ -142,7 +142,7 @@ scalar_everywhere structs others layout other scalar.Bool null h = absurd h
 scalar_everywhere structs others layout other scalar.Bool (at l) h = absurd h
 scalar_everywhere structs others layout other scalar.Bool (group vs) h = absurd h
 
-pub scalars_everywhere : (structs others : List Shape) (layout other : Layout) (ts : List Scalar) (vs : Values) → AllFit structs layout (map scalar_ty ts) vs → AllFit others other (map scalar_ty ts) vs
+pub scalars_everywhere : (structs others : List Shape) (layout other : StoreTyping) (ts : List Scalar) (vs : Values) → AllFit structs layout (map scalar_ty ts) vs → AllFit others other (map scalar_ty ts) vs
 scalars_everywhere structs others layout other [] empty h = tt
 scalars_everywhere structs others layout other (t ∷ ts) (part v vs) h = (scalar_everywhere structs others layout other t v h.0, scalars_everywhere structs others layout other ts vs h.1)
 scalars_everywhere structs others layout other [] (part v vs) h = absurd h
@@ -198,15 +198,15 @@ module _ (primitives : List CPrimitive) (u : CUnit) where
 
   -- in the state in which a function runs its expressions can be evaluated
   pub scene : (objects : List Ty) (gv hv : Value) (hw : ℕ) (g : Frame) (fs : List Frame) (f : CFunction) → IsTypedWith u objects (record { global_values = gv; heap_values = hv; heap_words = hw; frames = g ∷ fs }) → slice_get u.functions g.function ≡ Some f
-      → SafeState (env_in f) (layout_of u objects) (record { global_values = gv; heap_values = hv; heap_words = hw; frames = g ∷ fs })
+      → SafeState (env_in f) (store_typing u objects) (record { global_values = gv; heap_values = hv; heap_words = hw; frames = g ∷ fs })
   scene objects gv hv hw g fs f typed e =
-      let top = All-head (IsTypedFrame u (layout_of u objects)) g fs typed.frames in
+      let top = All-head (IsTypedFrame u (store_typing u objects)) g fs typed.frames in
       let same : top.function ≡ f = some_same (sym top.is ∙ e) in
       record {
         globals_are = refl;
         global_values = typed.global_values;
         heap_values = typed.heap_values;
-        local_values = subst (λ h. AreParts (shapes u) (layout_of u objects) (variable_types h) g.variables) same top.variables;
+        local_values = subst (λ h. AreParts (shapes u) (store_typing u objects) (variable_types h) g.variables) same top.variables;
       }
     where
       some_same : {a b : CFunction} → Some a ≡ Some b → a ≡ b
@@ -215,34 +215,34 @@ module _ (primitives : List CPrimitive) (u : CUnit) where
   -- a store
   pub written : (objects : List Ty) (gv hv : Value) (hw : ℕ) (g : Frame) (fs : List Frame) (f : CFunction) (r : Region) (path : List ℕ) (t : Ty) (v : Value)
       → IsTypedWith u objects (record { global_values = gv; heap_values = hv; heap_words = hw; frames = g ∷ fs }) → slice_get u.functions g.function ≡ Some f
-      → Stands (env_in f) (layout_of u objects) r path t → Fits (shapes u) (layout_of u objects) t v
+      → Stands (env_in f) (store_typing u objects) r path t → Fits (shapes u) (store_typing u objects) t v
       → IsTypedWith u objects (write (record { global_values = gv; heap_values = hv; heap_words = hw; frames = g ∷ fs }) (record { region = r; path = path }) v)
   written objects gv hv hw g fs f globals path t v typed e h k = record {
-    global_values = put_parts (shapes u) (layout_of u objects) (types_of (map typed_of u.globals)) path t gv v h typed.global_values k;
+    global_values = put_parts (shapes u) (store_typing u objects) (types_of (map typed_of u.globals)) path t gv v h typed.global_values k;
     heap_values = typed.heap_values;
     frames = typed.frames;
   }
   written objects gv hv hw g fs f heap path t v typed e h k = record {
     global_values = typed.global_values;
-    heap_values = put_parts (shapes u) (layout_of u objects) objects path t hv v h typed.heap_values k;
+    heap_values = put_parts (shapes u) (store_typing u objects) objects path t hv v h typed.heap_values k;
     frames = typed.frames;
   }
   written objects gv hv hw g fs f locals path t v typed e h k = record {
     global_values = typed.global_values;
     heap_values = typed.heap_values;
-    frames = All-cons (IsTypedFrame u (layout_of u objects)) (record { function = g.function; variables = put g.variables path v }) fs
-        (record { function = f; is = e; variables = put_parts (shapes u) (layout_of u objects) (variable_types f) path t g.variables v h (scene objects gv hv hw g fs f typed e).local_values k })
-        (All-tail (IsTypedFrame u (layout_of u objects)) g fs typed.frames);
+    frames = All-cons (IsTypedFrame u (store_typing u objects)) (record { function = g.function; variables = value_with g.variables path v }) fs
+        (record { function = f; is = e; variables = put_parts (shapes u) (store_typing u objects) (variable_types f) path t g.variables v h (scene objects gv hv hw g fs f typed e).local_values k })
+        (All-tail (IsTypedFrame u (store_typing u objects)) g fs typed.frames);
   }
 
-  frames_more : (objects more : List Ty) (fs : List Frame) → All (IsTypedFrame u (layout_of u objects)) fs → All (IsTypedFrame u (layout_of u (objects ++ more))) fs
-  frames_more objects more fs a k d h = let r = a k d h in record { function = r.function; is = r.is; variables = parts_more (shapes u) (layout_of u objects) more (variable_types r.function) _ r.variables }
+  frames_more : (objects more : List Ty) (fs : List Frame) → All (IsTypedFrame u (store_typing u objects)) fs → All (IsTypedFrame u (store_typing u (objects ++ more))) fs
+  frames_more objects more fs a k d h = let r = a k d h in record { function = r.function; is = r.is; variables = parts_more (shapes u) (store_typing u objects) more (variable_types r.function) _ r.variables }
 
   -- a new object
-  pub objects_count : (objects : List Ty) (v : Value) (t : Ty) → AreParts (shapes u) (layout_of u objects) objects v → PointsTo (shapes u) (layout_of u (objects ++ t ∷ [])) heap (parts v ∷ []) t
+  pub objects_count : (objects : List Ty) (v : Value) (t : Ty) → AreParts (shapes u) (store_typing u objects) objects v → PointsTo (shapes u) (store_typing u (objects ++ t ∷ [])) heap (part_count v ∷ []) t
   objects_count objects (group vs) t h = (t, behind_all objects vs h, refl)
     where
-      behind_all : (ts : List Ty) (vs : Values) → AllFit (shapes u) (layout_of u objects) ts vs → slice_get (ts ++ t ∷ []) (count vs) ≡ Some t
+      behind_all : (ts : List Ty) (vs : Values) → AllFit (shapes u) (store_typing u objects) ts vs → slice_get (ts ++ t ∷ []) (count vs) ≡ Some t
       behind_all [] empty h = refl
       behind_all (w ∷ ts) (part v vs) h = behind_all ts vs h.1
       behind_all [] (part v vs) h = absurd h
@@ -252,17 +252,17 @@ module _ (primitives : List CPrimitive) (u : CUnit) where
   objects_count objects null t h = absurd h
   objects_count objects (at l) t h = absurd h
 
-  behind_parts : (layout : Layout) (ts : List Ty) (v x : Value) (t : Ty) → AreParts (shapes u) layout ts v → Fits (shapes u) layout t x → AreParts (shapes u) layout (ts ++ t ∷ []) (with_part v x)
+  behind_parts : (layout : StoreTyping) (ts : List Ty) (v x : Value) (t : Ty) → AreParts (shapes u) layout ts v → Fits (shapes u) layout t x → AreParts (shapes u) layout (ts ++ t ∷ []) (with_part v x)
   behind_parts layout ts (group vs) x t h g = joined_fit (shapes u) layout ts (t ∷ []) vs (part x empty) h (g, tt)
   behind_parts layout ts (int z) x t h g = absurd h
   behind_parts layout ts (bool z) x t h g = absurd h
   behind_parts layout ts null x t h g = absurd h
   behind_parts layout ts (at l) x t h g = absurd h
 
-  pub allocated : (objects : List Ty) (gv hv : Value) (hw n : ℕ) (fs : List Frame) (t : Ty) (x : Value) → IsTypedWith u objects (record { global_values = gv; heap_values = hv; heap_words = hw; frames = fs }) → Fits (shapes u) (layout_of u (objects ++ t ∷ [])) t x
+  pub allocated : (objects : List Ty) (gv hv : Value) (hw n : ℕ) (fs : List Frame) (t : Ty) (x : Value) → IsTypedWith u objects (record { global_values = gv; heap_values = hv; heap_words = hw; frames = fs }) → Fits (shapes u) (store_typing u (objects ++ t ∷ [])) t x
       → IsTypedWith u (objects ++ t ∷ []) (record { global_values = gv; heap_values = with_part hv x; heap_words = n; frames = fs })
   allocated objects gv hv hw n fs t x typed h = record {
-    global_values = parts_more (shapes u) (layout_of u objects) (t ∷ []) (types_of (map typed_of u.globals)) gv typed.global_values;
-    heap_values = behind_parts (layout_of u (objects ++ t ∷ [])) objects hv x t (parts_more (shapes u) (layout_of u objects) (t ∷ []) objects hv typed.heap_values) h;
+    global_values = parts_more (shapes u) (store_typing u objects) (t ∷ []) (types_of (map typed_of u.globals)) gv typed.global_values;
+    heap_values = behind_parts (store_typing u (objects ++ t ∷ [])) objects hv x t (parts_more (shapes u) (store_typing u objects) (t ∷ []) objects hv typed.heap_values) h;
     frames = frames_more objects (t ∷ []) fs typed.frames;
   }

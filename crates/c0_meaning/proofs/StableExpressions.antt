@@ -7,7 +7,7 @@ use Rattle.c0_tree.specs.Tree.{CName, CExpr, num, true_, false_, null, var, fiel
 use Rattle.c0_tree.specs.Size.{need, nodes}
 use Rattle.c0_tree.specs.Plain.{is_plain_expr}
 use Rattle.c0_meaning.specs.Env.{Env, Typed, Variable, variable_named}
-use Rattle.c0_meaning.specs.Expression.{own, span_of, is_place, is_local, is_null, variable_rule, member, target, verdict, type_of, faults, numbered_variable, numbered_field, resolved}
+use Rattle.c0_meaning.specs.Expression.{own, span_of, is_lvalue, is_local, is_null, variable_rule, member, target, verdict, type_of, faults, numbered_variable, numbered_field, resolved}
 use Rattle.c0_meaning.proofs.StableTypes.{IsAt}
 
 -- an expression of which the same is read as of another, and that resolving leaves as it is
@@ -15,7 +15,7 @@ pub record IsKept (env : Env) (e f : CExpr) : Type 0 where
   pub said : verdict env f ≡ verdict env e
   pub faulty : faults env f ≡ faults env e
   pub span : span_of f ≡ span_of e
-  pub place : is_place f ≡ is_place e
+  pub place : is_lvalue f ≡ is_lvalue e
   pub local : is_local env f ≡ is_local env e
   pub nothing : is_null f ≡ is_null e
   pub needed : need f ≡ need e

@@ -10,7 +10,7 @@ use Rattle.c0_meaning.specs.Ty.{Ty, bool, ty_of}
 use Rattle.c0_meaning.specs.Env.{Env, Callee, callee_named}
 use Rattle.c0_meaning.specs.Fault.{Fault}
 use Rattle.c0_meaning.specs.Expression.{resolved}
-use Rattle.c0_meaning.specs.Statement.{given_faults, tested_faults, left_type, left_faults, callee_faults, params_of, args_faults, first_of, rest_of, stmt_faults, stmts_faults, numbered_callee, stmt_resolved, stmts_resolved}
+use Rattle.c0_meaning.specs.Statement.{given_faults, tested_faults, left_type, left_faults, callee_faults, parameter_types, args_faults, first_of, rest_of, stmt_faults, stmts_faults, numbered_callee, stmt_resolved, stmts_resolved}
 use Rattle.c0_meaning.proofs.StableTypes.{IsAt}
 use Rattle.c0_meaning.proofs.StableExpressions.{IsKept, kept}
 
@@ -106,7 +106,7 @@ call_kept : (declared : CTy → Span → List Fault) (settled : CTy → CTy) (en
 call_kept declared settled env s p q cs f g es ds k at again ks =
     let left : IsLeftKept env p q = left_kept env p q k in
     record {
-      faulty = cc (callee_kept cs f g (left_type env p) (length es) (callee_named env f.text) at, ks.faulty (params_of (callee_named env f.text)));
+      faulty = cc (callee_kept cs f g (left_type env p) (length es) (callee_named env f.text) at, ks.faulty (parameter_types (callee_named env f.text)));
       counted = cc;
       plain = cc;
       again = cc;

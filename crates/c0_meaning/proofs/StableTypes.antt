@@ -3,7 +3,7 @@
 use Rattle.std.proofs.Common.{◌≡◌, ℕ, suc, Bool, true, false, ltb, cond, List, [], ◌∷◌, ◌++◌, length, map, Option, Some, None, refl, sym, ap, ◌∙◌}
 use Rattle.std.specs.List.{list_all}
 use Rattle.c0_tree.specs.declared.tree.Span.{Span}
-use Rattle.c0_tree.specs.Plain.{has_part, is_plain_struct}
+use Rattle.c0_tree.specs.Plain.{is_nonempty, is_plain_struct}
 use Rattle.c0_tree.specs.declared.tree.Kind.{Kind}
 use Rattle.c0_tree.specs.declared.tree.Kind.TheVariants.{Unresolved, Struct, Field}
 use Rattle.c0_tree.specs.Tree.{CName, CTy, int, bool, pointer, named, array, CDecl, CStruct}
@@ -181,7 +181,7 @@ pub structs_again : (given : List Shape) (k : ℕ) (structs : List CStruct)
 structs_again given k [] = refl
 structs_again given k (s ∷ rest) = cc (decls_again given Field 0 s.fields, structs_again given (suc k) rest)
 
-has_part_kept : (structs : List Shape) (kind : Kind) (k : ℕ) (decls : List CDecl) → has_part (resolved_decls structs kind k decls) ≡ has_part decls
+has_part_kept : (structs : List Shape) (kind : Kind) (k : ℕ) (decls : List CDecl) → is_nonempty (resolved_decls structs kind k decls) ≡ is_nonempty decls
 has_part_kept structs kind k [] = refl
 has_part_kept structs kind k (d ∷ rest) = refl
 

@@ -6,13 +6,13 @@ use Rattle.c0_meaning.specs.Ty.{Ty, bool, pointer, ty_of}
 use Rattle.c0_meaning.specs.Env.{Env, Callee, callee_named}
 use Rattle.c0_meaning.specs.Fault.{Fault, fault, WRONG_COUNT}
 use Rattle.c0_meaning.specs.Judgement.{IsGiven}
-use Rattle.c0_meaning.specs.Statement.{MAX_NEED, given_faults, tested_faults, left_type, left_faults, result_faults, callee_faults, params_of, args_faults, assign_need, call_need, new_need, assign_faults, call_faults, new_faults, stmt_faults, stmts_faults}
-use Rattle.c0_meaning.specs.Rules.{IsLeft, AreGiven, IsTyped, an_assignment, a_call, an_object, a_choice, a_loop, AreTyped, no_statement, a_statement, StatementsAreFaultless}
+use Rattle.c0_meaning.specs.Statement.{MAX_NEED, given_faults, tested_faults, left_type, left_faults, result_faults, callee_faults, parameter_types, args_faults, assign_need, call_need, new_need, assign_faults, call_faults, new_faults, stmt_faults, stmts_faults}
+use Rattle.c0_meaning.specs.Rules.{IsLvalue, AreGiven, IsTyped, an_assignment, a_call, an_object, a_choice, a_loop, AreTyped, no_statement, a_statement, StatementsAreFaultless}
 use Rattle.c0_meaning.proofs.Typed.{no_faults}
 use Rattle.c0_meaning.proofs.Faultless.{nonempty, left_nil, right_nil}
-use Rattle.c0_meaning.proofs.Given.{shallow_clean, clean_shallow, given_clean, clean_given, tested_is_faultless, left_clean, clean_left, args_clean, args_count, clean_args, result_clean, clean_result, count_clean, clean_count}
+use Rattle.c0_meaning.proofs.AskedTypes.{shallow_clean, clean_shallow, given_clean, clean_given, tested_is_faultless, left_clean, clean_left, args_clean, args_count, clean_args, result_clean, clean_result, count_clean, clean_count}
 
-assign_clean : (env : Env) (s : Span) (p v : CExpr) (t : Ty) → IsLeft env p t → IsGiven env v t → assign_need p v ≤ MAX_NEED → assign_faults env s p v ≡ []
+assign_clean : (env : Env) (s : Span) (p v : CExpr) (t : Ty) → IsLvalue env p t → IsGiven env v t → assign_need p v ≤ MAX_NEED → assign_faults env s p v ≡ []
 assign_clean env s p v t l g d =
     let w = left_clean env p t l in
     no_faults _ _ w.clean (no_faults _ _ (ap (λ o. given_faults env o v) w.asks ∙ given_clean env v t g) (shallow_clean s _ d))
@@ -22,14 +22,14 @@ callee_clean : (env : Env) (s : Span) (f : CName) (want : Option Ty) (count : �
 callee_clean env s f want count found c e n w =
     ap (callee_faults s f want count) e ∙ no_faults _ _ (count_clean s (length c.params) count n) (result_clean s want c.answer w)
 
-call_clean : (env : Env) (s cs : Span) (p : CExpr) (f : CName) (args : List CExpr) (c : Callee) → callee_named env f.text ≡ Some c → IsLeft env p c.answer → AreGiven env args c.params
+call_clean : (env : Env) (s cs : Span) (p : CExpr) (f : CName) (args : List CExpr) (c : Callee) → callee_named env f.text ≡ Some c → IsLvalue env p c.answer → AreGiven env args c.params
     → call_need p args ≤ MAX_NEED → call_faults env s p cs f args ≡ []
 call_clean env s cs p f args c e l g d =
     let w = left_clean env p c.answer l in
     no_faults _ _ w.clean (no_faults _ _ (callee_clean env cs f (left_type env p) (length args) (callee_named env f.text) c e (args_count env args c.params g) w.asks)
-    (no_faults _ _ (ap (λ found. args_faults env (params_of found) args) e ∙ args_clean env args c.params g) (shallow_clean s _ d)))
+    (no_faults _ _ (ap (λ found. args_faults env (parameter_types found) args) e ∙ args_clean env args c.params g) (shallow_clean s _ d)))
 
-new_clean : (declared : CTy → Span → List Fault) (env : Env) (s : Span) (p : CExpr) (t : CTy) (ts : Span) → IsLeft env p (pointer (ty_of t)) → declared t ts ≡ [] → new_need p ≤ MAX_NEED
+new_clean : (declared : CTy → Span → List Fault) (env : Env) (s : Span) (p : CExpr) (t : CTy) (ts : Span) → IsLvalue env p (pointer (ty_of t)) → declared t ts ≡ [] → new_need p ≤ MAX_NEED
     → new_faults declared env s p t ts ≡ []
 new_clean declared env s p t ts l k d =
     let w = left_clean env p (pointer (ty_of t)) l in
@@ -55,14 +55,14 @@ clean_assign declared env s p v h =
     let g = ap (λ o. given_faults env o v) (sym w.asks) ∙ left_nil (given_faults env (left_type env p) v) _ r in
     an_assignment l.1 (clean_given env v l.0 g) (clean_shallow s _ (right_nil (given_faults env (left_type env p) v) _ r))
 
-clean_callee : (declared : CTy → Span → List Fault) (env : Env) (s cs : Span) (p : CExpr) (f : CName) (args : List CExpr) (t : Ty) → IsLeft env p t → left_type env p ≡ Some t
+clean_callee : (declared : CTy → Span → List Fault) (env : Env) (s cs : Span) (p : CExpr) (f : CName) (args : List CExpr) (t : Ty) → IsLvalue env p t → left_type env p ≡ Some t
     → (found : Option Callee) → callee_named env f.text ≡ found
-    → callee_faults cs f (left_type env p) (length args) found ≡ [] → args_faults env (params_of found) args ≡ [] → call_need p args ≤ MAX_NEED → IsTyped declared env (call s p cs f args)
+    → callee_faults cs f (left_type env p) (length args) found ≡ [] → args_faults env (parameter_types found) args ≡ [] → call_need p args ≤ MAX_NEED → IsTyped declared env (call s p cs f args)
 clean_callee declared env s cs p f args t l asks None e h k d = nonempty h
 clean_callee declared env s cs p f args t l asks (Some c) e h k d =
     let n = clean_count cs (length c.params) (length args) (left_nil (if length c.params == length args then [] else fault WRONG_COUNT cs ∷ []) _ h) in
     let same = clean_result cs (left_type env p) t c.answer asks (right_nil (if length c.params == length args then [] else fault WRONG_COUNT cs ∷ []) _ h) in
-    a_call e (subst (IsLeft env p) same l) (clean_args env args c.params n k) d
+    a_call e (subst (IsLvalue env p) same l) (clean_args env args c.params n k) d
 
 clean_call : (declared : CTy → Span → List Fault) (env : Env) (s cs : Span) (p : CExpr) (f : CName) (args : List CExpr) → call_faults env s p cs f args ≡ [] → IsTyped declared env (call s p cs f args)
 clean_call declared env s cs p f args h =
@@ -72,7 +72,7 @@ clean_call declared env s cs p f args h =
     let found = callee_named env f.text in
     let q = right_nil (callee_faults cs f (left_type env p) (length args) found) _ r in
     clean_callee declared env s cs p f args l.0 l.1 w.asks found refl (left_nil (callee_faults cs f (left_type env p) (length args) found) _ r)
-    (left_nil (args_faults env (params_of found) args) _ q) (clean_shallow s _ (right_nil (args_faults env (params_of found) args) _ q))
+    (left_nil (args_faults env (parameter_types found) args) _ q) (clean_shallow s _ (right_nil (args_faults env (parameter_types found) args) _ q))
 
 clean_new : (declared : CTy → Span → List Fault) (env : Env) (s : Span) (p : CExpr) (t : CTy) (ts : Span) → new_faults declared env s p t ts ≡ [] → IsTyped declared env (new s p t ts)
 clean_new declared env s p t ts h =
@@ -81,7 +81,7 @@ clean_new declared env s p t ts h =
     let w = left_clean env p l.0 l.1 in
     let q = right_nil (declared t ts) _ r in
     let same = clean_result ts (left_type env p) l.0 (pointer (ty_of t)) w.asks (left_nil (result_faults ts (left_type env p) (pointer (ty_of t))) _ q) in
-    an_object (subst (IsLeft env p) same l.1) (left_nil (declared t ts) _ r) (clean_shallow s _ (right_nil (result_faults ts (left_type env p) (pointer (ty_of t))) _ q))
+    an_object (subst (IsLvalue env p) same l.1) (left_nil (declared t ts) _ r) (clean_shallow s _ (right_nil (result_faults ts (left_type env p) (pointer (ty_of t))) _ q))
 
 mutual
   clean_stmt : (declared : CTy → Span → List Fault) (env : Env) (s : CStmt) → stmt_faults declared env s ≡ [] → IsTyped declared env s

@@ -8,15 +8,15 @@ use Rattle.c0_tree.specs.declared.tree.Kind.{Kind}
 use Rattle.c0_tree.specs.declared.tree.Kind.TheVariants.{Unresolved, Struct, Field, Global, Local, Function, Primitive}
 use Rattle.c0_tree.specs.Tree.{CExpr, num, true_, false_, null, var, field, arrow, index, deref, address, unary, binary, assign, call, new, choice, loop, CStmts, CBody, code, asm}
 use Rattle.c0_meaning.specs.Ty.{ty_of}
-use Rattle.c0_meaning.specs.Limits.{frame}
+use Rattle.c0_meaning.specs.Limits.{words_of_frame}
 use Rattle.c0_meaning.specs.Sound.{shapes}
 use Rattle.c0_meaning.specs.Value.{Value, Values}
-use Rattle.c0_meaning.specs.State.{State, stack_words}
+use Rattle.c0_meaning.specs.State.{C0State, stack_words}
 use Rattle.c0_meaning.specs.Words.{words, all_words}
 use Rattle.c0_meaning.specs.Env.{typed_of}
 use Rattle.c0_meaning.specs.Operators.{stuck}
 use Rattle.c0_meaning.specs.Evaluation.{Costed, costs, at_no_cost, paying, truth, value_of, values_of, place_of}
-use Rattle.c0_meaning.specs.World.{Meaning, Setting, Cost, units, total, plus, Configuration, after_call, call_cost}
+use Rattle.c0_meaning.specs.World.{PrimitiveMeaning, Setting, Cost, units, total, plus, Configuration, after_call, call_cost}
 use Rattle.c0_meaning.specs.PrimitiveCalls.{PrimitiveCall, world_after, entries_made, cost_made, AreMadeBy}
 use Rattle.c0_meaning.specs.Running.{Target, into, outward, Work, act_on, finish, again, leave, begin, Step, Go, Stop, then_go, store, deliver, enter, call_function, call_with, act}
 use Rattle.c0_meaning.specs.Execution.{Outcome, Failed, NotYet, then_run, run, run_within}
@@ -35,7 +35,7 @@ one_more : {A : Type 0} (e : Costed A) → 1 ≤ taken (paying 1 e)
 one_more (costs n r) = omega arith
 
 -- the value of an expression takes a unit
-value_takes : (e : CExpr) (s : State) → 1 ≤ taken (value_of e s)
+value_takes : (e : CExpr) (s : C0State) → 1 ≤ taken (value_of e s)
 value_takes (num p n) s = omega arith
 value_takes (true_ p) s = omega arith
 value_takes (false_ p) s = omega arith
@@ -50,7 +50,7 @@ value_takes (unary p o e) s = one_more _
 value_takes (binary p o a b) s = one_more _
 
 -- the location of a place takes a unit
-place_takes : (e : CExpr) (s : State) → 1 ≤ taken (place_of e s)
+place_takes : (e : CExpr) (s : C0State) → 1 ≤ taken (place_of e s)
 place_takes (var x) s = omega arith
 place_takes (field p e f) s = one_more _
 place_takes (arrow p e f) s = one_more _
@@ -134,7 +134,7 @@ module _ (W E : Type 0) where
   calls : (p : Setting W E) (k : Cost) (n : ℕ) (args : Values) (target : Target) (w : List Work) (c : Configuration W E) → Own k → Takes p c (call_function p k n args target w c)
   calls p k n args target w c o =
       goes p (plus k (units 1)) c (at_no_cost (ok_or (slice_get p.unit.functions n) stuck)) _ (omega arith) (owns_more k 1 o)
-      (λ j f g q. either p c (nat_lt p.stack (stack_words p.unit c.state.frames + frame (shapes p.unit) f)) _ _ (g, here p j c q) (enters p j n f.body args target w c g q))
+      (λ j f g q. either p c (nat_lt p.stack (stack_words p.unit c.state.frames + words_of_frame (shapes p.unit) f)) _ _ (g, here p j c q) (enters p j n f.body args target w c g q))
 
   calls_with : (p : Setting W E) (k : Cost) (kind : Kind) (n : ℕ) (args : Values) (target : Target) (w : List Work) (c : Configuration W E) → 1 ≤ total k → Own k → Takes p c (call_with p k kind n args target w c)
   calls_with p k Function n args target w c h o = calls p k n args target w c o
@@ -212,19 +212,19 @@ module _ (W E : Type 0) where
   extends_run p (suc s) l used (item ∷ w) c = extends_step p (act p item w c) l used c (run p s l) (acts p item w c) (λ k v d. extends_run p s l k v d)
 
   -- what is done one after the other
-  world_joins : (m : Meaning W E) (xs ys : List PrimitiveCall) (w : W) → world_after m (xs ++ ys) w ≡ world_after m ys (world_after m xs w)
+  world_joins : (m : PrimitiveMeaning W E) (xs ys : List PrimitiveCall) (w : W) → world_after m (xs ++ ys) w ≡ world_after m ys (world_after m xs w)
   world_joins m [] ys w = refl
   world_joins m (x ∷ xs) ys w = world_joins m xs ys (m x.number x.args w).world
 
-  entries_join : (m : Meaning W E) (xs ys : List PrimitiveCall) (w : W) → entries_made m (xs ++ ys) w ≡ entries_made m xs w ++ entries_made m ys (world_after m xs w)
+  entries_join : (m : PrimitiveMeaning W E) (xs ys : List PrimitiveCall) (w : W) → entries_made m (xs ++ ys) w ≡ entries_made m xs w ++ entries_made m ys (world_after m xs w)
   entries_join m [] ys w = refl
   entries_join m (x ∷ xs) ys w = ap (λ es. (m x.number x.args w).entries ∷ es) (entries_join m xs ys (m x.number x.args w).world)
 
-  units_join : (m : Meaning W E) (xs ys : List PrimitiveCall) (w : W) → (cost_made m (xs ++ ys) w).primitive ≡ (cost_made m xs w).primitive + (cost_made m ys (world_after m xs w)).primitive
+  units_join : (m : PrimitiveMeaning W E) (xs ys : List PrimitiveCall) (w : W) → (cost_made m (xs ++ ys) w).primitive ≡ (cost_made m xs w).primitive + (cost_made m ys (world_after m xs w)).primitive
   units_join m [] ys w = omega arith
   units_join m (x ∷ xs) ys w = omega (arith, units_join m xs ys (m x.number x.args w).world)
 
-  pages_join : (m : Meaning W E) (xs ys : List PrimitiveCall) (w : W) → (cost_made m (xs ++ ys) w).pages ≡ (cost_made m xs w).pages + (cost_made m ys (world_after m xs w)).pages
+  pages_join : (m : PrimitiveMeaning W E) (xs ys : List PrimitiveCall) (w : W) → (cost_made m (xs ++ ys) w).pages ≡ (cost_made m xs w).pages + (cost_made m ys (world_after m xs w)).pages
   pages_join m [] ys w = omega arith
   pages_join m (x ∷ xs) ys w = omega (arith, pages_join m xs ys (m x.number x.args w).world)
 

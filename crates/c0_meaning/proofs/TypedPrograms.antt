@@ -11,9 +11,9 @@ use Rattle.c0_tree.specs.Primitives.{primitives_of}
 use Rattle.c0_tree.specs.Tree.{CDecl, CFunction}
 use Rattle.c0_meaning.specs.Ty.{Ty, int, ty_of, same_ty}
 use Rattle.c0_meaning.specs.Limits.{is_asm, are_three_ints, is_first, none_first, first_faults, whole}
-use Rattle.c0_meaning.specs.Typed.{IsFirst, HasFirst, ProgramsAreFaultless}
+use Rattle.c0_meaning.specs.Typed.{IsFirstFunction, HasFirst, ProgramsAreFaultless}
 use Rattle.c0_meaning.specs.Unit.{unit_faults}
-use Rattle.c0_meaning.proofs.Ty.{equal-same_ty}
+use Rattle.c0_meaning.proofs.TypeEquality.{equal-same_ty}
 use Rattle.c0_meaning.proofs.Units.{units_are_faultless, nothing_said}
 use Rattle.c0_meaning.proofs.WellFormed.{none_in_left, none_in_right, nothing_wrong}
 
@@ -63,7 +63,7 @@ params_none : (ds : List CDecl) → map (λ d. ty_of d.ty) ds ≡ [] → (length
 params_none [] h = refl
 params_none (d ∷ ds) h = cc (h)
 
-tested : (program : Program) (f : CFunction) → is_first program f ≡ true → IsFirst program f
+tested : (program : Program) (f : CFunction) → is_first program f ≡ true → IsFirstFunction program f
 tested Kernel f h =
     let p = and_parts (bytes_eq f.name.text (codes "dispatch")) _ h in
     let q = and_parts (are_three_ints f.params) _ p.1 in
@@ -85,7 +85,7 @@ tested User f h =
       in_code = false_not (is_asm f.body) r.1;
     }
 
-passes : (program : Program) (f : CFunction) → IsFirst program f → is_first program f ≡ true
+passes : (program : Program) (f : CFunction) → IsFirstFunction program f → is_first program f ≡ true
 passes Kernel f d =
     and_from _ _ ((bytes_eq-Decides f.name.text (codes "dispatch")).1 d.named)
     (and_from _ _ (three_ints f.params d.params) (and_from _ _ (is_int (ty_of f.answer) d.answer) (ap not d.in_code)))

@@ -12,7 +12,7 @@ use Rattle.c0_meaning.specs.Form.{ty_view}
 use Rattle.c0_meaning.specs.Words.{fields_named}
 use Rattle.c0_meaning.specs.Resolved.{IsResolved}
 use Rattle.c0_meaning.specs.Sound.{IsSized, IsSizedStruct}
-use Rattle.c0_meaning.proofs.Found.{found_there}
+use Rattle.c0_meaning.proofs.SearchByName.{found_there}
 use Rattle.c0_meaning.proofs.Sized.{struct_below, all_at}
 
 pub declared_there : (decls : List Decl) (n : ℕ) (d : Decl) → n < length decls

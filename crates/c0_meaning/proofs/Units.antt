@@ -21,9 +21,9 @@ use Rattle.c0_meaning.specs.Limits.{MAX_FUNCTION_NODES, MAX_UNIT_NODES, MAX_GLOB
 use Rattle.c0_meaning.specs.Statement.{stmts_faults}
 use Rattle.c0_meaning.specs.Unit.{struct_faults, structs_faults, signature_faults, faults_in, body_faults, functions_faults, unit_faults}
 use Rattle.c0_meaning.specs.Typed.{AreKnown, IsDeclarable, AreSetOnce, IsTypedStruct, IsTypedSignature, IsTypedBody, IsTypedFunction, IsTypedUnit, UnitsAreFaultless}
-use Rattle.c0_meaning.proofs.Holding.{holds_as_tested}
+use Rattle.c0_meaning.proofs.StructHolding.{holds_as_tested}
 use Rattle.c0_meaning.proofs.WellFormed.{none_in_left, none_in_right, nothing_wrong, among_parts, not_twice, no_or}
-use Rattle.c0_meaning.proofs.Given.{tested_is_faultless}
+use Rattle.c0_meaning.proofs.AskedTypes.{tested_is_faultless}
 use Rattle.c0_meaning.proofs.Statements.{statements_are_faultless}
 
 -- two lists without elements

@@ -7,7 +7,7 @@ use Rattle.std.proofs.lemmas.Slice.Eq.{bytes_eq-Decides}
 use Rattle.std.specs.Str.{bytes_eq}
 use Rattle.std.specs.List.{All, list_all}
 use Rattle.std.specs.Prelude.{◌^◌}
-use Rattle.c0_tree.specs.Plain.{has_part, is_short, is_plain_struct}
+use Rattle.c0_tree.specs.Plain.{is_nonempty, is_short, is_plain_struct}
 use Rattle.c0_tree.specs.declared.tree.Span.{Span}
 use Rattle.c0_tree.specs.declared.tree.Kind.{Kind}
 use Rattle.c0_tree.specs.declared.tree.Kind.TheVariants.{Struct, Field, Global, Local}
@@ -217,7 +217,7 @@ well_formed_few primitives u w =
     each [] h = All-nil (λ (s : CStruct). length s.fields < 2 ^ 32)
     each (s ∷ rest) h =
         let q = and_parts (is_plain_struct s) (list_all is_plain_struct rest) h in
-        let r = and_parts (has_part s.fields) (is_short s.fields) q.0 in
+        let r = and_parts (is_nonempty s.fields) (is_short s.fields) q.0 in
         All-cons (λ (s : CStruct). length s.fields < 2 ^ 32) s rest (ltb-true (length s.fields) (2 ^ 32) r.1) (each rest q.1)
 
 pub units_are_sized : UnitsAreSized

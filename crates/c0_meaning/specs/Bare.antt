@@ -7,7 +7,7 @@ use Rattle.c0_tree.specs.Tree as tree
 use Rattle.c0_meaning.specs.Env.{typed_of}
 use Rattle.c0_meaning.specs.Words.{all_words}
 use Rattle.c0_meaning.specs.Sound.{shapes}
-use Rattle.c0_meaning.specs.State.{State, first_state}
+use Rattle.c0_meaning.specs.State.{C0State, first_state}
 use Rattle.c0_meaning.specs.World.{Setting}
 use Rattle.c0_meaning.specs.Execution.{dispatch}
 
@@ -84,5 +84,5 @@ pub record UnitsIgnorePlaces : Type 0 where
 
 -- a law: nor what a dispatch comes to
 abbrev pub DispatchesIgnorePlaces : (W E : Type 0) → Type 0
-DispatchesIgnorePlaces W E = (p : Setting W E) (n : ℕ) (cause edata user : ℤ) (s : State) (world : W)
+DispatchesIgnorePlaces W E = (p : Setting W E) (n : ℕ) (cause edata user : ℤ) (s : C0State) (world : W)
     → dispatch (record p { unit = bare p.unit }) n cause edata user s world ≡ dispatch p n cause edata user s world

@@ -4,7 +4,7 @@ use Rattle.c0_tree.specs.declared.primitive.Program.TheVariants.{Kernel}
 use Rattle.c0_tree.specs.Tree.{CStmts}
 use Rattle.c0_meaning.specs.Limits.{first_number}
 use Rattle.c0_meaning.specs.Value.{int, Values, empty, part}
-use Rattle.c0_meaning.specs.State.{State}
+use Rattle.c0_meaning.specs.State.{C0State}
 use Rattle.c0_meaning.specs.Operators.{Failure}
 use Rattle.c0_meaning.specs.World.{Setting, Cost, units, total, plus, Configuration, beginning}
 use Rattle.c0_meaning.specs.Running.{Work, begin, Step, Go, Stop, push, act}
@@ -31,14 +31,14 @@ abbrev pub run_within : {W E : Type 0} → Setting W E → (n : ℕ) → List Wo
 run_within p n work c = run p (suc n) n (units 0) work c
 
 -- statements, from a state and a world's value, within n units
-abbrev pub exec : {W E : Type 0} → Setting W E → (n : ℕ) → CStmts → State → W → Outcome W E
+abbrev pub exec : {W E : Type 0} → Setting W E → (n : ℕ) → CStmts → C0State → W → Outcome W E
 exec p n statements s world = run_within p n (push statements []) (beginning s world)
 
 -- a call of the function of a number, with an empty stack, within n units
-abbrev pub call_first : {W E : Type 0} → Setting W E → (n function : ℕ) → Values → State → W → Outcome W E
+abbrev pub call_first : {W E : Type 0} → Setting W E → (n function : ℕ) → Values → C0State → W → Outcome W E
 call_first p n function args s world = run_within p n (begin function args ∷ []) (beginning (record s { frames = [] }) world)
 
 -- a call of a kernel's `dispatch` with a cause, its data and a user, within n units
-abbrev pub dispatch : {W E : Type 0} → Setting W E → (n : ℕ) → (cause edata user : ℤ) → State → W → Outcome W E
+abbrev pub dispatch : {W E : Type 0} → Setting W E → (n : ℕ) → (cause edata user : ℤ) → C0State → W → Outcome W E
 dispatch p n cause edata user s world =
     call_first p n (first_number Kernel p.unit) (part (int cause) (part (int edata) (part (int user) empty))) s world

@@ -19,10 +19,10 @@ pub data Verdict : Type 0 where
   wrong : Fault → Verdict
 
 -- the type that a verdict gives
-abbrev pub given : Verdict → Option Ty
-given silent = None
-given (has t) = Some t
-given (wrong f) = None
+abbrev pub type_given : Verdict → Option Ty
+type_given silent = None
+type_given (has t) = Some t
+type_given (wrong f) = None
 
 -- a node's own fault, as a list
 abbrev pub own : Verdict → List Fault
@@ -56,19 +56,19 @@ span_of (unary s o e) = s
 span_of (binary s o a b) = s
 
 -- a variable, `place.f`, `place[i]`, `*e` or `e->f`; that the part of `.` and of `[` is a place too is asked where these are typed
-abbrev pub is_place : CExpr → Bool
-is_place (num s n) = false
-is_place (true_ s) = false
-is_place (false_ s) = false
-is_place (null s) = false
-is_place (var x) = true
-is_place (field s e f) = true
-is_place (arrow s e f) = true
-is_place (index s e i) = true
-is_place (deref s e) = true
-is_place (address s e) = false
-is_place (unary s o e) = false
-is_place (binary s o a b) = false
+abbrev pub is_lvalue : CExpr → Bool
+is_lvalue (num s n) = false
+is_lvalue (true_ s) = false
+is_lvalue (false_ s) = false
+is_lvalue (null s) = false
+is_lvalue (var x) = true
+is_lvalue (field s e f) = true
+is_lvalue (arrow s e f) = true
+is_lvalue (index s e i) = true
+is_lvalue (deref s e) = true
+is_lvalue (address s e) = false
+is_lvalue (unary s o e) = false
+is_lvalue (binary s o a b) = false
 
 -- a kind of variable that has its place in the frame
 abbrev pub is_local_kind : Option Variable → Bool
@@ -128,8 +128,8 @@ abbrev pub filled : Option Ty → CExpr → Bool
 filled want e = is_null e && is_pointer want
 
 -- an expression's type where a type is asked: such a `null` has it
-abbrev pub asked : Option Ty → CExpr → Option Ty → Option Ty
-asked want e type = if filled want e then want else type
+abbrev pub type_asked : Option Ty → CExpr → Option Ty → Option Ty
+type_asked want e type = if filled want e then want else type
 
 -- an expression's faults where a type is asked: such a `null` has none
 abbrev pub asked_faults : Option Ty → CExpr → List Fault → List Fault
@@ -258,8 +258,8 @@ compares And = false
 compares Or = false
 
 -- the type that an operator asks of an operand, by the other's
-abbrev pub asks : BinaryOp → Option Ty → Option Ty
-asks o other = if compares o then other else None
+abbrev pub operand_type : BinaryOp → Option Ty → Option Ty
+operand_type o other = if compares o then other else None
 
 -- what the rule of an expression's node says of it
 abbrev pub verdict : Env → CExpr → Verdict
@@ -269,20 +269,20 @@ verdict env (false_ s) = has bool
 verdict env (null s) = wrong (fault WRONG_TYPE s)
 verdict env (var x) = variable_rule x (variable_named env x.text)
 verdict env (field s e f) =
-    one (given (verdict env e)) (place_field_rule s (is_place e) (span_of e) f.span (member env (given (verdict env e)) f.text))
-verdict env (arrow s e f) = one (given (verdict env e)) (arrow_rule s f.span (member env (target (given (verdict env e))) f.text))
-verdict env (index s e i) = both (given (verdict env e)) (given (verdict env i)) (index_rule s (is_place e) (span_of e))
-verdict env (deref s e) = one (given (verdict env e)) (deref_rule s)
-verdict env (address s e) = one (given (verdict env e)) (address_rule (is_place e) (is_local env e) (span_of e))
-verdict env (unary s o e) = one (given (verdict env e)) (unary_rule s o)
+    one (type_given (verdict env e)) (place_field_rule s (is_lvalue e) (span_of e) f.span (member env (type_given (verdict env e)) f.text))
+verdict env (arrow s e f) = one (type_given (verdict env e)) (arrow_rule s f.span (member env (target (type_given (verdict env e))) f.text))
+verdict env (index s e i) = both (type_given (verdict env e)) (type_given (verdict env i)) (index_rule s (is_lvalue e) (span_of e))
+verdict env (deref s e) = one (type_given (verdict env e)) (deref_rule s)
+verdict env (address s e) = one (type_given (verdict env e)) (address_rule (is_lvalue e) (is_local env e) (span_of e))
+verdict env (unary s o e) = one (type_given (verdict env e)) (unary_rule s o)
 verdict env (binary s o a b) =
-    both (asked (asks o (given (verdict env b))) a (given (verdict env a)))
-    (asked (asks o (given (verdict env a))) b (given (verdict env b)))
+    both (type_asked (operand_type o (type_given (verdict env b))) a (type_given (verdict env a)))
+    (type_asked (operand_type o (type_given (verdict env a))) b (type_given (verdict env b)))
     (binary_rule s o)
 
 -- an expression's type, if it has one by itself
 abbrev pub type_of : Env → CExpr → Option Ty
-type_of env e = given (verdict env e)
+type_of env e = type_given (verdict env e)
 
 -- every fault that stands in an expression: those of its parts, and then its own
 abbrev pub faults : Env → CExpr → List Fault
@@ -298,8 +298,8 @@ faults env (deref s e) = faults env e ++ own (verdict env (deref s e))
 faults env (address s e) = faults env e ++ own (verdict env (address s e))
 faults env (unary s o e) = faults env e ++ own (verdict env (unary s o e))
 faults env (binary s o a b) =
-    asked_faults (asks o (type_of env b)) a (faults env a)
-    ++ (asked_faults (asks o (type_of env a)) b (faults env b) ++ own (verdict env (binary s o a b)))
+    asked_faults (operand_type o (type_of env b)) a (faults env a)
+    ++ (asked_faults (operand_type o (type_of env a)) b (faults env b) ++ own (verdict env (binary s o a b)))
 
 -- a variable's name with what it stands for
 abbrev pub numbered_variable : CName → Option Variable → CName

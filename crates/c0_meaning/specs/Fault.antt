@@ -94,14 +94,14 @@ abbrev pub comes_before : Fault → Fault → Bool
 comes_before a b = nat_lt a.span.start b.span.start || ((a.span.start == b.span.start) && comes_lower a b)
 
 -- a fault is one of a list
-abbrev pub Stands : List Fault → Fault → Type 0
-Stands [] f = ⊥
-Stands (g ∷ rest) f = (g ≡ f) ⊎ Stands rest f
+abbrev pub FaultStands : List Fault → Fault → Type 0
+FaultStands [] f = ⊥
+FaultStands (g ∷ rest) f = (g ≡ f) ⊎ FaultStands rest f
 
 -- a fault stands, and none that stands comes before it
 pub record IsLeast (faults : List Fault) (f : Fault) : Type 0 where
-  pub stands : Stands faults f
-  pub least : (g : Fault) → Stands faults g → comes_before g f ≡ false
+  pub stands : FaultStands faults f
+  pub least : (g : Fault) → FaultStands faults g → comes_before g f ≡ false
 
 -- the lesser of what was met before and a fault
 abbrev pub kept : Option Fault → Fault → Option Fault
@@ -121,7 +121,7 @@ pub record OrderIsTotal : Type 0 where
 
 -- a law: a list has a least fault exactly where it has a fault, and it has no second one
 pub record LeastIsThere : Type 0 where
-  pub some : (faults : List Fault) (f : Fault) → Stands faults f → (g : Fault) × IsLeast faults g
+  pub some : (faults : List Fault) (f : Fault) → FaultStands faults f → (g : Fault) × IsLeast faults g
   pub none : (f : Fault) → IsLeast [] f → ⊥
   pub only : (faults : List Fault) (f g : Fault) → IsLeast faults f → IsLeast faults g → f ≡ g
 
@@ -132,7 +132,7 @@ pub record KeptIsLeast : Type 0 where
 
 -- a law: lists of the same faults leave the same kept, in whatever order they are met and however often
 abbrev pub MeetingIsFree : Type 0
-MeetingIsFree = (met : Option Fault) (fs gs : List Fault) → ((f : Fault) → Stands fs f ↔ Stands gs f) → kept_all met fs ≡ kept_all met gs
+MeetingIsFree = (met : Option Fault) (fs gs : List Fault) → ((f : Fault) → FaultStands fs f ↔ FaultStands gs f) → kept_all met fs ≡ kept_all met gs
 
 -- a law: what two lists leave, met one after the other, is what they leave joined, in either order
 pub record MeetingJoins : Type 0 where

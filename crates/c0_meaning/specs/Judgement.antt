@@ -7,7 +7,7 @@ use Rattle.c0_tree.specs.declared.tree.BinaryOp.TheVariants.{Add, Sub, Mul, Div,
 use Rattle.c0_tree.specs.Tree.{CName, CExpr, num, true_, false_, null, var, field, arrow, index, deref, address, unary, binary}
 use Rattle.c0_meaning.specs.Ty.{Ty, int, bool, pointer, named, array, is_scalar}
 use Rattle.c0_meaning.specs.Env.{Env, Typed, Variable, variable_named, field_named}
-use Rattle.c0_meaning.specs.Expression.{is_place, is_local, faults, type_of}
+use Rattle.c0_meaning.specs.Expression.{is_lvalue, is_local, faults, type_of}
 
 -- `+ - * / %`
 pub data IsArithmetic : BinaryOp → Type 0 where
@@ -41,14 +41,14 @@ pub data HasType (env : Env) : CExpr → Ty → Type 0 where
   a_false : {s : Span} → HasType env (false_ s) bool
   a_variable : {x : CName} {v : Variable} → variable_named env x.text ≡ Some v → HasType env (var x) v.ty
   a_field : {s : Span} {e : CExpr} {f : CName} {x : List ℕ} {found : ℕ × Typed}
-      → IsTrue (is_place e) → HasType env e (named x) → field_named env x f.text ≡ Some found → HasType env (field s e f) found.1.ty
+      → IsTrue (is_lvalue e) → HasType env e (named x) → field_named env x f.text ≡ Some found → HasType env (field s e f) found.1.ty
   a_target_field : {s : Span} {e : CExpr} {f : CName} {x : List ℕ} {found : ℕ × Typed}
       → HasType env e (pointer (named x)) → field_named env x f.text ≡ Some found → HasType env (arrow s e f) found.1.ty
   an_element : {s : Span} {e i : CExpr} {t : Ty} {n : ℕ}
-      → IsTrue (is_place e) → HasType env e (array t n) → HasType env i int → HasType env (index s e i) t
+      → IsTrue (is_lvalue e) → HasType env e (array t n) → HasType env i int → HasType env (index s e i) t
   a_target : {s : Span} {e : CExpr} {t : Ty} → HasType env e (pointer t) → HasType env (deref s e) t
   an_address : {s : Span} {e : CExpr} {t : Ty}
-      → IsTrue (is_place e) → is_local env e ≡ false → HasType env e t → HasType env (address s e) (pointer t)
+      → IsTrue (is_lvalue e) → is_local env e ≡ false → HasType env e t → HasType env (address s e) (pointer t)
   a_negative : {s : Span} {e : CExpr} → HasType env e int → HasType env (unary s Negate e) int
   a_negation : {s : Span} {e : CExpr} → HasType env e bool → HasType env (unary s Not e) bool
   arithmetic : {s : Span} {o : BinaryOp} {a b : CExpr}

@@ -54,8 +54,8 @@ abbrev pub max_parameters : Bool → ℕ
 max_parameters in_asm = if in_asm then 4 else 8
 
 -- the words of a function's frame: its parameters, its locals, and three more
-abbrev pub frame : List Shape → CFunction → ℕ
-frame structs f = all_words structs (map typed_of f.params) + all_words structs (map typed_of (locals_of f.body)) + 3
+abbrev pub words_of_frame : List Shape → CFunction → ℕ
+words_of_frame structs f = all_words structs (map typed_of f.params) + all_words structs (map typed_of (locals_of f.body)) + 3
 
 -- whether these are three parameters of type int
 abbrev pub are_three_ints : List CDecl → Bool

@@ -13,7 +13,7 @@ use Rattle.c0_tree.specs.Size.{need}
 use Rattle.c0_meaning.specs.Ty.{Ty, int, bool, pointer, named, array, ty_of, is_scalar}
 use Rattle.c0_meaning.specs.Env.{Env, Typed, Signature, env_of}
 use Rattle.c0_meaning.specs.Words.{fields_named}
-use Rattle.c0_meaning.specs.Expression.{is_place}
+use Rattle.c0_meaning.specs.Expression.{is_lvalue}
 use Rattle.c0_meaning.specs.Judgement.{IsArithmetic, IsOrder, IsEquality, IsLogical}
 use Rattle.c0_meaning.specs.Limits.{locals_of}
 use Rattle.c0_meaning.specs.Resolved.{IsResolved}
@@ -77,14 +77,14 @@ pub data HasNumberedType (env : Env) : CExpr → Ty → Type 0 where
   a_false : {s : Span} → HasNumberedType env (false_ s) bool
   a_variable : {x : CName} {d : Typed} → variable_at env x.kind x.number ≡ Some d → HasNumberedType env (var x) d.ty
   a_field : {s : Span} {e : CExpr} {f : CName} {x : List ℕ} {d : Typed}
-      → IsTrue (is_place e) → HasNumberedType env e (named x) → field_at env x f.number ≡ Some d → HasNumberedType env (field s e f) d.ty
+      → IsTrue (is_lvalue e) → HasNumberedType env e (named x) → field_at env x f.number ≡ Some d → HasNumberedType env (field s e f) d.ty
   a_target_field : {s : Span} {e : CExpr} {f : CName} {x : List ℕ} {d : Typed}
       → HasNumberedType env e (pointer (named x)) → field_at env x f.number ≡ Some d → HasNumberedType env (arrow s e f) d.ty
   an_element : {s : Span} {e i : CExpr} {t : Ty} {n : ℕ}
-      → IsTrue (is_place e) → HasNumberedType env e (array t n) → HasNumberedType env i int → HasNumberedType env (index s e i) t
+      → IsTrue (is_lvalue e) → HasNumberedType env e (array t n) → HasNumberedType env i int → HasNumberedType env (index s e i) t
   a_target : {s : Span} {e : CExpr} {t : Ty} → HasNumberedType env e (pointer t) → HasNumberedType env (deref s e) t
   an_address : {s : Span} {e : CExpr} {t : Ty}
-      → IsTrue (is_place e) → is_frame_place e ≡ false → HasNumberedType env e t → HasNumberedType env (address s e) (pointer t)
+      → IsTrue (is_lvalue e) → is_frame_place e ≡ false → HasNumberedType env e t → HasNumberedType env (address s e) (pointer t)
   a_negative : {s : Span} {e : CExpr} → HasNumberedType env e int → HasNumberedType env (unary s Negate e) int
   a_negation : {s : Span} {e : CExpr} → HasNumberedType env e bool → HasNumberedType env (unary s Not e) bool
   arithmetic : {s : Span} {o : BinaryOp} {a b : CExpr}
@@ -107,7 +107,7 @@ pub data IsNumberedGiven (env : Env) : CExpr → Ty → Type 0 where
 
 -- a left side for values of a type: a place of that scalar type
 pub record IsNumberedLeft (env : Env) (p : CExpr) (t : Ty) : Type 0 where
-  pub place : IsTrue (is_place p)
+  pub place : IsTrue (is_lvalue p)
   pub scalar : IsTrue (is_scalar t)
   pub typed : HasNumberedType env p t
 

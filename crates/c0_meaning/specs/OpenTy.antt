@@ -4,7 +4,7 @@ use Rattle.c0_tree.specs.Tree.{CUnit}
 use Rattle.c0_tree.specs.Primitives.{CPrimitive}
 use Rattle.c0_meaning.specs.Ty.{Ty, int, bool, pointer, named, array}
 use Rattle.c0_meaning.specs.Env.{Shape, Typed}
-use Rattle.c0_meaning.specs.Words.{Holds, fields_named, words}
+use Rattle.c0_meaning.specs.Words.{StructHolds, fields_named, words}
 use Rattle.c0_meaning.specs.Sound.{shapes}
 use Rattle.c0_meaning.specs.Unit.{IsWellFormed}
 
@@ -54,5 +54,5 @@ abbrev mutual
 
 -- a law: where no struct holds itself, as in a well formed unit, the size of a type that is written out is its words
 pub record SizeIsWords : Type 0 where
-  pub loose : (structs : List Shape) → ((x : List ℕ) → Holds structs x x → ⊥) → (t : Ty) → size (opened structs t) ≡ words structs t
+  pub loose : (structs : List Shape) → ((x : List ℕ) → StructHolds structs x x → ⊥) → (t : Ty) → size (opened structs t) ≡ words structs t
   pub well_formed : (primitives : List CPrimitive) (u : CUnit) → IsWellFormed primitives u → (t : Ty) → size (opened (shapes u) t) ≡ words (shapes u) t

@@ -8,7 +8,7 @@ use Rattle.c0_meaning.specs.Value.{empty}
 use Rattle.c0_meaning.specs.State.{first_state}
 use Rattle.c0_meaning.specs.World.{Setting, Configuration, beginning}
 use Rattle.c0_meaning.specs.Running.{begin}
-use Rattle.c0_meaning.specs.Reasoning.{Begins, Makes}
+use Rattle.c0_meaning.specs.Reasoning.{IsPrefix, MakesEntries}
 use Rattle.c0_meaning.specs.UserProgram.{trap, prog}
 use Rattle.c0_meaning.specs.RunLaws.{HasEnded}
 
@@ -38,5 +38,5 @@ program_start u given = beginning (record (first_state u) { frames = [] }) given
 
 -- a law: entries that the run of `main` makes are arguments that the program asks, as many as there are answers and one more
 abbrev pub MadeIsAsked : Type 0
-MadeIsAsked = (u : CUnit) (given es : List ℤ) (n : ℕ) → Makes (program_setting u) n (begin (first_number User u) empty ∷ []) (program_start u given) es
-    → Begins (take (suc (length given)) es) (prog u given n).arguments
+MadeIsAsked = (u : CUnit) (given es : List ℤ) (n : ℕ) → MakesEntries (program_setting u) n (begin (first_number User u) empty ∷ []) (program_start u given) es
+    → IsPrefix (take (suc (length given)) es) (prog u given n).arguments

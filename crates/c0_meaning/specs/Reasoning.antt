@@ -11,33 +11,33 @@ use Rattle.c0_meaning.specs.Execution.{Outcome, Done, Failed, NotYet, run_within
 use Rattle.c0_meaning.specs.RunLaws.{stands_at}
 
 -- a run is done, and a property holds of where it stands
-abbrev pub Comes : {W E : Type 0} → Outcome W E → (Configuration W E → Type 0) → Type 0
-Comes (Done used c) Q = Q c
-Comes (Failed used f c) Q = ⊥
-Comes (NotYet used c) Q = ⊥
+abbrev pub DoneWith : {W E : Type 0} → Outcome W E → (Configuration W E → Type 0) → Type 0
+DoneWith (Done used c) Q = Q c
+DoneWith (Failed used f c) Q = ⊥
+DoneWith (NotYet used c) Q = ⊥
 
 -- WORK IS DONE from here within n units: it doesn't fail, it ends, and then the property holds. Of code without a choice that is open it
 -- computes to the property itself.
 abbrev pub Ends : {W E : Type 0} → Setting W E → (n : ℕ) → List Work → Configuration W E → (Configuration W E → Type 0) → Type 0
-Ends p n work c Q = Comes (run_within p n work c) Q
+Ends p n work c Q = DoneWith (run_within p n work c) Q
 
 -- a list begins with these
-pub record Begins {E : Type 0} (es all : List E) : Type 0 where
+pub record IsPrefix {E : Type 0} (es all : List E) : Type 0 where
   pub more : List E
   pub is : all ≡ es ++ more
 
 -- THESE ENTRIES ARE MADE within n units from here on: the journal begins with them then, with those that were made before, whether the run is over or goes
--- on. For a program that serves for ever, whose entries are the arguments of its calls. proofs/Making has the rules.
-abbrev pub Makes : {W E : Type 0} → Setting W E → (n : ℕ) → List Work → Configuration W E → List E → Type 0
-Makes p n work c es = Begins es (journal (stands_at (run_within p n work c)))
+-- on. For a program that serves for ever, whose entries are the arguments of its calls. proofs/ServingRules has the rules.
+abbrev pub MakesEntries : {W E : Type 0} → Setting W E → (n : ℕ) → List Work → Configuration W E → List E → Type 0
+MakesEntries p n work c es = IsPrefix es (journal (stands_at (run_within p n work c)))
 
 -- so many steps one after another, as one
-abbrev pub behind : {W E : Type 0} → Cost → Step W E → Step W E
-behind k (Go j w d) = Go (plus k j) w d
-behind k (Stop j f d) = Stop (plus k j) f d
+abbrev pub with_cost : {W E : Type 0} → Cost → Step W E → Step W E
+with_cost k (Go j w d) = Go (plus k j) w d
+with_cost k (Stop j f d) = Stop (plus k j) f d
 
 abbrev pub after_step : {W E : Type 0} → Step W E → (List Work → Configuration W E → Step W E) → Step W E
-after_step (Go k w d) further = behind k (further w d)
+after_step (Go k w d) further = with_cost k (further w d)
 after_step (Stop k f d) further = Stop k f d
 
 abbrev pub steps : {W E : Type 0} → Setting W E → ℕ → List Work → Configuration W E → Step W E
@@ -52,7 +52,7 @@ LeadTo p m j n (Stop k f d) Q = ⊥
 
 -- or to work that makes these entries within n
 abbrev pub LeadToMade : {W E : Type 0} → Setting W E → (m j n : ℕ) → Step W E → List E → Type 0
-LeadToMade p m j n (Go k w d) es = (total k + m ≤ j) × Makes p n w d es
+LeadToMade p m j n (Go k w d) es = (total k + m ≤ j) × MakesEntries p n w d es
 LeadToMade p m j n (Stop k f d) es = ⊥
 
 -- where a function of this number and these locals begins, called with these arguments

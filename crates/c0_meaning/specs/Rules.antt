@@ -8,13 +8,13 @@ use Rattle.c0_tree.specs.Size.{need}
 use Rattle.c0_meaning.specs.Ty.{Ty, bool, pointer, ty_of, is_scalar}
 use Rattle.c0_meaning.specs.Env.{Env, Callee, callee_named}
 use Rattle.c0_meaning.specs.Fault.{Fault}
-use Rattle.c0_meaning.specs.Expression.{is_place}
+use Rattle.c0_meaning.specs.Expression.{is_lvalue}
 use Rattle.c0_meaning.specs.Judgement.{HasType, IsGiven}
 use Rattle.c0_meaning.specs.Statement.{MAX_NEED, assign_need, call_need, new_need, tested_faults, stmts_faults}
 
 -- a left side for values of a type: a place of that scalar type
-pub record IsLeft (env : Env) (p : CExpr) (t : Ty) : Type 0 where
-  pub place : IsTrue (is_place p)
+pub record IsLvalue (env : Env) (p : CExpr) (t : Ty) : Type 0 where
+  pub place : IsTrue (is_lvalue p)
   pub scalar : IsTrue (is_scalar t)
   pub typed : HasType env p t
 
@@ -32,12 +32,12 @@ pub record IsTested (env : Env) (e : CExpr) (t : Ty) : Type 0 where
 mutual
   pub data IsTyped (declared : CTy → Span → List Fault) (env : Env) : CStmt → Type 0 where
     an_assignment : {s : Span} {p v : CExpr} {t : Ty}
-        → IsLeft env p t → IsGiven env v t → assign_need p v ≤ MAX_NEED → IsTyped declared env (assign s p v)
+        → IsLvalue env p t → IsGiven env v t → assign_need p v ≤ MAX_NEED → IsTyped declared env (assign s p v)
     a_call : {s cs : Span} {p : CExpr} {f : CName} {args : List CExpr} {c : Callee}
-        → callee_named env f.text ≡ Some c → IsLeft env p c.answer → AreGiven env args c.params → call_need p args ≤ MAX_NEED
+        → callee_named env f.text ≡ Some c → IsLvalue env p c.answer → AreGiven env args c.params → call_need p args ≤ MAX_NEED
         → IsTyped declared env (call s p cs f args)
     an_object : {s ts : Span} {p : CExpr} {t : CTy}
-        → IsLeft env p (pointer (ty_of t)) → declared t ts ≡ [] → new_need p ≤ MAX_NEED → IsTyped declared env (new s p t ts)
+        → IsLvalue env p (pointer (ty_of t)) → declared t ts ≡ [] → new_need p ≤ MAX_NEED → IsTyped declared env (new s p t ts)
     a_choice : {s : Span} {t : CExpr} {a b : CStmts}
         → IsTested env t bool → AreTyped declared env a → AreTyped declared env b → IsTyped declared env (choice s t a b)
     a_loop : {s : Span} {t : CExpr} {b : CStmts} → IsTested env t bool → AreTyped declared env b → IsTyped declared env (loop s t b)

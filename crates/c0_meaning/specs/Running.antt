@@ -6,9 +6,9 @@ use Rattle.c0_tree.specs.Tree.{CExpr, CStmt, assign, call, new, choice, loop, CS
 use Rattle.c0_meaning.specs.Ty.{Ty, ty_of}
 use Rattle.c0_meaning.specs.Env.{typed_of}
 use Rattle.c0_meaning.specs.Words.{words, all_words}
-use Rattle.c0_meaning.specs.Limits.{frame}
+use Rattle.c0_meaning.specs.Limits.{words_of_frame}
 use Rattle.c0_meaning.specs.Sound.{shapes}
-use Rattle.c0_meaning.specs.Value.{heap, Value, int, null, at, group, Values, followed_by, parts, zero_of, zeros_of}
+use Rattle.c0_meaning.specs.Value.{heap, Value, int, null, at, group, Values, followed_by, part_count, zero_of, zeros_of}
 use Rattle.c0_meaning.specs.State.{write, pushed, popped, with_object, stack_words}
 use Rattle.c0_meaning.specs.Operators.{Failure, StackOut, faulted, stuck}
 use Rattle.c0_meaning.specs.Evaluation.{Costed, costs, at_no_cost, truth, value_of, place_of, values_of}
@@ -67,7 +67,7 @@ enter p cost n (asm text span words) args target work c = deliver (plus cost (un
 abbrev pub call_function : {W E : Type 0} → Setting W E → Cost → ℕ → Values → Target → List Work → Configuration W E → Step W E
 call_function p cost n args target work c =
     then_go (plus cost (units 1)) c (at_no_cost (ok_or (slice_get p.unit.functions n) stuck)) (λ cost f.
-    if nat_lt p.stack (stack_words p.unit c.state.frames + frame (shapes p.unit) f) then Stop cost (faulted StackOut) c
+    if nat_lt p.stack (stack_words p.unit c.state.frames + words_of_frame (shapes p.unit) f) then Stop cost (faulted StackOut) c
     else enter p cost n f.body args target work c)
 
 -- a call with its arguments, of a function or a primitive: a primitive needs no stack
@@ -83,7 +83,7 @@ abbrev pub allocate : {W E : Type 0} → Setting W E → Ty → Target → List 
 allocate p t target work c =
     let n = words (shapes p.unit) t in
     if nat_lt p.heap (c.state.heap_words + n) then deliver (units 1) target null work c
-    else deliver (units (1 + n)) target (at (record { region = heap; path = parts c.state.heap_values ∷ [] })) work
+    else deliver (units (1 + n)) target (at (record { region = heap; path = part_count c.state.heap_values ∷ [] })) work
     (with_state c (with_object (zero_of (shapes p.unit) t) n c.state))
 
 -- a test of a loop: its body and the next test, or what stands behind it

@@ -8,7 +8,7 @@ use Rattle.c0_tree.specs.Size.{need, args_need}
 use Rattle.c0_meaning.specs.Ty.{Ty, bool, pointer, ty_of, same_ty, is_scalar}
 use Rattle.c0_meaning.specs.Env.{Env, Callee, callee_named}
 use Rattle.c0_meaning.specs.Fault.{Fault, fault, UNKNOWN_NAME, WRONG_TYPE, WRONG_COUNT, NOT_A_PLACE, TOO_DEEP}
-use Rattle.c0_meaning.specs.Expression.{Verdict, has, wrong, given, own, one, both, span_of, is_place, asked, asked_faults, type_of, faults, resolved}
+use Rattle.c0_meaning.specs.Expression.{Verdict, has, wrong, type_given, own, one, both, span_of, is_lvalue, type_asked, asked_faults, type_of, faults, resolved}
 
 -- the registers that an expression may need
 abbrev pub MAX_NEED : ℕ
@@ -24,7 +24,7 @@ same_rule s want t = if same_ty want t then has want else wrong (fault WRONG_TYP
 
 -- what is said of an expression where a type may be asked
 abbrev pub given_verdict : Env → Option Ty → CExpr → Verdict
-given_verdict env want e = both want (asked want e (type_of env e)) (same_rule (span_of e))
+given_verdict env want e = both want (type_asked want e (type_of env e)) (same_rule (span_of e))
 
 -- the faults of an expression where a type may be asked: a right side, an argument, a condition, a returned expression
 abbrev pub given_faults : Env → Option Ty → CExpr → List Fault
@@ -40,11 +40,11 @@ left_rule place s t = if place then (if is_scalar t then has t else wrong (fault
 
 -- what is said of a left side
 abbrev pub left_verdict : Env → CExpr → Verdict
-left_verdict env p = one (type_of env p) (left_rule (is_place p) (span_of p))
+left_verdict env p = one (type_of env p) (left_rule (is_lvalue p) (span_of p))
 
 -- the type that a left side asks of the right side, if it is right itself
 abbrev pub left_type : Env → CExpr → Option Ty
-left_type env p = given (left_verdict env p)
+left_type env p = type_given (left_verdict env p)
 
 -- the faults of a left side
 abbrev pub left_faults : Env → CExpr → List Fault
@@ -60,9 +60,9 @@ callee_faults s f want count None = fault UNKNOWN_NAME f.span ∷ []
 callee_faults s f want count (Some c) = (if length c.params == count then [] else fault WRONG_COUNT s ∷ []) ++ result_faults s want c.answer
 
 -- the types that are asked of arguments: none where the name is unknown
-abbrev pub params_of : Option Callee → List Ty
-params_of None = []
-params_of (Some c) = c.params
+abbrev pub parameter_types : Option Callee → List Ty
+parameter_types None = []
+parameter_types (Some c) = c.params
 
 -- the type that is asked of the next argument: none where all parameters have had theirs
 abbrev pub first_of : List Ty → Option Ty
@@ -100,7 +100,7 @@ abbrev pub call_faults : Env → Span → CExpr → Span → CName → List CExp
 call_faults env s p cs f args =
     left_faults env p
     ++ (callee_faults cs f (left_type env p) (length args) (callee_named env f.text)
-    ++ (args_faults env (params_of (callee_named env f.text)) args ++ deep_faults s (call_need p args)))
+    ++ (args_faults env (parameter_types (callee_named env f.text)) args ++ deep_faults s (call_need p args)))
 
 -- the faults of `new`
 abbrev pub new_faults : (CTy → Span → List Fault) → Env → Span → CExpr → CTy → Span → List Fault

@@ -10,7 +10,7 @@ use Rattle.c0_tree.specs.View.{type_view}
 use Rattle.c0_meaning.specs.Ty.{Ty, int, bool, pointer, named, array}
 use Rattle.c0_meaning.specs.Env.{Env, Shape, Typed, env_of}
 use Rattle.c0_meaning.specs.Words.{fields_named}
-use Rattle.c0_meaning.specs.Expression.{is_place, target}
+use Rattle.c0_meaning.specs.Expression.{is_lvalue, target}
 use Rattle.c0_meaning.specs.Limits.{locals_of}
 use Rattle.c0_meaning.specs.Numbered.{variable_at, HasNumberedType}
 use Rattle.c0_meaning.specs.Resolved.{IsResolved}
@@ -75,7 +75,7 @@ type_at env (field s e f) = field_type env.structs (type_at env e) f.number
 type_at env (arrow s e f) = field_type env.structs (target (type_at env e)) f.number
 type_at env (index s e i) = element (type_at env e)
 type_at env (deref s e) = target (type_at env e)
-type_at env (address s e) = if is_place e then option_map pointer (type_at env e) else None
+type_at env (address s e) = if is_lvalue e then option_map pointer (type_at env e) else None
 type_at env (unary s o e) = Some (unary_type o)
 type_at env (binary s o a b) = Some (binary_type o)
 

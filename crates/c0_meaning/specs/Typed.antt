@@ -8,7 +8,7 @@ use Rattle.c0_tree.specs.Primitives.{CPrimitive, primitives_of}
 use Rattle.c0_meaning.specs.Ty as ty
 use Rattle.c0_meaning.specs.Ty.{ty_of}
 use Rattle.c0_meaning.specs.Env.{Env, Shape, shape_of, typed_of, env_of, first_named}
-use Rattle.c0_meaning.specs.Words.{Holds, words, all_words}
+use Rattle.c0_meaning.specs.Words.{StructHolds, words, all_words}
 use Rattle.c0_meaning.specs.DeclaredTypes.{MAX_TYPE_WORDS, has_empty_array, may_pass, type_faults}
 use Rattle.c0_meaning.specs.Names.{is_among, unit_names}
 use Rattle.c0_meaning.specs.Limits.{MAX_FUNCTION_NODES, MAX_UNIT_NODES, MAX_GLOBAL_WORDS, is_asm, locals_of, nodes_of, all_nodes, max_parameters}
@@ -40,7 +40,7 @@ HaveNamesApart decls = AreSetOnce [] (map (λ x. x.text) (map (λ d. d.name) dec
 
 -- a struct that is typed: it doesn't hold itself, its words are few enough, and its fields have types that may be declared and names apart
 pub record IsTypedStruct (structs : List Shape) (s : CStruct) : Type 0 where
-  pub loose : Holds structs s.name.text s.name.text → ⊥
+  pub loose : StructHolds structs s.name.text s.name.text → ⊥
   pub small : words structs (ty.named s.name.text) ≤ MAX_TYPE_WORDS
   pub apart : HaveNamesApart s.fields
   pub fields : All (λ d. IsDeclarable structs d.ty) s.fields
@@ -91,7 +91,7 @@ first_params Kernel = ty.int ∷ ty.int ∷ ty.int ∷ []
 first_params User = []
 
 -- a function is `int dispatch(int, int, int)`, or `int main()`, with a code body
-pub record IsFirst (program : Program) (f : CFunction) : Type 0 where
+pub record IsFirstFunction (program : Program) (f : CFunction) : Type 0 where
   pub named : f.name.text ≡ first_name program
   pub params : map (λ d. ty_of d.ty) f.params ≡ first_params program
   pub answer : ty_of f.answer ≡ ty.int
@@ -102,7 +102,7 @@ pub record HasFirst (program : Program) (functions : List CFunction) : Type 0 wh
   pub number : ℕ
   pub function : CFunction
   pub there : slice_get functions number ≡ Some function
-  pub right : IsFirst program function
+  pub right : IsFirstFunction program function
 
 -- a kernel's unit, or a user program's, that is typed, whose asm bodies hold their words
 pub record IsTypedProgram (program : Program) (u : CUnit) : Type 0 where

@@ -9,7 +9,7 @@ use Rattle.c0_meaning.specs.Value.{Values, empty, part}
 use Rattle.c0_meaning.specs.Value as value
 use Rattle.c0_meaning.specs.State.{first_state}
 use Rattle.c0_meaning.specs.Operators.{Failure}
-use Rattle.c0_meaning.specs.World.{Meaning, journal}
+use Rattle.c0_meaning.specs.World.{PrimitiveMeaning, journal}
 use Rattle.c0_meaning.specs.Execution.{Outcome, Done, Failed, NotYet, call_first}
 
 -- the argument of a call of `trap`
@@ -18,19 +18,19 @@ argument (part (value.int a) vs) = a
 argument _ = pos 0
 
 -- `trap`: the world's value is the answers that are left, the journal the arguments; past the last answer it answers 0
-abbrev pub trap : Meaning (List ℤ) ℤ
+abbrev pub trap : PrimitiveMeaning (List ℤ) ℤ
 trap n args answers = record { answer = value.int (unwrap_or (slice_get answers 0) (pos 0)); world = drop 1 answers; entries = argument args ∷ []; pages = 0; words = 0 }
 
 -- how a program ended
-pub data Ending : Type 0 where
-  done : Ending
-  failed : Failure → Ending
-  not_yet : Ending
+pub data ProgramEnding : Type 0 where
+  done : ProgramEnding
+  failed : Failure → ProgramEnding
+  not_yet : ProgramEnding
 
 -- what is seen of a program: the arguments of its calls of `trap` so far, and how it ended
 pub record Seen : Type 0 where
   pub arguments : List ℤ
-  pub ending : Ending
+  pub ending : ProgramEnding
 
 -- a program that has called `trap` past the last answer stands at the first such call
 abbrev pub up_to : List ℤ → Seen → Seen
@@ -38,12 +38,12 @@ up_to answers s =
     if nat_lt (length answers) (length s.arguments) then record { arguments = take (suc (length answers)) s.arguments; ending = not_yet } else s
 
 -- what is seen of an outcome
-abbrev pub seen : Outcome (List ℤ) ℤ → Seen
-seen (Done k c) = record { arguments = journal c; ending = done }
-seen (Failed k f c) = record { arguments = journal c; ending = failed f }
-seen (NotYet k c) = record { arguments = journal c; ending = not_yet }
+abbrev pub outcome_seen : Outcome (List ℤ) ℤ → Seen
+outcome_seen (Done k c) = record { arguments = journal c; ending = done }
+outcome_seen (Failed k f c) = record { arguments = journal c; ending = failed f }
+outcome_seen (NotYet k c) = record { arguments = journal c; ending = not_yet }
 
 -- `main` of a unit, within n units, where the i-th call of `trap` answers the i-th of a list; heap and stack have 1024 words each
 abbrev pub prog : CUnit → List ℤ → ℕ → Seen
 prog u answers n =
-    up_to answers (seen (call_first (record { unit = u; heap = 1024; stack = 1024; meaning = trap }) n (first_number User u) empty (first_state u) answers))
+    up_to answers (outcome_seen (call_first (record { unit = u; heap = 1024; stack = 1024; meaning = trap }) n (first_number User u) empty (first_state u) answers))

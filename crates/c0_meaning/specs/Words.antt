@@ -26,9 +26,9 @@ abbrev pub has_field_of : List Shape → List ℕ → List ℕ → Bool
 has_field_of structs owner x = have_field (fields_named structs owner) x
 
 -- a struct holds another: by a field, or by a field that holds it
-pub data Holds (structs : List Shape) : List ℕ → List ℕ → Type 0 where
-  by_field : {owner x : List ℕ} → IsTrue (has_field_of structs owner x) → Holds structs owner x
-  by_part : {owner part x : List ℕ} → IsTrue (has_field_of structs owner part) → Holds structs part x → Holds structs owner x
+pub data StructHolds (structs : List Shape) : List ℕ → List ℕ → Type 0 where
+  by_field : {owner x : List ℕ} → IsTrue (has_field_of structs owner x) → StructHolds structs owner x
+  by_part : {owner part x : List ℕ} → IsTrue (has_field_of structs owner part) → StructHolds structs part x → StructHolds structs owner x
 
 -- whether a struct holds another through structs that have one of these names
 abbrev pub holds_through : List Shape → List (List ℕ) → List ℕ → List ℕ → Bool
@@ -72,12 +72,12 @@ all_words structs decls = all_words_with (struct_words structs) decls
 
 -- the test is the relation
 abbrev pub HoldsAsTested : Type 0
-HoldsAsTested = (structs : List Shape) (owner x : List ℕ) → IsTrue (holds structs owner x) ↔ Holds structs owner x
+HoldsAsTested = (structs : List Shape) (owner x : List ℕ) → IsTrue (holds structs owner x) ↔ StructHolds structs owner x
 
 -- A struct that doesn't hold itself has the words of its fields, and one that holds itself has none. With the words of a scalar and of
 -- an array this fixes the words of every type. A struct that isn't defined has no fields.
 pub record WordsAreThose : Type 0 where
   pub scalar : (structs : List Shape) (t : Ty) → (words structs int ≡ 1) × (words structs bool ≡ 1) × (words structs (pointer t) ≡ 1)
   pub element : (structs : List Shape) (t : Ty) (n : ℕ) → words structs (array t n) ≡ n * words structs t
-  pub fields : (structs : List Shape) (x : List ℕ) → (Holds structs x x → ⊥) → words structs (named x) ≡ all_words structs (fields_named structs x)
-  pub cycle : (structs : List Shape) (x : List ℕ) → Holds structs x x → words structs (named x) ≡ 0
+  pub fields : (structs : List Shape) (x : List ℕ) → (StructHolds structs x x → ⊥) → words structs (named x) ≡ all_words structs (fields_named structs x)
+  pub cycle : (structs : List Shape) (x : List ℕ) → StructHolds structs x x → words structs (named x) ≡ 0

@@ -2,7 +2,7 @@
 use Rattle.std.specs.Prelude.{ℕ, ◌+◌, List, [], ◌∷◌, ◌++◌, length, Option, None}
 use Rattle.c0_tree.specs.Tree.{CUnit}
 use Rattle.c0_meaning.specs.Value.{Value, Values}
-use Rattle.c0_meaning.specs.State.{State}
+use Rattle.c0_meaning.specs.State.{C0State}
 
 -- what a call of a primitive comes to: the answer, the world's value after it, the journal entries that it makes, and how many pages
 -- and words it touches
@@ -15,15 +15,15 @@ pub record Called (W E : Type 0) : Type 0 where
 
 -- the meaning of primitives, over a world with values in W and journal entries in E: what the call of a primitive comes to, by its
 -- number, its argument values and the world's value
-abbrev pub Meaning : (W E : Type 0) → Type 0
-Meaning W E = ℕ → Values → W → Called W E
+abbrev pub PrimitiveMeaning : (W E : Type 0) → Type 0
+PrimitiveMeaning W E = ℕ → Values → W → Called W E
 
 -- what a run is set in: a unit with the words of its heap and of its stack, and what its primitives mean
 pub record Setting (W E : Type 0) : Type 0 where
   pub unit : CUnit
   pub heap : ℕ
   pub stack : ℕ
-  pub meaning : Meaning W E
+  pub meaning : PrimitiveMeaning W E
 
 -- What a run costs: units that are the program's own (an expression node, a statement, a test of a loop, a call, a zeroed word, a word of
 -- an asm body), units that are a primitive's (its call, and each word and page that it touches), and the pages that primitives use.
@@ -47,7 +47,7 @@ plus a b = record { own = a.own + b.own; primitive = a.primitive + b.primitive; 
 -- where a run stands: the state of C0, the world's value, the calls of primitives that ended, each by its journal entries, the oldest
 -- first, and the answer of the first function once it has returned
 pub record Configuration (W E : Type 0) : Type 0 where
-  pub state : State
+  pub state : C0State
   pub world : W
   pub calls : List (List E)
   pub answer : Option Value
@@ -62,15 +62,15 @@ abbrev pub journal : {W E : Type 0} → Configuration W E → List E
 journal c = entries_of c.calls
 
 -- how many calls of primitives ended
-abbrev pub ended : {W E : Type 0} → Configuration W E → ℕ
-ended c = length c.calls
+abbrev pub calls_ended : {W E : Type 0} → Configuration W E → ℕ
+calls_ended c = length c.calls
 
 -- where a run begins
-abbrev pub beginning : {W E : Type 0} → State → W → Configuration W E
+abbrev pub beginning : {W E : Type 0} → C0State → W → Configuration W E
 beginning s world = record { state = s; world = world; calls = []; answer = None }
 
 -- with another state of C0
-abbrev pub with_state : {W E : Type 0} → Configuration W E → State → Configuration W E
+abbrev pub with_state : {W E : Type 0} → Configuration W E → C0State → Configuration W E
 with_state c s = record c { state = s }
 
 -- after a call of a primitive

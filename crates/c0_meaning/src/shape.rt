@@ -28,7 +28,7 @@ pub fn span_of(expr: &Expr) -> Span
 
 /// Whether it is a variable, `place.f`, `place[i]`, `*e` or `e->f`.
 pub fn is_place(expr: &Expr) -> bool
-    ensures { result ≡ spec.is_place (expr_view expr.now) }
+    ensures { result ≡ spec.is_lvalue (expr_view expr.now) }
 {
     match expr {
         Expr::Num(_, _) => false,

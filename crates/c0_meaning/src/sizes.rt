@@ -8,7 +8,7 @@ ghost use Rattle.c0_meaning.specs.Ty.{ty_of};
 ghost use Rattle.c0_meaning.specs.Env.{typed_of};
 ghost use Rattle.c0_meaning.specs.Words.{words, all_words};
 ghost use Rattle.c0_meaning.specs.DeclaredTypes.{MAX_TYPE_WORDS};
-ghost use Rattle.c0_meaning.specs.Limits.{frame};
+ghost use Rattle.c0_meaning.specs.Limits.{words_of_frame};
 ghost use Rattle.c0_meaning.specs.Resolved.{IsResolved};
 ghost use Rattle.c0_meaning.specs.Sizes.{capped};
 ghost use Rattle.c0_meaning.specs.Sound.{shapes, IsSized, IsSizedFunction};
@@ -52,7 +52,7 @@ fn decls_words(decls: &[Decl], unit: &Measured<'_>) -> u64
 // The words of a function's frame.
 fn function_words(function: &Function, unit: &Measured<'_>) -> u64
     requires { IsSizedFunction (shapes (unit_view unit.now)) (function_view function.now) }
-    ensures { result ≡ frame (shapes (unit_view unit.now)) (function_view function.now) }
+    ensures { result ≡ words_of_frame (shapes (unit_view unit.now)) (function_view function.now) }
 {
     let params = decls_words(&function.params, unit);
     match &function.body {
@@ -65,7 +65,7 @@ fn function_words(function: &Function, unit: &Measured<'_>) -> u64
 /// locals.
 pub fn frame_words(unit: &Measured<'_>, function: u32) -> u64
     requires { function < length unit.now.functions.items }
-    ensures { (f : CFunction) → slice_get (unit_view unit.now).functions function ≡ Some f → result ≡ frame (shapes (unit_view unit.now)) f }
+    ensures { (f : CFunction) → slice_get (unit_view unit.now).functions function ≡ Some f → result ≡ words_of_frame (shapes (unit_view unit.now)) f }
 {
     function_words(&unit.unit().functions[function as usize], unit)
 }

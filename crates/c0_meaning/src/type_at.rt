@@ -216,7 +216,7 @@ fn variable_type<'a>(
 fn type_in<'a>(unit: &Measured<'a>, function: &'a Function, expr: &Expr) -> Found<'a>
     requires { IsSizedFunction (shapes (unit_view unit.now)) (function_view function.now) }
     ensures gives { found_view result ≡ spec.type_at (env_in (unit_view unit.now) (function_view function.now)) (expr_view expr.now) }
-    ensures declared { expression.is_place (expr_view expr.now) ≡ true → is_declared result ≡ true }
+    ensures declared { expression.is_lvalue (expr_view expr.now) ≡ true → is_declared result ≡ true }
     ensures resolved { IsFoundResolved (shapes (unit_view unit.now)) result }
 {
     match expr {

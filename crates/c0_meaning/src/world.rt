@@ -2,7 +2,7 @@
 
 ghost use Rattle.std.specs.Prelude.{ℤ, List};
 ghost use Rattle.c0_meaning.specs.UserProgram.{trap};
-ghost use Rattle.c0_meaning.specs.World.{Meaning};
+ghost use Rattle.c0_meaning.specs.World.{PrimitiveMeaning};
 
 /// A world that primitives act on: how it may stand, the entries of its journal, and what the primitives mean.
 pub trait World {
@@ -10,7 +10,7 @@ pub trait World {
 
     ghost Entry: { Type 0 };
 
-    ghost meaning: { Meaning Standing Entry };
+    ghost meaning: { PrimitiveMeaning Standing Entry };
 }
 
 /// The world of a user program: the answers that are left, and as its journal the arguments of the calls of `trap`.

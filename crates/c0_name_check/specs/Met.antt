@@ -8,27 +8,27 @@ use Rattle.c0_name_check.specs.declared.met.Mistake.{Mistake}
 use Rattle.c0_name_check.specs.declared.met.Mistake.TheVariants.{UnknownName, NameTwice, WrongType, WrongCount, NotAPlace, LocalAddress, StructHoldsItself, TooDeep, TooManyNodes, UnitTooLarge, GlobalsTooLarge, NoDispatch, TooManyParameters, TypeTooLarge, EmptyArray, NoMain}
 
 -- the number of a mistake
-abbrev pub number_of : Mistake → ℕ
-number_of UnknownName = spec.UNKNOWN_NAME
-number_of NameTwice = spec.NAME_TWICE
-number_of WrongType = spec.WRONG_TYPE
-number_of WrongCount = spec.WRONG_COUNT
-number_of NotAPlace = spec.NOT_A_PLACE
-number_of LocalAddress = spec.LOCAL_ADDRESS
-number_of StructHoldsItself = spec.STRUCT_HOLDS_ITSELF
-number_of TooDeep = spec.TOO_DEEP
-number_of TooManyNodes = spec.TOO_MANY_NODES
-number_of UnitTooLarge = spec.UNIT_TOO_LARGE
-number_of GlobalsTooLarge = spec.GLOBALS_TOO_LARGE
-number_of NoDispatch = spec.NO_DISPATCH
-number_of TooManyParameters = spec.TOO_MANY_PARAMETERS
-number_of TypeTooLarge = spec.TYPE_TOO_LARGE
-number_of EmptyArray = spec.EMPTY_ARRAY
-number_of NoMain = spec.NO_MAIN
+abbrev pub mistake_number : Mistake → ℕ
+mistake_number UnknownName = spec.UNKNOWN_NAME
+mistake_number NameTwice = spec.NAME_TWICE
+mistake_number WrongType = spec.WRONG_TYPE
+mistake_number WrongCount = spec.WRONG_COUNT
+mistake_number NotAPlace = spec.NOT_A_PLACE
+mistake_number LocalAddress = spec.LOCAL_ADDRESS
+mistake_number StructHoldsItself = spec.STRUCT_HOLDS_ITSELF
+mistake_number TooDeep = spec.TOO_DEEP
+mistake_number TooManyNodes = spec.TOO_MANY_NODES
+mistake_number UnitTooLarge = spec.UNIT_TOO_LARGE
+mistake_number GlobalsTooLarge = spec.GLOBALS_TOO_LARGE
+mistake_number NoDispatch = spec.NO_DISPATCH
+mistake_number TooManyParameters = spec.TOO_MANY_PARAMETERS
+mistake_number TypeTooLarge = spec.TYPE_TOO_LARGE
+mistake_number EmptyArray = spec.EMPTY_ARRAY
+mistake_number NoMain = spec.NO_MAIN
 
 -- a fault
 abbrev pub fault_view : Fault → spec.Fault
-fault_view (Wrong mistake span) = spec.fault (number_of mistake) span
+fault_view (Wrong mistake span) = spec.fault (mistake_number mistake) span
 fault_view (BadLine span line) = record { number = spec.ASM_NOT_ALLOWED; span = span; line = line }
 
 -- the least fault met so far

@@ -3,7 +3,7 @@
 ghost use Rattle.std.specs.Prelude.{◌≡◌};
 ghost use Rattle.c0_meaning.specs.DeclaredTypes.{fault_if};
 ghost use Rattle.c0_meaning.specs.Fault as spec;
-ghost use Rattle.c0_name_check.specs.Met.{fault_view, met_view, number_of};
+ghost use Rattle.c0_name_check.specs.Met.{fault_view, met_view, mistake_number};
 
 use c0_tree::Span;
 
@@ -56,7 +56,7 @@ pub enum Fault {
 impl Mistake {
     /// The number that is printed: 20 to 31, or 33 to 36.
     pub fn number(self) -> u32
-        ensures { result ≡ number_of self }
+        ensures { result ≡ mistake_number self }
     {
         match self {
             Mistake::UnknownName => 20,
@@ -154,14 +154,14 @@ pub fn meet(least: &mut Option<Fault>, new: Fault)
 
 /// Keeps the least of the faults met before and a mistake at this span.
 pub fn meet_at(least: &mut Option<Fault>, mistake: Mistake, span: Span)
-    ensures { met_view least.new ≡ spec.kept (met_view least.old) (spec.fault (number_of mistake) span) }
+    ensures { met_view least.new ≡ spec.kept (met_view least.old) (spec.fault (mistake_number mistake) span) }
 {
     meet(least, Fault::Wrong { mistake, span });
 }
 
 /// Keeps the least of the faults met before and, where something is wrong, a mistake at this span.
 pub fn meet_if(least: &mut Option<Fault>, wrong: bool, mistake: Mistake, span: Span)
-    ensures { met_view least.new ≡ spec.kept_all (met_view least.old) (fault_if wrong (number_of mistake) span) }
+    ensures { met_view least.new ≡ spec.kept_all (met_view least.old) (fault_if wrong (mistake_number mistake) span) }
 {
     if wrong {
         meet_at(least, mistake, span);

@@ -4,9 +4,9 @@ use Rattle.std.specs.Prelude.{Bool, true, false, cond, not, ◌&&◌, ◌||◌}
 use Rattle.c0_tokens.specs.Tokens.{CToken}
 use Rattle.c0_tokens.specs.declared.token.Mark.TheVariants.{OpenParen}
 use Rattle.c0_parser.specs.Sorts.{Sort, among}
-use Rattle.c0_parser.specs.Value.{Value, token, pair, none, snoc}
-use Rattle.c0_parser.specs.Grammar.{Rule, Piece, one_of, sign, ◌▸◌, ◌or◌, many, maybe, the, production, meaning, Derives, taken, both, first, second, no_more, one_more, left_out, there, made}
-use Rattle.c0_parser.specs.Machine.{at, Task, want, more, act, paired, listed, meant, picks, heads, kind, nullable, starts, rule_starts, Leads, still, go}
+use Rattle.c0_parser.specs.Value.{SemanticValue, token, pair, none, snoc}
+use Rattle.c0_parser.specs.Grammar.{Rule, Piece, one_of, sign, ◌▸◌, ◌or◌, many, maybe, the, production, production_value, Derives, taken, both, first, second, no_more, one_more, left_out, there, made}
+use Rattle.c0_parser.specs.Machine.{at, Task, want, more, act, paired, listed, meant, picks, heads, kind, nullable, starts, rule_starts, ParserLeads, still, go}
 use Rattle.c0_parser.proofs.Runs.{then_leads}
 use Rattle.c0_parser.proofs.Tables.{goes_on, rule_on, apart, all_start, none_nullable, all_on, apart_at, within_at}
 
@@ -78,7 +78,7 @@ begins_made : (r : Rule) (xs : List CToken) → Begins (production r) xs → Beg
 begins_made r [] f = absurd (true_false (nullable (production r)) f (none_nullable r))
 begins_made r (t ∷ xs) f = within_at (starts (production r)) (among (rule_starts r)) t (all_start r) f
 
-pub begins : {p : Piece} {xs : List CToken} {v : Value} → Derives p xs v → Begins p xs
+pub begins : {p : Piece} {xs : List CToken} {v : SemanticValue} → Derives p xs v → Begins p xs
 begins (taken s ss t h) = h
 begins (both {a} {b} {xs} {ys} d e) = begins_both a b xs ys (begins d) (begins e)
 begins (first {a} {b} {xs} d) = begins_first a b xs (begins d)
@@ -109,12 +109,12 @@ stops_before a b [] (t ∷ rest) h f s = or_right_of (nullable b) (goes_on a (ki
 stops_before a b (t ∷ ys) rest h f s = apart_at (starts b) (goes_on a) t h f
 
 -- what is read of a piece: a list leaves open whether more of it follows
-abbrev pub Follows : Piece → List CToken → Value → Type 0
-Follows (many a) xs v = (rest : List CToken) (st : List Task) (vs : List Value) → Stops a rest → Leads (at (xs ++ rest) (more a ∷ st) (none ∷ vs)) (at rest (more a ∷ st) (v ∷ vs))
-Follows p xs v = (rest : List CToken) (st : List Task) (vs : List Value) → Stops p rest → Leads (at (xs ++ rest) (want p ∷ st) vs) (at rest st (v ∷ vs))
+abbrev pub Follows : Piece → List CToken → SemanticValue → Type 0
+Follows (many a) xs v = (rest : List CToken) (st : List Task) (vs : List SemanticValue) → Stops a rest → ParserLeads (at (xs ++ rest) (more a ∷ st) (none ∷ vs)) (at rest (more a ∷ st) (v ∷ vs))
+Follows p xs v = (rest : List CToken) (st : List Task) (vs : List SemanticValue) → Stops p rest → ParserLeads (at (xs ++ rest) (want p ∷ st) vs) (at rest st (v ∷ vs))
 
-abbrev pub Reads : Piece → List CToken → Value → Type 0
-Reads p xs v = (rest : List CToken) (st : List Task) (vs : List Value) → Stops p rest → Leads (at (xs ++ rest) (want p ∷ st) vs) (at rest st (v ∷ vs))
+abbrev pub Reads : Piece → List CToken → SemanticValue → Type 0
+Reads p xs v = (rest : List CToken) (st : List Task) (vs : List SemanticValue) → Stops p rest → ParserLeads (at (xs ++ rest) (want p ∷ st) vs) (at rest st (v ∷ vs))
 
 pub cond_true : {A : Type 0} (b : Bool) (x y : A) → b ≡ true → cond b x y ≡ x
 cond_true true x y e = refl
@@ -125,19 +125,19 @@ cond_false true x y e = cc
 cond_false false x y e = refl
 
 -- nothing more of a list follows
-pub more_ends : (a : Piece) (ts : List CToken) (st : List Task) (vs : List Value) → heads a ts ≡ false → Leads (at ts (more a ∷ st) vs) (at ts st vs)
+pub more_ends : (a : Piece) (ts : List CToken) (st : List Task) (vs : List SemanticValue) → heads a ts ≡ false → ParserLeads (at ts (more a ∷ st) vs) (at ts st vs)
 more_ends a ts st vs h = go _ (at ts st vs) _ (ap Some (cond_false (heads a ts) _ _ h)) (still _)
 
 not_heads : (a : Piece) (ts : List CToken) → Stops (many a) ts → heads a ts ≡ false
 not_heads a [] s = refl
 not_heads a (t ∷ ts) s = or_left (starts a (kind t)) (goes_on a (kind t)) s
 
-list_full : (a : Piece) (xs : List CToken) (v : Value) → Follows (many a) xs v → Reads (many a) xs v
+list_full : (a : Piece) (xs : List CToken) (v : SemanticValue) → Follows (many a) xs v → Reads (many a) xs v
 list_full a xs v f rest st vs s =
     go _ (at (xs ++ rest) (more a ∷ st) (none ∷ vs)) _ refl
     (then_leads _ _ _ (f rest st vs (stops_one (many a) a rest (λ k h. or_right (starts a k) (goes_on a k) h) s)) (more_ends a rest st (v ∷ vs) (not_heads a rest s)))
 
-pub full : (p : Piece) (xs : List CToken) (v : Value) → Follows p xs v → Reads p xs v
+pub full : (p : Piece) (xs : List CToken) (v : SemanticValue) → Follows p xs v → Reads p xs v
 full (one_of s ss) xs v f = f
 full (a ▸ b) xs v f = f
 full (a or b) xs v f = f
@@ -148,20 +148,20 @@ full (the r) xs v f = f
 pub reads_one : (s : Sort) (ss : List Sort) (t : CToken) → among (s ∷ ss) (kind t) ≡ true → Reads (one_of s ss) (t ∷ []) (token t)
 reads_one s ss t h rest st vs stops = go _ (at rest st (token t ∷ vs)) _ (cond_true (among (s ∷ ss) (kind t)) _ _ h) (still _)
 
-pub reads_both : (a b : Piece) (xs ys : List CToken) (v w : Value) → apart (starts b) (goes_on a) ≡ true → Begins b ys → Reads a xs v → Reads b ys w → Reads (a ▸ b) (xs ++ ys) (pair v w)
+pub reads_both : (a b : Piece) (xs ys : List CToken) (v w : SemanticValue) → apart (starts b) (goes_on a) ≡ true → Begins b ys → Reads a xs v → Reads b ys w → Reads (a ▸ b) (xs ++ ys) (pair v w)
 reads_both a b xs ys v w h g f e rest st vs s =
     go _ (at ((xs ++ ys) ++ rest) (want a ∷ want b ∷ act paired ∷ st) vs) _ refl
-    (subst (λ l. Leads (at l (want a ∷ want b ∷ act paired ∷ st) vs) (at rest st (pair v w ∷ vs))) (sym (append_assoc xs ys rest))
+    (subst (λ l. ParserLeads (at l (want a ∷ want b ∷ act paired ∷ st) vs) (at rest st (pair v w ∷ vs))) (sym (append_assoc xs ys rest))
     (then_leads _ _ _ (f (ys ++ rest) (want b ∷ act paired ∷ st) vs (stops_before a b ys rest h g s))
     (then_leads _ _ _ (e rest (act paired ∷ st) (v ∷ vs) (stops_one (a ▸ b) b rest (λ k x. or_left (goes_on b k) (nullable b && goes_on a k) x) s))
     (go _ (at rest st (pair v w ∷ vs)) _ refl (still _)))))
 
-pub reads_first : (a b : Piece) (xs : List CToken) (v : Value) → ((rest : List CToken) → picks a b (xs ++ rest) ≡ true) → Reads a xs v → Reads (a or b) xs v
+pub reads_first : (a b : Piece) (xs : List CToken) (v : SemanticValue) → ((rest : List CToken) → picks a b (xs ++ rest) ≡ true) → Reads a xs v → Reads (a or b) xs v
 reads_first a b xs v h f rest st vs s =
     go _ (at (xs ++ rest) (want a ∷ st) vs) _ (ap (λ p. Some (at (xs ++ rest) (want p ∷ st) vs)) (cond_true (picks a b (xs ++ rest)) a b (h rest)))
     (f rest st vs (stops_one (a or b) a rest (λ k x. or_left (goes_on a k) (goes_on b k) x) s))
 
-pub reads_second : (a b : Piece) (xs : List CToken) (v : Value) → ((rest : List CToken) → Stops b rest → picks a b (xs ++ rest) ≡ false) → Reads b xs v → Reads (a or b) xs v
+pub reads_second : (a b : Piece) (xs : List CToken) (v : SemanticValue) → ((rest : List CToken) → Stops b rest → picks a b (xs ++ rest) ≡ false) → Reads b xs v → Reads (a or b) xs v
 reads_second a b xs v h f rest st vs s =
     let t : Stops b rest = stops_one (a or b) b rest (λ k x. or_right (goes_on a k) (goes_on b k) x) s in
     go _ (at (xs ++ rest) (want b ∷ st) vs) _ (ap (λ p. Some (at (xs ++ rest) (want p ∷ st) vs)) (cond_false (picks a b (xs ++ rest)) a b (h rest t))) (f rest st vs t)
@@ -173,16 +173,16 @@ heads_first a (t ∷ ys) rest h f = f
 pub reads_left_out : (a : Piece) → Reads (maybe a) [] none
 reads_left_out a rest st vs s = go _ (at rest st (none ∷ vs)) _ (ap Some (cond_false (heads a rest) _ _ (not_heads a rest s))) (still _)
 
-pub reads_there : (a : Piece) (xs : List CToken) (v : Value) → nullable a ≡ false → Begins a xs → Reads a xs v → Reads (maybe a) xs (snoc none v)
+pub reads_there : (a : Piece) (xs : List CToken) (v : SemanticValue) → nullable a ≡ false → Begins a xs → Reads a xs v → Reads (maybe a) xs (snoc none v)
 reads_there a xs v h g f rest st vs s =
     go _ (at (xs ++ rest) (want a ∷ act listed ∷ st) (none ∷ vs)) _ (ap Some (cond_true (heads a (xs ++ rest)) _ _ (heads_first a xs rest h g)))
     (then_leads _ _ _ (f rest (act listed ∷ st) (none ∷ vs) (stops_one (maybe a) a rest (λ k x. or_right (starts a k) (goes_on a k) x) s))
     (go _ (at rest st (snoc none v ∷ vs)) _ refl (still _)))
 
-pub reads_made : (r : Rule) (xs : List CToken) (v : Value) → Reads (production r) xs v → Reads (the r) xs (meaning r v)
+pub reads_made : (r : Rule) (xs : List CToken) (v : SemanticValue) → Reads (production r) xs v → Reads (the r) xs (production_value r v)
 reads_made r xs v f rest st vs s =
     go _ (at (xs ++ rest) (want (production r) ∷ act (meant r) ∷ st) vs) _ refl
-    (then_leads _ _ _ (f rest (act (meant r) ∷ st) vs (stops_rule r rest s)) (go _ (at rest st (meaning r v ∷ vs)) _ refl (still _)))
+    (then_leads _ _ _ (f rest (act (meant r) ∷ st) vs (stops_rule r rest s)) (go _ (at rest st (production_value r v ∷ vs)) _ refl (still _)))
   where
     stops_rule : (r : Rule) (ts : List CToken) → Stops (the r) ts → Stops (production r) ts
     stops_rule r [] h = tt
@@ -191,9 +191,9 @@ reads_made r xs v f rest st vs s =
 pub follows_no_more : (a : Piece) → Follows (many a) [] none
 follows_no_more a rest st vs s = still _
 
-pub follows_one_more : (a : Piece) (xs ys : List CToken) (v w : Value) → nullable a ≡ false → apart (starts a) (goes_on a) ≡ true → Begins a ys → Follows (many a) xs v → Reads a ys w → Follows (many a) (xs ++ ys) (snoc v w)
+pub follows_one_more : (a : Piece) (xs ys : List CToken) (v w : SemanticValue) → nullable a ≡ false → apart (starts a) (goes_on a) ≡ true → Begins a ys → Follows (many a) xs v → Reads a ys w → Follows (many a) (xs ++ ys) (snoc v w)
 follows_one_more a xs ys v w n h g f e rest st vs s =
-    subst (λ l. Leads (at l (more a ∷ st) (none ∷ vs)) (at rest (more a ∷ st) (snoc v w ∷ vs))) (sym (append_assoc xs ys rest))
+    subst (λ l. ParserLeads (at l (more a ∷ st) (none ∷ vs)) (at rest (more a ∷ st) (snoc v w ∷ vs))) (sym (append_assoc xs ys rest))
     (then_leads _ _ _ (f (ys ++ rest) st vs (stops_item a ys rest n h g))
     (go _ (at (ys ++ rest) (want a ∷ act listed ∷ more a ∷ st) (v ∷ vs)) _ (ap Some (cond_true (heads a (ys ++ rest)) _ _ (heads_first a ys rest n g)))
     (then_leads _ _ _ (e rest (act listed ∷ more a ∷ st) (v ∷ vs) s) (go _ (at rest (more a ∷ st) (snoc v w ∷ vs)) _ refl (still _)))))

@@ -6,33 +6,33 @@ use Rattle.c0_tokens.specs.declared.token.Mark.TheVariants.{Semicolon}
 use Rattle.std.specs.Prelude.{true}
 use Rattle.c0_tree.specs.Tree.{CDecl, CStruct, CFunction, CUnit}
 use Rattle.c0_parser.specs.Sorts.{the_end, sort, among}
-use Rattle.c0_parser.specs.Value.{Value, token, pair, none, snoc, decl, body, a_function, defined, item_value, struct_in, global_in, function_in, structs, globals, functions, unit_of}
+use Rattle.c0_parser.specs.Value.{SemanticValue, token, pair, none, snoc, decl, body, a_function, defined, item_value, struct_in, global_in, function_in, structs, globals, functions, parsed_unit}
 use Rattle.c0_parser.specs.Grammar.{many, the, one_of, sign, ◌▸◌, ITEM, FUNCTION, UNIT, Derives, taken, both, first, second, no_more, one_more, made}
 use Rattle.c0_parser.specs.Grammar as grammar
-use Rattle.c0_parser.specs.Faults.{Reads}
+use Rattle.c0_parser.specs.Faults.{ReadsAs}
 use Rattle.c0_parser.specs.Items.{CItem, struct_item, global_item, function_item, item_piece, item_meaning, DeclareAll, no_items, one_more_item, IsMadeOf, structs_among, globals_among, functions_among, unit_with}
 use Rattle.c0_parser.proofs.Tables.{no_yes}
 use Rattle.c0_parser.proofs.Shapes.{IsADecl, IsABody, means}
 
 -- what a piece of the grammar declares
-record Declared (ts : List CToken) (v : Value) : Type 0 where
+record Declared (ts : List CToken) (v : SemanticValue) : Type 0 where
   item : CItem
   derives : Derives (item_piece item) ts v
   means : item_value v ≡ item_meaning item
 
-a_global_is : {xs ys : List CToken} (d : Value) (t : CToken) → IsADecl d → Derives (the grammar.decl) xs d → Derives (sign Semicolon) ys (token t) → Declared (xs ++ ys) (pair d (token t))
+a_global_is : {xs ys : List CToken} (d : SemanticValue) (t : CToken) → IsADecl d → Derives (the grammar.decl) xs d → Derives (sign Semicolon) ys (token t) → Declared (xs ++ ys) (pair d (token t))
 a_global_is (decl d) t h a b = record { item = global_item d; derives = both a b; means = refl }
 a_global_is _ t h a b = absurd h
 
-defined_is : (d : CDecl) (o c : CToken) (ps b : Value) → IsABody b → (f : CFunction) × (defined d (pair (token o) (pair ps (pair (token c) b))) ≡ a_function f)
+defined_is : (d : CDecl) (o c : CToken) (ps b : SemanticValue) → IsABody b → (f : CFunction) × (defined d (pair (token o) (pair ps (pair (token c) b))) ≡ a_function f)
 defined_is d o c ps (body b) h = (_, refl)
 defined_is d o c ps _ h = absurd h
 
-a_function_is : {xs ys : List CToken} (d : Value) (o c : CToken) (ps b : Value) → IsADecl d → IsABody b → Derives (the grammar.decl) xs d → Derives FUNCTION ys (pair (token o) (pair ps (pair (token c) b))) → Declared (xs ++ ys) (pair d (pair (token o) (pair ps (pair (token c) b))))
+a_function_is : {xs ys : List CToken} (d : SemanticValue) (o c : CToken) (ps b : SemanticValue) → IsADecl d → IsABody b → Derives (the grammar.decl) xs d → Derives FUNCTION ys (pair (token o) (pair ps (pair (token c) b))) → Declared (xs ++ ys) (pair d (pair (token o) (pair ps (pair (token c) b))))
 a_function_is (decl d) o c ps b h k a e = let f = defined_is d o c ps b k in record { item = function_item f.0; derives = both a e; means = f.1 }
 a_function_is _ o c ps b h k a e = absurd h
 
-declared : {xs : List CToken} {v : Value} → Derives ITEM xs v → Declared xs v
+declared : {xs : List CToken} {v : SemanticValue} → Derives ITEM xs v → Declared xs v
 declared (first (both (taken s ss t h) (both (taken r rr x k) (both (taken q qq o l) (both d (both (taken p pp c m) (taken n nn e i))))))) =
     record { item = struct_item _; derives = both (taken s ss t h) (both (taken r rr x k) (both (taken q qq o l) (both d (both (taken p pp c m) (taken n nn e i))))); means = refl }
 declared (second (both {v = d} a (first (taken s ss t h)))) = a_global_is d t (means grammar.decl a) a (taken s ss t h)
@@ -40,7 +40,7 @@ declared (second (both {v = d} a (second (both (taken s ss o h) (both {v = ps} l
     a_function_is d o c ps b (means grammar.decl a) (means grammar.body e) a (both (taken s ss o h) (both l (both (taken r rr c k) e)))
 
 -- the other way round
-from_item : (i : CItem) {xs : List CToken} {v : Value} → Derives (item_piece i) xs v → Derives ITEM xs v
+from_item : (i : CItem) {xs : List CToken} {v : SemanticValue} → Derives (item_piece i) xs v → Derives ITEM xs v
 from_item (struct_item s) d = first d
 from_item (global_item g) (both d e) = second (both d (first e))
 from_item (function_item f) (both d e) = second (both d (second e))
@@ -80,7 +80,7 @@ function_of_item (global_item d) = refl
 function_of_item (function_item f) = refl
 
 -- a list of the grammar means these items
-record MeansItems (v : Value) (is : List CItem) : Type 0 where
+record MeansItems (v : SemanticValue) (is : List CItem) : Type 0 where
   same_structs : structs v ≡ structs_among is
   same_globals : globals v ≡ globals_among is
   same_functions : functions v ≡ functions_among is
@@ -88,7 +88,7 @@ record MeansItems (v : Value) (is : List CItem) : Type 0 where
 no_items_meant : MeansItems none []
 no_items_meant = record { same_structs = refl; same_globals = refl; same_functions = refl }
 
-more_items_meant : (v w : Value) (is : List CItem) (i : CItem) → MeansItems v is → item_value w ≡ item_meaning i → MeansItems (snoc v w) (is ++ i ∷ [])
+more_items_meant : (v w : SemanticValue) (is : List CItem) (i : CItem) → MeansItems v is → item_value w ≡ item_meaning i → MeansItems (snoc v w) (is ++ i ∷ [])
 more_items_meant v w is i m e = record {
   same_structs = ap (λ l. l ++ struct_in (item_value w)) m.same_structs ∙ ap (λ x. structs_among is ++ struct_in x) e ∙ ap (λ l. structs_among is ++ l) (struct_of_item i) ∙ sym (structs_append is (i ∷ []));
   same_globals = ap (λ l. l ++ global_in (item_value w)) m.same_globals ∙ ap (λ x. globals_among is ++ global_in x) e ∙ ap (λ l. globals_among is ++ l) (global_of_item i) ∙ sym (globals_append is (i ∷ []));
@@ -98,18 +98,18 @@ more_items_meant v w is i m e = record {
 abbrev unit : ℕ → List CStruct → List CDecl → List CFunction → CUnit
 unit k ss gs fs = record { length = k; structs = ss; globals = gs; functions = fs }
 
-same_unit : (n : ℕ) (v : Value) (is : List CItem) → MeansItems v is → unit_of n v ≡ unit_with n is
+same_unit : (n : ℕ) (v : SemanticValue) (is : List CItem) → MeansItems v is → parsed_unit n v ≡ unit_with n is
 same_unit n v is m =
     ap (λ x. unit n x (globals v) (functions v)) m.same_structs ∙ ap (λ x. unit n (structs_among is) x (functions v)) m.same_globals
     ∙ ap (λ x. unit n (structs_among is) (globals_among is) x) m.same_functions
 
 -- the items that a list of the grammar derives
-record ItemsOf (ts : List CToken) (v : Value) : Type 0 where
+record ItemsOf (ts : List CToken) (v : SemanticValue) : Type 0 where
   items : List CItem
   declare : DeclareAll ts items
   meant : MeansItems v items
 
-items_of : {ts : List CToken} {v : Value} → Derives (many ITEM) ts v → ItemsOf ts v
+items_of : {ts : List CToken} {v : SemanticValue} → Derives (many ITEM) ts v → ItemsOf ts v
 items_of no_more = record { items = []; declare = no_items; meant = no_items_meant }
 items_of (one_more {v = v} {w = w} d e) =
     let l = items_of d in
@@ -122,7 +122,7 @@ items_of (one_more {v = v} {w = w} d e) =
 
 -- the other way round
 record ListOf (ts : List CToken) (is : List CItem) : Type 0 where
-  value : Value
+  value : SemanticValue
   derives : Derives (many ITEM) ts value
   meant : MeansItems value is
 
@@ -141,17 +141,17 @@ is_end : (l : CLexeme) → among (the_end ∷ []) (sort l) ≡ true → l ≡ en
 is_end end h = refl
 is_end _ h = no_yes h
 
-unit_made : (source : List ℕ) (ts : List CToken) (items stop : Value) → ts ≡ tokens_of source → Derives UNIT ts (pair items stop) → (is : List CItem) × IsMadeOf source is × (unit_of (length source) items ≡ unit_with (length source) is)
+unit_made : (source : List ℕ) (ts : List CToken) (items stop : SemanticValue) → ts ≡ tokens_of source → Derives UNIT ts (pair items stop) → (is : List CItem) × IsMadeOf source is × (parsed_unit (length source) items ≡ unit_with (length source) is)
 unit_made source _ items _ at_source (both {xs = xs} d (taken s ss t k)) =
     let l = items_of d in
     (l.items, record { tokens = xs; last = t; stand = sym at_source; ends = is_end t.lexeme k; declared = l.declare }, same_unit (length source) items l.items l.meant)
 
 -- a source that has a tree is a row of items, of which its unit is made
-pub made_of_items : (source : List ℕ) (u : CUnit) → Reads source u → (items : List CItem) × IsMadeOf source items × (u ≡ unit_with (length source) items)
+pub made_of_items : (source : List ℕ) (u : CUnit) → ReadsAs source u → (items : List CItem) × IsMadeOf source items × (u ≡ unit_with (length source) items)
 made_of_items source u r = let m = unit_made source (tokens_of source) r.0 r.1 refl r.2 in (m.0, m.1, sym r.3 ∙ m.2)
 
 -- a row of items and the end has the tree that is made of them
-pub items_read : (source : List ℕ) (items : List CItem) → IsMadeOf source items → Reads source (unit_with (length source) items)
+pub items_read : (source : List ℕ) (items : List CItem) → IsMadeOf source items → ReadsAs source (unit_with (length source) items)
 items_read source items m =
     let l = list_of m.declared in
     (l.value, token m.last, subst (λ ts. Derives UNIT ts (pair l.value (token m.last))) (sym m.stand) (both l.derives (taken the_end [] m.last (ap (λ x. among (the_end ∷ []) (sort x)) m.ends))), same_unit (length source) l.value items l.meant)

@@ -3,10 +3,10 @@ use Rattle.std.proofs.Common.{ℕ, ◌≡◌, ◌≢◌, ◌<◌, ◌≤◌, ◌
 use Rattle.c0_tokens.specs.Tokens.{CToken}
 use Rattle.c0_tokens.specs.Nesting.{tokens_of}
 use Rattle.c0_tree.specs.Tree.{CUnit}
-use Rattle.c0_parser.specs.Value.{Value}
+use Rattle.c0_parser.specs.Value.{SemanticValue}
 use Rattle.c0_parser.specs.Grammar.{UNIT, Derives}
-use Rattle.c0_parser.specs.Answer.{IsAnswer}
-use Rattle.c0_parser.specs.Faults.{Reads, FaultIs, IsPrefix, IsFirstBad, fault_at}
+use Rattle.c0_parser.specs.Answer.{IsTreeAnswer}
+use Rattle.c0_parser.specs.Faults.{ReadsAs, FaultIs, IsPrefix, IsFirstBad, fault_at}
 use Rattle.c0_parser.specs.declared.fault.ReadFault.{ReadFault}
 use Rattle.c0_parser.specs.declared.fault.ReadFault.TheVariants.{BadByte, BadNumber, Unexpected, TooNested, SourceTooLong, Memory}
 use Rattle.c0_parser.proofs.Sources.{one_tree}
@@ -20,7 +20,7 @@ moved : (xs ys : List CToken) (t : CToken) → xs ++ t ∷ ys ≡ (xs ++ t ∷ [
 moved xs ys t = sym (append_assoc xs (t ∷ []) ys)
 
 -- a source that reads as a tree has no first bad token
-not_both : (ts : List CToken) (t : CToken) (v : Value) → Derives UNIT ts v → IsFirstBad ts t → ⊥
+not_both : (ts : List CToken) (t : CToken) (v : SemanticValue) → Derives UNIT ts v → IsFirstBad ts t → ⊥
 not_both ts t v d b = b.bad (b.after, v, subst (λ (xs : List CToken). Derives UNIT xs v) (b.stands ∙ moved b.before b.after t) d)
 
 -- two lists with a token behind each begin the same list: the tokens are the same, or one list and its token begin the other
@@ -73,13 +73,13 @@ one_fault source f g m n a b = elim (kinds source f m a) [
 ]
 
 -- a source with a tree has no fault
-no_fault : (source : List ℕ) (u : CUnit) (f : ReadFault) → length source ≤ 1048576 → Reads source u → f ≢ Memory → FaultIs source f → ⊥
+no_fault : (source : List ℕ) (u : CUnit) (f : ReadFault) → length source ≤ 1048576 → ReadsAs source u → f ≢ Memory → FaultIs source f → ⊥
 no_fault source u f le r m h = elim (kinds source f m h) [
   | inl x ↦ let k = x.1 in absurd (omega arith)
   | inr x ↦ not_both (tokens_of source) x.token _ r.2 x.first
 ]
 
-pub one_answer : (source : List ℕ) (a b : Result CUnit ReadFault) → IsAnswer source a → IsAnswer source b → a ≡ b
+pub one_answer : (source : List ℕ) (a b : Result CUnit ReadFault) → IsTreeAnswer source a → IsTreeAnswer source b → a ≡ b
 one_answer source (Ok u) (Ok w) x y = ap Ok (one_tree source u w x.1 y.1)
 one_answer source (Ok u) (Err f) x y = absurd (no_fault source u f x.0 x.1 y.0 y.1)
 one_answer source (Err f) (Ok u) x y = absurd (no_fault source u f y.0 y.1 x.0 x.1)

@@ -7,18 +7,18 @@ use Rattle.c0_tokens.specs.Tokens.{CToken}
 use Rattle.c0_tokens.specs.Nesting.{tokens_of}
 use Rattle.c0_tokens.specs.Order.{NumbersFit}
 use Rattle.c0_tree.specs.Tree.{CUnit}
-use Rattle.c0_tree.specs.Plain.{has_part, is_plain}
-use Rattle.c0_parser.specs.Value.{Value, pair, structs}
-use Rattle.c0_parser.specs.Grammar.{Rule, disjunction, conjunction, equality, relation, sum, product, unary, postfix, primary, type, decl, block, statement, code, body, Piece, one_of, ◌▸◌, ◌or◌, many, maybe, the, production, meaning, Derives, taken, both, first, second, no_more, one_more, left_out, there, made, UNIT}
+use Rattle.c0_tree.specs.Plain.{is_nonempty, is_plain}
+use Rattle.c0_parser.specs.Value.{SemanticValue, pair, structs}
+use Rattle.c0_parser.specs.Grammar.{Rule, disjunction, conjunction, equality, relation, sum, product, unary, postfix, primary, type, decl, block, statement, code, body, Piece, one_of, ◌▸◌, ◌or◌, many, maybe, the, production, production_value, Derives, taken, both, first, second, no_more, one_more, left_out, there, made, UNIT}
 use Rattle.c0_parser.specs.Machine.{nullable}
-use Rattle.c0_parser.specs.Faults.{Reads}
+use Rattle.c0_parser.specs.Faults.{ReadsAs}
 use Rattle.c0_parser.proofs.Complete.{Begins, begins}
 use Rattle.c0_parser.proofs.StructFields.{structs_have_fields}
 use Rattle.c0_parser.proofs.PlainTexts.{TextsFit, texts_fit}
-use Rattle.c0_parser.proofs.Plain.{IsSmall, parts, Plain, primary_plain, postfix_plain, unary_plain, chain_plain, type_plain, decl_plain, block_plain, statement_plain, code_plain, body_plain, unit_plain}
+use Rattle.c0_parser.proofs.PiecesArePlain.{IsSmall, parts, Plain, primary_plain, postfix_plain, unary_plain, chain_plain, type_plain, decl_plain, block_plain, statement_plain, code_plain, body_plain, unit_plain}
 
 -- the meaning of a production
-meaning_plain : (r : Rule) (v : Value) → Plain v → Plain (meaning r v)
+meaning_plain : (r : Rule) (v : SemanticValue) → Plain v → Plain (production_value r v)
 meaning_plain disjunction v h = chain_plain v h
 meaning_plain conjunction v h = chain_plain v h
 meaning_plain equality v h = chain_plain v h
@@ -83,12 +83,12 @@ has_token p [] b e = absurd (never (nullable p) b e)
 has_token p (t ∷ xs) b e = omega arith
 
 -- a list has no more parts than tokens
-parts_within : {a : Piece} {xs : List CToken} {v : Value} → Derives (many a) xs v → not (nullable a) ≡ true → parts v ≤ length xs
+parts_within : {a : Piece} {xs : List CToken} {v : SemanticValue} → Derives (many a) xs v → not (nullable a) ≡ true → parts v ≤ length xs
 parts_within no_more e = omega arith
 parts_within (one_more {a} {xs} {ys} d f) e = omega (arith, length-append xs ys, parts_within d e, has_token a ys (begins f) e)
 
 -- what few and small tokens derive is plain
-derives_plain : {p : Piece} {xs : List CToken} {v : Value} → Derives p xs v → filled p ≡ true → AreSmall xs → length xs ≤ 1048577 → Plain v
+derives_plain : {p : Piece} {xs : List CToken} {v : SemanticValue} → Derives p xs v → filled p ≡ true → AreSmall xs → length xs ≤ 1048577 → Plain v
 derives_plain (taken s ss t h) f k n = k.0
 derives_plain (both {a} {b} {xs} {ys} d e) f k n =
     let g = and_parts (filled a) (filled b) f in
@@ -113,11 +113,11 @@ are_small n [] le h k = tt
 are_small n (t ∷ ts) le h k = let fits = k.0 in ((h.0, omega arith), are_small n ts le h.1 k.1)
 
 -- the tree of a source is plain
-pub reads_plain : (source : List ℕ) (u : CUnit) → length source ≤ 1048576 → length (tokens_of source) ≤ length source + 1 → NumbersFit (tokens_of source) → Reads source u → is_plain u ≡ true
+pub reads_plain : (source : List ℕ) (u : CUnit) → length source ≤ 1048576 → length (tokens_of source) ≤ length source + 1 → NumbersFit (tokens_of source) → ReadsAs source u → is_plain u ≡ true
 reads_plain source u le count numbers r =
     let small = are_small (length source) (tokens_of source) le numbers (texts_fit source) in
     let v = derives_plain r.2 refl small (omega arith) in
     subst (λ w. is_plain w ≡ true) r.3 (unit_plain (length source) r.0 v.0 (fields_of r.2))
   where
-    fields_of : {xs : List CToken} {items stop : Value} → Derives UNIT xs (pair items stop) → list_all (λ s. has_part s.fields) (structs items) ≡ true
+    fields_of : {xs : List CToken} {items stop : SemanticValue} → Derives UNIT xs (pair items stop) → list_all (λ s. is_nonempty s.fields) (structs items) ≡ true
     fields_of (both d e) = structs_have_fields d

@@ -6,7 +6,7 @@ use Rattle.std.proofs.lemmas.List.{length-take}
 use Rattle.c0_tokens.specs.declared.token.TokenFault.TheVariants.{BadByte, BadNumber, TooNested}
 use Rattle.c0_tokens.specs.Tokens.{CLexeme, name, number, asm_text, fixed, faulty, end, CToken}
 use Rattle.c0_tokens.specs.Spelling.{Spelling, words, marks}
-use Rattle.c0_tokens.specs.Lexis.{gap, Cut, cut, word_lexeme, number_lexeme, word_cut, number_cut, mark_cut, asm_cut, digits_value, has_leading_zero, is_unclosed, next_text, is_asm, is_last, is_letter, is_digit, is_word_byte, is_close_brace, tokens_within}
+use Rattle.c0_tokens.specs.Lexis.{gap, Cut, longest_token, word_lexeme, number_lexeme, word_cut, number_cut, mark_cut, asm_cut, digits_value, has_leading_zero, is_unclosed, next_text, is_asm_word, is_last, is_letter, is_digit, is_word_byte, is_close_brace, tokens_within}
 use Rattle.c0_tokens.specs.Nesting.{Depth, outside, depth_after, at_depth, is_too_nested, nested, tokens_of}
 use Rattle.c0_parser.specs.Value.{text_of}
 
@@ -61,7 +61,7 @@ mark_fits : (n : ℕ) (text : List ℕ) → length text ≤ n → CutFits n (mar
 unfolding mark_cut
 mark_fits n text h = mark_or_bad n (find (λ s. starts_with (λ a b. a == b) text s.0) marks) text h
 
-cut_fits : (n : ℕ) (after_asm : Bool) (text : List ℕ) → length text ≤ n → CutFits n (cut after_asm text)
+cut_fits : (n : ℕ) (after_asm : Bool) (text : List ℕ) → length text ≤ n → CutFits n (longest_token after_asm text)
 cut_fits n after_asm [] h = (omega arith, omega arith)
 cut_fits n after_asm (a ∷ rest) h =
     let text = a ∷ rest in
@@ -89,9 +89,9 @@ ends_or n false ts h = h
 within_fits : (k n size : ℕ) (after_asm : Bool) (text : List ℕ) → length text ≤ n → TextsFit n (tokens_within k size after_asm text)
 within_fits zero n size after_asm text h = tt
 within_fits (suc k) n size after_asm text h =
-    let c = cut after_asm (next_text after_asm text) in
+    let c = longest_token after_asm (next_text after_asm text) in
     let f = cut_fits n after_asm (next_text after_asm text) (next_fits n after_asm text h) in
-    (f.0, ends_or n (is_last c.lexeme) (tokens_within k size (is_asm c.lexeme) c.rest) (within_fits k n size (is_asm c.lexeme) c.rest f.1))
+    (f.0, ends_or n (is_last c.lexeme) (tokens_within k size (is_asm_word c.lexeme) c.rest) (within_fits k n size (is_asm_word c.lexeme) c.rest f.1))
 
 nested_or : (n : ℕ) (b : Bool) (l : CLexeme) → TextFits n l → TextFits n (if b then faulty TooNested else l)
 nested_or n true l h = omega arith

@@ -4,7 +4,7 @@ use Rattle.std.specs.Prelude.{◌||◌}
 use Rattle.c0_tokens.specs.declared.token.TokenFault.TheVariants.{BadByte}
 use Rattle.c0_tokens.specs.Tokens.{CToken, CLexeme, name, number, asm_text, fixed, faulty, end}
 use Rattle.c0_parser.specs.Sorts.{Sort, mark, a_name, a_number, an_asm_text, the_end, a_fault, sort, among}
-use Rattle.c0_parser.specs.Value.{Value, token}
+use Rattle.c0_parser.specs.Value.{SemanticValue, token}
 use Rattle.c0_parser.specs.Grammar.{Rule, disjunction, conjunction, equality, relation, sum, product, unary, postfix, primary, type, decl, block, statement, code, body, Piece, one_of, ◌▸◌, ◌or◌, many, maybe, the, production, Derives, taken, both, first, second, no_more, left_out, made}
 use Rattle.c0_parser.specs.Machine.{Task, want, more, act}
 use Rattle.c0_parser.proofs.Sound.{Means, top, no_more_of}
@@ -30,7 +30,7 @@ sort_of a_fault = refl
 -- some tokens that a piece derives
 record Sample (p : Piece) : Type 0 where
   tokens : List CToken
-  value : Value
+  value : SemanticValue
   derives : Derives p tokens value
 
 a_token : (s : Sort) (ss : List Sort) → Sample (one_of s ss)
@@ -128,7 +128,7 @@ sample_of code = a_code
 sample_of body = a_body
 
 -- whatever is to be done can be done
-pub completes : (st : List Task) (vs : List Value) → (ys : List CToken) × (u : Value) × Means st vs ys u
+pub completes : (st : List Task) (vs : List SemanticValue) → (ys : List CToken) × (u : SemanticValue) × Means st vs ys u
 completes [] vs = ([], top vs, (refl, refl))
 completes (want p ∷ st) vs =
     let x = sample_with sample_of p in
@@ -140,7 +140,7 @@ completes (more a ∷ st) vs =
 completes (act f ∷ st) vs = completes st (f vs)
 
 -- a wanted token is completed by a token and more
-pub completes_one : (s : Sort) (ss : List Sort) (st : List Task) (vs : List Value) → (t : CToken) × (more : List CToken) × (u : Value) × Means (want (one_of s ss) ∷ st) vs (t ∷ more) u
+pub completes_one : (s : Sort) (ss : List Sort) (st : List Task) (vs : List SemanticValue) → (t : CToken) × (more : List CToken) × (u : SemanticValue) × Means (want (one_of s ss) ∷ st) vs (t ∷ more) u
 completes_one s ss st vs =
     let t : CToken = record { lexeme = lexeme_of s; start = 0; stop = 0 } in
     let c = completes st (token t ∷ vs) in

@@ -4,18 +4,19 @@ use Rattle.c0_tokens.specs.declared.token.TokenFault.TheVariants as token_fault
 use Rattle.c0_tokens.specs.Tokens.{CToken, CLexeme, faulty}
 use Rattle.c0_tokens.specs.Nesting.{tokens_of}
 use Rattle.c0_tree.specs.Tree.{CUnit}
-use Rattle.c0_parser.specs.Value.{Value, pair, unit_of}
+use Rattle.c0_parser.specs.Value.{SemanticValue, pair, parsed_unit}
 use Rattle.c0_parser.specs.Grammar.{UNIT, Derives}
 use Rattle.c0_parser.specs.declared.fault.ReadFault.{ReadFault}
 use Rattle.c0_parser.specs.declared.fault.ReadFault.TheVariants.{BadByte, BadNumber, Unexpected, TooNested, SourceTooLong, Memory}
 
 -- the tokens of a source derive this tree
-abbrev pub Reads : List ℕ → CUnit → Type 0
-Reads source u = (items : Value) × (stop : Value) × Derives UNIT (tokens_of source) (pair items stop) × (unit_of (length source) items ≡ u)
+abbrev pub ReadsAs : List ℕ → CUnit → Type 0
+ReadsAs source u = (items : SemanticValue) × (stop : SemanticValue) × Derives UNIT (tokens_of source) (pair items stop)
+    × (parsed_unit (length source) items ≡ u)
 
 -- tokens begin some unit with the end of its source
 abbrev pub IsPrefix : List CToken → Type 0
-IsPrefix ts = (more : List CToken) × (v : Value) × Derives UNIT (ts ++ more) v
+IsPrefix ts = (more : List CToken) × (v : SemanticValue) × Derives UNIT (ts ++ more) v
 
 -- a token is the first that cannot be: those before it begin some unit, and with it they begin none
 pub record IsFirstBad (ts : List CToken) (t : CToken) : Type 0 where

@@ -5,7 +5,7 @@ use Rattle.c0_tokens.specs.Tokens.{CToken}
 use Rattle.c0_tokens.specs.declared.token.Mark.{Mark}
 use Rattle.c0_tokens.specs.declared.token.Mark.TheVariants.{Int, Bool as Boolean, Struct, If, Else, While, Return, New, True, False, Null, Asm, OpenBrace, CloseBrace, OpenParen, CloseParen, OpenBracket, CloseBracket, Semicolon, Comma, Dot, Arrow, Assign, Equal, NotEqual, Less, AtMost, Greater, AtLeast, Plus, Minus, Star, Slash, Percent, Not, Ampersand, And, Or}
 use Rattle.c0_parser.specs.Sorts.{Sort, mark, a_name, a_number, an_asm_text, the_end, sort, among}
-use Rattle.c0_parser.specs.Value.{Value, token, pair, none, snoc, chain_value, unary_value, postfix_value, primary_value, type_value, decl_value, block_value, statement_value, code_value, body_value}
+use Rattle.c0_parser.specs.Value.{SemanticValue, token, pair, none, snoc, chain_value, unary_value, postfix_value, primary_value, type_value, decl_value, block_value, statement_value, code_value, body_value}
 
 -- the productions
 pub data Rule : Type 0 where
@@ -88,22 +88,22 @@ production code = sign OpenBrace ▸ many LINE ▸ many (the statement) ▸ sign
 production body = the code or sign Asm ▸ one_of an_asm_text []
 
 -- what a production means, from what its pieces mean
-abbrev pub meaning : Rule → Value → Value
-meaning disjunction v = chain_value v
-meaning conjunction v = chain_value v
-meaning equality v = chain_value v
-meaning relation v = chain_value v
-meaning sum v = chain_value v
-meaning product v = chain_value v
-meaning unary v = unary_value v
-meaning postfix v = postfix_value v
-meaning primary v = primary_value v
-meaning type v = type_value v
-meaning decl v = decl_value v
-meaning block v = block_value v
-meaning statement v = statement_value v
-meaning code v = code_value v
-meaning body v = body_value v
+abbrev pub production_value : Rule → SemanticValue → SemanticValue
+production_value disjunction v = chain_value v
+production_value conjunction v = chain_value v
+production_value equality v = chain_value v
+production_value relation v = chain_value v
+production_value sum v = chain_value v
+production_value product v = chain_value v
+production_value unary v = unary_value v
+production_value postfix v = postfix_value v
+production_value primary v = primary_value v
+production_value type v = type_value v
+production_value decl v = decl_value v
+production_value block v = block_value v
+production_value statement v = statement_value v
+production_value code v = code_value v
+production_value body v = body_value v
 
 -- "{" type NAME ";" { type NAME ";" } "}" ";"
 abbrev pub FIELDS : Piece
@@ -122,13 +122,13 @@ abbrev pub UNIT : Piece
 UNIT = many ITEM ▸ one_of the_end []
 
 -- that a piece derives these tokens with this meaning
-pub data Derives : Piece → List CToken → Value → Type 0 where
+pub data Derives : Piece → List CToken → SemanticValue → Type 0 where
   taken : (s : Sort) (ss : List Sort) (t : CToken) → IsTrue (among (s ∷ ss) (sort t.lexeme)) → Derives (one_of s ss) (t ∷ []) (token t)
-  both : {a b : Piece} {xs ys : List CToken} {v w : Value} → Derives a xs v → Derives b ys w → Derives (a ▸ b) (xs ++ ys) (pair v w)
-  first : {a b : Piece} {xs : List CToken} {v : Value} → Derives a xs v → Derives (a or b) xs v
-  second : {a b : Piece} {xs : List CToken} {v : Value} → Derives b xs v → Derives (a or b) xs v
+  both : {a b : Piece} {xs ys : List CToken} {v w : SemanticValue} → Derives a xs v → Derives b ys w → Derives (a ▸ b) (xs ++ ys) (pair v w)
+  first : {a b : Piece} {xs : List CToken} {v : SemanticValue} → Derives a xs v → Derives (a or b) xs v
+  second : {a b : Piece} {xs : List CToken} {v : SemanticValue} → Derives b xs v → Derives (a or b) xs v
   no_more : {a : Piece} → Derives (many a) [] none
-  one_more : {a : Piece} {xs ys : List CToken} {v w : Value} → Derives (many a) xs v → Derives a ys w → Derives (many a) (xs ++ ys) (snoc v w)
+  one_more : {a : Piece} {xs ys : List CToken} {v w : SemanticValue} → Derives (many a) xs v → Derives a ys w → Derives (many a) (xs ++ ys) (snoc v w)
   left_out : {a : Piece} → Derives (maybe a) [] none
-  there : {a : Piece} {xs : List CToken} {v : Value} → Derives a xs v → Derives (maybe a) xs (snoc none v)
-  made : (r : Rule) {xs : List CToken} {v : Value} → Derives (production r) xs v → Derives (the r) xs (meaning r v)
+  there : {a : Piece} {xs : List CToken} {v : SemanticValue} → Derives a xs v → Derives (maybe a) xs (snoc none v)
+  made : (r : Rule) {xs : List CToken} {v : SemanticValue} → Derives (production r) xs v → Derives (the r) xs (production_value r v)

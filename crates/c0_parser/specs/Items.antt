@@ -4,7 +4,7 @@ use Rattle.c0_tokens.specs.declared.token.Mark.TheVariants.{Struct, Semicolon}
 use Rattle.c0_tokens.specs.Tokens.{CToken, end}
 use Rattle.c0_tokens.specs.Nesting.{tokens_of}
 use Rattle.c0_tree.specs.Tree.{CDecl, CStruct, CFunction, CUnit}
-use Rattle.c0_parser.specs.Value.{Value, a_struct, a_global, a_function, item_value}
+use Rattle.c0_parser.specs.Value.{SemanticValue, a_struct, a_global, a_function, item_value}
 use Rattle.c0_parser.specs.Grammar.{Piece, sign, ◌▸◌, the, decl, NAME, FIELDS, FUNCTION, Derives}
 
 -- an item: a struct, a global or a function
@@ -20,14 +20,14 @@ item_piece (global_item d) = the decl ▸ sign Semicolon
 item_piece (function_item f) = the decl ▸ FUNCTION
 
 -- the meaning of an item
-abbrev pub item_meaning : CItem → Value
+abbrev pub item_meaning : CItem → SemanticValue
 item_meaning (struct_item s) = a_struct s
 item_meaning (global_item d) = a_global d
 item_meaning (function_item f) = a_function f
 
 -- these tokens declare this item
 pub record Declares (ts : List CToken) (i : CItem) : Type 0 where
-  pub value : Value
+  pub value : SemanticValue
   pub derives : Derives (item_piece i) ts value
   pub means : item_value value ≡ item_meaning i
 

@@ -3,8 +3,8 @@ use Rattle.std.specs.Prelude.{◌≡◌, Bool, true, false, not, ◌&&◌, ◌||
 use Rattle.c0_tokens.specs.Tokens.{CToken}
 use Rattle.c0_tokens.specs.declared.token.Mark.TheVariants.{Int, Bool as Boolean, Struct, If, While, True, False, Null, Asm, OpenBrace, OpenParen, Minus, Star, Not, Ampersand}
 use Rattle.c0_parser.specs.Sorts.{Sort, mark, a_name, a_number, sort, among}
-use Rattle.c0_parser.specs.Value.{Value, token, pair, none, snoc}
-use Rattle.c0_parser.specs.Grammar.{Rule, disjunction, conjunction, equality, relation, sum, product, unary, postfix, primary, type, decl, block, statement, code, body, Piece, one_of, sign, ◌▸◌, ◌or◌, many, maybe, the, production, meaning}
+use Rattle.c0_parser.specs.Value.{SemanticValue, token, pair, none, snoc}
+use Rattle.c0_parser.specs.Grammar.{Rule, disjunction, conjunction, equality, relation, sum, product, unary, postfix, primary, type, decl, block, statement, code, body, Piece, one_of, sign, ◌▸◌, ◌or◌, many, maybe, the, production, production_value}
 
 -- the sort of a token
 abbrev pub kind : CToken → Sort
@@ -68,30 +68,30 @@ picks a b (t ∷ ts) = starts a (kind t) && (not (starts b (kind t)) || heads (s
 pub data Task : Type 0 where
   want : Piece → Task
   more : Piece → Task
-  act : (List Value → List Value) → Task
+  act : (List SemanticValue → List SemanticValue) → Task
 
 -- the tokens left, what is to be done with them, and what was read, the last in front
-pub data State : Type 0 where
-  at : List CToken → List Task → List Value → State
+pub data ParserState : Type 0 where
+  at : List CToken → List Task → List SemanticValue → ParserState
 
-abbrev pub paired : List Value → List Value
+abbrev pub paired : List SemanticValue → List SemanticValue
 paired (w ∷ v ∷ vs) = pair v w ∷ vs
 paired vs = vs
 
-abbrev pub listed : List Value → List Value
+abbrev pub listed : List SemanticValue → List SemanticValue
 listed (w ∷ v ∷ vs) = snoc v w ∷ vs
 listed vs = []
 
-abbrev pub meant : Rule → List Value → List Value
-meant r (v ∷ vs) = meaning r v ∷ vs
+abbrev pub meant : Rule → List SemanticValue → List SemanticValue
+meant r (v ∷ vs) = production_value r v ∷ vs
 meant r vs = vs
 
 -- a token of these sorts is taken
-abbrev pub take_one : List Sort → List CToken → List Task → List Value → Option State
+abbrev pub take_one : List Sort → List CToken → List Task → List SemanticValue → Option ParserState
 take_one ss [] st vs = None
 take_one ss (t ∷ ts) st vs = cond (among ss (kind t)) (Some (at ts st (token t ∷ vs))) None
 
-abbrev pub enter : Piece → List CToken → List Task → List Value → Option State
+abbrev pub enter : Piece → List CToken → List Task → List SemanticValue → Option ParserState
 enter (one_of s ss) ts st vs = take_one (s ∷ ss) ts st vs
 enter (a ▸ b) ts st vs = Some (at ts (want a ∷ want b ∷ act paired ∷ st) vs)
 enter (a or b) ts st vs = Some (at ts (want (cond (picks a b ts) a b) ∷ st) vs)
@@ -99,13 +99,13 @@ enter (many a) ts st vs = Some (at ts (more a ∷ st) (none ∷ vs))
 enter (maybe a) ts st vs = Some (cond (heads a ts) (at ts (want a ∷ act listed ∷ st) (none ∷ vs)) (at ts st (none ∷ vs)))
 enter (the r) ts st vs = Some (at ts (want (production r) ∷ act (meant r) ∷ st) vs)
 
-abbrev pub step : State → Option State
-step (at ts [] vs) = None
-step (at ts (want p ∷ st) vs) = enter p ts st vs
-step (at ts (more a ∷ st) vs) = Some (cond (heads a ts) (at ts (want a ∷ act listed ∷ more a ∷ st) vs) (at ts st vs))
-step (at ts (act f ∷ st) vs) = Some (at ts st (f vs))
+abbrev pub parser_step : ParserState → Option ParserState
+parser_step (at ts [] vs) = None
+parser_step (at ts (want p ∷ st) vs) = enter p ts st vs
+parser_step (at ts (more a ∷ st) vs) = Some (cond (heads a ts) (at ts (want a ∷ act listed ∷ more a ∷ st) vs) (at ts st vs))
+parser_step (at ts (act f ∷ st) vs) = Some (at ts st (f vs))
 
 -- that one state leads to another
-pub data Leads : State → State → Type 0 where
-  still : (s : State) → Leads s s
-  go : (a b c : State) → step a ≡ Some b → Leads b c → Leads a c
+pub data ParserLeads : ParserState → ParserState → Type 0 where
+  still : (s : ParserState) → ParserLeads s s
+  go : (a b c : ParserState) → parser_step a ≡ Some b → ParserLeads b c → ParserLeads a c

@@ -5,7 +5,7 @@ ghost use Rattle.c0_tokens.specs.declared.token.Mark.TheVariants.{Comma};
 ghost use Rattle.c0_parser.specs.Sorts.{mark as a_mark, among};
 ghost use Rattle.c0_parser.specs.Grammar.{sign, ◌▸◌, many, EXPR, ARGS};
 ghost use Rattle.c0_parser.specs.Machine.{heads, expr_starts};
-ghost use Rattle.c0_parser.specs.Contract.{seen, GivesAny};
+ghost use Rattle.c0_parser.specs.Contract.{as_seen, GivesAny};
 ghost use Rattle.c0_parser.specs.Views.{AreArgs};
 ghost use Rattle.c0_parser.specs.Stmts.{AreMoreArgs};
 
@@ -31,7 +31,7 @@ pub fn mark_starts_expression(mark: Mark) -> bool
 
 // The tokens, where an expression begins.
 fn expression_ahead<'a>(ts: &'a [Token<'a>]) -> Option<&'a [Token<'a>]>
-    ensures { MatchOption result (heads EXPR (seen ts.now) ≡ false) (λ p. (p.now ≡ ts.now) × (heads EXPR (seen ts.now) ≡ true)) }
+    ensures { MatchOption result (heads EXPR (as_seen ts.now) ≡ false) (λ p. (p.now ≡ ts.now) × (heads EXPR (as_seen ts.now) ≡ true)) }
 {
     let (t, _) = next(ts)?;
     match t.lexeme {

@@ -4,11 +4,11 @@ ghost use Rattle.std.specs.Prelude.{◌≡◌, ◌∷◌, [], ◌+◌, true, Mat
 ghost use Rattle.c0_tokens.specs.Tokens.{token_view, lexeme_view};
 ghost use Rattle.c0_tokens.specs.declared.token.Mark.TheVariants.{True, False, Null};
 ghost use Rattle.c0_parser.specs.Sorts.{mark, sort, among, a_name, a_number};
-ghost use Rattle.c0_parser.specs.Value.{token, pair, literal as literal_of_token, operator as operator_of, across as across_of, place_of, suffixed};
+ghost use Rattle.c0_parser.specs.Value.{token, pair, literal as literal_of_token, operator as operator_of, across as across_of, token_span, suffixed};
 ghost use Rattle.c0_parser.specs.Value.{joined, chained, primary_value, unary_value};
 ghost use Rattle.c0_parser.specs.Grammar.{EXPR, the, maybe, unary, postfix, primary};
 ghost use Rattle.c0_parser.specs.Machine.{heads};
-ghost use Rattle.c0_parser.specs.Contract.{seen, Gives, GivesAny};
+ghost use Rattle.c0_parser.specs.Contract.{as_seen, PieceGives, GivesAny};
 ghost use Rattle.c0_parser.specs.Views.{IsPart};
 ghost use Rattle.c0_parser.specs.Levels.{rule_of, operand_of, marks_of, operation, chains, level_place};
 ghost use Rattle.c0_parser.specs.Tails.{enclosed, part_value, GivesLiteral, IsFieldOf, IsNameOf, TakesAny, FIELD, SUFFIX};
@@ -105,7 +105,7 @@ fn across(from: Span, to: Span) -> Span
 
 // Where a token stands.
 fn place(token: &Token<'_>) -> Span
-    ensures { result ≡ place_of (token_view token.now) }
+    ensures { result ≡ token_span (token_view token.now) }
 {
     Span {
         start: token.start,
@@ -260,7 +260,7 @@ fn literal<'a>(alloc: Global, ts: &'a [Token<'a>]) -> Result<(Part, &'a [Token<'
 
 // Whether a field or an element of what was read follows.
 fn begins_suffix<'a>(ts: &'a [Token<'a>]) -> bool
-    ensures { result ≡ heads SUFFIX (seen ts.now) }
+    ensures { result ≡ heads SUFFIX (as_seen ts.now) }
 {
     take_any(ts, &[Mark::Dot, Mark::Arrow, Mark::OpenBracket]).is_some()
 }
@@ -268,7 +268,7 @@ fn begins_suffix<'a>(ts: &'a [Token<'a>]) -> bool
 // A literal, or an expression in parentheses.
 #[cycle(exprs)]
 fn primary<'a>(alloc: Global, ts: &'a [Token<'a>]) -> Result<(Part, &'a [Token<'a>]), Halt>
-    ensures { Gives (the primary) IsPart ts.now result }
+    ensures { PieceGives (the primary) IsPart ts.now result }
 {
     match take(ts, Mark::OpenParen) {
         Some((opening, rest)) => {
@@ -286,7 +286,7 @@ fn field_of<'a>(
     left: Part,
     ts: &'a [Token<'a>],
 ) -> Result<(Part, &'a [Token<'a>]), Halt>
-    ensures { Gives FIELD (λ p x. IsPart p (suffixed (part_value left) x)) ts.now result }
+    ensures { PieceGives FIELD (λ p x. IsPart p (suffixed (part_value left) x)) ts.now result }
 {
     match take_any(ts, &[Mark::Dot, Mark::Arrow]) {
         Some((sign, rest)) => {
@@ -304,8 +304,8 @@ fn suffix<'a>(
     left: Part,
     ts: &'a [Token<'a>],
 ) -> Result<(Part, &'a [Token<'a>]), Halt>
-    requires { heads SUFFIX (seen ts.now) ≡ true }
-    ensures { Gives SUFFIX (λ p x. IsPart p (suffixed (part_value left) x)) ts.now result }
+    requires { heads SUFFIX (as_seen ts.now) ≡ true }
+    ensures { PieceGives SUFFIX (λ p x. IsPart p (suffixed (part_value left) x)) ts.now result }
 {
     match take(ts, Mark::OpenBracket) {
         Some((opening, rest)) => {
@@ -320,7 +320,7 @@ fn suffix<'a>(
 // A primary, and all fields and elements behind it.
 #[cycle(exprs)]
 fn postfix<'a>(alloc: Global, ts: &'a [Token<'a>]) -> Result<(Part, &'a [Token<'a>]), Halt>
-    ensures { Gives (the postfix) IsPart ts.now result }
+    ensures { PieceGives (the postfix) IsPart ts.now result }
 {
     let (mut left, mut rest) = primary(alloc, ts)?;
     while begins_suffix(rest) {
@@ -334,7 +334,7 @@ fn postfix<'a>(alloc: Global, ts: &'a [Token<'a>]) -> Result<(Part, &'a [Token<'
 /// A unary operator and its operand, or a primary with what stands behind it.
 #[cycle(exprs)]
 pub fn unary<'a>(alloc: Global, ts: &'a [Token<'a>]) -> Result<(Part, &'a [Token<'a>]), Halt>
-    ensures { Gives (the unary) IsPart ts.now result }
+    ensures { PieceGives (the unary) IsPart ts.now result }
 {
     match take_any(ts, &[Mark::Minus, Mark::Not, Mark::Star, Mark::Ampersand]) {
         Some((sign, rest)) => {
@@ -352,7 +352,7 @@ fn operand<'a>(
     level: Level,
     ts: &'a [Token<'a>],
 ) -> Result<(Part, &'a [Token<'a>]), Halt>
-    ensures { Gives (the (operand_of level)) IsPart ts.now result }
+    ensures { PieceGives (the (operand_of level)) IsPart ts.now result }
 {
     match level.tighter() {
         Some(tighter) => binary(alloc, tighter, ts),
@@ -384,7 +384,7 @@ fn binary<'a>(
     level: Level,
     ts: &'a [Token<'a>],
 ) -> Result<(Part, &'a [Token<'a>]), Halt>
-    ensures { Gives (the (rule_of level)) IsPart ts.now result }
+    ensures { PieceGives (the (rule_of level)) IsPart ts.now result }
 {
     let (mut left, mut rest) = operand(alloc, level, ts)?;
     if !level.chains() {
@@ -400,7 +400,7 @@ fn binary<'a>(
 
 /// An expression.
 pub fn expression<'a>(alloc: Global, ts: &'a [Token<'a>]) -> Result<(Part, &'a [Token<'a>]), Halt>
-    ensures { Gives EXPR IsPart ts.now result }
+    ensures { PieceGives EXPR IsPart ts.now result }
 {
     binary(alloc, Level::Disjunction, ts)
 }

@@ -6,7 +6,7 @@ ghost use Rattle.c0_parser.specs.Sorts.{an_asm_text};
 ghost use Rattle.c0_tree.specs.View.{name_view};
 ghost use Rattle.c0_parser.specs.Grammar.{the, one_of, ◌or◌, code, body, FIELDS, FUNCTION};
 ghost use Rattle.c0_parser.specs.Factored.{FACTORED, AFTER_DECL, DEFINED};
-ghost use Rattle.c0_parser.specs.Contract.{Gives};
+ghost use Rattle.c0_parser.specs.Contract.{PieceGives};
 ghost use Rattle.c0_parser.specs.Views.{IsAsm, IsBody, IsItem, IsItemOfDecl, IsDefined, IsStruct, IsItemAfterName};
 
 use crate::reader::{Halt, expect, name, take, take_asm};
@@ -29,7 +29,7 @@ pub enum Item {
 
 // The text of an asm body.
 fn asm_body<'a>(alloc: Global, ts: &'a [Token<'a>]) -> Result<(Body, &'a [Token<'a>]), Halt>
-    ensures { Gives (one_of an_asm_text []) IsAsm ts.now result }
+    ensures { PieceGives (one_of an_asm_text []) IsAsm ts.now result }
 {
     match take_asm(ts) {
         Some((t, text, rest)) => {
@@ -51,7 +51,7 @@ fn asm_body<'a>(alloc: Global, ts: &'a [Token<'a>]) -> Result<(Body, &'a [Token<
 
 /// What a function does.
 pub fn body<'a>(alloc: Global, ts: &'a [Token<'a>]) -> Result<(Body, &'a [Token<'a>]), Halt>
-    ensures { Gives (the body) IsBody ts.now result }
+    ensures { PieceGives (the body) IsBody ts.now result }
 {
     if let Some((_, _)) = take(ts, Mark::OpenBrace) {
         return code(alloc, ts);
@@ -66,7 +66,7 @@ fn function<'a>(
     decl: Decl,
     ts: &'a [Token<'a>],
 ) -> Result<(Item, &'a [Token<'a>]), Halt>
-    ensures { Gives FUNCTION (IsItemOfDecl decl) ts.now result }
+    ensures { PieceGives FUNCTION (IsItemOfDecl decl) ts.now result }
 {
     let (_, rest) = expect(ts, Mark::OpenParen)?;
     let (params, rest) = parameters(alloc, rest)?;
@@ -88,7 +88,7 @@ fn item_of_decl<'a>(
     decl: Decl,
     ts: &'a [Token<'a>],
 ) -> Result<(Item, &'a [Token<'a>]), Halt>
-    ensures { Gives AFTER_DECL (IsItemOfDecl decl) ts.now result }
+    ensures { PieceGives AFTER_DECL (IsItemOfDecl decl) ts.now result }
 {
     match take(ts, Mark::Semicolon) {
         Some((_, rest)) => Ok((Item::AGlobal(decl), rest)),
@@ -102,7 +102,7 @@ fn defined<'a>(
     base: Typed,
     ts: &'a [Token<'a>],
 ) -> Result<(Item, &'a [Token<'a>]), Halt>
-    ensures { Gives DEFINED (IsDefined base) ts.now result }
+    ensures { PieceGives DEFINED (IsDefined base) ts.now result }
 {
     let (typed, rest) = suffixes(alloc, base, ts)?;
     let (name, rest) = name(alloc, rest)?;
@@ -120,7 +120,7 @@ fn structure<'a>(
     name: Name,
     ts: &'a [Token<'a>],
 ) -> Result<(Item, &'a [Token<'a>]), Halt>
-    ensures { Gives FIELDS (IsStruct name) ts.now result }
+    ensures { PieceGives FIELDS (IsStruct name) ts.now result }
 {
     let (_, rest) = expect(ts, Mark::OpenBrace)?;
     let (fields, rest) = fields(alloc, rest)?;
@@ -136,7 +136,7 @@ fn item_after_name<'a>(
     name: Name,
     ts: &'a [Token<'a>],
 ) -> Result<(Item, &'a [Token<'a>]), Halt>
-    ensures { Gives (FIELDS or DEFINED) (IsItemAfterName (token_view word.now) (name_view name)) ts.now result }
+    ensures { PieceGives (FIELDS or DEFINED) (IsItemAfterName (token_view word.now) (name_view name)) ts.now result }
 {
     match take(ts, Mark::OpenBrace) {
         Some((_, _)) => structure(alloc, name, ts),
@@ -146,7 +146,7 @@ fn item_after_name<'a>(
 
 /// A struct, a global or a function.
 pub fn next_item<'a>(alloc: Global, ts: &'a [Token<'a>]) -> Result<(Item, &'a [Token<'a>]), Halt>
-    ensures { Gives FACTORED IsItem ts.now result }
+    ensures { PieceGives FACTORED IsItem ts.now result }
 {
     if let Some((word, rest)) = take(ts, Mark::Struct) {
         let (name, rest) = name(alloc, rest)?;

@@ -5,7 +5,7 @@ ghost use Rattle.c0_tokens.specs.Tokens.{fixed, name as named, number, asm_text,
 ghost use Rattle.c0_parser.specs.Sorts.{an_asm_text};
 ghost use Rattle.c0_parser.specs.Grammar.{sign, NAME, NUMBER};
 ghost use Rattle.c0_parser.specs.Machine.{heads};
-ghost use Rattle.c0_parser.specs.Contract.{seen, Gives, IsNotNext};
+ghost use Rattle.c0_parser.specs.Contract.{as_seen, PieceGives, IsNotNext};
 ghost use Rattle.c0_parser.specs.Views.{IsToken, IsName, IsNumber};
 ghost use Rattle.c0_parser.specs.declared.reader.Halt.TheVariants.{Memory};
 
@@ -58,7 +58,7 @@ pub fn next<'a>(ts: &'a [Token<'a>]) -> Option<(Token<'a>, &'a [Token<'a>])>
 
 /// The mark, where it stands next.
 pub fn take<'a>(ts: &'a [Token<'a>], wanted: Mark) -> Option<(Token<'a>, &'a [Token<'a>])>
-    ensures { MatchOption result (heads (sign wanted) (seen ts.now) ≡ false) (λ p. (ts.now ≡ p.0 ∷ p.1.now) × (lexeme_view p.0.lexeme ≡ fixed wanted)) }
+    ensures { MatchOption result (heads (sign wanted) (as_seen ts.now) ≡ false) (λ p. (ts.now ≡ p.0 ∷ p.1.now) × (lexeme_view p.0.lexeme ≡ fixed wanted)) }
 {
     let (t, rest) = next(ts)?;
     match t.lexeme {
@@ -69,7 +69,7 @@ pub fn take<'a>(ts: &'a [Token<'a>], wanted: Mark) -> Option<(Token<'a>, &'a [To
 
 /// The mark, which has to stand next.
 pub fn expect<'a>(ts: &'a [Token<'a>], wanted: Mark) -> Result<(Token<'a>, &'a [Token<'a>]), Halt>
-    ensures { Gives (sign wanted) IsToken ts.now result }
+    ensures { PieceGives (sign wanted) IsToken ts.now result }
 {
     match take(ts, wanted) {
         Some((t, rest)) => Ok((t, rest)),
@@ -79,7 +79,7 @@ pub fn expect<'a>(ts: &'a [Token<'a>], wanted: Mark) -> Result<(Token<'a>, &'a [
 
 /// A name and its text, where one stands next.
 pub fn take_name<'a>(ts: &'a [Token<'a>]) -> Option<(Token<'a>, &'a [u8], &'a [Token<'a>])>
-    ensures { MatchOption result (heads NAME (seen ts.now) ≡ false) (λ p. (ts.now ≡ p.0 ∷ p.2.now) × (lexeme_view p.0.lexeme ≡ named p.1.now)) }
+    ensures { MatchOption result (heads NAME (as_seen ts.now) ≡ false) (λ p. (ts.now ≡ p.0 ∷ p.2.now) × (lexeme_view p.0.lexeme ≡ named p.1.now)) }
 {
     let (t, rest) = next(ts)?;
     match t.lexeme {
@@ -90,7 +90,7 @@ pub fn take_name<'a>(ts: &'a [Token<'a>]) -> Option<(Token<'a>, &'a [u8], &'a [T
 
 /// A name, which has to stand next.
 pub fn name<'a>(alloc: Global, ts: &'a [Token<'a>]) -> Result<(Name, &'a [Token<'a>]), Halt>
-    ensures { Gives NAME IsName ts.now result }
+    ensures { PieceGives NAME IsName ts.now result }
 {
     match take_name(ts) {
         Some((t, text, rest)) => {
@@ -113,7 +113,7 @@ pub fn name<'a>(alloc: Global, ts: &'a [Token<'a>]) -> Result<(Name, &'a [Token<
 
 /// A number and its value, where one stands next.
 pub fn take_number<'a>(ts: &'a [Token<'a>]) -> Option<(Token<'a>, u32, &'a [Token<'a>])>
-    ensures { MatchOption result (heads NUMBER (seen ts.now) ≡ false) (λ p. (ts.now ≡ p.0 ∷ p.2.now) × (lexeme_view p.0.lexeme ≡ number p.1)) }
+    ensures { MatchOption result (heads NUMBER (as_seen ts.now) ≡ false) (λ p. (ts.now ≡ p.0 ∷ p.2.now) × (lexeme_view p.0.lexeme ≡ number p.1)) }
 {
     let (t, rest) = next(ts)?;
     match t.lexeme {
@@ -124,7 +124,7 @@ pub fn take_number<'a>(ts: &'a [Token<'a>]) -> Option<(Token<'a>, u32, &'a [Toke
 
 /// A number, which has to stand next.
 pub fn number_here<'a>(ts: &'a [Token<'a>]) -> Result<(u32, &'a [Token<'a>]), Halt>
-    ensures { Gives NUMBER IsNumber ts.now result }
+    ensures { PieceGives NUMBER IsNumber ts.now result }
 {
     match take_number(ts) {
         Some((_, value, rest)) => Ok((value, rest)),

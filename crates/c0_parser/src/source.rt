@@ -11,9 +11,9 @@ ghost use Rattle.c0_parser.specs.Value.{none};
 ghost use Rattle.c0_parser.specs.Machine.{heads};
 ghost use Rattle.c0_parser.specs.Grammar.{many, one_of};
 ghost use Rattle.c0_parser.specs.Factored.{FACTORED, SOURCE};
-ghost use Rattle.c0_parser.specs.Contract.{seen, GivesAny};
+ghost use Rattle.c0_parser.specs.Contract.{as_seen, GivesAny};
 ghost use Rattle.c0_parser.specs.ToEnd.{IsAdded, AreItems, GivesToEnd};
-ghost use Rattle.c0_parser.specs.Faults.{Reads, FaultIs, fault_at};
+ghost use Rattle.c0_parser.specs.Faults.{ReadsAs, FaultIs, fault_at};
 ghost use Rattle.c0_parser.specs.declared.reader.Halt.TheVariants.{Memory as Full};
 ghost use Rattle.c0_parser.specs.declared.fault.ReadFault.TheVariants.{SourceTooLong, Memory};
 
@@ -74,7 +74,7 @@ fn all_items<'a>(alloc: Global, ts: &'a [Token<'a>]) -> Result<(Items, &'a [Toke
 
 // Whether the end of the source stands next.
 fn is_end<'a>(ts: &'a [Token<'a>]) -> bool
-    ensures { result ≡ heads (one_of the_end []) (seen ts.now) }
+    ensures { result ≡ heads (one_of the_end []) (as_seen ts.now) }
 {
     match next(ts) {
         Some((t, _)) => matches!(t.lexeme, Lexeme::End),
@@ -110,9 +110,9 @@ fn fault_from_end(ts: &[Token<'_>], left: usize) -> ReadFault
 /// the tree's expressions are at most 2147483647, and each of its lists has fewer than 2^32 parts.
 pub fn parse(alloc: Global, source: &[u8]) -> Result<Unit, ReadFault>
     ensures too_long { 1048576 < length source.now → result ≡ Err SourceTooLong }
-    ensures found { IfOk result (λ u. Reads source.now (unit_view u)) }
+    ensures found { IfOk result (λ u. ReadsAs source.now (unit_view u)) }
     ensures plain { IfOk result (λ u. is_plain (unit_view u) ≡ true) }
-    ensures only { (u : CUnit) → length source.now ≤ 1048576 → Reads source.now u → MatchResult result (λ x. unit_view x ≡ u) (λ f. f ≡ Memory) }
+    ensures only { (u : CUnit) → length source.now ≤ 1048576 → ReadsAs source.now u → MatchResult result (λ x. unit_view x ≡ u) (λ f. f ≡ Memory) }
     ensures fault { IfErr result (λ f. FaultIs source.now f) }
 {
     if source.len() > MAX_SOURCE {

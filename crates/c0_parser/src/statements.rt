@@ -5,7 +5,7 @@ ghost use Rattle.c0_tree.specs.View.{expr_view, stmt_view};
 ghost use Rattle.c0_parser.specs.Sorts.{mark as a_mark, among};
 ghost use Rattle.c0_parser.specs.Grammar.{the, statement, block, many, maybe, sign, ◌▸◌, code, CALL, EXPR, RIGHT};
 ghost use Rattle.c0_parser.specs.Machine.{heads, picks, rule_starts};
-ghost use Rattle.c0_parser.specs.Contract.{seen, Gives, GivesAny};
+ghost use Rattle.c0_parser.specs.Contract.{as_seen, PieceGives, GivesAny};
 ghost use Rattle.c0_parser.specs.Views.{IsStmt, AreStmts, IsBlock, IsRight, IsBody, right_stmt};
 ghost use Rattle.c0_parser.specs.Stmts.{ASSIGNMENT, CHOICE, LOOP, OTHERWISE, RETURNED, IsStmtOf, IsOtherwise, IsReturned, Opens, choice_view, loop_view};
 
@@ -46,7 +46,7 @@ pub struct Test {
 
 // Whether a call begins here: a name with `(` behind it.
 fn starts_call<'a>(ts: &'a [Token<'a>]) -> bool
-    ensures { result ≡ picks CALL EXPR (seen ts.now) }
+    ensures { result ≡ picks CALL EXPR (as_seen ts.now) }
 {
     match take_name(ts) {
         Some((_, _, rest)) => next_is(rest, Mark::OpenParen),
@@ -56,7 +56,7 @@ fn starts_call<'a>(ts: &'a [Token<'a>]) -> bool
 
 // Whether the mark stands next.
 fn next_is<'a>(ts: &'a [Token<'a>], wanted: Mark) -> bool
-    ensures { result ≡ heads (sign wanted) (seen ts.now) }
+    ensures { result ≡ heads (sign wanted) (as_seen ts.now) }
 {
     match next(ts) {
         Some((t, _)) => match t.lexeme {
@@ -69,7 +69,7 @@ fn next_is<'a>(ts: &'a [Token<'a>], wanted: Mark) -> bool
 
 // A call.
 fn call<'a>(alloc: Global, ts: &'a [Token<'a>]) -> Result<(Right, &'a [Token<'a>]), Halt>
-    ensures { Gives CALL IsRight ts.now result }
+    ensures { PieceGives CALL IsRight ts.now result }
 {
     let (function, rest) = name(alloc, ts)?;
     let (_, rest) = expect(rest, Mark::OpenParen)?;
@@ -84,7 +84,7 @@ fn call<'a>(alloc: Global, ts: &'a [Token<'a>]) -> Result<(Right, &'a [Token<'a>
 
 /// The right side of an assignment.
 pub fn right_side<'a>(alloc: Global, ts: &'a [Token<'a>]) -> Result<(Right, &'a [Token<'a>]), Halt>
-    ensures { Gives RIGHT IsRight ts.now result }
+    ensures { PieceGives RIGHT IsRight ts.now result }
 {
     if let Some((_, after)) = take(ts, Mark::New) {
         let (made, rest) = type_of(alloc, after)?;
@@ -121,7 +121,7 @@ fn storing(span: Span, place: Expr, right: Right) -> Stmt
 
 // An assignment.
 fn assignment<'a>(alloc: Global, ts: &'a [Token<'a>]) -> Result<(Stmt, &'a [Token<'a>]), Halt>
-    ensures { Gives ASSIGNMENT IsStmtOf ts.now result }
+    ensures { PieceGives ASSIGNMENT IsStmtOf ts.now result }
 {
     let (place, rest) = unary(alloc, ts)?;
     let (_, rest) = expect(rest, Mark::Assign)?;
@@ -163,7 +163,7 @@ fn mark_starts_statement(mark: Mark) -> bool
 
 // The tokens, where a statement begins.
 fn statement_ahead<'a>(ts: &'a [Token<'a>]) -> Option<&'a [Token<'a>]>
-    ensures { MatchOption result (heads (the statement) (seen ts.now) ≡ false) (λ p. (p.now ≡ ts.now) × (heads (the statement) (seen ts.now) ≡ true)) }
+    ensures { MatchOption result (heads (the statement) (as_seen ts.now) ≡ false) (λ p. (p.now ≡ ts.now) × (heads (the statement) (as_seen ts.now) ≡ true)) }
 {
     let (t, _) = next(ts)?;
     match t.lexeme {
@@ -223,7 +223,7 @@ fn loop_of(test: Test, block: Block) -> Stmt
 /// A statement.
 #[cycle(statements)]
 pub fn statement<'a>(alloc: Global, ts: &'a [Token<'a>]) -> Result<(Stmt, &'a [Token<'a>]), Halt>
-    ensures { Gives (the statement) IsStmt ts.now result }
+    ensures { PieceGives (the statement) IsStmt ts.now result }
 {
     if next_is(ts, Mark::If) {
         return choice(alloc, ts);
@@ -240,7 +240,7 @@ pub fn statement<'a>(alloc: Global, ts: &'a [Token<'a>]) -> Result<(Stmt, &'a [T
 // `if`, a test, a block, and perhaps `else` and a block.
 #[cycle(statements)]
 fn choice<'a>(alloc: Global, ts: &'a [Token<'a>]) -> Result<(Stmt, &'a [Token<'a>]), Halt>
-    ensures { Gives CHOICE IsStmtOf ts.now result }
+    ensures { PieceGives CHOICE IsStmtOf ts.now result }
 {
     let (test, rest) = word_and_test(alloc, ts, Mark::If)?;
     let (yes, rest) = braces(alloc, rest)?;
@@ -267,7 +267,7 @@ fn otherwise<'a>(
 // `while`, a test and a block.
 #[cycle(statements)]
 fn repetition<'a>(alloc: Global, ts: &'a [Token<'a>]) -> Result<(Stmt, &'a [Token<'a>]), Halt>
-    ensures { Gives LOOP IsStmtOf ts.now result }
+    ensures { PieceGives LOOP IsStmtOf ts.now result }
 {
     let (test, rest) = word_and_test(alloc, ts, Mark::While)?;
     let (block, rest) = braces(alloc, rest)?;
@@ -295,7 +295,7 @@ pub fn statements<'a>(
 /// Statements in braces.
 #[cycle(statements)]
 pub fn braces<'a>(alloc: Global, ts: &'a [Token<'a>]) -> Result<(Block, &'a [Token<'a>]), Halt>
-    ensures { Gives (the block) IsBlock ts.now result }
+    ensures { PieceGives (the block) IsBlock ts.now result }
 {
     let (opening, rest) = expect(ts, Mark::OpenBrace)?;
     let (stmts, rest) = statements(alloc, rest)?;
@@ -309,7 +309,7 @@ pub fn braces<'a>(alloc: Global, ts: &'a [Token<'a>]) -> Result<(Block, &'a [Tok
 
 // `return`, an expression, `;` and the closing brace.
 fn returned<'a>(alloc: Global, ts: &'a [Token<'a>]) -> Result<(Expr, &'a [Token<'a>]), Halt>
-    ensures { Gives RETURNED IsReturned ts.now result }
+    ensures { PieceGives RETURNED IsReturned ts.now result }
 {
     let (_, rest) = expect(ts, Mark::Return)?;
     let (part, rest) = expression(alloc, rest)?;
@@ -320,7 +320,7 @@ fn returned<'a>(alloc: Global, ts: &'a [Token<'a>]) -> Result<(Expr, &'a [Token<
 
 /// Declarations, statements and a returned expression in braces.
 pub fn code<'a>(alloc: Global, ts: &'a [Token<'a>]) -> Result<(Body, &'a [Token<'a>]), Halt>
-    ensures { Gives (the code) IsBody ts.now result }
+    ensures { PieceGives (the code) IsBody ts.now result }
 {
     let (_, rest) = expect(ts, Mark::OpenBrace)?;
     let (locals, rest) = lines(alloc, rest)?;

@@ -5,10 +5,10 @@ ghost use Rattle.c0_tree.specs.View.{name_view};
 ghost use Rattle.c0_tree.specs.Tree.{int, bool, named};
 ghost use Rattle.c0_tokens.specs.Tokens.{token_view};
 ghost use Rattle.c0_parser.specs.declared.reader.Halt.TheVariants.{Memory};
-ghost use Rattle.c0_parser.specs.Value.{type as type_at, place_of, across};
+ghost use Rattle.c0_parser.specs.Value.{type as type_at, token_span, across};
 ghost use Rattle.c0_tokens.specs.declared.token.Mark.TheVariants.{Comma};
 ghost use Rattle.c0_parser.specs.Grammar.{the, type, decl, sign, ◌▸◌, many, maybe, LINE, BASIC, BASE, SUFFIX, SUFFIXES};
-ghost use Rattle.c0_parser.specs.Contract.{seen, Gives, GivesAny, Reading};
+ghost use Rattle.c0_parser.specs.Contract.{as_seen, PieceGives, GivesAny, PieceReading};
 ghost use Rattle.c0_parser.specs.Machine.{heads};
 ghost use Rattle.c0_parser.specs.Views.{typed, IsBase, IsBasic, IsListed, AreMoreLines, IsExtended, lengthened, IsSuffix, IsTyped, AreSuffixes, IsDecl};
 ghost use Rattle.c0_parser.specs.Views.{AreLines, AreFields, AreParams};
@@ -36,7 +36,7 @@ pub struct Suffix {
 
 // The tokens, where a suffix begins.
 fn suffix_ahead<'a>(ts: &'a [Token<'a>]) -> Option<&'a [Token<'a>]>
-    ensures { MatchOption result (heads SUFFIX (seen ts.now) ≡ false) (λ p. (p.now ≡ ts.now) × (heads SUFFIX (seen ts.now) ≡ true)) }
+    ensures { MatchOption result (heads SUFFIX (as_seen ts.now) ≡ false) (λ p. (p.now ≡ ts.now) × (heads SUFFIX (as_seen ts.now) ≡ true)) }
 {
     let (t, _) = next(ts)?;
     match t.lexeme {
@@ -47,7 +47,7 @@ fn suffix_ahead<'a>(ts: &'a [Token<'a>]) -> Option<&'a [Token<'a>]>
 
 // `*` or `[ NUMBER ]`.
 fn one_suffix<'a>(ts: &'a [Token<'a>]) -> Result<(Suffix, &'a [Token<'a>]), Halt>
-    ensures { Gives SUFFIX IsSuffix ts.now result }
+    ensures { PieceGives SUFFIX IsSuffix ts.now result }
 {
     if let Some((star, rest)) = take(ts, Mark::Star) {
         let suffix = Suffix {
@@ -88,7 +88,7 @@ fn extended<'a>(
     base: Typed,
     ts: &'a [Token<'a>],
 ) -> Result<(Typed, &'a [Token<'a>]), Halt>
-    ensures { Gives SUFFIX (IsExtended base) ts.now result }
+    ensures { PieceGives SUFFIX (IsExtended base) ts.now result }
 {
     let (suffix, rest) = one_suffix(ts)?;
     Ok((with_suffix(alloc, base, suffix)?, rest))
@@ -113,7 +113,7 @@ pub fn suffixes<'a>(
 
 // `int`.
 fn int_at(t: &Token<'_>) -> Typed
-    ensures { typed result ≡ type_at (place_of (token_view t.now)) int }
+    ensures { typed result ≡ type_at (token_span (token_view t.now)) int }
 {
     let span = Span {
         start: t.start,
@@ -127,7 +127,7 @@ fn int_at(t: &Token<'_>) -> Typed
 
 // `bool`.
 fn bool_at(t: &Token<'_>) -> Typed
-    ensures { typed result ≡ type_at (place_of (token_view t.now)) bool }
+    ensures { typed result ≡ type_at (token_span (token_view t.now)) bool }
 {
     let span = Span {
         start: t.start,
@@ -141,7 +141,7 @@ fn bool_at(t: &Token<'_>) -> Typed
 
 /// The struct of this name, behind the word `struct`.
 pub fn struct_at(t: &Token<'_>, name: Name) -> Typed
-    ensures { typed result ≡ type_at (across (place_of (token_view t.now)) name.span) (named (name_view name)) }
+    ensures { typed result ≡ type_at (across (token_span (token_view t.now)) name.span) (named (name_view name)) }
 {
     let span = Span {
         start: t.start,
@@ -155,7 +155,7 @@ pub fn struct_at(t: &Token<'_>, name: Name) -> Typed
 
 /// `int` or `bool`, where one stands next.
 pub fn take_basic<'a>(ts: &'a [Token<'a>]) -> Option<(Typed, &'a [Token<'a>])>
-    ensures { MatchOption result (heads BASIC (seen ts.now) ≡ false) (λ p. (heads BASIC (seen ts.now) ≡ true) × Reading BASIC IsBasic ts.now p) }
+    ensures { MatchOption result (heads BASIC (as_seen ts.now) ≡ false) (λ p. (heads BASIC (as_seen ts.now) ≡ true) × PieceReading BASIC IsBasic ts.now p) }
 {
     if let Some((t, rest)) = take(ts, Mark::Int) {
         return Some((int_at(&t), rest));
@@ -166,7 +166,7 @@ pub fn take_basic<'a>(ts: &'a [Token<'a>]) -> Option<(Typed, &'a [Token<'a>])>
 
 // The first word or words of a type.
 fn base<'a>(alloc: Global, ts: &'a [Token<'a>]) -> Result<(Typed, &'a [Token<'a>]), Halt>
-    ensures { Gives BASE IsBase ts.now result }
+    ensures { PieceGives BASE IsBase ts.now result }
 {
     if let Some((basic, rest)) = take_basic(ts) {
         return Ok((basic, rest));
@@ -178,7 +178,7 @@ fn base<'a>(alloc: Global, ts: &'a [Token<'a>]) -> Result<(Typed, &'a [Token<'a>
 
 /// A type.
 pub fn type_of<'a>(alloc: Global, ts: &'a [Token<'a>]) -> Result<(Typed, &'a [Token<'a>]), Halt>
-    ensures { Gives (the type) IsTyped ts.now result }
+    ensures { PieceGives (the type) IsTyped ts.now result }
 {
     let (base, rest) = base(alloc, ts)?;
     suffixes(alloc, base, rest)
@@ -186,7 +186,7 @@ pub fn type_of<'a>(alloc: Global, ts: &'a [Token<'a>]) -> Result<(Typed, &'a [To
 
 /// A type and a name.
 pub fn declaration<'a>(alloc: Global, ts: &'a [Token<'a>]) -> Result<(Decl, &'a [Token<'a>]), Halt>
-    ensures { Gives (the decl) IsDecl ts.now result }
+    ensures { PieceGives (the decl) IsDecl ts.now result }
 {
     let (typed, rest) = type_of(alloc, ts)?;
     let (name, rest) = name(alloc, rest)?;
@@ -200,7 +200,7 @@ pub fn declaration<'a>(alloc: Global, ts: &'a [Token<'a>]) -> Result<(Decl, &'a 
 
 // A declaration with a `;` behind it.
 fn line<'a>(alloc: Global, ts: &'a [Token<'a>]) -> Result<(Decl, &'a [Token<'a>]), Halt>
-    ensures { Gives LINE IsListed ts.now result }
+    ensures { PieceGives LINE IsListed ts.now result }
 {
     let (decl, rest) = declaration(alloc, ts)?;
     let (_, rest) = expect(rest, Mark::Semicolon)?;
@@ -209,7 +209,7 @@ fn line<'a>(alloc: Global, ts: &'a [Token<'a>]) -> Result<(Decl, &'a [Token<'a>]
 
 /// The tokens, where a declaration begins.
 pub fn type_ahead<'a>(ts: &'a [Token<'a>]) -> Option<&'a [Token<'a>]>
-    ensures { MatchOption result (heads (the decl) (seen ts.now) ≡ false) (λ p. (p.now ≡ ts.now) × (heads (the decl) (seen ts.now) ≡ true)) }
+    ensures { MatchOption result (heads (the decl) (as_seen ts.now) ≡ false) (λ p. (p.now ≡ ts.now) × (heads (the decl) (as_seen ts.now) ≡ true)) }
 {
     let (t, _) = next(ts)?;
     match t.lexeme {
@@ -245,7 +245,7 @@ pub fn lines<'a>(alloc: Global, ts: &'a [Token<'a>]) -> Result<(Vec<Decl>, &'a [
 
 /// At least one declaration, each with a `;` behind it: the fields of a struct.
 pub fn fields<'a>(alloc: Global, ts: &'a [Token<'a>]) -> Result<(Vec<Decl>, &'a [Token<'a>]), Halt>
-    ensures { Gives (LINE ▸ many LINE) AreFields ts.now result }
+    ensures { PieceGives (LINE ▸ many LINE) AreFields ts.now result }
 {
     let (first, rest) = line(alloc, ts)?;
     let mut list = Vec::new(alloc);

@@ -12,7 +12,7 @@ use Rattle.masm.specs.Laws.{RunsCompose, StraightRuns, JumpsLead}
 use Rattle.cvm_words.specs.Words.{int_of, quotient, remainder}
 use Rattle.c0_tree.specs.declared.tree.BinaryOp.{BinaryOp}
 use Rattle.c0_tree.specs.declared.tree.BinaryOp.TheVariants as op
-use Rattle.c0_runtime.specs.Laws.{IsCalled, ComesBack, AreOperands, HasAnswer, IsComputed, MultiplyRuns, DivideRuns}
+use Rattle.c0_runtime.specs.Laws.{RoutineCalled, RoutineReturns, AreOperands, HasAnswer, IsComputed, MultiplyRuns, DivideRuns}
 use Rattle.c0_runtime.proofs.Steps.{moved, rests, put_other}
 use Rattle.c0_runtime.proofs.Numbers.{product_word, not_zero, by_other, quotient_word}
 
@@ -25,7 +25,7 @@ is_computed o a b hi lo answer c h = record { answer = h; regs = λ r ne. put_ot
 
 module _ (w : World) (f : Sound w) (runs : RunsCompose) (straight : StraightRuns w) (jumps : JumpsLead w) where
   -- the return
-  home : (n to hi lo answer : ℕ) (c : Contents) (d : Behind) → w.code n ≡ Some (Jr 31) → IsCalled to c d → Reaches w 1
+  home : (n to hi lo answer : ℕ) (c : Contents) (d : Behind) → w.code n ≡ Some (Jr 31) → RoutineCalled to c d → Reaches w 1
       (at_with n (computed hi lo answer c) d) (at_with to (computed hi lo answer c) d)
   home n to hi lo answer c d at call =
       let back : c.regs 31 ≡ 4 * to = call.back in
@@ -64,10 +64,10 @@ module _ (w : World) (f : Sound w) (runs : RunsCompose) (straight : StraightRuns
 
   -- the division itself, and the instruction that takes its answer
   answers : (o : BinaryOp) (n to a b exit answer : ℕ) (i : Inst) (c : Contents) (d : Behind) → CodeAt w n
-      (Bne 21 0 1 ∷ J (exit / 4) ∷ Div 20 21 ∷ i ∷ Jr 31 ∷ []) → IsCalled to c d → AreOperands a b c → b ≢ 0
+      (Bne 21 0 1 ∷ J (exit / 4) ∷ Div 20 21 ∷ i ∷ Jr 31 ∷ []) → RoutineCalled to c d → AreOperands a b c → b ≢ 0
       → ((hi lo : ℕ) → hi ≡ signed_remainder a b → lo ≡ signed_quotient a b → Reaches w 1 (at_with (n + 1 + 1 + 1) (record c { hi = hi; lo = lo }) d)
       (at_with (n + 1 + 1 + 1 + 1) (computed hi lo answer c) d))
-      → HasAnswer o a b answer → ComesBack w 4 n to c d (IsComputed o a b c)
+      → HasAnswer o a b answer → RoutineReturns w 4 n to c d (IsComputed o a b c)
   answers o n to a b exit answer i c d at call h ne takes is =
       let left : c.regs 20 ≡ a = h.left in let right : c.regs 21 ≡ b = h.right in
       let hi = signed_remainder (c.regs 20) (c.regs 21) in let lo = signed_quotient (c.regs 20) (c.regs 21) in

@@ -9,7 +9,7 @@ use Rattle.masm.specs.Says.{Gives, Reads}
 use Rattle.masm.specs.Laws.{RunsCompose, StraightRuns, JumpsLead}
 use Rattle.c0_runtime.specs.Code.{load_ends_code, entry_code, behind_first}
 use Rattle.layer_map.specs.declared.entries.TheConstants.{LEAVE}
-use Rattle.c0_runtime.specs.Laws.{ComesBack, StackIs, IsEntered, with_half, EntryRuns}
+use Rattle.c0_runtime.specs.Laws.{RoutineReturns, StackIs, IsEntered, with_half, EntryRuns}
 use Rattle.c0_runtime.proofs.Steps.{rests, put_other}
 use Rattle.c0_runtime.proofs.Numbers.{halves}
 
@@ -34,7 +34,7 @@ module _ (w : World) (f : Sound w) (runs : RunsCompose) (straight : StraightRuns
   begins n globals dispatch c d at idle = straight.next (Lui 28 (globals / 2 ^ 16)) (Gives (globals / 2 ^ 16 * 2 ^ 16)) n c d at.0 refl idle refl
 
   enters : (n globals dispatch first stack : ℕ) (c : Contents) (d : Behind) → CodeAt w (n + 1) (behind_first globals (4 * dispatch)) → d.pending ≡ Idle →
-      StackIs w first stack c → ComesBack w 6 (n + 1) dispatch (with_half globals c) d (IsEntered globals first stack (n + 7) c)
+      StackIs w first stack c → RoutineReturns w 6 (n + 1) dispatch (with_half globals c) d (IsEntered globals first stack (n + 7) c)
   enters n globals dispatch first stack c d at idle h =
       let small = f.small in let variables = h.variables in let inside = h.inside in
       let last = Jal (4 * dispatch / 4) ∷ J (LEAVE / 4) ∷ [] in

@@ -9,7 +9,7 @@ use Rattle.mips_table.specs.Code.{put, Contents, Behind, World, Sound, at_with, 
 use Rattle.masm.specs.Says.{Gives, Reads, Writes}
 use Rattle.masm.specs.Laws.{RunsCompose, StraightRuns, JumpsLead}
 use Rattle.c0_runtime.specs.Code.{check_heap_room_code, bump_heap_code, find_object_code, zero_object_code, new_code}
-use Rattle.c0_runtime.specs.Laws.{IsCalled, ComesBack, ComesBackIn, HeapIs, IsAsked, IsRefused, IsMade, NewRuns}
+use Rattle.c0_runtime.specs.Laws.{RoutineCalled, RoutineReturns, ComesBackIn, HeapIs, IsAsked, IsRefused, ObjectMade, NewRuns}
 use Rattle.c0_runtime.proofs.Steps.{moved, rests, put_other, four_above, two_above, flag_set, flag_clear}
 use Rattle.c0_runtime.proofs.Clear.{IsCleared, MayClear, clears}
 
@@ -33,7 +33,7 @@ taken used first size c = record c {
 }
 
 module _ (w : World) (f : Sound w) (joins : RunLaws) (runs : RunsCompose) (straight : StraightRuns w) (jumps : JumpsLead w) where
-  test_runs : (n to used heap first size : ℕ) (c : Contents) (d : Behind) → CodeAt w n new_code → IsCalled to c d → HeapIs w used heap first c →
+  test_runs : (n to used heap first size : ℕ) (c : Contents) (d : Behind) → CodeAt w n new_code → RoutineCalled to c d → HeapIs w used heap first c →
       IsAsked size c → Reaches w 4 (at_with n c d) (at_with (n + 4) (tested used heap size c) d)
   test_runs n to used heap first size c d at call h q =
       let small = f.small in let behind = h.behind in let inside = h.inside in let within = h.within in let most = q.most in
@@ -49,8 +49,8 @@ module _ (w : World) (f : Sound w) (joins : RunLaws) (runs : RunsCompose) (strai
   refuse_at n at = runs.back w n (check_heap_room_code ++ (bump_heap_code ++ (find_object_code ++ Sw 0 3 0 ∷ Addiu 3 3 4 ∷ Bne 3 5 65533 ∷ Jr 31 ∷ [])))
       (Addu 2 0 0 ∷ Jr 31 ∷ []) at
 
-  refuses : (n to used heap first size : ℕ) (c : Contents) (d : Behind) → CodeAt w n new_code → IsCalled to c d → HeapIs w used heap first c →
-      IsAsked size c → heap < used + size → ComesBack w 7 n to c d (IsRefused c)
+  refuses : (n to used heap first size : ℕ) (c : Contents) (d : Behind) → CodeAt w n new_code → RoutineCalled to c d → HeapIs w used heap first c →
+      IsAsked size c → heap < used + size → RoutineReturns w 7 n to c d (IsRefused c)
   refuses n to used heap first size c d at call h q lt =
       let c1 = tested used heap size c in
       let back : c.regs 31 ≡ 4 * to = call.back in
@@ -84,7 +84,7 @@ module _ (w : World) (f : Sound w) (joins : RunLaws) (runs : RunsCompose) (strai
       )
 
   -- the words are taken
-  take_runs : (n to used heap first size : ℕ) (c : Contents) (d : Behind) → CodeAt w n new_code → IsCalled to c d → HeapIs w used heap first c →
+  take_runs : (n to used heap first size : ℕ) (c : Contents) (d : Behind) → CodeAt w n new_code → RoutineCalled to c d → HeapIs w used heap first c →
       IsAsked size c → used + size ≤ heap → Reaches w 7 (at_with (n + 5) (tested used heap size c) d)
       (at_with (n + 12) (taken used first size (tested used heap size c)) d)
   take_runs n to used heap first size c d at call h q le =
@@ -106,7 +106,7 @@ module _ (w : World) (f : Sound w) (joins : RunLaws) (runs : RunsCompose) (strai
 
   -- what the loop leaves is the new object
   made : (used heap first size : ℕ) (c c' : Contents) → HeapIs w used heap first c → used + size ≤ heap → IsCleared (first + used) size
-      (taken used first size (tested used heap size c)) c' → IsMade used first size c c'
+      (taken used first size (tested used heap size c)) c' → ObjectMade used first size c c'
   made used heap first size c c' h le z =
       let behind = h.behind in
       record {
@@ -128,8 +128,8 @@ module _ (w : World) (f : Sound w) (joins : RunLaws) (runs : RunsCompose) (strai
         };
       }
 
-  makes : (n to used heap first size : ℕ) (c : Contents) (d : Behind) → CodeAt w n new_code → IsCalled to c d → HeapIs w used heap first c →
-      IsAsked size c → used + size ≤ heap → ComesBackIn w (3 * size) (13 + 3 * size) n to c d (IsMade used first size c)
+  makes : (n to used heap first size : ℕ) (c : Contents) (d : Behind) → CodeAt w n new_code → RoutineCalled to c d → HeapIs w used heap first c →
+      IsAsked size c → used + size ≤ heap → ComesBackIn w (3 * size) (13 + 3 * size) n to c d (ObjectMade used first size c)
   makes n to used heap first zero c d at call h q le = let least = q.least in absurd (omega (arith, least))
   makes n to used heap first (suc left) c d at call h q le =
       let size = suc left in

@@ -4,16 +4,16 @@ use Rattle.std.specs.Prelude.{not}
 use Rattle.std.proofs.lemmas.Bool.{cond-true, cond-false}
 use Rattle.mips_table.specs.Arith.{flag}
 use Rattle.mips_table.specs.Device.{Idle}
-use Rattle.mips_table.specs.Code.{put, Contents, Behind, World, Configuration, at_with, settle, Steps, Reaches}
+use Rattle.mips_table.specs.Code.{put, Contents, Behind, World, CodeState, at_with, settle, Steps, Reaches}
 use Rattle.masm.specs.Laws.{RunsCompose}
 
 -- the end of a run, by another number
-pub moved : (w : World) (m : ℕ) (s : Configuration) (p q : ℕ) (c : Contents) (d : Behind) → p ≡ q → Reaches w m s (at_with p c d) → Reaches w m s
+pub moved : (w : World) (m : ℕ) (s : CodeState) (p q : ℕ) (c : Contents) (d : Behind) → p ≡ q → Reaches w m s (at_with p c d) → Reaches w m s
     (at_with q c d)
 moved w m s p q c d e r = subst (λ k. Reaches w m s (at_with k c d)) e r
 
 -- a step to a place, where no command is under way
-pub rests : (w : World) (runs : RunsCompose) (s : Configuration) (p q : ℕ) (c : Contents) (d : Behind) → d.pending ≡ Idle → p ≡ q → Reaches w 1 s
+pub rests : (w : World) (runs : RunsCompose) (s : CodeState) (p q : ℕ) (c : Contents) (d : Behind) → d.pending ≡ Idle → p ≡ q → Reaches w 1 s
     (settle p c d) → Reaches w 1 s (at_with q c d)
 rests w runs s p q c d idle e r = moved w 1 s p q c d e (runs.settled w 1 p s c d idle r)
 

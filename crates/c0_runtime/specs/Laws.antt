@@ -17,13 +17,13 @@ use Rattle.c0_runtime.specs.declared.new_object.TheConstants.{END}
 use Rattle.c0_runtime.specs.declared.runtime.TheConstants.{NEW_OBJECT, MULTIPLY, DIVIDE, REMAINDER}
 
 -- A routine is called: the return address is in its register, and no disk command is under way.
-pub record IsCalled (to : ℕ) (c : Contents) (d : Behind) : Type 0 where
+pub record RoutineCalled (to : ℕ) (c : Contents) (d : Behind) : Type 0 where
   pub back : c.regs RETURN ≡ 4 * to
   pub idle : d.pending ≡ Idle
 
 -- The routine comes back, to its caller with such contents, within so many steps. What is behind the ports stays.
-abbrev pub ComesBack : World → (steps n to : ℕ) → Contents → Behind → (Contents → Type 0) → Type 0
-ComesBack w steps n to c d Q = (c' : Contents) × Q c' × Reaches w steps (at_with n c d) (at_with to c' d)
+abbrev pub RoutineReturns : World → (steps n to : ℕ) → Contents → Behind → (Contents → Type 0) → Type 0
+RoutineReturns w steps n to c d Q = (c' : Contents) × Q c' × Reaches w steps (at_with n c d) (at_with to c' d)
 
 -- it comes back so, and takes at least so many steps
 abbrev pub ComesBackIn : World → (least most n to : ℕ) → Contents → Behind → (Contents → Type 0) → Type 0
@@ -62,7 +62,7 @@ pub record IsRefused (c c' : Contents) : Type 0 where
 
 -- There is room: the answer is the address of the first word behind those that were used, as many as were asked for are 0 from there
 -- on, the words used are as many more, and all other words stay.
-pub record IsMade (used first size : ℕ) (c c' : Contents) : Type 0 where
+pub record ObjectMade (used first size : ℕ) (c c' : Contents) : Type 0 where
   pub answer : c'.regs ANSWER ≡ 4 * (first + used)
   pub zeros : (k : ℕ) → k < size → c'.memory (first + used + k) ≡ 0
   pub used_word : c'.memory heap_used_at ≡ used + size
@@ -73,10 +73,10 @@ pub record IsMade (used first size : ℕ) (c c' : Contents) : Type 0 where
 -- steps and 3 for each of its words, and no fewer than those 3. The instructions that say how many, the call and the store of the answer
 -- come beside these.
 pub record NewRuns (w : World) : Type 0 where
-  pub refuses : (n to used heap first size : ℕ) (c : Contents) (d : Behind) → CodeAt w n new_code → IsCalled to c d → HeapIs w used heap first c →
-      IsAsked size c → heap < used + size → ComesBack w 7 n to c d (IsRefused c)
-  pub makes : (n to used heap first size : ℕ) (c : Contents) (d : Behind) → CodeAt w n new_code → IsCalled to c d → HeapIs w used heap first c →
-      IsAsked size c → used + size ≤ heap → ComesBackIn w (3 * size) (13 + 3 * size) n to c d (IsMade used first size c)
+  pub refuses : (n to used heap first size : ℕ) (c : Contents) (d : Behind) → CodeAt w n new_code → RoutineCalled to c d → HeapIs w used heap first c →
+      IsAsked size c → heap < used + size → RoutineReturns w 7 n to c d (IsRefused c)
+  pub makes : (n to used heap first size : ℕ) (c : Contents) (d : Behind) → CodeAt w n new_code → RoutineCalled to c d → HeapIs w used heap first c →
+      IsAsked size c → used + size ≤ heap → ComesBackIn w (3 * size) (13 + 3 * size) n to c d (ObjectMade used first size c)
 
 -- the operands are words
 pub record AreOperands (a b : ℕ) (c : Contents) : Type 0 where
@@ -98,13 +98,13 @@ pub record IsComputed (op : BinaryOp) (a b : ℕ) (c c' : Contents) : Type 0 whe
 
 -- products take three steps
 abbrev pub MultiplyRuns : World → Type 0
-MultiplyRuns w = (n to a b : ℕ) (c : Contents) (d : Behind) → CodeAt w n multiply_code → IsCalled to c d → AreOperands a b c → ComesBack w 3 n to c d
+MultiplyRuns w = (n to a b : ℕ) (c : Contents) (d : Behind) → CodeAt w n multiply_code → RoutineCalled to c d → AreOperands a b c → RoutineReturns w 3 n to c d
     (IsComputed Mul a b c)
 
 -- Divisions take four steps where the divisor isn't 0; where it is, they fault, and the code goes on at the exit after two steps with nothing
 -- changed. The exit's address is that of a word.
 pub record DivisionRuns (w : World) (op : BinaryOp) (code : List Inst) (exit : ℕ) : Type 0 where
-  pub divides : (n to a b : ℕ) (c : Contents) (d : Behind) → CodeAt w n code → IsCalled to c d → AreOperands a b c → b ≢ 0 → ComesBack w 4 n to c d
+  pub divides : (n to a b : ℕ) (c : Contents) (d : Behind) → CodeAt w n code → RoutineCalled to c d → AreOperands a b c → b ≢ 0 → RoutineReturns w 4 n to c d
       (IsComputed op a b c)
   pub faults : (n a : ℕ) (c : Contents) (d : Behind) → CodeAt w n code → d.pending ≡ Idle → AreOperands a 0 c →
       (on_ints op (int_of a) (int_of 0) ≡ Err (faulted DivZero)) × Reaches w 2 (at_with n c d) (at_with (exit / 4) c d)
@@ -142,7 +142,7 @@ pub record EntryRuns (w : World) : Type 0 where
   pub first : (n globals dispatch : ℕ) (c : Contents) (d : Behind) → CodeAt w n (entry_code globals dispatch) → d.pending ≡ Idle → Reaches w 1
       (at_with n c d) (at_with (n + 1) (with_half globals c) d)
   pub enters : (n globals dispatch first stack : ℕ) (c : Contents) (d : Behind) → CodeAt w (n + 1) (behind_first globals (4 * dispatch)) → d.pending ≡ Idle →
-      StackIs w first stack c → ComesBack w 6 (n + 1) dispatch (with_half globals c) d (IsEntered globals first stack (n + 7) c)
+      StackIs w first stack c → RoutineReturns w 6 (n + 1) dispatch (with_half globals c) d (IsEntered globals first stack (n + 7) c)
   pub leaves : (n globals dispatch : ℕ) (c : Contents) (d : Behind) → CodeAt w (n + 1) (behind_first globals dispatch) → d.pending ≡ Idle → Reaches w 1
       (at_with (n + 7) c d) (at_with (LEAVE / 4) c d)
 

@@ -2,7 +2,7 @@
 use Rattle.std.specs.Prelude.{◌≡◌, ℕ, ◌+◌, ◌*◌, ◌==◌, if◌then◌else◌, List, [], None}
 use Rattle.mips_table.specs.declared.inst.Inst.{Inst}
 use Rattle.mips_table.specs.Device.{Idle}
-use Rattle.mips_table.specs.Code.{Contents, World, on_flat, Configuration, at_with, code_run}
+use Rattle.mips_table.specs.Code.{Contents, World, on_flat, CodeState, at_with, code_run}
 use Rattle.layer_map.specs.Map.{heap_used_at, heap_words_at, heap_first_at, stack_first_at, stack_words_at}
 use Rattle.masm.specs.declared.registers.TheConstants.{ANSWER, ARGUMENTS, GLOBALS, FRAME_END, STACK_END, RETURN}
 use Rattle.masm.specs.Standing.{placed}
@@ -33,11 +33,11 @@ contents size left right = record {
 }
 
 -- the code after so many steps from word 2048 on
-abbrev pub after : List Inst → Contents → ℕ → Configuration
+abbrev pub after : List Inst → Contents → ℕ → CodeState
 after is c steps = code_run (world_of is) (at_with 2048 c (record { pending = Idle; commands = 0; sectors = λ s i. 0; log = []; input = [] })) steps
 
 -- an object of three words takes the heap's last words
-pub record LastWords (s : Configuration) : Type 0 where
+pub record LastWords (s : CodeState) : Type 0 where
   pub at : s.at ≡ 100
   pub answer : s.contents.regs ANSWER ≡ 12020
   pub used : s.contents.memory heap_used_at ≡ 8
@@ -47,28 +47,28 @@ pub record LastWords (s : Configuration) : Type 0 where
   pub behind : s.contents.memory 3008 ≡ 7
 
 -- one of four words finds no room
-pub record NoRoom (s : Configuration) : Type 0 where
+pub record NoRoom (s : CodeState) : Type 0 where
   pub at : s.at ≡ 100
   pub answer : s.contents.regs ANSWER ≡ 0
   pub used : s.contents.memory heap_used_at ≡ 5
   pub first : s.contents.memory 3005 ≡ 7
 
 -- a routine has come back with this answer
-pub record Answers (answer : ℕ) (s : Configuration) : Type 0 where
+pub record RoutineAnswers (answer : ℕ) (s : CodeState) : Type 0 where
   pub at : s.at ≡ 100
   pub is : s.contents.regs ANSWER ≡ answer
 
 -- Products and quotients of -7, 2, the least int and -1. A division by 0 goes to the exit, here at word 50.
 pub record SampleAnswers : Type 0 where
-  pub product : Answers 0xfffffff2 (after multiply_code (contents 0 0xfffffff9 2) 3)
-  pub quotient : Answers 0xfffffffd (after (divide_code 200) (contents 0 0xfffffff9 2) 4)
-  pub remainder : Answers 0xffffffff (after (remainder_code 200) (contents 0 0xfffffff9 2) 4)
-  pub least : Answers 0x80000000 (after (divide_code 200) (contents 0 0x80000000 0xffffffff) 4)
-  pub nothing_left : Answers 0 (after (remainder_code 200) (contents 0 0x80000000 0xffffffff) 4)
+  pub product : RoutineAnswers 0xfffffff2 (after multiply_code (contents 0 0xfffffff9 2) 3)
+  pub quotient : RoutineAnswers 0xfffffffd (after (divide_code 200) (contents 0 0xfffffff9 2) 4)
+  pub remainder : RoutineAnswers 0xffffffff (after (remainder_code 200) (contents 0 0xfffffff9 2) 4)
+  pub least : RoutineAnswers 0x80000000 (after (divide_code 200) (contents 0 0x80000000 0xffffffff) 4)
+  pub nothing_left : RoutineAnswers 0 (after (remainder_code 200) (contents 0 0x80000000 0xffffffff) 4)
   pub by_zero : (after (divide_code 200) (contents 0 5 0) 2).at ≡ 50
 
 -- the entry has called the function at word 3, with the registers of the globals (at 0x12345678), of the frames and of the stack set
-pub record SampleEntered (s : Configuration) : Type 0 where
+pub record SampleEntered (s : CodeState) : Type 0 where
   pub at : s.at ≡ 3
   pub globals : s.contents.regs GLOBALS ≡ 0x12345678
   pub frames : s.contents.regs FRAME_END ≡ 12400

@@ -9,7 +9,7 @@ use Rattle.c0_tree.specs.Tree.{CExpr}
 use Rattle.c0_meaning.specs.Env.{Env}
 use Rattle.c0_meaning.specs.Ty.{Ty}
 use Rattle.c0_meaning.specs.Value.{Values, part}
-use Rattle.c0_meaning.specs.State.{State, variables_of}
+use Rattle.c0_meaning.specs.State.{C0State, variables_of}
 use Rattle.c0_meaning.specs.Numbered.{IsNumberedGiven, AreNumberedGiven, more}
 use Rattle.c0_meaning.specs.Operators.{faulted, stuck}
 use Rattle.c0_meaning.specs.Evaluation.{Costed, costs, at_no_cost, paying, ◌>>=◌, value_of, values_of}
@@ -17,10 +17,10 @@ use Rattle.c0_meaning.specs.TypedState.{types_of, AllFit}
 use Rattle.c0_expr_code.specs.Scope.{Scope}
 use Rattle.c0_expr_code.specs.Code.{register_of, value_code}
 use Rattle.c0_expr_code.specs.Bases.{Bases, RegionHeld}
-use Rattle.c0_expr_code.specs.Relation.{layout, Ready, Keeps, Comes, Gives}
+use Rattle.c0_expr_code.specs.Relation.{layout, Ready, KeepsRegisters, Evaluates, HoldsValue}
 use Rattle.c0_stmt_code.specs.Code.{args_code}
 use Rattle.c0_stmt_code.specs.Standing.{AreIn}
-use Rattle.c0_stmt_code.proofs.Needs.{ExpressionsDo, AllScalar}
+use Rattle.c0_stmt_code.proofs.Premises.{ExpressionsDo, AllScalar}
 use Rattle.c0_stmt_code.proofs.Blocks.{front, back}
 use Rattle.c0_stmt_code.proofs.Spots.{read_is}
 
@@ -41,7 +41,7 @@ SoftComes w sc n to c d Q (costs k (Err stuck)) = ⊥
 
 module _ (compose : RunsCompose) (w : World) (sc : Scope) where
   -- one evaluation, and then another
-  pub soft_binds : {A B : Type 0} (n mid to : ℕ) (c : Contents) (d : Behind) (Q : A → Contents → Type 0) (R : B → Contents → Type 0) (e : Costed A) (f : A → Costed B) → Comes w sc 0 n mid c d Q e → ((b : Contents) → Keeps 0 0 c b → Soft c b)
+  pub soft_binds : {A B : Type 0} (n mid to : ℕ) (c : Contents) (d : Behind) (Q : A → Contents → Type 0) (R : B → Contents → Type 0) (e : Costed A) (f : A → Costed B) → Evaluates w sc 0 n mid c d Q e → ((b : Contents) → KeepsRegisters 0 0 c b → Soft c b)
       → ((x : A) (b : Contents) → Q x b → Soft c b × SoftComes w sc mid to b d R (f x)) → SoftComes w sc n to c d R (e >>= f)
   soft_binds {B = B} n mid to c d Q R (costs k (Ok x)) f h soft g = let t = g x h.0 h.1 in join (f x) t.0 t.1 h.2
     where
@@ -59,7 +59,7 @@ module _ (compose : RunsCompose) (w : World) (sc : Scope) where
   soft_maps n to c d Q R (costs k (Err stuck)) f h g = absurd h
 
   -- the state stands ready while memory and the registers from 28 on are as they were, where variables stand in memory
-  pub ready_soft : (p : Bases) (s : State) (a b : Contents) → sc.in_registers ≡ false → Soft a b → Ready sc p s a → Ready sc p s b
+  pub ready_soft : (p : Bases) (s : C0State) (a b : Contents) → sc.in_registers ≡ false → Soft a b → Ready sc p s a → Ready sc p s b
   ready_soft p s a b form h g = record {
     globals_at = h.high 28 (omega arith) ∙ g.globals_at;
     frame_at = λ e. h.high 29 (omega arith) ∙ g.frame_at e;
@@ -79,7 +79,7 @@ module _ (compose : RunsCompose) (w : World) (sc : Scope) where
     pub soft : Soft c c'
     pub before : (x : ℕ) → 20 ≤ x → x < 20 + i → c'.regs x ≡ c.regs x
 
-  pub args_run : (env : Env) (p : Bases) (s : State) (d : Behind) → ExpressionsDo w env sc p s → sc.in_registers ≡ false → d.pending ≡ Idle → (es : List CExpr) (ts : List Ty) (i n : ℕ) (c : Contents) → Ready sc p s c → AreNumberedGiven env es ts → AllScalar ts → args_need es ≤ 12 → args_nodes es ≤ 2000 → i + length es ≤ 8
+  pub args_run : (env : Env) (p : Bases) (s : C0State) (d : Behind) → ExpressionsDo w env sc p s → sc.in_registers ≡ false → d.pending ≡ Idle → (es : List CExpr) (ts : List Ty) (i n : ℕ) (c : Contents) → Ready sc p s c → AreNumberedGiven env es ts → AllScalar ts → args_need es ≤ 12 → args_nodes es ≤ 2000 → i + length es ≤ 8
       → CodeAt w n (args_code sc es i) → SoftComes w sc n (n + length (args_code sc es i)) c d (InRegisters p i ts c) (values_of es s)
   args_run env p s d ex form idle [] [] i n c ready given scalar deep few room code = (c, record { are = tt; fits = tt; soft = record { memory = refl; special = refl; high = λ x l. refl }; before = λ x l m. refl }, subst (λ y. Reaches w 0 (at_with n c d) (at_with y c d)) (omega arith) (compose.none w (at_with n c d)))
   args_run env p s d ex form idle (e ∷ es) (t ∷ ts) i n c ready given scalar deep few room code =
@@ -88,7 +88,7 @@ module _ (compose : RunsCompose) (w : World) (sc : Scope) where
       let mid : ℕ = n + length (value_code sc e (register_of i) 8) in
       let run = ex.value e t g.0 scalar.0 (omega (arith, few)) (register_of i) 8 n c d idle ready (front w n (value_code sc e (register_of i) 8) (args_code sc es (suc i)) code) (omega arith) (omega (arith, deep)) (λ q. absurd (omega (arith, q, first))) (λ q. absurd (omega (arith, q, first))) in
       let len : mid + length (args_code sc es (suc i)) ≡ n + length (args_code sc (e ∷ es) i) = omega (arith, length-append (value_code sc e (register_of i) 8) (args_code sc es (suc i))) in
-      soft_binds n mid (n + length (args_code sc (e ∷ es) i)) c d (Gives sc p (register_of i) 8 (register_of i) t c) (InRegisters p i (t ∷ ts) c) (value_of e s) (λ v. values_of es s >>= λ vs. at_no_cost (Ok (part v vs))) run
+      soft_binds n mid (n + length (args_code sc (e ∷ es) i)) c d (HoldsValue sc p (register_of i) 8 (register_of i) t c) (InRegisters p i (t ∷ ts) c) (value_of e s) (λ v. values_of es s >>= λ vs. at_no_cost (Ok (part v vs))) run
       (λ b k. record { memory = k.memory; special = k.special; high = λ x l. k.above x (λ q. absurd (omega (arith, q, l))) (omega (arith, l)) })
       (λ v b gives.
       let soft : Soft c b = record { memory = gives.keeps.memory; special = gives.keeps.special; high = λ x l. gives.keeps.above x (λ q. absurd (omega (arith, q, l, first, room))) (omega (arith, l)) } in

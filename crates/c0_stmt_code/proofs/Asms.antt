@@ -5,7 +5,7 @@ use Rattle.std.proofs.lemmas.Bool.{cases_Bool, cond-true, cond-false, ltb-true, 
 use Rattle.std.proofs.Common.{◌≡◌, inl, inr, ℕ, suc, ◌+◌, ◌*◌, ◌^◌, ◌<◌, ◌≤◌, Bool, true, false, List, [], ◌∷◌, ◌++◌, length, refl, sym, ap, ◌∙◌, subst, arith, length-append}
 use Rattle.std.proofs.lemmas.Int.{ints}
 use Rattle.mips_table.specs.declared.inst.Inst.TheVariants.{Jr, Sltu, Beq, J}
-use Rattle.mips_table.specs.Code.{Contents, Behind, Configuration as Machine, at_with, RunLaws, CodeAt}
+use Rattle.mips_table.specs.Code.{Contents, Behind, CodeState, at_with, RunLaws, CodeAt}
 use Rattle.masm.specs.Laws.{RunsCompose, JumpsLead, StraightRuns}
 use Rattle.cvm_words.specs.Words.{int_of, word_of}
 use Rattle.c0_tree.specs.declared.tree.Span.{Span}
@@ -14,16 +14,16 @@ use Rattle.c0_meaning.specs.Ty.{Ty, ty_of}
 use Rattle.c0_meaning.specs.Ty as ty
 use Rattle.c0_meaning.specs.Asm.{are_allowed_words}
 use Rattle.c0_meaning.specs.AsmBody.{asm_result}
-use Rattle.c0_meaning.specs.Limits.{frame}
+use Rattle.c0_meaning.specs.Limits.{words_of_frame}
 use Rattle.c0_meaning.specs.Env.{typed_of}
 use Rattle.c0_meaning.specs.Sound.{shapes}
 use Rattle.c0_meaning.specs.Value.{Value, int, bool, null, at, group, Values, empty, part, count}
 use Rattle.c0_meaning.specs.State.{Frame, stack_words}
 use Rattle.c0_meaning.specs.Operators.{StackOut, faulted, stuck}
 use Rattle.c0_meaning.specs.Evaluation.{at_no_cost}
-use Rattle.c0_meaning.specs.World.{Cost, units, plus, Configuration, ended}
+use Rattle.c0_meaning.specs.World.{Cost, units, plus, Configuration, calls_ended}
 use Rattle.c0_meaning.specs.Running.{Target, into, outward, Work, Stop, then_go, enter, call_function, deliver}
-use Rattle.c0_meaning.specs.TypedState.{types_of, Fits, AllFit, layout_of}
+use Rattle.c0_meaning.specs.TypedState.{types_of, Fits, AllFit, store_typing}
 use Rattle.c0_expr_code.specs.Scope.{Scope}
 use Rattle.c0_asm_body.specs.Code.{asm_code}
 use Rattle.c0_asm_body.specs.Laws.{HoldInts, AsmRuns}
@@ -31,9 +31,9 @@ use Rattle.c0_stmt_code.specs.Code.{large_code, end_code, stack_test, body_code,
 use Rattle.c0_stmt_code.specs.Setup.{Setup}
 use Rattle.c0_stmt_code.specs.Journey.{Led}
 use Rattle.c0_stmt_code.specs.Ahead.{Activation, Awaits, Ahead}
-use Rattle.c0_stmt_code.specs.Standing.{text, scope, bases, end_of, unit_scope, word_of_value, AreIn, Waiting, UnderWay, Stands}
-use Rattle.c0_stmt_code.proofs.Needs.{HeldStays, AreInts}
-use Rattle.c0_stmt_code.proofs.Ways.{Way, on, of, away}
+use Rattle.c0_stmt_code.specs.Standing.{text, scope, bases, end_of, unit_scope, word_of_value, AreIn, Waiting, UnderWay, ConfigurationStands}
+use Rattle.c0_stmt_code.proofs.Premises.{HeldStays, AreInts}
+use Rattle.c0_stmt_code.proofs.RunStretches.{Way, on, of, away}
 use Rattle.c0_stmt_code.proofs.Blocks.{front, back}
 use Rattle.c0_stmt_code.proofs.State.{standing_at}
 use Rattle.c0_stmt_code.proofs.Spots.{read_is}
@@ -41,7 +41,7 @@ use Rattle.c0_stmt_code.proofs.Rooms.{variables_same}
 use Rattle.c0_stmt_code.proofs.Frames.{tested}
 use Rattle.c0_stmt_code.proofs.Returns.{led}
 use Rattle.c0_stmt_code.proofs.CallActs.{stands_soft}
-use Rattle.c0_stmt_code.proofs.Sim.{GoesOn, Path}
+use Rattle.c0_stmt_code.proofs.StepSimulation.{GoesOn, Path}
 
 int_of_fits : (n : ℕ) → FitsSigned w32 (int_of n)
 int_of_fits n = by_test (nat_lt n (2 ^ 31)) refl
@@ -52,11 +52,11 @@ int_of_fits n = by_test (nat_lt n (2 ^ 31)) refl
 
 module _ (runs : RunLaws) (compose : RunsCompose) (W E : Type 0) (Outer : W → Contents → Behind → Type 0) (z : Setup W E Outer) (jumps : JumpsLead z.w) (straight : StraightRuns z.w)
     (held : HeldStays (shapes z.p.unit)) (asm_runs : AsmRuns z.w) where
-  ints_hold : (objects : List Ty) (regs regs' : ℕ → ℕ) (r : ℕ) (ts : List Ty) (vs : Values) → AreInts ts → AllFit (shapes z.p.unit) (layout_of z.p.unit objects) ts vs → ((x : ℕ) → 20 ≤ x → regs' x ≡ regs x) → 20 ≤ r → AreIn (unit_scope z.p.unit) (bases W E Outer z objects []) regs r vs → HoldInts regs' r vs × (count vs ≡ length ts)
+  ints_hold : (objects : List Ty) (regs regs' : ℕ → ℕ) (r : ℕ) (ts : List Ty) (vs : Values) → AreInts ts → AllFit (shapes z.p.unit) (store_typing z.p.unit objects) ts vs → ((x : ℕ) → 20 ≤ x → regs' x ≡ regs x) → 20 ≤ r → AreIn (unit_scope z.p.unit) (bases W E Outer z objects []) regs r vs → HoldInts regs' r vs × (count vs ≡ length ts)
   ints_hold objects regs regs' r [] empty i f e le h = (tt, refl)
   ints_hold objects regs regs' r (t ∷ ts) (part (int a) vs) i f e le h =
       let next = ints_hold objects regs regs' (suc r) ts vs i.1 f.1 e (omega (arith, le)) h.1 in
-      let fits : FitsSigned w32 a = subst (λ u. Fits (shapes z.p.unit) (layout_of z.p.unit objects) u (int a)) i.0 f.0 in
+      let fits : FitsSigned w32 a = subst (λ u. Fits (shapes z.p.unit) (store_typing z.p.unit objects) u (int a)) i.0 f.0 in
       let is : regs' r ≡ word_of a = e r le ∙ h.0 in
       let small = word_below a fits in
       let number = next.1 in
@@ -64,17 +64,17 @@ module _ (runs : RunLaws) (compose : RunsCompose) (W E : Type 0) (Outer : W → 
     where
       word_below : (x : ℤ) → FitsSigned w32 x → word_of x < 2 ^ 32
       word_below x f = omega (arith, ints)
-  ints_hold objects regs regs' r (t ∷ ts) (part (bool b) vs) i f e le h = absurd (subst (λ u. Fits (shapes z.p.unit) (layout_of z.p.unit objects) u (bool b)) i.0 f.0)
-  ints_hold objects regs regs' r (t ∷ ts) (part null vs) i f e le h = absurd (subst (λ u. Fits (shapes z.p.unit) (layout_of z.p.unit objects) u null) i.0 f.0)
-  ints_hold objects regs regs' r (t ∷ ts) (part (at l) vs) i f e le h = absurd (subst (λ u. Fits (shapes z.p.unit) (layout_of z.p.unit objects) u (at l)) i.0 f.0)
-  ints_hold objects regs regs' r (t ∷ ts) (part (group ws) vs) i f e le h = absurd (subst (λ u. Fits (shapes z.p.unit) (layout_of z.p.unit objects) u (group ws)) i.0 f.0)
+  ints_hold objects regs regs' r (t ∷ ts) (part (bool b) vs) i f e le h = absurd (subst (λ u. Fits (shapes z.p.unit) (store_typing z.p.unit objects) u (bool b)) i.0 f.0)
+  ints_hold objects regs regs' r (t ∷ ts) (part null vs) i f e le h = absurd (subst (λ u. Fits (shapes z.p.unit) (store_typing z.p.unit objects) u null) i.0 f.0)
+  ints_hold objects regs regs' r (t ∷ ts) (part (at l) vs) i f e le h = absurd (subst (λ u. Fits (shapes z.p.unit) (store_typing z.p.unit objects) u (at l)) i.0 f.0)
+  ints_hold objects regs regs' r (t ∷ ts) (part (group ws) vs) i f e le h = absurd (subst (λ u. Fits (shapes z.p.unit) (store_typing z.p.unit objects) u (group ws)) i.0 f.0)
   ints_hold objects regs regs' r [] (part v vs) i f e le h = absurd f
   ints_hold objects regs regs' r (t ∷ ts) empty i f e le h = absurd f
 
   module _ (objects : List Ty) (gv hv : Value) (hw : ℕ) (fs : List Frame) (world : W) (calls : List (List E)) (answer : Option Value) (c : Contents) (d : Behind) (acts : List Activation)
-      (st : Stands W E Outer z objects (standing_at gv hv hw fs world calls answer) c d) (waits : Waiting W E Outer z objects c.memory acts fs) (at_end : c.regs 29 ≡ 4 * end_of W E Outer z fs)
+      (st : ConfigurationStands W E Outer z objects (standing_at gv hv hw fs world calls answer) c d) (waits : Waiting W E Outer z objects c.memory acts fs) (at_end : c.regs 29 ≡ 4 * end_of W E Outer z fs)
       (n to debt : ℕ) (f : CFunction) (is : slice_get z.p.unit.functions n ≡ Some f) (args : Values) (target : Target) (work : List Work) (return_at : c.regs 31 ≡ 4 * to)
-      (fits : AllFit (shapes z.p.unit) (layout_of z.p.unit objects) (types_of (map typed_of f.params)) args) (arguments : AreIn (unit_scope z.p.unit) (bases W E Outer z objects []) c.regs 20 args)
+      (fits : AllFit (shapes z.p.unit) (store_typing z.p.unit objects) (types_of (map typed_of f.params)) args) (arguments : AreIn (unit_scope z.p.unit) (bases W E Outer z objects []) c.regs 20 args)
       (ahead : Awaits (text W E Outer z) acts to debt (ty_of f.answer) target work (λ others at left. Ahead (text W E Outer z) others at left work)) where
     abbrev sc : Scope
     sc = scope W E Outer z f
@@ -86,12 +86,12 @@ module _ (runs : RunLaws) (compose : RunsCompose) (W E : Type 0) (Outer : W → 
     low = end_of W E Outer z fs
 
     -- the answer is handed over, and the caller goes on where it waits
-    handed : (l m : ℕ) (cost : Cost) (h0 : Configuration W E) (s0 : Machine) (v : Value) (t : Ty) (c' : Contents) → Path runs compose W E Outer z jumps l m s0 (at_with to c' d) → cost.own ≤ 2048 * l → m ≤ 30 * cost.own → length calls ≡ ended h0
-        → c'.memory ≡ c.memory → c'.special ≡ c.special → ((x : ℕ) → 28 ≤ x → c'.regs x ≡ c.regs x) → Fits (shapes z.p.unit) (layout_of z.p.unit objects) t v → c'.regs 2 ≡ word_of_value W E Outer z objects v → ty_of f.answer ≡ t
+    handed : (l m : ℕ) (cost : Cost) (h0 : Configuration W E) (s0 : CodeState) (v : Value) (t : Ty) (c' : Contents) → Path runs compose W E Outer z jumps l m s0 (at_with to c' d) → cost.own ≤ 2048 * l → m ≤ 30 * cost.own → length calls ≡ calls_ended h0
+        → c'.memory ≡ c.memory → c'.special ≡ c.special → ((x : ℕ) → 28 ≤ x → c'.regs x ≡ c.regs x) → Fits (shapes z.p.unit) (store_typing z.p.unit objects) t v → c'.regs 2 ≡ word_of_value W E Outer z objects v → ty_of f.answer ≡ t
         → GoesOn W E Outer z debt h0 s0 (deliver cost target v work here)
     handed l m cost h0 s0 v t c' path low_paid high_paid en memory special high fits is2 types = by_target acts fs waits target work ahead refl
       where
-        st2 : Stands W E Outer z objects here c' d
+        st2 : ConfigurationStands W E Outer z objects here c' d
         st2 = stands_soft runs compose W E Outer z jumps objects here c c' d memory special (high 28 (omega arith)) (high 30 (omega arith)) st
 
         led_to : (h' : Configuration W E) → h'.calls ≡ calls → Led z.w cost.own debt debt h0 h' s0 (at_with to c' d)
@@ -145,16 +145,16 @@ module _ (runs : RunLaws) (compose : RunsCompose) (W E : Type 0) (Outer : W → 
     test_some : 1 ≤ length (stack_test sc 1)
     test_some = omega (arith, length-append (large_code sc) (end_code 1 (4 * sc.frame) ++ (Sltu 1 30 1 ∷ Beq 1 0 1 ∷ J (sc.exit StackOut) ∷ [])), length-append (end_code 1 (4 * sc.frame)) (Sltu 1 30 1 ∷ Beq 1 0 1 ∷ J (sc.exit StackOut) ∷ []))
 
-    pub enters_asm : (l m k : ℕ) (cost : Cost) (h0 : Configuration W E) (s0 : Machine) (bytes : List ℕ) (span : Span) (words : List ℕ) → f.body ≡ asm bytes span words → AreInts (types_of (map typed_of f.params)) → length (types_of (map typed_of f.params)) ≤ 4 → length (types_of (map typed_of f.params)) ≡ length f.params
+    pub enters_asm : (l m k : ℕ) (cost : Cost) (h0 : Configuration W E) (s0 : CodeState) (bytes : List ℕ) (span : Span) (words : List ℕ) → f.body ≡ asm bytes span words → AreInts (types_of (map typed_of f.params)) → length (types_of (map typed_of f.params)) ≤ 4 → length (types_of (map typed_of f.params)) ≡ length f.params
         → ty_of f.answer ≡ ty.int → IsTrue (are_allowed_words words)
-        → Path runs compose W E Outer z jumps l m s0 (at_with k c d) → CodeAt z.w k (function_code sc (text W E Outer z).links f) → cost.own + 9 ≤ 2048 * (l + 1) → m ≤ 30 * cost.own → length calls ≡ ended h0
+        → Path runs compose W E Outer z jumps l m s0 (at_with k c d) → CodeAt z.w k (function_code sc (text W E Outer z).links f) → cost.own + 9 ≤ 2048 * (l + 1) → m ≤ 30 * cost.own → length calls ≡ calls_ended h0
         → GoesOn W E Outer z debt h0 s0 (call_function z.p cost n args target work here)
     enters_asm l m k cost h0 s0 bytes span words e ints_ few count_is result allowed path there low_paid high_paid en =
-        subst (λ o. GoesOn W E Outer z debt h0 s0 (then_go (plus cost (units 1)) here (at_no_cost (ok_or o stuck)) (λ cost g. if nat_lt z.p.stack (stack_words z.p.unit fs + frame (shapes z.p.unit) g) then Stop cost (faulted StackOut) here else enter z.p cost n g.body args target work here))) (sym is)
-        (elim (cases_Bool (nat_lt z.p.stack (stack_words z.p.unit fs + frame (shapes z.p.unit) f))) [
-          | inl over ↦ subst (λ t. GoesOn W E Outer z debt h0 s0 t) (sym (cond-true (nat_lt z.p.stack (stack_words z.p.unit fs + frame (shapes z.p.unit) f)) (Stop cost2 (faulted StackOut) here) (enter z.p cost2 n f.body args target work here) over)) (fails (ltb-true z.p.stack (stack_words z.p.unit fs + frame (shapes z.p.unit) f) over))
-          | inr fine ↦ subst (λ t. GoesOn W E Outer z debt h0 s0 t) (sym (cond-false (nat_lt z.p.stack (stack_words z.p.unit fs + frame (shapes z.p.unit) f)) (Stop cost2 (faulted StackOut) here) (enter z.p cost2 n f.body args target work here) fine))
-              (subst (λ b. GoesOn W E Outer z debt h0 s0 (enter z.p cost2 n b args target work here)) (sym e) (goes (ltb-false z.p.stack (stack_words z.p.unit fs + frame (shapes z.p.unit) f) fine)))
+        subst (λ o. GoesOn W E Outer z debt h0 s0 (then_go (plus cost (units 1)) here (at_no_cost (ok_or o stuck)) (λ cost g. if nat_lt z.p.stack (stack_words z.p.unit fs + words_of_frame (shapes z.p.unit) g) then Stop cost (faulted StackOut) here else enter z.p cost n g.body args target work here))) (sym is)
+        (elim (cases_Bool (nat_lt z.p.stack (stack_words z.p.unit fs + words_of_frame (shapes z.p.unit) f))) [
+          | inl over ↦ subst (λ t. GoesOn W E Outer z debt h0 s0 t) (sym (cond-true (nat_lt z.p.stack (stack_words z.p.unit fs + words_of_frame (shapes z.p.unit) f)) (Stop cost2 (faulted StackOut) here) (enter z.p cost2 n f.body args target work here) over)) (fails (ltb-true z.p.stack (stack_words z.p.unit fs + words_of_frame (shapes z.p.unit) f) over))
+          | inr fine ↦ subst (λ t. GoesOn W E Outer z debt h0 s0 t) (sym (cond-false (nat_lt z.p.stack (stack_words z.p.unit fs + words_of_frame (shapes z.p.unit) f)) (Stop cost2 (faulted StackOut) here) (enter z.p cost2 n f.body args target work here) fine))
+              (subst (λ b. GoesOn W E Outer z debt h0 s0 (enter z.p cost2 n b args target work here)) (sym e) (goes (ltb-false z.p.stack (stack_words z.p.unit fs + words_of_frame (shapes z.p.unit) f) fine)))
         ])
       where
         cost2 : Cost
@@ -166,7 +166,7 @@ module _ (runs : RunLaws) (compose : RunsCompose) (W E : Type 0) (Outer : W → 
         test_at : CodeAt z.w k (stack_test sc 1)
         test_at = front z.w k (stack_test sc 1) (asm_code (length f.params) words ++ (Jr 31 ∷ [])) code_at
 
-        fails : z.p.stack < stack_words z.p.unit fs + frame (shapes z.p.unit) f → GoesOn W E Outer z debt h0 s0 (Stop cost2 (faulted StackOut) here)
+        fails : z.p.stack < stack_words z.p.unit fs + words_of_frame (shapes z.p.unit) f → GoesOn W E Outer z debt h0 s0 (Stop cost2 (faulted StackOut) here)
         fails over =
             let sf = z.stack_fits in
             let sm = z.stack_small in
@@ -180,7 +180,7 @@ module _ (runs : RunLaws) (compose : RunsCompose) (W E : Type 0) (Outer : W → 
               record { objects = objects; stands = stands_soft runs compose W E Outer z jumps objects here c r.0 d r.1.memory r.1.special (r.1.others 28 (λ q. absurd (omega (arith, q))) (λ q. absurd (omega (arith, q)))) (r.1.others 30 (λ q. absurd (omega (arith, q))) (λ q. absurd (omega (arith, q)))) st; at = refl },
             )
 
-        goes : stack_words z.p.unit fs + frame (shapes z.p.unit) f ≤ z.p.stack → GoesOn W E Outer z debt h0 s0 (deliver (plus cost2 (units (length words))) target (int (asm_result words args)) work here)
+        goes : stack_words z.p.unit fs + words_of_frame (shapes z.p.unit) f ≤ z.p.stack → GoesOn W E Outer z debt h0 s0 (deliver (plus cost2 (units (length words))) target (int (asm_result words args)) work here)
         goes fine =
             let sf = z.stack_fits in
             let sm = z.stack_small in

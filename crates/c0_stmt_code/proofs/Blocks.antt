@@ -1,6 +1,6 @@
 -- What is left to do as code ahead: pending jumps are taken, and blocks end where the next item stands.
 use Rattle.std.proofs.Common.{◌≡◌, ℕ, zero, suc, ◌+◌, ◌%◌, ◌^◌, ◌<◌, ◌≤◌, ◌||◌, Bool, true, false, List, [], ◌∷◌, ◌++◌, length, Some, refl, subst, arith, length-append}
-use Rattle.mips_table.specs.Code.{Contents, Behind, World, Configuration, at_with, settle, Reaches, RunLaws, CodeAt}
+use Rattle.mips_table.specs.Code.{Contents, Behind, World, CodeState, at_with, settle, Reaches, RunLaws, CodeAt}
 use Rattle.mips_table.specs.Device.{Idle}
 use Rattle.mips_table.specs.declared.inst.Inst.{Inst}
 use Rattle.masm.specs.Laws.{RunsCompose, JumpsLead}
@@ -14,7 +14,7 @@ use Rattle.std.proofs.lemmas.Bool.{and_parts}
 use Rattle.c0_expr_code.specs.Scope.{is_free_of_calls, are_free_of_calls}
 use Rattle.c0_stmt_code.specs.Code.{is_calling, are_calling, calls_in, skip, stmt_code, stmts_code}
 use Rattle.c0_stmt_code.specs.Ahead.{Activation, Text, env_in, MAX_NODES, Skips, Block, Ahead}
-use Rattle.c0_stmt_code.proofs.Ways.{Way, none, on, within, away}
+use Rattle.c0_stmt_code.proofs.RunStretches.{Way, none, on, within, away}
 
 module _ (runs : RunLaws) (compose : RunsCompose) (w : World) (jumps : JumpsLead w) where
   -- a jump over so many words

@@ -3,9 +3,9 @@ use Rattle.std.specs.Prelude.{map, slice_get, Option, Some, Ok, Err, if◌then�
 use Rattle.std.proofs.Common.{◌≡◌, ℕ, zero, suc, ◌+◌, ◌*◌, ◌<◌, ◌≤◌, true, false, List, [], ◌∷◌, ◌++◌, length, refl, sym, ap, ◌∙◌, subst, arith, length-append}
 use Rattle.mips_table.specs.declared.inst.Inst.TheVariants.{Jal}
 use Rattle.mips_table.specs.declared.effect.Effect.TheVariants.{Set}
-use Rattle.mips_table.specs.Effect.{jump}
+use Rattle.mips_table.specs.Effect.{jump_target}
 use Rattle.mips_table.specs.Device.{Idle}
-use Rattle.mips_table.specs.Code.{Contents, with_reg, Behind, Configuration as Machine, at_with, Reaches, RunLaws, CodeAt}
+use Rattle.mips_table.specs.Code.{Contents, with_reg, Behind, CodeState, at_with, Reaches, RunLaws, CodeAt}
 use Rattle.masm.specs.Laws.{RunsCompose, JumpsLead, StraightRuns}
 use Rattle.c0_tree.specs.Size.{nodes, args_nodes}
 use Rattle.c0_tree.specs.Tree.{CExpr, CStmts, CFunction}
@@ -18,30 +18,30 @@ use Rattle.c0_meaning.specs.Statement.{MAX_NEED, call_need}
 use Rattle.c0_meaning.specs.Numbered.{IsNumberedLeft, AreNumberedGiven}
 use Rattle.c0_meaning.specs.Operators.{KernelFault, faulted, stuck}
 use Rattle.c0_meaning.specs.Evaluation.{Costed, costs, values_of}
-use Rattle.c0_meaning.specs.World.{Cost, units, plus, Configuration, ended}
+use Rattle.c0_meaning.specs.World.{Cost, units, plus, Configuration, calls_ended}
 use Rattle.c0_meaning.specs.Running.{Target, into, Work, Step, Stop, then_go, call_function}
-use Rattle.c0_meaning.specs.TypedState.{Layout, types_of, AllFit, layout_of}
+use Rattle.c0_meaning.specs.TypedState.{StoreTyping, types_of, AllFit, store_typing}
 use Rattle.c0_expr_code.specs.Scope.{Scope}
 use Rattle.c0_expr_code.specs.Bases.{Bases}
-use Rattle.c0_expr_code.specs.Relation.{Keeps}
+use Rattle.c0_expr_code.specs.Relation.{KeepsRegisters}
 use Rattle.c0_stmt_code.specs.Code.{calls_in, args_code, answer_code}
 use Rattle.c0_stmt_code.specs.Setup.{Setup}
 use Rattle.c0_stmt_code.specs.Ahead.{Activation, env_in, Block, Awaits, Ahead}
-use Rattle.c0_stmt_code.specs.Standing.{text, scope, bases, end_of, unit_scope, AreIn, Waiting, Runs, Stands}
-use Rattle.c0_stmt_code.proofs.Needs.{HeldStays, TypedStays, FunctionsAre}
-use Rattle.c0_stmt_code.proofs.Ways.{none, on, of, within}
+use Rattle.c0_stmt_code.specs.Standing.{text, scope, bases, end_of, unit_scope, AreIn, Waiting, FunctionRuns, ConfigurationStands}
+use Rattle.c0_stmt_code.proofs.Premises.{HeldStays, TypedStays, FunctionsAre}
+use Rattle.c0_stmt_code.proofs.RunStretches.{none, on, of, within}
 use Rattle.c0_stmt_code.proofs.Blocks.{front, back}
 use Rattle.c0_stmt_code.proofs.Costs.{Within, values_within}
-use Rattle.c0_stmt_code.proofs.Held.{word_same}
+use Rattle.c0_stmt_code.proofs.ValuesStay.{word_same}
 use Rattle.c0_stmt_code.proofs.State.{rest_of, state_of, standing_at, Exprs}
 use Rattle.c0_stmt_code.proofs.Spots.{other_reg, same_reg}
 use Rattle.c0_stmt_code.proofs.Rooms.{variables_same}
 use Rattle.c0_stmt_code.proofs.Places.{its_exprs, its_ready}
 use Rattle.c0_stmt_code.proofs.Args.{SoftComes, InRegisters, args_run}
-use Rattle.c0_stmt_code.proofs.Sim.{GoesOn, Path, stands_on}
+use Rattle.c0_stmt_code.proofs.StepSimulation.{GoesOn, Path, stands_on}
 
 -- words of registers that stay
-pub are_moved : (sc : Scope) (b : Bases) (m m' : ℕ → ℕ) (r : ℕ) (ts : List Ty) (structs : List Shape) (lay : Layout) (vs : Values) → AllFit structs lay ts vs → r + length ts ≤ 28 → ((x : ℕ) → x < 28 → m' x ≡ m x) → AreIn sc b m r vs → AreIn sc b m' r vs
+pub are_moved : (sc : Scope) (b : Bases) (m m' : ℕ → ℕ) (r : ℕ) (ts : List Ty) (structs : List Shape) (lay : StoreTyping) (vs : Values) → AllFit structs lay ts vs → r + length ts ≤ 28 → ((x : ℕ) → x < 28 → m' x ≡ m x) → AreIn sc b m r vs → AreIn sc b m' r vs
 are_moved sc b m m' r [] structs lay empty f le e h = tt
 are_moved sc b m m' r (t ∷ ts) structs lay (part v vs) f le e h = (e r (omega (arith, le)) ∙ h.0, are_moved sc b m m' (suc r) ts structs lay vs f.1 (omega (arith, le)) e h.1)
 are_moved sc b m m' r [] structs lay (part v vs) f le e h = absurd f
@@ -55,9 +55,9 @@ signature_from (f ∷ fs) (suc i) c e = signature_from fs i c e
 
 module _ (runs : RunLaws) (compose : RunsCompose) (W E : Type 0) (Outer : W → Contents → Behind → Type 0) (z : Setup W E Outer) (jumps : JumpsLead z.w) where
   -- the data stand after code that leaves memory and the registers from 28 on
-  pub stands_soft : (objects : List Ty) (h : Configuration W E) (c c' : Contents) (d : Behind) → c'.memory ≡ c.memory → c'.special ≡ c.special → c'.regs 28 ≡ c.regs 28 → c'.regs 30 ≡ c.regs 30 → Stands W E Outer z objects h c d → Stands W E Outer z objects h c' d
+  pub stands_soft : (objects : List Ty) (h : Configuration W E) (c c' : Contents) (d : Behind) → c'.memory ≡ c.memory → c'.special ≡ c.special → c'.regs 28 ≡ c.regs 28 → c'.regs 30 ≡ c.regs 30 → ConfigurationStands W E Outer z objects h c d → ConfigurationStands W E Outer z objects h c' d
   stands_soft objects h c c' d memory special r28 r30 st =
-      let k : Keeps 0 0 c (record c { memory = c'.memory; special = c'.special }) = record { memory = memory; special = special; below = λ x n m l. refl; above = λ x n l. refl } in
+      let k : KeepsRegisters 0 0 c (record c { memory = c'.memory; special = c'.special }) = record { memory = memory; special = special; below = λ x n m l. refl; above = λ x n l. refl } in
       let s = stands_on runs compose W E Outer z jumps objects h c (record c { memory = c'.memory; special = c'.special }) d k st in
       record {
         typed = st.typed;
@@ -79,8 +79,8 @@ module _ (runs : RunLaws) (compose : RunsCompose) (W E : Type 0) (Outer : W → 
       }
 
   -- an evaluation on the way of a step, whose code may leave something in the registers of arguments; a fault ends the step
-  pub then_soft : {A : Type 0} (Is : Step W E → Type 0) (l n debt lo hi : ℕ) (cost : Cost) (h h0 : Configuration W E) (s : Machine) (f : CFunction) (from to : ℕ) (c : Contents) (d : Behind) (objects : List Ty) (Q : A → Contents → Type 0) (e : Costed A) (go : Cost → A → Step W E)
-      → Path runs compose W E Outer z jumps l n s (at_with from c d) → n ≤ 30 * cost.own + debt → ended h ≡ ended h0 → Stands W E Outer z objects h c d → Within lo hi e → SoftComes z.w (scope W E Outer z f) from to c d Q e
+  pub then_soft : {A : Type 0} (Is : Step W E → Type 0) (l n debt lo hi : ℕ) (cost : Cost) (h h0 : Configuration W E) (s : CodeState) (f : CFunction) (from to : ℕ) (c : Contents) (d : Behind) (objects : List Ty) (Q : A → Contents → Type 0) (e : Costed A) (go : Cost → A → Step W E)
+      → Path runs compose W E Outer z jumps l n s (at_with from c d) → n ≤ 30 * cost.own + debt → calls_ended h ≡ calls_ended h0 → ConfigurationStands W E Outer z objects h c d → Within lo hi e → SoftComes z.w (scope W E Outer z f) from to c d Q e
       → ((cost : Cost) (f : KernelFault) (h : Configuration W E) → GoesOn W E Outer z debt h0 s (Stop cost (faulted f) h) → Is (Stop cost (faulted f) h))
       → ((k : ℕ) (x : A) (c' : Contents) → e ≡ costs k (Ok x) → lo ≤ k → k ≤ hi → Q x c' → Path runs compose W E Outer z jumps l (n + 16 * k) s (at_with to c' d) → Is (go (plus cost (units k)) x)) → Is (then_go cost h e go)
   then_soft Is l n debt lo hi cost h h0 s f from to c d objects Q (costs k (Ok x)) go path high en st bounds comes stops next =
@@ -96,11 +96,11 @@ module _ (runs : RunLaws) (compose : RunsCompose) (W E : Type 0) (Outer : W → 
   pub calls_to : (k index : ℕ) (c : Contents) (d : Behind) → d.pending ≡ Idle → z.w.code k ≡ Some (Jal index) → Reaches z.w 1 (at_with k c d) (at_with index (with_reg c 31 (4 * (k + 1))) d)
   calls_to k index c d idle code =
       let v = jumps.after (Jal index) k code in
-      compose.settled z.w 1 index (at_with k c d) (with_reg c 31 (4 * (k + 1))) d idle (jumps.jumped (Jal index) k index 31 (4 * (k + 1)) c d code (ap (λ y. Set 31 y (jump (4 * k) index)) v))
+      compose.settled z.w 1 index (at_with k c d) (with_reg c 31 (4 * (k + 1))) d idle (jumps.jumped (Jal index) k index 31 (4 * (k + 1)) c d code (ap (λ y. Set 31 y (jump_target (4 * k) index)) v))
 
   module _ (straight : StraightRuns z.w) (held : HeldStays (shapes z.p.unit)) (typing : TypedStays z.p.unit) (functions : FunctionsAre z.table z.p.unit) (exprs : Exprs W E Outer z)
       (objects : List Ty) (gv hv : Value) (hw : ℕ) (g : Frame) (fs : List Frame) (world : W) (calls : List (List E)) (answer : Option Value) (c : Contents) (d : Behind) (a : Activation) (others : List Activation)
-      (st : Stands W E Outer z objects (standing_at gv hv hw (g ∷ fs) world calls answer) c d) (r : Runs W E Outer z objects c a g fs) (waits : Waiting W E Outer z objects c.memory others fs)
+      (st : ConfigurationStands W E Outer z objects (standing_at gv hv hw (g ∷ fs) world calls answer) c d) (r : FunctionRuns W E Outer z objects c a g fs) (waits : Waiting W E Outer z objects c.memory others fs)
       (form : (scope W E Outer z a.function).in_registers ≡ false) (its_calls : calls_in a.function.body ≡ true) (k debt : ℕ) where
     abbrev sc : Scope
     sc = scope W E Outer z a.function
@@ -123,14 +123,14 @@ module _ (runs : RunLaws) (compose : RunsCompose) (W E : Type 0) (Outer : W → 
 
     -- what has to be known of how a function is entered
     abbrev Enters : ℕ → CFunction → Target → List Work → Type 0
-    Enters n f target work = (c' : Contents) (vs : Values) (l m : ℕ) (cost : Cost) → Stands W E Outer z objects here c' d → Waiting W E Outer z objects c'.memory (a ∷ others) (g ∷ fs) → c'.regs 29 ≡ 4 * end_of W E Outer z (g ∷ fs)
-        → (to : ℕ) → c'.regs 31 ≡ 4 * to → AllFit (shapes z.p.unit) (layout_of z.p.unit objects) (types_of (map typed_of f.params)) vs → AreIn (unit_scope z.p.unit) (bases W E Outer z objects []) c'.regs 20 vs
+    Enters n f target work = (c' : Contents) (vs : Values) (l m : ℕ) (cost : Cost) → ConfigurationStands W E Outer z objects here c' d → Waiting W E Outer z objects c'.memory (a ∷ others) (g ∷ fs) → c'.regs 29 ≡ 4 * end_of W E Outer z (g ∷ fs)
+        → (to : ℕ) → c'.regs 31 ≡ 4 * to → AllFit (shapes z.p.unit) (store_typing z.p.unit objects) (types_of (map typed_of f.params)) vs → AreIn (unit_scope z.p.unit) (bases W E Outer z objects []) c'.regs 20 vs
         → Awaits (text W E Outer z) (a ∷ others) to debt (ty_of f.answer) target work (λ acts at left. Ahead (text W E Outer z) acts at left work)
-        → Path runs compose W E Outer z jumps l m (at_with k c d) (at_with ((text W E Outer z).links.function n) c' d) → cost.own + 9 ≤ 2048 * (l + 1) → m ≤ 30 * cost.own → length calls ≡ ended here
+        → Path runs compose W E Outer z jumps l m (at_with k c d) (at_with ((text W E Outer z).links.function n) c' d) → cost.own + 9 ≤ 2048 * (l + 1) → m ≤ 30 * cost.own → length calls ≡ calls_ended here
         → GoesOn W E Outer z debt here (at_with k c d) (call_function z.p cost n vs target work here)
 
     -- words of values for every function
-    are_out : (regs : ℕ → ℕ) (i : ℕ) (ts : List Ty) (vs : Values) → AllFit (shapes z.p.unit) (layout_of z.p.unit objects) ts vs → AreIn sc (bases W E Outer z objects (g ∷ fs)) regs i vs → AreIn (unit_scope z.p.unit) (bases W E Outer z objects []) regs i vs
+    are_out : (regs : ℕ → ℕ) (i : ℕ) (ts : List Ty) (vs : Values) → AllFit (shapes z.p.unit) (store_typing z.p.unit objects) ts vs → AreIn sc (bases W E Outer z objects (g ∷ fs)) regs i vs → AreIn (unit_scope z.p.unit) (bases W E Outer z objects []) regs i vs
     are_out regs i [] empty f h = tt
     are_out regs i (t ∷ ts) (part v vs) f h =
         (h.0 ∙ word_same (shapes z.p.unit) (map typed_of z.p.unit.globals) z.a.globals z.a.heap objects objects (λ path t h. refl) (rest_of (unit_scope z.p.unit)) (rest_of sc) (end_of W E Outer z []) (end_of W E Outer z (g ∷ fs)) t v f.0, are_out regs (suc i) ts vs f.1 h.1)
@@ -164,7 +164,7 @@ module _ (runs : RunLaws) (compose : RunsCompose) (W E : Type 0) (Outer : W → 
         (now_waits (with_reg c1 31 (4 * (k1 + 1))) soft.memory)
         (other_reg c1.regs 31 (4 * (k1 + 1)) 29 (λ q. absurd (omega (arith, q))) ∙ soft.high 29 (omega arith) ∙ r.frame_at ∙ ap (λ b. 4 * (if b then end_of W E Outer z fs else end_of W E Outer z (g ∷ fs))) form)
         (k1 + 1) (same_reg c1.regs 31 (4 * (k1 + 1)) (λ q. absurd (omega (arith, q)))) q.fits
-        (are_moved (unit_scope z.p.unit) (bases W E Outer z objects []) c1.regs (with_reg c1 31 (4 * (k1 + 1))).regs 20 (types_of (map typed_of f.params)) (shapes z.p.unit) (layout_of z.p.unit objects) vs q.fits (omega (arith, types)) (λ x lt. other_reg c1.regs 31 (4 * (k1 + 1)) x (λ q. absurd (omega (arith, q, lt))))
+        (are_moved (unit_scope z.p.unit) (bases W E Outer z objects []) c1.regs (with_reg c1 31 (4 * (k1 + 1))).regs 20 (types_of (map typed_of f.params)) (shapes z.p.unit) (store_typing z.p.unit objects) vs q.fits (omega (arith, types)) (λ x lt. other_reg c1.regs 31 (4 * (k1 + 1)) x (λ q. absurd (omega (arith, q, lt))))
         (are_out c1.regs 20 (types_of (map typed_of f.params)) vs q.fits q.are))
         (record { left = left; shallow = omega (arith, deep); few = omega (arith, few) }, jal_at.1, subst (λ y. Block (text W E Outer z) a.function y debt rest (λ to left. Ahead (text W E Outer z) (a ∷ others) to left work)) len block)
         way (omega (arith, most, few)) (omega arith) (omega arith))

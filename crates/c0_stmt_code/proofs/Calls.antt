@@ -4,39 +4,39 @@ use Rattle.std.proofs.Common.{◌≡◌, ◌≢◌, inl, inr, ℕ, zero, suc, �
 use Rattle.std.proofs.lemmas.Bool.{cases_Bool, cond-true, cond-false, ltb-true, ltb-false, leb-true, and_parts}
 use Rattle.mips_table.specs.declared.inst.Inst.{Inst}
 use Rattle.mips_table.specs.declared.inst.Inst.TheVariants.{Sltu, Beq, J, Sw}
-use Rattle.mips_table.specs.Code.{Contents, Behind, Configuration as Machine, at_with, Reaches, RunLaws, CodeAt}
+use Rattle.mips_table.specs.Code.{Contents, Behind, CodeState, at_with, Reaches, RunLaws, CodeAt}
 use Rattle.masm.specs.Laws.{RunsCompose, JumpsLead, StraightRuns}
 use Rattle.c0_tree.specs.Tree.{CExpr, CStmts, code, CDecl, CFunction}
 use Rattle.c0_meaning.specs.Ty.{Ty, named, ty_of, is_scalar}
 use Rattle.c0_meaning.specs.Env.{typed_of}
-use Rattle.c0_meaning.specs.Limits.{frame, locals_of}
+use Rattle.c0_meaning.specs.Limits.{words_of_frame, locals_of}
 use Rattle.c0_meaning.specs.Words.{words, all_words, fields_named}
 use Rattle.c0_meaning.specs.Sound.{shapes}
 use Rattle.c0_meaning.specs.Value.{Value, Values, empty, part, group, followed_by, zeros_of}
 use Rattle.c0_meaning.specs.State.{Frame, stack_words, pushed}
 use Rattle.c0_meaning.specs.Operators.{StackOut, faulted, stuck}
 use Rattle.c0_meaning.specs.Evaluation.{at_no_cost}
-use Rattle.c0_meaning.specs.World.{Cost, units, plus, Configuration, with_state, ended}
+use Rattle.c0_meaning.specs.World.{Cost, units, plus, Configuration, with_state, calls_ended}
 use Rattle.c0_meaning.specs.Running.{Target, Work, leave, push, Go, Stop, then_go, enter, call_function}
-use Rattle.c0_meaning.specs.TypedState.{types_of, AllFit, layout_of, IsTypedWith, variable_types}
+use Rattle.c0_meaning.specs.TypedState.{types_of, AllFit, store_typing, IsTypedWith, variable_types}
 use Rattle.c0_expr_code.specs.Scope.{Scope, is_leaf, are_free_of_calls}
 use Rattle.std.specs.List.{list_all}
-use Rattle.c0_stmt_code.proofs.Lights.{each_scalar, scalars_behind, clears, saves_light}
+use Rattle.c0_stmt_code.proofs.RegisterFrames.{each_scalar, scalars_behind, clears, saves_light}
 use Rattle.c0_expr_code.specs.Bases.{Bases, words_of_all, AllHeld, RegionHeld}
 use Rattle.c0_stmt_code.specs.Code.{large_code, end_code, body_code, register_entry, clear_code, are_calling, calls_in, stack_test, save_code, params_code, locals_code, frame_entry, return_code, stmts_code, function_code}
 use Rattle.c0_stmt_code.specs.Setup.{Setup}
 use Rattle.c0_stmt_code.specs.Ahead.{Activation, Awaits, Ahead}
-use Rattle.c0_stmt_code.specs.Standing.{text, scope, bases, end_of, unit_scope, AreIn, VariablesHeld, Waiting, Runs, Stands}
-use Rattle.c0_stmt_code.proofs.Needs.{HeldStays, TypedStays, FunctionsAre, AllScalar}
-use Rattle.c0_stmt_code.proofs.Ways.{Way, on, of, away}
+use Rattle.c0_stmt_code.specs.Standing.{text, scope, bases, end_of, unit_scope, AreIn, VariablesHeld, Waiting, FunctionRuns, ConfigurationStands}
+use Rattle.c0_stmt_code.proofs.Premises.{HeldStays, TypedStays, FunctionsAre, AllScalar}
+use Rattle.c0_stmt_code.proofs.RunStretches.{Way, on, of, away}
 use Rattle.c0_stmt_code.proofs.Blocks.{front, back, block_of}
-use Rattle.c0_stmt_code.proofs.Held.{word_same}
+use Rattle.c0_stmt_code.proofs.ValuesStay.{word_same}
 use Rattle.c0_stmt_code.proofs.State.{rest_of, state_of, standing_at}
 use Rattle.c0_stmt_code.proofs.Rooms.{frame_words, frame_on, words_by_types, waiting_same}
 use Rattle.c0_stmt_code.proofs.Variables.{zeros_zero, zeros_held, joined_held, scalars_words, args_held}
 use Rattle.c0_stmt_code.proofs.Frames.{tested}
 use Rattle.c0_stmt_code.proofs.Entry.{frames}
-use Rattle.c0_stmt_code.proofs.Sim.{GoesOn, Path, arrives}
+use Rattle.c0_stmt_code.proofs.StepSimulation.{GoesOn, Path, arrives}
 
 -- what is paid for an entry: a unit for the call, and one for each word of the locals
 entry_price : (params locals most : ℕ) → params ≤ 8 → most ≤ 3 + 3 * params + 3 * locals + 3 → (locals ≡ 0 → most ≤ 1 + 3 * params) → most ≤ 25 + 30 * locals
@@ -46,7 +46,7 @@ entry_price params (suc locals) most few high none = omega (arith, high, few)
 module _ (runs : RunLaws) (compose : RunsCompose) (W E : Type 0) (Outer : W → Contents → Behind → Type 0) (z : Setup W E Outer) (jumps : JumpsLead z.w) (straight : StraightRuns z.w)
     (held : HeldStays (shapes z.p.unit)) (typing : TypedStays z.p.unit) (functions : FunctionsAre z.table z.p.unit) (opened : (x : List ℕ) → words (shapes z.p.unit) (named x) ≡ words_of_all (shapes z.p.unit) (types_of (fields_named (shapes z.p.unit) x))) where
   -- arguments stand in registers as every function's words
-  are_in : (objects : List Ty) (frames : List Frame) (f : CFunction) (regs : ℕ → ℕ) (r : ℕ) (ts : List Ty) (vs : Values) → AllFit (shapes z.p.unit) (layout_of z.p.unit objects) ts vs → AreIn (unit_scope z.p.unit) (bases W E Outer z objects []) regs r vs
+  are_in : (objects : List Ty) (frames : List Frame) (f : CFunction) (regs : ℕ → ℕ) (r : ℕ) (ts : List Ty) (vs : Values) → AllFit (shapes z.p.unit) (store_typing z.p.unit objects) ts vs → AreIn (unit_scope z.p.unit) (bases W E Outer z objects []) regs r vs
       → AreIn (scope W E Outer z f) (bases W E Outer z objects frames) regs r vs
   are_in objects frames f regs r [] empty k h = tt
   are_in objects frames f regs r (t ∷ ts) (part v vs) k h =
@@ -55,9 +55,9 @@ module _ (runs : RunLaws) (compose : RunsCompose) (W E : Type 0) (Outer : W → 
   are_in objects frames f regs r (t ∷ ts) empty k h = absurd k
 
   module _ (objects : List Ty) (gv hv : Value) (hw : ℕ) (fs : List Frame) (world : W) (calls : List (List E)) (answer : Option Value) (c : Contents) (d : Behind) (acts : List Activation)
-      (st : Stands W E Outer z objects (standing_at gv hv hw fs world calls answer) c d) (waits : Waiting W E Outer z objects c.memory acts fs) (at_end : c.regs 29 ≡ 4 * end_of W E Outer z fs)
+      (st : ConfigurationStands W E Outer z objects (standing_at gv hv hw fs world calls answer) c d) (waits : Waiting W E Outer z objects c.memory acts fs) (at_end : c.regs 29 ≡ 4 * end_of W E Outer z fs)
       (n to debt : ℕ) (f : CFunction) (is : slice_get z.p.unit.functions n ≡ Some f) (args : Values) (target : Target) (work : List Work) (return_at : c.regs 31 ≡ 4 * to)
-      (fits : AllFit (shapes z.p.unit) (layout_of z.p.unit objects) (types_of (map typed_of f.params)) args) (arguments : AreIn (unit_scope z.p.unit) (bases W E Outer z objects []) c.regs 20 args)
+      (fits : AllFit (shapes z.p.unit) (store_typing z.p.unit objects) (types_of (map typed_of f.params)) args) (arguments : AreIn (unit_scope z.p.unit) (bases W E Outer z objects []) c.regs 20 args)
       (ahead : Awaits (text W E Outer z) acts to debt (ty_of f.answer) target work (λ others at left. Ahead (text W E Outer z) others at left work)) where
     abbrev sc : Scope
     sc = scope W E Outer z f
@@ -70,7 +70,7 @@ module _ (runs : RunLaws) (compose : RunsCompose) (W E : Type 0) (Outer : W → 
 
     -- the data stand while what is changed lies in the frame that begins
     stands_in : (h' : Configuration W E) (c' : Contents) → h'.state.global_values ≡ gv → IsTypedWith z.p.unit objects h'.state → (h'.state.heap_values ≡ hv) → (h'.state.heap_words ≡ hw) → (h'.world ≡ world) → stack_words z.p.unit h'.state.frames ≤ z.p.stack
-        → ((x : ℕ) → (x < low) ⊎ (z.a.stack + z.p.stack ≤ x) → c'.memory x ≡ c.memory x) → c'.special ≡ c.special → c'.regs 28 ≡ c.regs 28 → c'.regs 30 ≡ c.regs 30 → Stands W E Outer z objects h' c' d
+        → ((x : ℕ) → (x < low) ⊎ (z.a.stack + z.p.stack ≤ x) → c'.memory x ≡ c.memory x) → c'.special ≡ c.special → c'.regs 28 ≡ c.regs 28 → c'.regs 30 ≡ c.regs 30 → ConfigurationStands W E Outer z objects h' c' d
     stands_in h' c' eg typed eh ew eo room same special r28 r30 =
         let u = st.used in
         let o = st.room in
@@ -123,7 +123,7 @@ module _ (runs : RunLaws) (compose : RunsCompose) (W E : Type 0) (Outer : W → 
         let ls : locals_of f.body ≡ locals = ap locals_of e in
         let l = ap (λ ds. all_words (shapes z.p.unit) (map typed_of ds)) ls in
         let ps = words_by_types (shapes z.p.unit) (map typed_of f.params) in
-        let k = scalars_words sc (bases W E Outer z objects fs) (layout_of z.p.unit objects) opened c.memory (types_of (map typed_of f.params)) (functions.scalars n f is) in
+        let k = scalars_words sc (bases W E Outer z objects fs) (store_typing z.p.unit objects) opened c.memory (types_of (map typed_of f.params)) (functions.scalars n f is) in
         let t = types_length f.params in
         omega (arith, l, ps, k, t)
 
@@ -131,23 +131,23 @@ module _ (runs : RunLaws) (compose : RunsCompose) (W E : Type 0) (Outer : W → 
         → ((j : ℕ) → j < length f.params → m (low + 3 + j) ≡ c.regs (20 + j)) → ((x : ℕ) → low + 3 + length f.params ≤ x → x < low + sc.frame → m x ≡ 0) → VariablesHeld W E Outer z objects regs m f (frame_of locals ∷ fs)
     variables_stand locals stmts result m regs e form args_at zeros_at = by_form sc.in_registers form
       where
-        by_form : (b : Bool) → b ≡ false → RegionHeld sc (bases W E Outer z objects (frame_of locals ∷ fs)) (if b then regs else m) (if b then 20 else (end_of W E Outer z (frame_of locals ∷ fs) - frame (shapes z.p.unit) f) + 3) (types_of sc.env.locals) (frame_of locals).variables
+        by_form : (b : Bool) → b ≡ false → RegionHeld sc (bases W E Outer z objects (frame_of locals ∷ fs)) (if b then regs else m) (if b then 20 else (end_of W E Outer z (frame_of locals ∷ fs) - words_of_frame (shapes z.p.unit) f) + 3) (types_of sc.env.locals) (frame_of locals).variables
         by_form true q = absurd (cc)
         by_form false q =
             let on = frame_on z.p.unit (frame_of locals) fs f is in
             let sz = size locals stmts result e in
-            let at : ℕ = (end_of W E Outer z (frame_of locals ∷ fs) - frame (shapes z.p.unit) f) + 3 in
+            let at : ℕ = (end_of W E Outer z (frame_of locals ∷ fs) - words_of_frame (shapes z.p.unit) f) + 3 in
             let b : Bases = bases W E Outer z objects (frame_of locals ∷ fs) in
-            let k = scalars_words sc (bases W E Outer z objects fs) (layout_of z.p.unit objects) opened c.memory (types_of (map typed_of f.params)) (functions.scalars n f is) in
+            let k = scalars_words sc (bases W E Outer z objects fs) (store_typing z.p.unit objects) opened c.memory (types_of (map typed_of f.params)) (functions.scalars n f is) in
             let t = types_length f.params in
             let ls = words_by_types (shapes z.p.unit) (map typed_of locals) in
-            let first = args_held sc (bases W E Outer z objects (frame_of locals ∷ fs)) (layout_of z.p.unit objects) opened m c.regs at 20 (types_of (map typed_of f.params)) args (functions.scalars n f is) fits
+            let first = args_held sc (bases W E Outer z objects (frame_of locals ∷ fs)) (store_typing z.p.unit objects) opened m c.regs at 20 (types_of (map typed_of f.params)) args (functions.scalars n f is) fits
             (are_in objects (frame_of locals ∷ fs) f c.regs 20 (types_of (map typed_of f.params)) args fits arguments) (λ j lt. ap m (omega (arith, on)) ∙ args_at j (omega (arith, lt, t))) in
-            let second = zeros_held sc (bases W E Outer z objects (frame_of locals ∷ fs)) (layout_of z.p.unit objects) opened m (at + words_of_all (shapes z.p.unit) (types_of (map typed_of f.params))) (types_of (map typed_of locals)) (zeros_of (shapes z.p.unit) (map typed_of locals))
+            let second = zeros_held sc (bases W E Outer z objects (frame_of locals ∷ fs)) (store_typing z.p.unit objects) opened m (at + words_of_all (shapes z.p.unit) (types_of (map typed_of f.params))) (types_of (map typed_of locals)) (zeros_of (shapes z.p.unit) (map typed_of locals))
             (typing.zeros objects n f locals stmts result is e) (zeros_zero (shapes z.p.unit) (map typed_of locals)) (λ x le lt. zeros_at x (omega (arith, le, on, k, t)) (omega (arith, lt, on, k, t, ls, sz))) in
             let types : types_of (map typed_of f.params) ++ types_of (map typed_of locals) ≡ types_of sc.env.locals = sym (types_joined f.params (locals_of f.body) ∙ ap (λ ds. types_of (map typed_of f.params) ++ types_of (map typed_of ds)) (ap locals_of e)) in
             subst (λ ts. AllHeld sc (bases W E Outer z objects (frame_of locals ∷ fs)) m at ts (followed_by args (zeros_of (shapes z.p.unit) (map typed_of locals)))) types
-            (joined_held sc (bases W E Outer z objects (frame_of locals ∷ fs)) (layout_of z.p.unit objects) opened m at (types_of (map typed_of f.params)) (types_of (map typed_of locals)) args (zeros_of (shapes z.p.unit) (map typed_of locals)) first second)
+            (joined_held sc (bases W E Outer z objects (frame_of locals ∷ fs)) (store_typing z.p.unit objects) opened m at (types_of (map typed_of f.params)) (types_of (map typed_of locals)) args (zeros_of (shapes z.p.unit) (map typed_of locals)) first second)
 
     abbrev its_entry : List CDecl → CStmts → List Inst
     its_entry locals stmts = save_code sc (are_calling stmts) ++ (params_code sc (length f.params) 0 ++ locals_code sc (all_words (shapes z.p.unit) (map typed_of locals)) (3 + length f.params))
@@ -163,15 +163,15 @@ module _ (runs : RunLaws) (compose : RunsCompose) (W E : Type 0) (Outer : W → 
     test_some : 1 ≤ length (stack_test sc 29)
     test_some = omega (arith, length-append (large_code sc) (end_code 29 (4 * sc.frame) ++ (Sltu 1 30 29 ∷ Beq 1 0 1 ∷ J (sc.exit StackOut) ∷ [])), length-append (end_code 29 (4 * sc.frame)) (Sltu 1 30 29 ∷ Beq 1 0 1 ∷ J (sc.exit StackOut) ∷ []))
 
-    pub enters : (l m k : ℕ) (cost : Cost) (h0 : Configuration W E) (s0 : Machine) (locals : List CDecl) (stmts : CStmts) (result : CExpr) → f.body ≡ code locals stmts result → sc.in_registers ≡ false
-        → Path runs compose W E Outer z jumps l m s0 (at_with k c d) → CodeAt z.w k (function_code sc (text W E Outer z).links f) → cost.own + 9 ≤ 2048 * (l + 1) → m ≤ 30 * cost.own → length calls ≡ ended h0
+    pub enters : (l m k : ℕ) (cost : Cost) (h0 : Configuration W E) (s0 : CodeState) (locals : List CDecl) (stmts : CStmts) (result : CExpr) → f.body ≡ code locals stmts result → sc.in_registers ≡ false
+        → Path runs compose W E Outer z jumps l m s0 (at_with k c d) → CodeAt z.w k (function_code sc (text W E Outer z).links f) → cost.own + 9 ≤ 2048 * (l + 1) → m ≤ 30 * cost.own → length calls ≡ calls_ended h0
         → GoesOn W E Outer z debt h0 s0 (call_function z.p cost n args target work here)
     enters l m k cost h0 s0 locals stmts result e form path there low_paid high_paid en =
-        subst (λ o. GoesOn W E Outer z debt h0 s0 (then_go (plus cost (units 1)) here (at_no_cost (ok_or o stuck)) (λ cost g. if nat_lt z.p.stack (stack_words z.p.unit fs + frame (shapes z.p.unit) g) then Stop cost (faulted StackOut) here else enter z.p cost n g.body args target work here))) (sym is)
-        (elim (cases_Bool (nat_lt z.p.stack (stack_words z.p.unit fs + frame (shapes z.p.unit) f))) [
-          | inl over ↦ subst (λ t. GoesOn W E Outer z debt h0 s0 t) (sym (cond-true (nat_lt z.p.stack (stack_words z.p.unit fs + frame (shapes z.p.unit) f)) (Stop cost2 (faulted StackOut) here) (enter z.p cost2 n f.body args target work here) over)) (fails (ltb-true z.p.stack (stack_words z.p.unit fs + frame (shapes z.p.unit) f) over))
-          | inr fine ↦ subst (λ t. GoesOn W E Outer z debt h0 s0 t) (sym (cond-false (nat_lt z.p.stack (stack_words z.p.unit fs + frame (shapes z.p.unit) f)) (Stop cost2 (faulted StackOut) here) (enter z.p cost2 n f.body args target work here) fine))
-              (subst (λ b. GoesOn W E Outer z debt h0 s0 (enter z.p cost2 n b args target work here)) (sym e) (goes (ltb-false z.p.stack (stack_words z.p.unit fs + frame (shapes z.p.unit) f) fine)))
+        subst (λ o. GoesOn W E Outer z debt h0 s0 (then_go (plus cost (units 1)) here (at_no_cost (ok_or o stuck)) (λ cost g. if nat_lt z.p.stack (stack_words z.p.unit fs + words_of_frame (shapes z.p.unit) g) then Stop cost (faulted StackOut) here else enter z.p cost n g.body args target work here))) (sym is)
+        (elim (cases_Bool (nat_lt z.p.stack (stack_words z.p.unit fs + words_of_frame (shapes z.p.unit) f))) [
+          | inl over ↦ subst (λ t. GoesOn W E Outer z debt h0 s0 t) (sym (cond-true (nat_lt z.p.stack (stack_words z.p.unit fs + words_of_frame (shapes z.p.unit) f)) (Stop cost2 (faulted StackOut) here) (enter z.p cost2 n f.body args target work here) over)) (fails (ltb-true z.p.stack (stack_words z.p.unit fs + words_of_frame (shapes z.p.unit) f) over))
+          | inr fine ↦ subst (λ t. GoesOn W E Outer z debt h0 s0 t) (sym (cond-false (nat_lt z.p.stack (stack_words z.p.unit fs + words_of_frame (shapes z.p.unit) f)) (Stop cost2 (faulted StackOut) here) (enter z.p cost2 n f.body args target work here) fine))
+              (subst (λ b. GoesOn W E Outer z debt h0 s0 (enter z.p cost2 n b args target work here)) (sym e) (goes (ltb-false z.p.stack (stack_words z.p.unit fs + words_of_frame (shapes z.p.unit) f) fine)))
         ])
       where
         cost2 : Cost
@@ -183,7 +183,7 @@ module _ (runs : RunLaws) (compose : RunsCompose) (W E : Type 0) (Outer : W → 
         test_at : CodeAt z.w k (stack_test sc 29)
         test_at = front z.w k (stack_test sc 29) (its_entry locals stmts) (front z.w k (stack_test sc 29 ++ its_entry locals stmts) (its_body stmts result) code_at)
 
-        fails : z.p.stack < stack_words z.p.unit fs + frame (shapes z.p.unit) f → GoesOn W E Outer z debt h0 s0 (Stop cost2 (faulted StackOut) here)
+        fails : z.p.stack < stack_words z.p.unit fs + words_of_frame (shapes z.p.unit) f → GoesOn W E Outer z debt h0 s0 (Stop cost2 (faulted StackOut) here)
         fails over =
             let sf = z.stack_fits in
             let sm = z.stack_small in
@@ -197,7 +197,7 @@ module _ (runs : RunLaws) (compose : RunsCompose) (W E : Type 0) (Outer : W → 
               record { objects = objects; stands = stands_in here r.0 refl st.typed refl refl refl st.stack_room (λ x side. ap (λ m. m x) r.1.memory) r.1.special (r.1.others 28 (λ q. absurd (omega (arith, q))) (λ q. absurd (omega (arith, q)))) (r.1.others 30 (λ q. absurd (omega (arith, q))) (λ q. absurd (omega (arith, q)))); at = refl },
             )
 
-        goes : stack_words z.p.unit fs + frame (shapes z.p.unit) f ≤ z.p.stack → GoesOn W E Outer z debt h0 s0 (Go (plus cost2 (units (all_words (shapes z.p.unit) (map typed_of locals)))) (push stmts (leave result target ∷ work)) (with_state here (pushed (frame_of locals) (state_of gv hv hw fs))))
+        goes : stack_words z.p.unit fs + words_of_frame (shapes z.p.unit) f ≤ z.p.stack → GoesOn W E Outer z debt h0 s0 (Go (plus cost2 (units (all_words (shapes z.p.unit) (map typed_of locals)))) (push stmts (leave result target ∷ work)) (with_state here (pushed (frame_of locals) (state_of gv hv hw fs))))
         goes fine =
             let sf = z.stack_fits in
             let sm = z.stack_small in
@@ -223,7 +223,7 @@ module _ (runs : RunLaws) (compose : RunsCompose) (W E : Type 0) (Outer : W → 
             let st2 = stands_in (with_state here (pushed (frame_of locals) (state_of gv hv hw fs))) fr.contents refl (typing.entered objects (state_of gv hv hw fs) n f locals stmts result args is e st.typed fits) refl refl refl (omega (arith, on_frame, fine))
             (λ x side. elim side [ inl lt ↦ memory x (inl lt) | inr ge ↦ memory x (inr (omega (arith, ge, fine))) ]) (fr.made.special ∙ t.1.special) (regs 28 (λ q. absurd (omega (arith, q))) (λ q. absurd (omega (arith, q))) (λ q. absurd (omega (arith, q)))) (regs 30 (λ q. absurd (omega (arith, q))) (λ q. absurd (omega (arith, q))) (λ q. absurd (omega (arith, q)))) in
             let new : Activation = record { function = f; to = to } in
-            let runs_new : Runs W E Outer z objects fr.contents (record { function = f; to = to }) (frame_of locals) fs = record {
+            let runs_new : FunctionRuns W E Outer z objects fr.contents (record { function = f; to = to }) (frame_of locals) fs = record {
               is = is;
               return_at = returns (are_calling stmts) (ap calls_in e) fr.contents (λ q. ap fr.contents.memory (sym base) ∙ fr.made.saved q ∙ t.1.others 31 (λ q. absurd (omega (arith, q))) (λ q. absurd (omega (arith, q))) ∙ return_at) (regs 31 (λ q. absurd (omega (arith, q))) (λ q. absurd (omega (arith, q))) (λ q. absurd (omega (arith, q))) ∙ return_at);
               frame_at = fr.made.regs 29 (λ q. absurd (omega (arith, q))) (λ q. absurd (omega (arith, q))) ∙ t.1.is (λ q. absurd (omega (arith, q))) ∙ omega (arith, on_frame) ∙ sym (ap (λ b. 4 * (if b then low else end_of W E Outer z (frame_of locals ∷ fs))) form);
@@ -286,30 +286,30 @@ module _ (runs : RunLaws) (compose : RunsCompose) (W E : Type 0) (Outer : W → 
         → VariablesHeld W E Outer z objects regs m f (frame_of locals ∷ fs)
     light_variables locals stmts result regs m e form args_at zeros_at = by_form sc.in_registers form
       where
-        by_form : (b : Bool) → b ≡ true → RegionHeld sc (bases W E Outer z objects (frame_of locals ∷ fs)) (if b then regs else m) (if b then 20 else (end_of W E Outer z (frame_of locals ∷ fs) - frame (shapes z.p.unit) f) + 3) (types_of sc.env.locals) (frame_of locals).variables
+        by_form : (b : Bool) → b ≡ true → RegionHeld sc (bases W E Outer z objects (frame_of locals ∷ fs)) (if b then regs else m) (if b then 20 else (end_of W E Outer z (frame_of locals ∷ fs) - words_of_frame (shapes z.p.unit) f) + 3) (types_of sc.env.locals) (frame_of locals).variables
         by_form false q = absurd (cc)
         by_form true q =
-            let k = scalars_words sc (bases W E Outer z objects fs) (layout_of z.p.unit objects) opened c.memory (types_of (map typed_of f.params)) (functions.scalars n f is) in
-            let k2 = scalars_words sc (bases W E Outer z objects fs) (layout_of z.p.unit objects) opened c.memory (types_of (map typed_of locals)) (is_light locals stmts result e form).scalars in
+            let k = scalars_words sc (bases W E Outer z objects fs) (store_typing z.p.unit objects) opened c.memory (types_of (map typed_of f.params)) (functions.scalars n f is) in
+            let k2 = scalars_words sc (bases W E Outer z objects fs) (store_typing z.p.unit objects) opened c.memory (types_of (map typed_of locals)) (is_light locals stmts result e form).scalars in
             let t = types_length f.params in
             let t2 = types_length locals in
-            let first = args_held sc (bases W E Outer z objects (frame_of locals ∷ fs)) (layout_of z.p.unit objects) opened regs c.regs 20 20 (types_of (map typed_of f.params)) args (functions.scalars n f is) fits
+            let first = args_held sc (bases W E Outer z objects (frame_of locals ∷ fs)) (store_typing z.p.unit objects) opened regs c.regs 20 20 (types_of (map typed_of f.params)) args (functions.scalars n f is) fits
             (are_in objects (frame_of locals ∷ fs) f c.regs 20 (types_of (map typed_of f.params)) args fits arguments) (λ j lt. args_at j (omega (arith, lt, t))) in
-            let second = zeros_held sc (bases W E Outer z objects (frame_of locals ∷ fs)) (layout_of z.p.unit objects) opened regs (20 + words_of_all (shapes z.p.unit) (types_of (map typed_of f.params))) (types_of (map typed_of locals)) (zeros_of (shapes z.p.unit) (map typed_of locals))
+            let second = zeros_held sc (bases W E Outer z objects (frame_of locals ∷ fs)) (store_typing z.p.unit objects) opened regs (20 + words_of_all (shapes z.p.unit) (types_of (map typed_of f.params))) (types_of (map typed_of locals)) (zeros_of (shapes z.p.unit) (map typed_of locals))
             (typing.zeros objects n f locals stmts result is e) (zeros_zero (shapes z.p.unit) (map typed_of locals)) (λ x le lt. zeros_at x (omega (arith, le, k, t)) (omega (arith, lt, k, t, k2, t2))) in
             let types : types_of (map typed_of f.params) ++ types_of (map typed_of locals) ≡ types_of sc.env.locals = sym (types_joined f.params (locals_of f.body) ∙ ap (λ ds. types_of (map typed_of f.params) ++ types_of (map typed_of ds)) (ap locals_of e)) in
             subst (λ ts. AllHeld sc (bases W E Outer z objects (frame_of locals ∷ fs)) regs 20 ts (followed_by args (zeros_of (shapes z.p.unit) (map typed_of locals)))) types
-            (joined_held sc (bases W E Outer z objects (frame_of locals ∷ fs)) (layout_of z.p.unit objects) opened regs 20 (types_of (map typed_of f.params)) (types_of (map typed_of locals)) args (zeros_of (shapes z.p.unit) (map typed_of locals)) first second)
+            (joined_held sc (bases W E Outer z objects (frame_of locals ∷ fs)) (store_typing z.p.unit objects) opened regs 20 (types_of (map typed_of f.params)) (types_of (map typed_of locals)) args (zeros_of (shapes z.p.unit) (map typed_of locals)) first second)
 
-    pub enters_light : (l m k : ℕ) (cost : Cost) (h0 : Configuration W E) (s0 : Machine) (locals : List CDecl) (stmts : CStmts) (result : CExpr) → f.body ≡ code locals stmts result → sc.in_registers ≡ true
-        → Path runs compose W E Outer z jumps l m s0 (at_with k c d) → CodeAt z.w k (function_code sc (text W E Outer z).links f) → cost.own + 9 ≤ 2048 * (l + 1) → m ≤ 30 * cost.own → length calls ≡ ended h0
+    pub enters_light : (l m k : ℕ) (cost : Cost) (h0 : Configuration W E) (s0 : CodeState) (locals : List CDecl) (stmts : CStmts) (result : CExpr) → f.body ≡ code locals stmts result → sc.in_registers ≡ true
+        → Path runs compose W E Outer z jumps l m s0 (at_with k c d) → CodeAt z.w k (function_code sc (text W E Outer z).links f) → cost.own + 9 ≤ 2048 * (l + 1) → m ≤ 30 * cost.own → length calls ≡ calls_ended h0
         → GoesOn W E Outer z debt h0 s0 (call_function z.p cost n args target work here)
     enters_light l m k cost h0 s0 locals stmts result e form path there low_paid high_paid en =
-        subst (λ o. GoesOn W E Outer z debt h0 s0 (then_go (plus cost (units 1)) here (at_no_cost (ok_or o stuck)) (λ cost g. if nat_lt z.p.stack (stack_words z.p.unit fs + frame (shapes z.p.unit) g) then Stop cost (faulted StackOut) here else enter z.p cost n g.body args target work here))) (sym is)
-        (elim (cases_Bool (nat_lt z.p.stack (stack_words z.p.unit fs + frame (shapes z.p.unit) f))) [
-          | inl over ↦ subst (λ t. GoesOn W E Outer z debt h0 s0 t) (sym (cond-true (nat_lt z.p.stack (stack_words z.p.unit fs + frame (shapes z.p.unit) f)) (Stop cost2 (faulted StackOut) here) (enter z.p cost2 n f.body args target work here) over)) (fails (ltb-true z.p.stack (stack_words z.p.unit fs + frame (shapes z.p.unit) f) over))
-          | inr fine ↦ subst (λ t. GoesOn W E Outer z debt h0 s0 t) (sym (cond-false (nat_lt z.p.stack (stack_words z.p.unit fs + frame (shapes z.p.unit) f)) (Stop cost2 (faulted StackOut) here) (enter z.p cost2 n f.body args target work here) fine))
-              (subst (λ b. GoesOn W E Outer z debt h0 s0 (enter z.p cost2 n b args target work here)) (sym e) (goes (ltb-false z.p.stack (stack_words z.p.unit fs + frame (shapes z.p.unit) f) fine)))
+        subst (λ o. GoesOn W E Outer z debt h0 s0 (then_go (plus cost (units 1)) here (at_no_cost (ok_or o stuck)) (λ cost g. if nat_lt z.p.stack (stack_words z.p.unit fs + words_of_frame (shapes z.p.unit) g) then Stop cost (faulted StackOut) here else enter z.p cost n g.body args target work here))) (sym is)
+        (elim (cases_Bool (nat_lt z.p.stack (stack_words z.p.unit fs + words_of_frame (shapes z.p.unit) f))) [
+          | inl over ↦ subst (λ t. GoesOn W E Outer z debt h0 s0 t) (sym (cond-true (nat_lt z.p.stack (stack_words z.p.unit fs + words_of_frame (shapes z.p.unit) f)) (Stop cost2 (faulted StackOut) here) (enter z.p cost2 n f.body args target work here) over)) (fails (ltb-true z.p.stack (stack_words z.p.unit fs + words_of_frame (shapes z.p.unit) f) over))
+          | inr fine ↦ subst (λ t. GoesOn W E Outer z debt h0 s0 t) (sym (cond-false (nat_lt z.p.stack (stack_words z.p.unit fs + words_of_frame (shapes z.p.unit) f)) (Stop cost2 (faulted StackOut) here) (enter z.p cost2 n f.body args target work here) fine))
+              (subst (λ b. GoesOn W E Outer z debt h0 s0 (enter z.p cost2 n b args target work here)) (sym e) (goes (ltb-false z.p.stack (stack_words z.p.unit fs + words_of_frame (shapes z.p.unit) f) fine)))
         ])
       where
         cost2 : Cost
@@ -321,7 +321,7 @@ module _ (runs : RunLaws) (compose : RunsCompose) (W E : Type 0) (Outer : W → 
         test_at : CodeAt z.w k (stack_test sc 1)
         test_at = front z.w k (stack_test sc 1) (light_entry locals stmts) (front z.w k (stack_test sc 1 ++ light_entry locals stmts) (its_body stmts result) code_at)
 
-        fails : z.p.stack < stack_words z.p.unit fs + frame (shapes z.p.unit) f → GoesOn W E Outer z debt h0 s0 (Stop cost2 (faulted StackOut) here)
+        fails : z.p.stack < stack_words z.p.unit fs + words_of_frame (shapes z.p.unit) f → GoesOn W E Outer z debt h0 s0 (Stop cost2 (faulted StackOut) here)
         fails over =
             let sf = z.stack_fits in
             let sm = z.stack_small in
@@ -335,7 +335,7 @@ module _ (runs : RunLaws) (compose : RunsCompose) (W E : Type 0) (Outer : W → 
               record { objects = objects; stands = stands_in here r.0 refl st.typed refl refl refl st.stack_room (λ x side. ap (λ m. m x) r.1.memory) r.1.special (r.1.others 28 (λ q. absurd (omega (arith, q))) (λ q. absurd (omega (arith, q)))) (r.1.others 30 (λ q. absurd (omega (arith, q))) (λ q. absurd (omega (arith, q)))); at = refl },
             )
 
-        goes : stack_words z.p.unit fs + frame (shapes z.p.unit) f ≤ z.p.stack → GoesOn W E Outer z debt h0 s0 (Go (plus cost2 (units (all_words (shapes z.p.unit) (map typed_of locals)))) (push stmts (leave result target ∷ work)) (with_state here (pushed (frame_of locals) (state_of gv hv hw fs))))
+        goes : stack_words z.p.unit fs + words_of_frame (shapes z.p.unit) f ≤ z.p.stack → GoesOn W E Outer z debt h0 s0 (Go (plus cost2 (units (all_words (shapes z.p.unit) (map typed_of locals)))) (push stmts (leave result target ∷ work)) (with_state here (pushed (frame_of locals) (state_of gv hv hw fs))))
         goes fine =
             let sf = z.stack_fits in
             let sm = z.stack_small in
@@ -345,7 +345,7 @@ module _ (runs : RunLaws) (compose : RunsCompose) (W E : Type 0) (Outer : W → 
             let hf = z.heap_fits in
             let light = is_light locals stmts result e form in
             let few = light.few in
-            let k2 = scalars_words sc (bases W E Outer z objects fs) (layout_of z.p.unit objects) opened c.memory (types_of (map typed_of locals)) light.scalars in
+            let k2 = scalars_words sc (bases W E Outer z objects fs) (store_typing z.p.unit objects) opened c.memory (types_of (map typed_of locals)) light.scalars in
             let t2 = types_length locals in
             let w2 = words_by_types (shapes z.p.unit) (map typed_of locals) in
             let fw = frame_words z.p.unit f in
@@ -365,7 +365,7 @@ module _ (runs : RunLaws) (compose : RunsCompose) (W E : Type 0) (Outer : W → 
             let memory : (x : ℕ) → x ≢ low → clear.0.memory x ≡ c.memory x = λ x ne. ap (λ m. m x) clear.1.memory ∙ save.1.others x ne ∙ ap (λ m. m x) t.1.memory in
             let st2 = stands_in (with_state here (pushed (frame_of locals) (state_of gv hv hw fs))) clear.0 refl (typing.entered objects (state_of gv hv hw fs) n f locals stmts result args is e st.typed fits) refl refl refl (omega (arith, on_frame, fine))
             (λ x side. elim side [ inl lt ↦ memory x (λ q. absurd (omega (arith, q, lt))) | inr ge ↦ memory x (λ q. absurd (omega (arith, q, ge, fine, fw))) ]) (clear.1.special ∙ save.1.special ∙ t.1.special) (high 28 (omega arith)) (high 30 (omega arith)) in
-            let runs_new : Runs W E Outer z objects clear.0 (record { function = f; to = to }) (frame_of locals) fs = record {
+            let runs_new : FunctionRuns W E Outer z objects clear.0 (record { function = f; to = to }) (frame_of locals) fs = record {
               is = is;
               return_at = light_returns (are_calling stmts) (ap calls_in e) clear.0 (λ q. ap (λ m. m low) clear.1.memory ∙ save.1.is q ∙ t.1.others 31 (λ q. absurd (omega (arith, q))) (λ q. absurd (omega (arith, q))) ∙ return_at) (high 31 (omega arith) ∙ return_at);
               frame_at = high 29 (omega arith) ∙ at_end ∙ sym (ap (λ b. 4 * (if b then low else end_of W E Outer z (frame_of locals ∷ fs))) form);

@@ -19,8 +19,8 @@ use Rattle.c0_expr_code.specs.Scope.{Scope}
 use Rattle.c0_expr_code.specs.Code.{on_spot, register_of}
 use Rattle.c0_stmt_code.specs.Code.{clear_code, frame_spot, params_code, zeros_code}
 use Rattle.c0_stmt_code.specs.EmitLeaf.{FramesAreThose}
-use Rattle.c0_stmt_code.proofs.Needs.{AllScalar}
-use Rattle.c0_stmt_code.proofs.Given2.{functions_are}
+use Rattle.c0_stmt_code.proofs.Premises.{AllScalar}
+use Rattle.c0_stmt_code.proofs.ExpressionLaws.{functions_are}
 
 -- a piece of code is appended, and the rest is to come
 pub appended : (old mid z : List ℕ) (whole piece rest : List Inst) → whole ≡ piece ++ rest → mid ≡ old ++ map encoding piece

@@ -16,8 +16,8 @@ use Rattle.c0_meaning.specs.Unit.{IsWellFormed}
 use Rattle.c0_expr_code.specs.Scene.{NumbersAreThere}
 use Rattle.c0_stmt_code.specs.EmitLeaf.{CanStand}
 use Rattle.c0_stmt_code.specs.Emit.{IsEmittable, AreEmittable, IsEmittableBody, IsEmittableFunction}
-use Rattle.c0_stmt_code.proofs.Needs.{FunctionsAre}
-use Rattle.c0_stmt_code.proofs.Given2.{functions_are}
+use Rattle.c0_stmt_code.proofs.Premises.{FunctionsAre}
+use Rattle.c0_stmt_code.proofs.ExpressionLaws.{functions_are}
 
 module _ (there : NumbersAreThere) (primitives : List CPrimitive) (u : CUnit) (f : CFunction) where
   numbered : Env

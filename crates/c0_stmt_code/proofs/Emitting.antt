@@ -11,7 +11,7 @@ use Rattle.c0_tree.specs.View.{expr_view, stmts_view}
 use Rattle.c0_meaning.specs.Env.{Env}
 use Rattle.c0_expr_code.specs.Scope.{Scope}
 use Rattle.c0_expr_code.specs.Test.{test_code}
-use Rattle.c0_expr_code.specs.Jumps.{JumpsAreWithin, Open, PatchesAim, test_open, patched}
+use Rattle.c0_expr_code.specs.Jumps.{JumpsAreWithin, Unpatched, PatchesAim, test_open, patched}
 use Rattle.c0_expr_code.specs.Opened.{IsOpened}
 use Rattle.c0_stmt_code.specs.Code.{otherwise, otherwise_at, choice_code, back, while_code}
 use Rattle.c0_stmt_code.specs.Emit.{skipped_code}
@@ -40,7 +40,7 @@ pub otherwise_fits : (old new : List ℕ) (ss : CStmts) (is : List Inst) → new
 otherwise_fits old new ss is e = omega (arith, ap length e, length-append old (map encoding (otherwise ss is)), length-map (otherwise ss is) encoding, otherwise_long ss is)
 
 -- a list of places that was empty
-pub from_none : (old new marked marks : List ℕ) (x : Open) → marked ≡ [] → IsOpened old new marked marks x → IsOpened old new [] marks x
+pub from_none : (old new marked marks : List ℕ) (x : Unpatched) → marked ≡ [] → IsOpened old new marked marks x → IsOpened old new [] marks x
 from_none old new marked marks x none opened = subst (λ m. IsOpened old new m marks x) none opened
 
 -- words are not taken back

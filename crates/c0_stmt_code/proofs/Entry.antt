@@ -5,14 +5,14 @@ use Rattle.std.proofs.lemmas.Bool.{cases_Bool, cond-true, cond-false, leb-true}
 use Rattle.mips_table.specs.declared.inst.Inst.{Inst}
 use Rattle.mips_table.specs.declared.inst.Inst.TheVariants.{Addiu, Bne, Sw}
 use Rattle.mips_table.specs.Device.{Idle}
-use Rattle.mips_table.specs.Code.{Contents, reg, with_reg, Behind, World, Sound, Configuration, at_with, Reaches, RunLaws, CodeAt}
+use Rattle.mips_table.specs.Code.{Contents, reg, with_reg, Behind, World, Sound, CodeState, at_with, Reaches, RunLaws, CodeAt}
 use Rattle.masm.specs.Says.{Gives}
 use Rattle.masm.specs.Laws.{RunsCompose, StraightRuns, JumpsLead}
 use Rattle.c0_expr_code.specs.Scope.{Scope}
 use Rattle.c0_expr_code.specs.Code.{is_near, low, frame_back, on_spot}
 use Rattle.c0_stmt_code.specs.Code.{frame_spot, save_code, params_code, zeros_code, zeros_loop, locals_code}
 use Rattle.c0_stmt_code.specs.Frames.{FrameMade, FramesAreMade}
-use Rattle.c0_stmt_code.proofs.Ways.{Way, on, of, within}
+use Rattle.c0_stmt_code.proofs.RunStretches.{Way, on, of, within}
 use Rattle.c0_stmt_code.proofs.Blocks.{front, back}
 use Rattle.c0_stmt_code.proofs.Rooms.{put_same, put_other}
 use Rattle.c0_stmt_code.proofs.Spots.{other_reg, place_steps, few_steps, on_place}

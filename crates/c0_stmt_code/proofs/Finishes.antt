@@ -4,7 +4,7 @@ use Rattle.std.proofs.Common.{◌≡◌, ◌≢◌, ℕ, ◌+◌, ◌*◌, ◌^�
 use Rattle.std.proofs.lemmas.Int.{ints}
 use Rattle.mips_table.specs.declared.inst.Inst.TheVariants.{Addu}
 use Rattle.mips_table.specs.Arith.{sum}
-use Rattle.mips_table.specs.Code.{Contents, reg, with_reg, Behind, Configuration as Machine, at_with, RunLaws, CodeAt}
+use Rattle.mips_table.specs.Code.{Contents, reg, with_reg, Behind, CodeState, at_with, RunLaws, CodeAt}
 use Rattle.masm.specs.Says.{Gives}
 use Rattle.masm.specs.Laws.{RunsCompose, JumpsLead, StraightRuns}
 use Rattle.c0_tree.specs.Tree.{CExpr, CStmts, CFunction}
@@ -17,29 +17,29 @@ use Rattle.c0_meaning.specs.Value.{Region, globals, heap, locals, Value, int, bo
 use Rattle.c0_meaning.specs.State.{Frame}
 use Rattle.c0_meaning.specs.World.{units, Configuration}
 use Rattle.c0_meaning.specs.Running.{Work, store}
-use Rattle.c0_meaning.specs.TypedState.{types_of, PointsTo, Fits, layout_of}
+use Rattle.c0_meaning.specs.TypedState.{types_of, PointsTo, Fits, store_typing}
 use Rattle.c0_expr_code.specs.Scope.{Scope}
 use Rattle.c0_expr_code.specs.Code.{made}
-use Rattle.c0_expr_code.specs.Bases.{words_of_all, word_at}
+use Rattle.c0_expr_code.specs.Bases.{words_of_all, location_word}
 use Rattle.c0_stmt_code.specs.Code.{answer_code, stored_code}
 use Rattle.c0_stmt_code.specs.Setup.{Setup}
-use Rattle.c0_stmt_code.specs.Ahead.{Activation, env_in, IsAnswered, Block, Ahead}
-use Rattle.c0_stmt_code.specs.Standing.{text, scope, bases, end_of, unit_scope, word_of_value, Waiting, Runs, Stands}
-use Rattle.c0_stmt_code.proofs.Needs.{HeldStays, TypedStays, LengthsFit}
-use Rattle.c0_stmt_code.proofs.Given.{room_from}
-use Rattle.c0_stmt_code.proofs.Held.{word_same}
-use Rattle.c0_stmt_code.proofs.Ways.{away}
+use Rattle.c0_stmt_code.specs.Ahead.{Activation, env_in, HasAnswerPlace, Block, Ahead}
+use Rattle.c0_stmt_code.specs.Standing.{text, scope, bases, end_of, unit_scope, word_of_value, Waiting, FunctionRuns, ConfigurationStands}
+use Rattle.c0_stmt_code.proofs.Premises.{HeldStays, TypedStays, LengthsFit}
+use Rattle.c0_stmt_code.proofs.LowerLaws.{room_from}
+use Rattle.c0_stmt_code.proofs.ValuesStay.{word_same}
+use Rattle.c0_stmt_code.proofs.RunStretches.{away}
 use Rattle.c0_stmt_code.proofs.Rooms.{words_by_types}
 use Rattle.c0_stmt_code.proofs.Spots.{same_reg, other_reg}
 use Rattle.c0_stmt_code.proofs.State.{rest_of, standing_at, Exprs}
 use Rattle.c0_stmt_code.proofs.Locals.{IsVariable, its_place, stores_light}
-use Rattle.c0_stmt_code.proofs.Sim.{GoesOn}
+use Rattle.c0_stmt_code.proofs.StepSimulation.{GoesOn}
 
 module _ (runs : RunLaws) (compose : RunsCompose) (W E : Type 0) (Outer : W → Contents → Behind → Type 0) (z : Setup W E Outer) (jumps : JumpsLead z.w) (straight : StraightRuns z.w)
     (held : HeldStays (shapes z.p.unit)) (typing : TypedStays z.p.unit) (exprs : Exprs W E Outer z) (fit : (f : CFunction) → LengthsFit (scope W E Outer z f))
     (opened : (x : List ℕ) → words (shapes z.p.unit) (named x) ≡ words_of_all (shapes z.p.unit) (types_of (fields_named (shapes z.p.unit) x)))
     (objects : List Ty) (gv hv : Value) (hw : ℕ) (g : Frame) (fs : List Frame) (world : W) (calls : List (List E)) (answer : Option Value) (c : Contents) (d : Behind) (a : Activation) (others : List Activation)
-    (st : Stands W E Outer z objects (standing_at gv hv hw (g ∷ fs) world calls answer) c d) (r : Runs W E Outer z objects c a g fs) (waits : Waiting W E Outer z objects c.memory others fs)
+    (st : ConfigurationStands W E Outer z objects (standing_at gv hv hw (g ∷ fs) world calls answer) c d) (r : FunctionRuns W E Outer z objects c a g fs) (waits : Waiting W E Outer z objects c.memory others fs)
     (k debt : ℕ) (rest : CStmts) (work : List Work) where
   abbrev sc : Scope
   sc = scope W E Outer z a.function
@@ -48,7 +48,7 @@ module _ (runs : RunLaws) (compose : RunsCompose) (W E : Type 0) (Outer : W → 
   here = standing_at gv hv hw (g ∷ fs) world calls answer
 
   -- what a pointer leads to lies in memory
-  pointed : (region : Region) (path : List ℕ) (t : Ty) → PointsTo (shapes z.p.unit) (layout_of z.p.unit objects) region path t → 4 * word_at (unit_scope z.p.unit) (bases W E Outer z objects []) (record { region = region; path = path }) < 2 ^ 32
+  pointed : (region : Region) (path : List ℕ) (t : Ty) → PointsTo (shapes z.p.unit) (store_typing z.p.unit objects) region path t → 4 * location_word (unit_scope z.p.unit) (bases W E Outer z objects []) (record { region = region; path = path }) < 2 ^ 32
   pointed globals path t l =
       let room = room_from (shapes z.p.unit) opened (types_of (map typed_of z.p.unit.globals)) path t l in
       let w = words_by_types (shapes z.p.unit) (map typed_of z.p.unit.globals) in
@@ -68,7 +68,7 @@ module _ (runs : RunLaws) (compose : RunsCompose) (W E : Type 0) (Outer : W → 
   pointed locals path t l = absurd l
 
   -- a value's word is one
-  is_word : (t : Ty) (v : Value) → Fits (shapes z.p.unit) (layout_of z.p.unit objects) t v → word_of_value W E Outer z objects v < 2 ^ 32
+  is_word : (t : Ty) (v : Value) → Fits (shapes z.p.unit) (store_typing z.p.unit objects) t v → word_of_value W E Outer z objects v < 2 ^ 32
   is_word ty.int (int i) f = omega (arith, ints)
   is_word ty.bool (bool true) f = omega arith
   is_word ty.bool (bool false) f = omega arith
@@ -78,8 +78,8 @@ module _ (runs : RunLaws) (compose : RunsCompose) (W E : Type 0) (Outer : W → 
   is_word (ty.array t n) (group vs) f = omega arith
   is_word _ _ f = absurd f
 
-  pub finishes_light : (place : CExpr) (v : Value) (t : Ty) (x : ℕ) → Fits (shapes z.p.unit) (layout_of z.p.unit objects) t v → c.regs 2 ≡ word_of_value W E Outer z objects v → IsVariable (env_in (text W E Outer z) a.function) sc place x t → (made sc place).stands ≡ Some x
-      → IsAnswered (text W E Outer z) a.function place t → CodeAt z.w k (answer_code sc place) → Block (text W E Outer z) a.function (k + length (answer_code sc place)) debt rest (λ to left. Ahead (text W E Outer z) (a ∷ others) to left work)
+  pub finishes_light : (place : CExpr) (v : Value) (t : Ty) (x : ℕ) → Fits (shapes z.p.unit) (store_typing z.p.unit objects) t v → c.regs 2 ≡ word_of_value W E Outer z objects v → IsVariable (env_in (text W E Outer z) a.function) sc place x t → (made sc place).stands ≡ Some x
+      → HasAnswerPlace (text W E Outer z) a.function place t → CodeAt z.w k (answer_code sc place) → Block (text W E Outer z) a.function (k + length (answer_code sc place)) debt rest (λ to left. Ahead (text W E Outer z) (a ∷ others) to left work)
       → GoesOn W E Outer z debt here (at_with k c d) (store (units 0) place v rest work here)
   finishes_light place v t x fits is y stands answered code block =
       let at = (its_place runs compose W E Outer z jumps straight held typing exprs fit objects gv hv hw g fs world calls answer c d a others st r waits k debt rest work place t x y).at in

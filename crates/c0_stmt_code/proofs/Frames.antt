@@ -5,14 +5,14 @@ use Rattle.std.proofs.lemmas.Bool.{cases_Bool, cond-true, cond-false, ltb-true, 
 use Rattle.mips_table.specs.declared.inst.Inst.TheVariants.{Addiu, Sltu, Beq, Bne, J, Sw}
 use Rattle.mips_table.specs.Arith.{sum, flag}
 use Rattle.mips_table.specs.Device.{Idle}
-use Rattle.mips_table.specs.Code.{Contents, put, reg, with_reg, Behind, World, Sound, Configuration, at_with, Reaches, RunLaws, CodeAt}
+use Rattle.mips_table.specs.Code.{Contents, put, reg, with_reg, Behind, World, Sound, CodeState, at_with, Reaches, RunLaws, CodeAt}
 use Rattle.masm.specs.Says.{Gives, Writes}
 use Rattle.masm.specs.Laws.{RunsCompose, StraightRuns, JumpsLead}
 use Rattle.c0_meaning.specs.Operators.{StackOut}
 use Rattle.c0_expr_code.specs.Scope.{Scope}
 use Rattle.c0_expr_code.specs.Code.{is_near, low, frame_back, register_of, on_spot}
 use Rattle.c0_stmt_code.specs.Code.{MAX_STACK, frame_spot, end_code, stack_test, params_code, zeros_code}
-use Rattle.c0_stmt_code.proofs.Ways.{Way, on, of, away, within}
+use Rattle.c0_stmt_code.proofs.RunStretches.{Way, on, of, away, within}
 use Rattle.c0_stmt_code.proofs.Blocks.{front, back}
 use Rattle.c0_stmt_code.proofs.Rooms.{put_same, put_other}
 use Rattle.c0_stmt_code.proofs.Spots.{other_reg, same_read, read_is, place_steps, few_steps, back_is_near, on_place, Wrote, writes}

@@ -9,13 +9,13 @@ use Rattle.c0_tree.specs.Tree.{CExpr, CStmt, assign, call, new, choice, loop, CS
 use Rattle.c0_meaning.specs.Ty.{ty_of}
 use Rattle.c0_meaning.specs.Words.{words}
 use Rattle.c0_expr_code.specs.Scope.{Scope}
-use Rattle.c0_expr_code.specs.Code.{Spot, is_near, low, high, on_spot, constant_code, operand_code, operand_register, made, value_code, register_of}
+use Rattle.c0_expr_code.specs.Code.{AddressingMode, is_near, low, high, on_spot, constant_code, operand_code, operand_register, made, value_code, register_of}
 use Rattle.c0_expr_code.specs.Test.{test_code}
 use Rattle.c0_stmt_code.specs.Code.{Links, callee_index, answer_code, stored_code, assigned_code, args_code, otherwise, otherwise_at, back, turn_code, stmt_code, stmts_code}
-use Rattle.c0_stmt_code.proofs.Needs.{LengthsFit}
+use Rattle.c0_stmt_code.proofs.Premises.{LengthsFit}
 use Rattle.c0_stmt_code.proofs.Spots.{spot_longer}
 
-pub spot_length : (i : ℕ → ℕ → Inst) (r : ℕ) (x : Spot) → length (on_spot i r x) ≤ length x.code + 3
+pub spot_length : (i : ℕ → ℕ → Inst) (r : ℕ) (x : AddressingMode) → length (on_spot i r x) ≤ length x.code + 3
 spot_length i r x = elim (cases_Bool (is_near x.displacement)) [
   | inl e ↦ let same = ap (λ is. length (x.code ++ is)) (cond-true (is_near x.displacement) (i x.base (low x.displacement) ∷ []) (Lui 1 (high x.displacement) ∷ Addu r x.base 1 ∷ i r (low x.displacement) ∷ []) e) in omega (arith, same, length-append x.code (i x.base (low x.displacement) ∷ []))
   | inr e ↦ let same = ap (λ is. length (x.code ++ is)) (cond-false (is_near x.displacement) (i x.base (low x.displacement) ∷ []) (Lui 1 (high x.displacement) ∷ Addu r x.base 1 ∷ i r (low x.displacement) ∷ []) e) in omega (arith, same, length-append x.code (Lui 1 (high x.displacement) ∷ Addu r x.base 1 ∷ i r (low x.displacement) ∷ []))

@@ -3,7 +3,7 @@ use Rattle.std.specs.Prelude.{slice_get, IsTrue, Some, Option, if◌then◌else�
 use Rattle.std.specs.List.{list_all}
 use Rattle.std.proofs.lemmas.Bool.{and_parts, leb-true, cases_eq}
 use Rattle.std.proofs.Common.{◌≡◌, ◌≢◌, inl, inr, ℕ, zero, suc, ◌+◌, ◌-◌, ◌*◌, ◌<◌, ◌≤◌, Bool, true, false, List, [], ◌∷◌, length, refl, sym, ap, ap₂, ◌∙◌, subst, arith}
-use Rattle.mips_table.specs.Code.{Contents, put, Behind, Configuration as Machine, at_with, RunLaws, CodeAt}
+use Rattle.mips_table.specs.Code.{Contents, put, Behind, CodeState, at_with, RunLaws, CodeAt}
 use Rattle.masm.specs.Laws.{RunsCompose, JumpsLead, StraightRuns}
 use Rattle.c0_tree.specs.declared.tree.Kind.{Kind}
 use Rattle.c0_tree.specs.declared.tree.Kind.TheVariants.{Unresolved, Struct, Field, Global, Local, Function, Primitive}
@@ -16,8 +16,8 @@ use Rattle.c0_meaning.specs.Words.{words}
 use Rattle.c0_meaning.specs.Sizes.{words_before}
 use Rattle.c0_meaning.specs.Addresses.{words_to_part}
 use Rattle.c0_meaning.specs.Sound.{shapes}
-use Rattle.c0_meaning.specs.Limits.{frame}
-use Rattle.c0_meaning.specs.Expression.{is_place}
+use Rattle.c0_meaning.specs.Limits.{words_of_frame}
+use Rattle.c0_meaning.specs.Expression.{is_lvalue}
 use Rattle.c0_meaning.specs.Value.{locals, Location, Value}
 use Rattle.c0_meaning.specs.Value as value
 use Rattle.c0_meaning.specs.State.{Frame, write}
@@ -26,26 +26,26 @@ use Rattle.c0_meaning.specs.Numbered.{variable_at, HasNumberedType, a_variable, 
 use Rattle.c0_meaning.specs.Evaluation.{at_no_cost, paying, variable_location, value_of}
 use Rattle.c0_meaning.specs.World.{Cost, units, plus, Configuration, with_state}
 use Rattle.c0_meaning.specs.Running.{Work, push, Go, then_go, store}
-use Rattle.c0_meaning.specs.TypedState.{types_of, Fits, layout_of, variable_types}
+use Rattle.c0_meaning.specs.TypedState.{types_of, Fits, store_typing, variable_types}
 use Rattle.c0_expr_code.specs.Scope.{Scope, is_leaf}
 use Rattle.c0_expr_code.specs.Code.{register_of, variable_made, register_made, at_place, local_spot, made, value_code}
 use Rattle.c0_expr_code.specs.Bases.{Bases, word, RegionHeld}
-use Rattle.c0_expr_code.specs.Relation.{Gives}
+use Rattle.c0_expr_code.specs.Relation.{HoldsValue}
 use Rattle.c0_stmt_code.specs.Code.{calls_in, assign_code, assigned_code}
 use Rattle.c0_stmt_code.specs.Setup.{Setup}
 use Rattle.c0_stmt_code.specs.Ahead.{Activation, env_in, Block, Ahead}
-use Rattle.c0_stmt_code.specs.Standing.{text, scope, bases, end_of, VariablesHeld, Waiting, Runs, UnderWay, Stands}
-use Rattle.c0_stmt_code.proofs.Needs.{HeldStays, TypedStays, LengthsFit, AllScalar}
-use Rattle.c0_stmt_code.proofs.Ways.{none}
+use Rattle.c0_stmt_code.specs.Standing.{text, scope, bases, end_of, VariablesHeld, Waiting, FunctionRuns, UnderWay, ConfigurationStands}
+use Rattle.c0_stmt_code.proofs.Premises.{HeldStays, TypedStays, LengthsFit, AllScalar}
+use Rattle.c0_stmt_code.proofs.RunStretches.{none}
 use Rattle.c0_stmt_code.proofs.Rooms.{put_same, put_other}
 use Rattle.c0_stmt_code.proofs.Costs.{value_within}
 use Rattle.c0_stmt_code.proofs.Spots.{read_is}
 use Rattle.c0_stmt_code.proofs.State.{state_of, standing_at, Exprs}
 use Rattle.c0_stmt_code.proofs.Places.{its_exprs, its_ready}
-use Rattle.c0_stmt_code.proofs.Lights.{each_scalar}
+use Rattle.c0_stmt_code.proofs.RegisterFrames.{each_scalar}
 use Rattle.c0_stmt_code.proofs.CallActs.{stands_soft}
 use Rattle.c0_stmt_code.proofs.Returns.{comes_splits}
-use Rattle.c0_stmt_code.proofs.Sim.{GoesOn, Path, arrives, then_splits}
+use Rattle.c0_stmt_code.proofs.StepSimulation.{GoesOn, Path, arrives, then_splits}
 
 -- a place that stands in a register is a local of a function that keeps its variables there
 pub record IsVariable (env : Env) (sc : Scope) (p : CExpr) (x : ℕ) (t : Ty) : Type 0 where
@@ -75,7 +75,7 @@ module _ (env : Env) (sc : Scope) (x : ℕ) where
   by_kind y Function d e at h = absurd (cc)
   by_kind y Primitive d e at h = absurd (cc)
 
-  pub variable_is : (p : CExpr) (t : Ty) → HasNumberedType env p t → IsTrue (is_place p) → (made sc p).stands ≡ Some x → IsVariable env sc p x t
+  pub variable_is : (p : CExpr) (t : Ty) → HasNumberedType env p t → IsTrue (is_lvalue p) → (made sc p).stands ≡ Some x → IsVariable env sc p x t
   variable_is (var y) _ (a_variable {d = d} at) place h = by_kind y y.kind d refl at h
   variable_is (field s e f) t typed place h = absurd (cc)
   variable_is (arrow s e f) t typed place h = absurd (cc)
@@ -105,7 +105,7 @@ scalars_before structs (u ∷ ts) (suc n) t s e = let r = scalars_before structs
 module _ (runs : RunLaws) (compose : RunsCompose) (W E : Type 0) (Outer : W → Contents → Behind → Type 0) (z : Setup W E Outer) (jumps : JumpsLead z.w) (straight : StraightRuns z.w)
     (held : HeldStays (shapes z.p.unit)) (typing : TypedStays z.p.unit) (exprs : Exprs W E Outer z) (fit : (f : CFunction) → LengthsFit (scope W E Outer z f))
     (objects : List Ty) (gv hv : Value) (hw : ℕ) (g : Frame) (fs : List Frame) (world : W) (calls : List (List E)) (answer : Option Value) (c : Contents) (d : Behind) (a : Activation) (others : List Activation)
-    (st : Stands W E Outer z objects (standing_at gv hv hw (g ∷ fs) world calls answer) c d) (r : Runs W E Outer z objects c a g fs) (waits : Waiting W E Outer z objects c.memory others fs)
+    (st : ConfigurationStands W E Outer z objects (standing_at gv hv hw (g ∷ fs) world calls answer) c d) (r : FunctionRuns W E Outer z objects c a g fs) (waits : Waiting W E Outer z objects c.memory others fs)
     (k debt : ℕ) (rest : CStmts) (work : List Work) where
   abbrev sc : Scope
   sc = scope W E Outer z a.function
@@ -118,18 +118,18 @@ module _ (runs : RunLaws) (compose : RunsCompose) (W E : Type 0) (Outer : W → 
 
   -- the variables with one more of them stored
   stored_there : (n x : ℕ) (t : Ty) (w : Value) (c1 : Contents) → sc.in_registers ≡ true → x ≡ 20 + n → n < 8 → slice_get (types_of sc.env.locals) n ≡ Some t → IsTrue (is_scalar t) → words_before (shapes z.p.unit) (types_of sc.env.locals) n ≡ n → c1.regs x ≡ word sc its w
-      → ((y : ℕ) → 20 ≤ y → y ≢ x → c1.regs y ≡ c.regs y) → VariablesHeld W E Outer z objects c1.regs c1.memory a.function (record { function = g.function; variables = value.put g.variables (n ∷ []) w } ∷ fs)
+      → ((y : ℕ) → 20 ≤ y → y ≢ x → c1.regs y ≡ c.regs y) → VariablesHeld W E Outer z objects c1.regs c1.memory a.function (record { function = g.function; variables = value.value_with g.variables (n ∷ []) w } ∷ fs)
   stored_there n x t w c1 form at lt there scalar before here_is others_are = by_form sc.in_registers form r.variables
     where
-      by_form : (b : Bool) → b ≡ true → RegionHeld sc its (if b then c.regs else c.memory) (if b then 20 else (end_of W E Outer z (g ∷ fs) - frame (shapes z.p.unit) a.function) + 3) (types_of sc.env.locals) g.variables
-          → RegionHeld sc its (if b then c1.regs else c1.memory) (if b then 20 else (end_of W E Outer z (g ∷ fs) - frame (shapes z.p.unit) a.function) + 3) (types_of sc.env.locals) (value.put g.variables (n ∷ []) w)
+      by_form : (b : Bool) → b ≡ true → RegionHeld sc its (if b then c.regs else c.memory) (if b then 20 else (end_of W E Outer z (g ∷ fs) - words_of_frame (shapes z.p.unit) a.function) + 3) (types_of sc.env.locals) g.variables
+          → RegionHeld sc its (if b then c1.regs else c1.memory) (if b then 20 else (end_of W E Outer z (g ∷ fs) - words_of_frame (shapes z.p.unit) a.function) + 3) (types_of sc.env.locals) (value.value_with g.variables (n ∷ []) w)
       by_form false q h = absurd (cc)
       by_form true q h =
           let place : 20 + words_to_part (shapes z.p.unit) (types_of sc.env.locals) (n ∷ []) ≡ x = omega (arith, before, at) in
           let m : ℕ → ℕ = put c.regs x (word sc its w) in
           let one = held.stored sc its c.regs (put c.regs x (word sc its w)) 20 (types_of sc.env.locals) (n ∷ []) t g.variables w refl (t, there, refl) scalar h
           (ap (put c.regs x (word sc its w)) place ∙ same_at x) (λ y ne. other_at x y (λ e. ne (e ∙ sym place))) in
-          held.same sc its (put c.regs x (word sc its w)) c1.regs 20 (types_of sc.env.locals) (value.put g.variables (n ∷ []) w) refl
+          held.same sc its (put c.regs x (word sc its w)) c1.regs 20 (types_of sc.env.locals) (value.value_with g.variables (n ∷ []) w) refl
           (λ y le l. elim (cases_eq y x) [
             | inl e ↦ ap c1.regs e ∙ here_is ∙ sym (ap (put c.regs x (word sc its w)) e ∙ same_at x)
             | inr ne ↦ others_are y le ne ∙ sym (other_at x y ne)
@@ -165,7 +165,7 @@ module _ (runs : RunLaws) (compose : RunsCompose) (W E : Type 0) (Outer : W → 
     pub memory : c1.memory ≡ c.memory
     pub special : c1.special ≡ c.special
 
-  pub stores_light : (p : CExpr) (t : Ty) (x : ℕ) (w : Value) (l n k1 : ℕ) (cost : Cost) (s : Machine) (c1 : Contents) → IsVariable (env_in (text W E Outer z) a.function) sc p x t → IsTrue (is_scalar t) → Fits (shapes z.p.unit) (layout_of z.p.unit objects) t w → Moved x w c1
+  pub stores_light : (p : CExpr) (t : Ty) (x : ℕ) (w : Value) (l n k1 : ℕ) (cost : Cost) (s : CodeState) (c1 : Contents) → IsVariable (env_in (text W E Outer z) a.function) sc p x t → IsTrue (is_scalar t) → Fits (shapes z.p.unit) (store_typing z.p.unit objects) t w → Moved x w c1
       → Path runs compose W E Outer z jumps l n s (at_with k1 c1 d) → cost.own + 1 ≤ 2048 * l → n ≤ 30 * (cost.own + 1) → Block (text W E Outer z) a.function k1 debt rest (λ to left. Ahead (text W E Outer z) (a ∷ others) to left work)
       → GoesOn W E Outer z debt here s (store cost p w rest work here)
   stores_light p t x w l n k1 cost s c1 y scalar fits moved path low high block =
@@ -174,7 +174,7 @@ module _ (runs : RunLaws) (compose : RunsCompose) (W E : Type 0) (Outer : W → 
       let few = place.few in
       let high_regs : (q : ℕ) → 28 ≤ q → c1.regs q ≡ c.regs q = λ q le. moved.above q (omega (arith, le)) (λ e. absurd (omega (arith, e, le, at, few))) in
       let s1 = stands_soft runs compose W E Outer z jumps objects here c c1 d moved.memory moved.special (high_regs 28 (omega arith)) (high_regs 30 (omega arith)) st in
-      let st2 : Stands W E Outer z objects (with_state here (write here.state (record { region = locals; path = y.name.number ∷ [] }) w)) c1 d = record {
+      let st2 : ConfigurationStands W E Outer z objects (with_state here (write here.state (record { region = locals; path = y.name.number ∷ [] }) w)) c1 d = record {
         typed = typing.written objects (state_of gv hv hw (g ∷ fs)) g fs a.function (record { region = locals; path = y.name.number ∷ [] }) t w refl r.is st.typed (t, y.there, refl) fits;
         declared = st.declared;
         used = st.used;
@@ -217,8 +217,8 @@ module _ (runs : RunLaws) (compose : RunsCompose) (W E : Type 0) (Outer : W → 
       let run = ex.value v t given left.scalar (omega (arith, few)) x 8 k c d st.idle rd (subst (CodeAt z.w k) same code) (omega arith) (omega (arith, deep)) (λ q. absurd (omega (arith, q, at))) (λ q. absurd (omega (arith, q, at))) in
       let k1 : ℕ = k + length (value_code sc v x 8) in
       let len : k + length (assign_code sc p v) ≡ k1 = ap (λ is. k + length is) same in
-      then_splits runs compose W E Outer z jumps 0 0 0 debt 1 (nodes v) (units 1) here here (at_with k c d) a.function k (λ w. k1) c d objects (Gives sc its x 8 x t c) (value_of v here.state) (λ cost w. store cost p w rest work here)
-      (λ w q. absurd (omega (arith, q, some))) (none runs z.w (at_with k c d)) (omega arith) (omega arith) st (value_within v here.state) (comes_splits z.w sc 0 k k1 c d (Gives sc its x 8 x t c) (value_of v here.state) run)
+      then_splits runs compose W E Outer z jumps 0 0 0 debt 1 (nodes v) (units 1) here here (at_with k c d) a.function k (λ w. k1) c d objects (HoldsValue sc its x 8 x t c) (value_of v here.state) (λ cost w. store cost p w rest work here)
+      (λ w q. absurd (omega (arith, q, some))) (none runs z.w (at_with k c d)) (omega arith) (omega arith) st (value_within v here.state) (comes_splits z.w sc 0 k k1 c d (HoldsValue sc its x 8 x t c) (value_of v here.state) run)
       (λ u w c1 least most gives path.
       let keeps = gives.keeps in
       stores_light p t x w (0 + 1) (0 + (0 + 16 * u)) k1 (plus (units 1) (units u)) (at_with k c d) c1 y left.scalar gives.fits

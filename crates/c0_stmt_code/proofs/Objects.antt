@@ -5,7 +5,7 @@ use Rattle.std.proofs.lemmas.Bool.{cases_Bool, cond-true, cond-false, ltb-true, 
 use Rattle.std.proofs.lemmas.Int.{ints}
 use Rattle.mips_table.specs.declared.inst.Inst.{Inst}
 use Rattle.mips_table.specs.declared.inst.Inst.TheVariants.{Jal}
-use Rattle.mips_table.specs.Code.{Contents, with_reg, Behind, Configuration as Machine, at_with, Reaches, RunLaws, CodeAt}
+use Rattle.mips_table.specs.Code.{Contents, with_reg, Behind, CodeState, at_with, Reaches, RunLaws, CodeAt}
 use Rattle.masm.specs.Laws.{RunsCompose, JumpsLead, StraightRuns}
 use Rattle.c0_tree.specs.declared.tree.Span.{Span}
 use Rattle.c0_tree.specs.Size.{nodes}
@@ -16,36 +16,36 @@ use Rattle.c0_meaning.specs.Words.{words, fields_named}
 use Rattle.c0_meaning.specs.Sizes.{words_before}
 use Rattle.c0_meaning.specs.Sound.{shapes}
 use Rattle.c0_meaning.specs.Typed.{IsDeclarable}
-use Rattle.c0_meaning.specs.Value.{heap, Value, null, at, parts, with_part, zero_of}
+use Rattle.c0_meaning.specs.Value.{heap, Value, null, at, part_count, with_part, zero_of}
 use Rattle.c0_meaning.specs.State.{Frame}
 use Rattle.c0_meaning.specs.Statement.{MAX_NEED, new_need}
 use Rattle.c0_meaning.specs.Numbered.{a_number, a_value, IsNumberedLeft}
 use Rattle.c0_meaning.specs.World.{units, Configuration}
 use Rattle.c0_meaning.specs.Running.{into, Work, finish, Step, Go, allocate}
-use Rattle.c0_meaning.specs.TypedState.{types_of, Fits, layout_of}
+use Rattle.c0_meaning.specs.TypedState.{types_of, Fits, store_typing}
 use Rattle.c0_expr_code.specs.Scope.{Scope}
 use Rattle.c0_expr_code.specs.Code.{constant_code}
 use Rattle.c0_expr_code.specs.Bases.{words_of_all}
-use Rattle.c0_runtime.specs.Laws.{IsCalled, HeapIs, IsAsked, NewRuns}
+use Rattle.c0_runtime.specs.Laws.{RoutineCalled, HeapIs, IsAsked, NewRuns}
 use Rattle.c0_stmt_code.specs.Code.{calls_in, new_code, answer_code}
 use Rattle.c0_stmt_code.specs.Setup.{Setup}
 use Rattle.c0_stmt_code.specs.Ahead.{Activation, env_in, Block, Awaits, Ahead}
-use Rattle.c0_stmt_code.specs.Standing.{text, scope, word_of_value, Waiting, Runs, Stands}
-use Rattle.c0_stmt_code.proofs.Needs.{HeldStays, TypedStays}
-use Rattle.c0_stmt_code.proofs.Ways.{Way, on, of, away}
+use Rattle.c0_stmt_code.specs.Standing.{text, scope, word_of_value, Waiting, FunctionRuns, ConfigurationStands}
+use Rattle.c0_stmt_code.proofs.Premises.{HeldStays, TypedStays}
+use Rattle.c0_stmt_code.proofs.RunStretches.{Way, on, of, away}
 use Rattle.c0_stmt_code.proofs.Blocks.{front, back}
 use Rattle.c0_stmt_code.proofs.State.{standing_at, Exprs}
 use Rattle.c0_stmt_code.proofs.Spots.{other_reg, same_reg, read_is}
 use Rattle.c0_stmt_code.proofs.Places.{its_exprs, its_ready}
 use Rattle.c0_stmt_code.proofs.CallActs.{stands_soft, calls_to}
-use Rattle.c0_stmt_code.proofs.Grows.{last_there, last_behind, parts_count, under_kept, under_more, stands_more}
-use Rattle.c0_stmt_code.proofs.Sim.{GoesOn}
+use Rattle.c0_stmt_code.proofs.HeapGrows.{last_there, last_behind, parts_count, under_kept, under_more, stands_more}
+use Rattle.c0_stmt_code.proofs.StepSimulation.{GoesOn}
 
 module _ (runs : RunLaws) (compose : RunsCompose) (W E : Type 0) (Outer : W → Contents → Behind → Type 0) (z : Setup W E Outer) (jumps : JumpsLead z.w) (straight : StraightRuns z.w)
     (held : HeldStays (shapes z.p.unit)) (typing : TypedStays z.p.unit) (exprs : Exprs W E Outer z) (new_runs : NewRuns z.w) (some_words : (t : CTy) → IsDeclarable (shapes z.p.unit) t → 1 ≤ words (shapes z.p.unit) (ty_of t))
     (opened : (x : List ℕ) → words (shapes z.p.unit) (named x) ≡ words_of_all (shapes z.p.unit) (types_of (fields_named (shapes z.p.unit) x)))
     (objects : List Ty) (gv hv : Value) (hw : ℕ) (g : Frame) (fs : List Frame) (world : W) (calls : List (List E)) (answer : Option Value) (c : Contents) (d : Behind) (a : Activation) (others : List Activation)
-    (st : Stands W E Outer z objects (standing_at gv hv hw (g ∷ fs) world calls answer) c d) (r : Runs W E Outer z objects c a g fs) (waits : Waiting W E Outer z objects c.memory others fs)
+    (st : ConfigurationStands W E Outer z objects (standing_at gv hv hw (g ∷ fs) world calls answer) c d) (r : FunctionRuns W E Outer z objects c a g fs) (waits : Waiting W E Outer z objects c.memory others fs)
     (its_calls : calls_in a.function.body ≡ true) (k debt : ℕ) (t : CTy) (declarable : IsDeclarable (shapes z.p.unit) t) where
   abbrev sc : Scope
   sc = scope W E Outer z a.function
@@ -114,7 +114,7 @@ module _ (runs : RunLaws) (compose : RunsCompose) (W E : Type 0) (Outer : W → 
         free = λ i lt. z.ours (z.a.heap + i) (inl (omega (arith, gf), omega (arith, lt, hf)));
       }
 
-  called : (c2 : Contents) → Asks c2 → IsCalled (from + 1) c2 d
+  called : (c2 : Contents) → Asks c2 → RoutineCalled (from + 1) c2 d
   called c2 asks = record { back = asks.back_at; idle = st.idle }
 
   is_asked : (c2 : Contents) → Asks c2 → IsAsked size c2
@@ -155,13 +155,13 @@ module _ (runs : RunLaws) (compose : RunsCompose) (W E : Type 0) (Outer : W → 
   made_here = standing_at gv (with_part hv fresh) (hw + size) (g ∷ fs) world calls answer
 
   abbrev new_one : Value
-  new_one = at (record { region = heap; path = parts hv ∷ [] })
+  new_one = at (record { region = heap; path = part_count hv ∷ [] })
 
   -- where the new object stands
-  number_is : parts hv ≡ length objects
-  number_is = parts_count (shapes z.p.unit) (layout_of z.p.unit objects) objects hv st.typed.heap_values
+  number_is : part_count hv ≡ length objects
+  number_is = parts_count (shapes z.p.unit) (store_typing z.p.unit objects) objects hv st.typed.heap_values
 
-  leads_there : Fits (shapes z.p.unit) (layout_of z.p.unit more) (ty.pointer (ty_of t)) new_one
+  leads_there : Fits (shapes z.p.unit) (store_typing z.p.unit more) (ty.pointer (ty_of t)) new_one
   leads_there = (ty_of t, ap (slice_get more) number_is ∙ last_there (shapes z.p.unit) objects (ty_of t), refl)
 
   word_is : word_of_value W E Outer z more new_one ≡ 4 * (z.a.heap + hw)

@@ -2,7 +2,7 @@
 use Rattle.std.specs.Prelude.{None}
 use Rattle.std.proofs.Common.{◌≡◌, ◌≢◌, inl, ℕ, ◌+◌, ◌*◌, ◌<◌, ◌≤◌, Option, List, ◌∷◌, length, refl, ap, ◌∙◌, arith}
 use Rattle.mips_table.specs.declared.inst.Inst.TheVariants.{Sw}
-use Rattle.mips_table.specs.Code.{Contents, reg, Behind, Configuration as Machine, at_with, RunLaws, CodeAt, put as put_word}
+use Rattle.mips_table.specs.Code.{Contents, reg, Behind, CodeState, at_with, RunLaws, CodeAt, put as put_word}
 use Rattle.masm.specs.Laws.{RunsCompose, JumpsLead, StraightRuns}
 use Rattle.c0_tree.specs.Size.{need, nodes}
 use Rattle.c0_tree.specs.Tree.{CExpr, CStmts, CFunction}
@@ -12,30 +12,30 @@ use Rattle.c0_meaning.specs.Value.{Region, globals, heap, locals, Value}
 use Rattle.c0_meaning.specs.State.{Frame, write}
 use Rattle.c0_meaning.specs.Numbered.{is_frame_place, IsNumberedLeft}
 use Rattle.c0_meaning.specs.Evaluation.{place_of}
-use Rattle.c0_meaning.specs.World.{Cost, units, plus, Configuration, with_state, ended}
+use Rattle.c0_meaning.specs.World.{Cost, units, plus, Configuration, with_state, calls_ended}
 use Rattle.c0_meaning.specs.Running.{Work, store}
-use Rattle.c0_meaning.specs.TypedState.{LeadsFrom, Fits, layout_of}
-use Rattle.c0_expr_code.specs.Code.{Spot, on_spot, made}
+use Rattle.c0_meaning.specs.TypedState.{LeadsFrom, Fits, store_typing}
+use Rattle.c0_expr_code.specs.Code.{AddressingMode, on_spot, made}
 use Rattle.c0_expr_code.specs.Scope.{Scope}
-use Rattle.c0_expr_code.specs.Bases.{Bases, types_in, word_at, word}
-use Rattle.c0_expr_code.specs.Relation.{Ready, Keeps, Leads, Source, nought, its, far}
+use Rattle.c0_expr_code.specs.Bases.{Bases, types_in, location_word, word}
+use Rattle.c0_expr_code.specs.Relation.{Ready, KeepsRegisters, HoldsAddress, Source, nought, its, far}
 use Rattle.c0_stmt_code.specs.Setup.{Setup}
 use Rattle.c0_stmt_code.specs.Ahead.{Activation, env_in, Block, Ahead}
-use Rattle.c0_stmt_code.specs.Standing.{text, scope, bases, Waiting, Runs, Stands}
-use Rattle.c0_stmt_code.proofs.Needs.{ExpressionsDo, HeldStays, TypedStays, types_for}
-use Rattle.c0_stmt_code.proofs.Ways.{on, away}
+use Rattle.c0_stmt_code.specs.Standing.{text, scope, bases, Waiting, FunctionRuns, ConfigurationStands}
+use Rattle.c0_stmt_code.proofs.Premises.{ExpressionsDo, HeldStays, TypedStays, types_for}
+use Rattle.c0_stmt_code.proofs.RunStretches.{on, away}
 use Rattle.c0_stmt_code.proofs.Costs.{place_within}
 use Rattle.c0_stmt_code.proofs.Spots.{spot_front, spot_longer, place_steps, few_steps, writes}
 use Rattle.c0_stmt_code.proofs.State.{state_of, standing_at, Exprs, ready}
 use Rattle.c0_stmt_code.proofs.Stores.{spot, stored}
-use Rattle.c0_stmt_code.proofs.Sim.{GoesOn, Path, arrives, then_comes}
+use Rattle.c0_stmt_code.proofs.StepSimulation.{GoesOn, Path, arrives, then_comes}
 
 pub source_not_one : (r q : ℕ) → 8 ≤ r → Source r q → q ≢ 1
 source_not_one r _ le nought = λ e. absurd (omega (arith, e))
 source_not_one r _ le its = λ e. absurd (omega (arith, e, le))
 source_not_one r _ le (far h) = λ e. absurd (omega (arith, e, h))
 
-pub keeps_low : (r : ℕ) (a b : Contents) → r < 20 → Keeps r r a b → Keeps 0 0 a b
+pub keeps_low : (r : ℕ) (a b : Contents) → r < 20 → KeepsRegisters r r a b → KeepsRegisters 0 0 a b
 keeps_low r a b lt h = record { memory = h.memory; special = h.special; below = λ x n m l. absurd (omega (arith, l)); above = λ x n l. h.above x (λ e. absurd (omega (arith, e, l, lt))) l }
 
 pub leads_for : {W E : Type 0} {Outer : W → Contents → Behind → Type 0} (z : Setup W E Outer) (objects : List Ty) (frames : List Frame) (f : CFunction) (region : Region) (path : List ℕ) (t : Ty)
@@ -47,7 +47,7 @@ leads_for z objects frames f locals path t h = h
 module _ (runs : RunLaws) (compose : RunsCompose) (W E : Type 0) (Outer : W → Contents → Behind → Type 0) (z : Setup W E Outer) (jumps : JumpsLead z.w) (straight : StraightRuns z.w)
     (held : HeldStays (shapes z.p.unit)) (typing : TypedStays z.p.unit) (exprs : Exprs W E Outer z)
     (objects : List Ty) (gv hv : Value) (hw : ℕ) (g : Frame) (fs : List Frame) (world : W) (calls : List (List E)) (answer : Option Value) (c : Contents) (d : Behind) (a : Activation) (others : List Activation)
-    (st : Stands W E Outer z objects (standing_at gv hv hw (g ∷ fs) world calls answer) c d) (r : Runs W E Outer z objects c a g fs) (waits : Waiting W E Outer z objects c.memory others fs) where
+    (st : ConfigurationStands W E Outer z objects (standing_at gv hv hw (g ∷ fs) world calls answer) c d) (r : FunctionRuns W E Outer z objects c a g fs) (waits : Waiting W E Outer z objects c.memory others fs) where
   abbrev sc : Scope
   sc = scope W E Outer z a.function
 
@@ -62,23 +62,23 @@ module _ (runs : RunLaws) (compose : RunsCompose) (W E : Type 0) (Outer : W → 
   its_ready = ready W E Outer z objects gv hv hw g fs world calls answer c d a st r
 
   -- the store: the place is found with free registers from `free` on, and the value waits in register q
-  pub store_in : (n debt debt' free q k : ℕ) (cost : Cost) (h0 : Configuration W E) (s : Machine) (p : CExpr) (t : Ty) (v : Value) (rest : CStmts) (work : List Work)
-      → Path runs compose W E Outer z jumps 0 n s (at_with k c d) → n + 3 + debt' ≤ 30 * cost.own + 14 + debt → n ≤ 30 * cost.own + debt → cost.own + nodes p ≤ 2048 → nodes p ≤ 2000 → length calls ≡ ended h0 → 8 ≤ free → free + need p ≤ 20 → free < 20
-      → q ≢ 1 → q ≢ free → ((b : Contents) → Keeps free free c b → reg b.regs q ≡ reg c.regs q) → reg c.regs q ≡ word sc (bases W E Outer z objects (g ∷ fs)) v
-      → Fits (shapes z.p.unit) (layout_of z.p.unit objects) t v → IsNumberedLeft (env_in (text W E Outer z) a.function) p t → (made sc p).stands ≡ None
+  pub store_in : (n debt debt' free q k : ℕ) (cost : Cost) (h0 : Configuration W E) (s : CodeState) (p : CExpr) (t : Ty) (v : Value) (rest : CStmts) (work : List Work)
+      → Path runs compose W E Outer z jumps 0 n s (at_with k c d) → n + 3 + debt' ≤ 30 * cost.own + 14 + debt → n ≤ 30 * cost.own + debt → cost.own + nodes p ≤ 2048 → nodes p ≤ 2000 → length calls ≡ calls_ended h0 → 8 ≤ free → free + need p ≤ 20 → free < 20
+      → q ≢ 1 → q ≢ free → ((b : Contents) → KeepsRegisters free free c b → reg b.regs q ≡ reg c.regs q) → reg c.regs q ≡ word sc (bases W E Outer z objects (g ∷ fs)) v
+      → Fits (shapes z.p.unit) (store_typing z.p.unit objects) t v → IsNumberedLeft (env_in (text W E Outer z) a.function) p t → (made sc p).stands ≡ None
       → CodeAt z.w k (on_spot (λ y x. Sw q y x) free ((made sc p).place free))
       → Block (text W E Outer z) a.function (k + length (on_spot (λ y x. Sw q y x) free ((made sc p).place free))) debt' rest (λ to left. Ahead (text W E Outer z) (a ∷ others) to left work)
       → GoesOn W E Outer z debt h0 s (store cost p v rest work here)
   store_in n debt debt' free q k cost h0 s p t v rest work path high early low few en lo need_fits hi qz qr kept holds fits left stands code block =
-      let x : Spot = (made sc p).place free in
+      let x : AddressingMode = (made sc p).place free in
       let b : Bases = bases W E Outer z objects (g ∷ fs) in
       let runs_p = its_exprs.place p t left few stands free k c d st.idle its_ready (spot_front z.w k (λ y x. Sw q y x) free x code) lo need_fits in
-      then_comes runs compose W E Outer z jumps 0 n 0 debt 1 (nodes p) cost here h0 s a.function k (k + length x.code) c d objects (Leads sc (bases W E Outer z objects (g ∷ fs)) x.base x.displacement free (is_frame_place p) t c) (place_of p here.state) _ path
+      then_comes runs compose W E Outer z jumps 0 n 0 debt 1 (nodes p) cost here h0 s a.function k (k + length x.code) c d objects (HoldsAddress sc (bases W E Outer z objects (g ∷ fs)) x.base x.displacement free (is_frame_place p) t c) (place_of p here.state) _ path
       (omega (arith, early)) en st (place_within p here.state) runs_p.1
       (λ u l c1 least most found path1.
       let leads = leads_for z objects (g ∷ fs) a.function l.region l.path t found.leads in
       let room = spot W E Outer z held typing objects gv hv hw g fs world calls answer c d a others st r waits l.region l.path t leads left.scalar found.standing in
-      let at = word_at sc (bases W E Outer z objects (g ∷ fs)) l in
+      let at = location_word sc (bases W E Outer z objects (g ∷ fs)) l in
       let its = word sc (bases W E Outer z objects (g ∷ fs)) v in
       let from = room.from in
       let to = room.to in

@@ -3,7 +3,7 @@ use Rattle.std.specs.Prelude.{map, slice_get, Option, Some, Ok, if◌then◌else
 use Rattle.std.proofs.Common.{◌≡◌, inl, inr, ℕ, suc, ◌+◌, ◌*◌, ◌<◌, ◌≤◌, true, false, List, [], ◌∷◌, ◌++◌, length, refl, sym, ap, ◌∙◌, subst, arith, length-append}
 use Rattle.mips_table.specs.declared.inst.Inst.{Inst}
 use Rattle.mips_table.specs.declared.inst.Inst.TheVariants.{Jal}
-use Rattle.mips_table.specs.Code.{Contents, with_reg, Behind, World, Configuration as Machine, at_with, RunLaws, CodeAt}
+use Rattle.mips_table.specs.Code.{Contents, with_reg, Behind, World, CodeState, at_with, RunLaws, CodeAt}
 use Rattle.masm.specs.Laws.{RunsCompose, JumpsLead, StraightRuns}
 use Rattle.c0_tree.specs.declared.primitive.Scalar.{Scalar}
 use Rattle.c0_tree.specs.declared.primitive.Scalar.TheVariants as scalar
@@ -21,15 +21,15 @@ use Rattle.c0_meaning.specs.Numbered.{IsNumberedLeft, AreNumberedGiven}
 use Rattle.c0_meaning.specs.Evaluation.{costs, values_of}
 use Rattle.c0_meaning.specs.World.{units, Configuration, after_call}
 use Rattle.c0_meaning.specs.Running.{into, Work, then_go, call_with}
-use Rattle.c0_meaning.specs.TypedState.{Layout, types_of, Fits, AllFit, layout_of, IsTypedWith, AreScalars}
+use Rattle.c0_meaning.specs.TypedState.{StoreTyping, types_of, Fits, AllFit, store_typing, IsTypedWith, AreScalars}
 use Rattle.c0_expr_code.specs.Scope.{Scope}
 use Rattle.c0_expr_code.specs.Bases.{Bases, word, RegionHeld}
 use Rattle.c0_stmt_code.specs.Code.{calls_in, args_code, answer_code}
-use Rattle.c0_stmt_code.specs.Setup.{Setup, ArePassed, scalar_word, Called, Back}
+use Rattle.c0_stmt_code.specs.Setup.{Setup, ArePassed, scalar_word, PrimitiveIsCalled, HasReturned}
 use Rattle.c0_stmt_code.specs.Ahead.{Activation, env_in, Block, Awaits, Ahead}
-use Rattle.c0_stmt_code.specs.Standing.{text, scope, bases, end_of, unit_scope, AreIn, Waiting, Runs, UnderWay, IsCallOf, Stands, StepIs}
-use Rattle.c0_stmt_code.proofs.Needs.{HeldStays, TypedStays, AllScalar}
-use Rattle.c0_stmt_code.proofs.Ways.{none, on, away}
+use Rattle.c0_stmt_code.specs.Standing.{text, scope, bases, end_of, unit_scope, AreIn, Waiting, FunctionRuns, UnderWay, IsPrimitiveCall, ConfigurationStands, StepIs}
+use Rattle.c0_stmt_code.proofs.Premises.{HeldStays, TypedStays, AllScalar}
+use Rattle.c0_stmt_code.proofs.RunStretches.{none, on, away}
 use Rattle.c0_stmt_code.proofs.Blocks.{front, back}
 use Rattle.c0_stmt_code.proofs.Costs.{values_within}
 use Rattle.c0_stmt_code.proofs.State.{state_of, standing_at, Exprs}
@@ -40,7 +40,7 @@ use Rattle.c0_stmt_code.proofs.Args.{InRegisters, args_run}
 use Rattle.c0_stmt_code.proofs.CallActs.{stands_soft, then_soft, calls_to}
 
 -- ints and bools fit whatever there is beside them
-scalar_alone : (structs others : List Shape) (lay other : Layout) (t : Scalar) (v : Value) → Fits structs lay (scalar_ty t) v → Fits others other (scalar_ty t) v
+scalar_alone : (structs others : List Shape) (lay other : StoreTyping) (t : Scalar) (v : Value) → Fits structs lay (scalar_ty t) v → Fits others other (scalar_ty t) v
 scalar_alone structs others lay other scalar.Int (int z) h = h
 scalar_alone structs others lay other scalar.Bool (bool b) h = tt
 scalar_alone structs others lay other scalar.Int (bool b) h = absurd h
@@ -52,13 +52,13 @@ scalar_alone structs others lay other scalar.Bool null h = absurd h
 scalar_alone structs others lay other scalar.Bool (at l) h = absurd h
 scalar_alone structs others lay other scalar.Bool (group vs) h = absurd h
 
-scalars_alone : (structs : List Shape) (lay : Layout) (ts : List Scalar) (vs : Values) → AllFit structs lay (map scalar_ty ts) vs → AreScalars ts vs
+scalars_alone : (structs : List Shape) (lay : StoreTyping) (ts : List Scalar) (vs : Values) → AllFit structs lay (map scalar_ty ts) vs → AreScalars ts vs
 scalars_alone structs lay [] empty h = tt
 scalars_alone structs lay (t ∷ ts) (part v vs) h = (scalar_alone structs [] lay (record { globals = []; objects = [] }) t v h.0, scalars_alone structs lay ts vs h.1)
 scalars_alone structs lay [] (part v vs) h = absurd h
 scalars_alone structs lay (t ∷ ts) empty h = absurd h
 
-word_alone : (sc : Scope) (b : Bases) (structs : List Shape) (lay : Layout) (t : Scalar) (v : Value) → Fits structs lay (scalar_ty t) v → word sc b v ≡ scalar_word v
+word_alone : (sc : Scope) (b : Bases) (structs : List Shape) (lay : StoreTyping) (t : Scalar) (v : Value) → Fits structs lay (scalar_ty t) v → word sc b v ≡ scalar_word v
 word_alone sc b structs lay scalar.Int (int z) h = refl
 word_alone sc b structs lay scalar.Bool (bool x) h = refl
 word_alone sc b structs lay scalar.Int (bool x) h = absurd h
@@ -70,7 +70,7 @@ word_alone sc b structs lay scalar.Bool null h = absurd h
 word_alone sc b structs lay scalar.Bool (at l) h = absurd h
 word_alone sc b structs lay scalar.Bool (group vs) h = absurd h
 
-passed : (sc : Scope) (b : Bases) (structs : List Shape) (lay : Layout) (m m' : ℕ → ℕ) (r : ℕ) (ts : List Scalar) (vs : Values) → AllFit structs lay (map scalar_ty ts) vs → r + length ts ≤ 28 → ((x : ℕ) → x < 28 → m' x ≡ m x) → AreIn sc b m r vs → ArePassed m' r vs
+passed : (sc : Scope) (b : Bases) (structs : List Shape) (lay : StoreTyping) (m m' : ℕ → ℕ) (r : ℕ) (ts : List Scalar) (vs : Values) → AllFit structs lay (map scalar_ty ts) vs → r + length ts ≤ 28 → ((x : ℕ) → x < 28 → m' x ≡ m x) → AreIn sc b m r vs → ArePassed m' r vs
 passed sc b structs lay m m' r [] empty f le e h = tt
 passed sc b structs lay m m' r (t ∷ ts) (part v vs) f le e h = (e r (omega (arith, le)) ∙ h.0 ∙ word_alone sc b structs lay t v f.0, passed sc b structs lay m m' (suc r) ts vs f.1 (omega (arith, le)) e h.1)
 passed sc b structs lay m m' r [] (part v vs) f le e h = absurd f
@@ -89,7 +89,7 @@ first_of w k (i ∷ is) le h = (i, h.0)
 module _ (runs : RunLaws) (compose : RunsCompose) (W E : Type 0) (Outer : W → Contents → Behind → Type 0) (z : Setup W E Outer) (jumps : JumpsLead z.w) (straight : StraightRuns z.w)
     (held : HeldStays (shapes z.p.unit)) (typing : TypedStays z.p.unit) (exprs : Exprs W E Outer z)
     (objects : List Ty) (gv hv : Value) (hw : ℕ) (g : Frame) (fs : List Frame) (world : W) (calls : List (List E)) (answer : Option Value) (c : Contents) (d : Behind) (a : Activation) (others : List Activation)
-    (st : Stands W E Outer z objects (standing_at gv hv hw (g ∷ fs) world calls answer) c d) (r : Runs W E Outer z objects c a g fs) (waits : Waiting W E Outer z objects c.memory others fs)
+    (st : ConfigurationStands W E Outer z objects (standing_at gv hv hw (g ∷ fs) world calls answer) c d) (r : FunctionRuns W E Outer z objects c a g fs) (waits : Waiting W E Outer z objects c.memory others fs)
     (form : (scope W E Outer z a.function).in_registers ≡ false) (its_calls : calls_in a.function.body ≡ true) (k debt : ℕ) where
   abbrev sc : Scope
   sc = scope W E Outer z a.function
@@ -98,8 +98,8 @@ module _ (runs : RunLaws) (compose : RunsCompose) (W E : Type 0) (Outer : W → 
   here = standing_at gv hv hw (g ∷ fs) world calls answer
 
   -- all stands where the primitive returns
-  after : (h' : Configuration W E) (c2 : Contents) (to : ℕ) (index : ℕ) (t : Machine) → h'.state ≡ here.state → c2.memory ≡ c.memory → c2.regs 28 ≡ c.regs 28 → c2.regs 29 ≡ c.regs 29 → c2.regs 30 ≡ c.regs 30 → Back z.p.unit z.a z.p.stack to (at_with index c2 d) t → Outer h'.world t.contents t.behind
-      → Stands W E Outer z objects h' t.contents t.behind × UnderWay W E Outer z objects t.contents (a ∷ others) (g ∷ fs)
+  after : (h' : Configuration W E) (c2 : Contents) (to : ℕ) (index : ℕ) (t : CodeState) → h'.state ≡ here.state → c2.memory ≡ c.memory → c2.regs 28 ≡ c.regs 28 → c2.regs 29 ≡ c.regs 29 → c2.regs 30 ≡ c.regs 30 → HasReturned z.p.unit z.a z.p.stack to (at_with index c2 d) t → Outer h'.world t.contents t.behind
+      → ConfigurationStands W E Outer z objects h' t.contents t.behind × UnderWay W E Outer z objects t.contents (a ∷ others) (g ∷ fs)
   after h' c2 to index t same memory r28 r29 r30 b outer =
       let used = ap (λ m. m 1026) memory ∙ st.used_word in
       let fo = frame_on z.p.unit g fs a.function r.is in
@@ -140,7 +140,7 @@ module _ (runs : RunLaws) (compose : RunsCompose) (W E : Type 0) (Outer : W → 
       )
 
   pub calls_primitive : (n : ℕ) (row : CPrimitive) (args : List CExpr) (p : CExpr) (rest : CStmts) (work : List Work) → slice_get z.table n ≡ Some row → AreNumberedGiven (env_in (text W E Outer z) a.function) args (map scalar_ty row.args) → length args ≤ 8
-      → (item : Work) → ((u : ℕ) (vs : Values) → values_of args here.state ≡ costs u (Ok vs) → IsCallOf here item n vs) → IsNumberedLeft (env_in (text W E Outer z) a.function) p (scalar_ty row.answer) → call_need p args ≤ MAX_NEED → nodes p + args_nodes args + 1 ≤ 2000 → 1 ≤ length (answer_code sc p)
+      → (item : Work) → ((u : ℕ) (vs : Values) → values_of args here.state ≡ costs u (Ok vs) → IsPrimitiveCall here item n vs) → IsNumberedLeft (env_in (text W E Outer z) a.function) p (scalar_ty row.answer) → call_need p args ≤ MAX_NEED → nodes p + args_nodes args + 1 ≤ 2000 → 1 ≤ length (answer_code sc p)
       → CodeAt z.w k (args_code sc args 0 ++ (Jal ((text W E Outer z).links.primitive n) ∷ answer_code sc p))
       → Block (text W E Outer z) a.function (k + length (args_code sc args 0 ++ (Jal ((text W E Outer z).links.primitive n) ∷ answer_code sc p))) debt rest (λ to left. Ahead (text W E Outer z) (a ∷ others) to left work)
       → StepIs W E Outer z debt item here (at_with k c d) (then_go (units 1) here (values_of args here.state) (λ cost vs. call_with z.p cost Primitive n vs (into p rest) work here))
@@ -162,10 +162,10 @@ module _ (runs : RunLaws) (compose : RunsCompose) (W E : Type 0) (Outer : W → 
       let soft = q.soft in
       let keep : (x : ℕ) → 28 ≤ x → x < 31 → (with_reg c1 31 (4 * (k1 + 1))).regs x ≡ c.regs x = λ x le lt. other_reg c1.regs 31 (4 * (k1 + 1)) x (λ e. absurd (omega (arith, e, lt))) ∙ soft.high x le in
       let st2 = stands_soft runs compose W E Outer z jumps objects here c (with_reg c1 31 (4 * (k1 + 1))) d soft.memory soft.special (keep 28 (omega arith) (omega arith)) (keep 30 (omega arith) (omega arith)) st in
-      let called : Called z.w (text W E Outer z).links row n vs (k1 + 1) (at_with index (with_reg c1 31 (4 * (k1 + 1))) d) = record {
+      let called : PrimitiveIsCalled z.w (text W E Outer z).links row n vs (k1 + 1) (at_with index (with_reg c1 31 (4 * (k1 + 1))) d) = record {
         at = refl;
-        scalars = scalars_alone (shapes z.p.unit) (layout_of z.p.unit objects) row.args vs q.fits;
-        arguments = passed sc (bases W E Outer z objects (g ∷ fs)) (shapes z.p.unit) (layout_of z.p.unit objects) c1.regs (with_reg c1 31 (4 * (k1 + 1))).regs 20 row.args vs q.fits (omega (arith, fa)) (λ x lt. other_reg c1.regs 31 (4 * (k1 + 1)) x (λ e. absurd (omega (arith, e, lt)))) q.are;
+        scalars = scalars_alone (shapes z.p.unit) (store_typing z.p.unit objects) row.args vs q.fits;
+        arguments = passed sc (bases W E Outer z objects (g ∷ fs)) (shapes z.p.unit) (store_typing z.p.unit objects) c1.regs (with_reg c1 31 (4 * (k1 + 1))).regs 20 row.args vs q.fits (omega (arith, fa)) (λ x lt. other_reg c1.regs 31 (4 * (k1 + 1)) x (λ e. absurd (omega (arith, e, lt)))) q.are;
         return_at = same_reg c1.regs 31 (4 * (k1 + 1)) (λ e. absurd (omega (arith, e)));
         code = first.0;
         there = first.1;
@@ -200,7 +200,7 @@ module _ (runs : RunLaws) (compose : RunsCompose) (W E : Type 0) (Outer : W → 
               activations = a ∷ others;
               under_way = all.1;
               t = scalar_ty row.answer;
-              fits = scalar_alone [] (shapes z.p.unit) (record { globals = []; objects = [] }) (layout_of z.p.unit objects) row.answer (z.p.meaning n vs world).answer scalar;
+              fits = scalar_alone [] (shapes z.p.unit) (record { globals = []; objects = [] }) (store_typing z.p.unit objects) row.answer (z.p.meaning n vs world).answer scalar;
               answer = result ∙ sym (word_alone (unit_scope z.p.unit) (bases W E Outer z objects []) [] (record { globals = []; objects = [] }) row.answer (z.p.meaning n vs world).answer scalar);
               ahead = subst (λ y. Awaits (text W E Outer z) (a ∷ others) y debt (scalar_ty row.answer) (into p rest) work (λ acts to left. Ahead (text W E Outer z) acts to left work)) (sym b.at)
                   (record { left = left; shallow = omega (arith, deep); few = omega (arith, few) }, jal_at.1, subst (λ y. Block (text W E Outer z) a.function y debt rest (λ to left. Ahead (text W E Outer z) (a ∷ others) to left work)) len block);

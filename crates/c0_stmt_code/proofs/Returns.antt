@@ -6,7 +6,7 @@ use Rattle.mips_table.specs.declared.inst.Inst.{Inst}
 use Rattle.mips_table.specs.declared.inst.Inst.TheVariants.{Lw, Sw, Jr}
 use Rattle.mips_table.specs.declared.effect.Effect.TheVariants.{Set}
 use Rattle.mips_table.specs.Device.{Idle}
-use Rattle.mips_table.specs.Code.{Contents, reg, with_reg, Behind, World, Sound, Configuration as Machine, at_with, Reaches, RunLaws, CodeAt}
+use Rattle.mips_table.specs.Code.{Contents, reg, with_reg, Behind, World, Sound, CodeState, at_with, Reaches, RunLaws, CodeAt}
 use Rattle.masm.specs.Says.{Reads}
 use Rattle.masm.specs.Laws.{RunsCompose, JumpsLead, StraightRuns}
 use Rattle.c0_tree.specs.Size.{nodes}
@@ -18,28 +18,28 @@ use Rattle.c0_meaning.specs.Value.{Value}
 use Rattle.c0_meaning.specs.State.{Frame}
 use Rattle.c0_meaning.specs.Evaluation.{Costed, costs, value_of}
 use Rattle.c0_meaning.specs.Operators.{faulted, stuck}
-use Rattle.c0_meaning.specs.World.{Cost, units, plus, Configuration, ended}
+use Rattle.c0_meaning.specs.World.{Cost, units, plus, Configuration, calls_ended}
 use Rattle.c0_meaning.specs.Running.{Target, into, outward, Work, then_go, deliver, store}
-use Rattle.c0_meaning.specs.TypedState.{Fits, layout_of}
+use Rattle.c0_meaning.specs.TypedState.{Fits, store_typing}
 use Rattle.c0_expr_code.specs.Scope.{Scope}
 use Rattle.c0_expr_code.specs.Code.{frame_back, on_spot, low, made, value_code}
-use Rattle.c0_expr_code.specs.Relation.{Keeps, Gives, Comes, Splits}
+use Rattle.c0_expr_code.specs.Relation.{KeepsRegisters, HoldsValue, Evaluates, Splits}
 use Rattle.c0_stmt_code.specs.Code.{calls_in, frame_spot, end_code, restore_code, frame_return, register_return, exit_code, answer_code, stored_code}
 use Rattle.c0_stmt_code.specs.Setup.{Setup}
 use Rattle.c0_stmt_code.specs.Journey.{Led}
-use Rattle.c0_stmt_code.specs.Ahead.{Activation, IsAnswered, Block, Awaits, ReturnStands, Ahead}
-use Rattle.c0_stmt_code.specs.Standing.{text, scope, bases, end_of, unit_scope, word_of_value, Waiting, Runs, UnderWay, Stands}
-use Rattle.c0_stmt_code.proofs.Needs.{HeldStays, TypedStays, FunctionsAre, LengthsFit}
-use Rattle.c0_stmt_code.proofs.Ways.{none, on, of}
+use Rattle.c0_stmt_code.specs.Ahead.{Activation, HasAnswerPlace, Block, Awaits, ReturnStands, Ahead}
+use Rattle.c0_stmt_code.specs.Standing.{text, scope, bases, end_of, unit_scope, word_of_value, Waiting, FunctionRuns, UnderWay, ConfigurationStands}
+use Rattle.c0_stmt_code.proofs.Premises.{HeldStays, TypedStays, FunctionsAre, LengthsFit}
+use Rattle.c0_stmt_code.proofs.RunStretches.{none, on, of}
 use Rattle.c0_stmt_code.proofs.Blocks.{front, back}
 use Rattle.c0_stmt_code.proofs.Costs.{value_within}
-use Rattle.c0_stmt_code.proofs.Held.{word_same}
+use Rattle.c0_stmt_code.proofs.ValuesStay.{word_same}
 use Rattle.c0_stmt_code.proofs.Places.{its_exprs, its_ready, store_in}
 use Rattle.c0_stmt_code.proofs.State.{rest_of, state_of, standing_at, Exprs}
 use Rattle.c0_stmt_code.proofs.Spots.{other_reg, same_reg, read_is, like_read, place_steps, few_steps, on_place}
 use Rattle.c0_stmt_code.proofs.Rooms.{frame_words, frame_on, variables_same}
 use Rattle.c0_stmt_code.proofs.Frames.{frame_address, ends}
-use Rattle.c0_stmt_code.proofs.Sim.{GoesOn, Path, stands_on, then_splits}
+use Rattle.c0_stmt_code.proofs.StepSimulation.{GoesOn, Path, stands_on, then_splits}
 
 -- the way back of a function that has a frame
 module _ (compose : RunsCompose) (w : World) (sound : Sound w) (straight : StraightRuns w) (jumps : JumpsLead w) where
@@ -118,18 +118,18 @@ module _ (compose : RunsCompose) (w : World) (sound : Sound w) (straight : Strai
       let two = led compose w sound straight jumps 31 (k + 1) to (with_reg c 31 (4 * to)) d idle (read_is (with_reg c 31 (4 * to)).regs 31 (λ q. absurd (omega (arith, q))) ∙ same_reg c.regs 31 (4 * to) (λ q. absurd (omega (arith, q)))) code.1.0 in
       (with_reg c 31 (4 * to), record { memory = refl; special = refl; others = λ x ne. other_reg c.regs 31 (4 * to) x ne }, compose.joined w 1 1 _ _ _ one two)
 
-pub comes_splits : {A : Type 0} (w : World) (sc : Scope) (own n to : ℕ) (c : Contents) (d : Behind) (Q : A → Contents → Type 0) (e : Costed A) → Comes w sc own n to c d Q e → Splits w sc own n (λ x. to) c d Q e
+pub comes_splits : {A : Type 0} (w : World) (sc : Scope) (own n to : ℕ) (c : Contents) (d : Behind) (Q : A → Contents → Type 0) (e : Costed A) → Evaluates w sc own n to c d Q e → Splits w sc own n (λ x. to) c d Q e
 comes_splits w sc own n to c d Q (costs k (Ok x)) h = h
 comes_splits w sc own n to c d Q (costs k (Err (faulted f))) h = h
 comes_splits w sc own n to c d Q (costs k (Err stuck)) h = absurd h
 
-pub keeps_zero : (r d : ℕ) (a b : Contents) → d < 20 → Keeps r d a b → Keeps 0 0 a b
+pub keeps_zero : (r d : ℕ) (a b : Contents) → d < 20 → KeepsRegisters r d a b → KeepsRegisters 0 0 a b
 keeps_zero r d a b lt h = record { memory = h.memory; special = h.special; below = λ x n m l. absurd (omega (arith, l)); above = λ x n l. h.above x (λ e. absurd (omega (arith, e, l, lt))) l }
 
 module _ (runs : RunLaws) (compose : RunsCompose) (W E : Type 0) (Outer : W → Contents → Behind → Type 0) (z : Setup W E Outer) (jumps : JumpsLead z.w) (straight : StraightRuns z.w)
     (held : HeldStays (shapes z.p.unit)) (typing : TypedStays z.p.unit) (functions : FunctionsAre z.table z.p.unit) (exprs : Exprs W E Outer z) (fit : (f : CFunction) → LengthsFit (scope W E Outer z f))
     (objects : List Ty) (gv hv : Value) (hw : ℕ) (g : Frame) (fs : List Frame) (world : W) (calls : List (List E)) (answer : Option Value) (c : Contents) (d : Behind) (a : Activation) (others : List Activation)
-    (st : Stands W E Outer z objects (standing_at gv hv hw (g ∷ fs) world calls answer) c d) (r : Runs W E Outer z objects c a g fs) (waits : Waiting W E Outer z objects c.memory others fs)
+    (st : ConfigurationStands W E Outer z objects (standing_at gv hv hw (g ∷ fs) world calls answer) c d) (r : FunctionRuns W E Outer z objects c a g fs) (waits : Waiting W E Outer z objects c.memory others fs)
     (k debt : ℕ) where
   abbrev sc : Scope
   sc = scope W E Outer z a.function
@@ -141,11 +141,11 @@ module _ (runs : RunLaws) (compose : RunsCompose) (W E : Type 0) (Outer : W → 
   there = standing_at gv hv hw fs world calls answer
 
   -- the data stand without the newest frame
-  stands_below : (c' : Contents) → c'.memory ≡ c.memory → c'.special ≡ c.special → c'.regs 28 ≡ c.regs 28 → c'.regs 30 ≡ c.regs 30 → Stands W E Outer z objects there c' d
+  stands_below : (c' : Contents) → c'.memory ≡ c.memory → c'.special ≡ c.special → c'.regs 28 ≡ c.regs 28 → c'.regs 30 ≡ c.regs 30 → ConfigurationStands W E Outer z objects there c' d
   stands_below c' memory special r28 r30 =
       let on = frame_on z.p.unit g fs a.function r.is in
       let o = st.stack_room in
-      let k : Keeps 0 0 c (record c { memory = c'.memory; special = c'.special }) = record { memory = memory; special = special; below = λ x n m l. refl; above = λ x n l. refl } in
+      let k : KeepsRegisters 0 0 c (record c { memory = c'.memory; special = c'.special }) = record { memory = memory; special = special; below = λ x n m l. refl; above = λ x n l. refl } in
       let s = stands_on runs compose W E Outer z jumps objects here c (record c { memory = c'.memory; special = c'.special }) d k st in
       record {
         typed = typing.popped objects (state_of gv hv hw (g ∷ fs)) g fs refl st.typed;
@@ -180,8 +180,8 @@ module _ (runs : RunLaws) (compose : RunsCompose) (W E : Type 0) (Outer : W → 
   )
 
   -- the answer is handed over
-  delivers : (l m : ℕ) (cost : Cost) (h0 : Configuration W E) (s0 : Machine) (target : Target) (v : Value) (work : List Work) (t : Ty) (c' : Contents) → Path runs compose W E Outer z jumps l m s0 (at_with a.to c' d) → cost.own ≤ 2048 * l → m ≤ 30 * cost.own → length calls ≡ ended h0
-      → c'.memory ≡ c.memory → c'.special ≡ c.special → c'.regs 28 ≡ c.regs 28 → c'.regs 30 ≡ c.regs 30 → c'.regs 29 ≡ 4 * end_of W E Outer z fs → Fits (shapes z.p.unit) (layout_of z.p.unit objects) t v → c'.regs 2 ≡ word_of_value W E Outer z objects v
+  delivers : (l m : ℕ) (cost : Cost) (h0 : Configuration W E) (s0 : CodeState) (target : Target) (v : Value) (work : List Work) (t : Ty) (c' : Contents) → Path runs compose W E Outer z jumps l m s0 (at_with a.to c' d) → cost.own ≤ 2048 * l → m ≤ 30 * cost.own → length calls ≡ calls_ended h0
+      → c'.memory ≡ c.memory → c'.special ≡ c.special → c'.regs 28 ≡ c.regs 28 → c'.regs 30 ≡ c.regs 30 → c'.regs 29 ≡ 4 * end_of W E Outer z fs → Fits (shapes z.p.unit) (store_typing z.p.unit objects) t v → c'.regs 2 ≡ word_of_value W E Outer z objects v
       → Awaits (text W E Outer z) others a.to debt t target work (λ acts at left. Ahead (text W E Outer z) acts at left work) → GoesOn W E Outer z debt h0 s0 (deliver cost target v work there)
   delivers l m cost h0 s0 target v work t c' path low high en memory special r28 r30 r29 fits is ahead = by_target others fs waits target work ahead refl
     where
@@ -242,7 +242,7 @@ module _ (runs : RunLaws) (compose : RunsCompose) (W E : Type 0) (Outer : W → 
       let k1 : ℕ = k + length (value_code sc result 2 8) in
       let exit_is : exit_code sc (calls_in a.function.body) ≡ frame_return sc (calls_in a.function.body) = cond-false sc.in_registers (register_return (calls_in a.function.body)) (frame_return sc (calls_in a.function.body)) form in
       let exit_at = subst (CodeAt z.w k1) exit_is (back z.w k (value_code sc result 2 8) (exit_code sc (calls_in a.function.body)) stands.code) in
-      then_splits runs compose W E Outer z jumps 0 0 0 debt 1 (nodes result) (units 0) here here (at_with k c d) a.function k (λ v. k1) c d objects (Gives sc (bases W E Outer z objects (g ∷ fs)) 2 8 2 (ty_of a.function.answer) c) (value_of result here.state)
+      then_splits runs compose W E Outer z jumps 0 0 0 debt 1 (nodes result) (units 0) here here (at_with k c d) a.function k (λ v. k1) c d objects (HoldsValue sc (bases W E Outer z objects (g ∷ fs)) 2 8 2 (ty_of a.function.answer) c) (value_of result here.state)
       (λ cost v. deliver cost target v work there) (λ v q. absurd (omega (arith, q, some))) (none runs z.w (at_with k c d)) (omega arith) (omega arith) st (value_within result here.state) (comes_splits z.w sc 0 k k1 c d _ (value_of result here.state) run)
       (λ u v c1 least most gives path.
       let fo = frame_on z.p.unit g fs a.function r.is in
@@ -287,7 +287,7 @@ module _ (runs : RunLaws) (compose : RunsCompose) (W E : Type 0) (Outer : W → 
       let k1 : ℕ = k + length (value_code sc result 2 8) in
       let exit_is : exit_code sc (calls_in a.function.body) ≡ register_return (calls_in a.function.body) = cond-true sc.in_registers (register_return (calls_in a.function.body)) (frame_return sc (calls_in a.function.body)) form in
       let exit_at = subst (CodeAt z.w k1) exit_is (back z.w k (value_code sc result 2 8) (exit_code sc (calls_in a.function.body)) stands.code) in
-      then_splits runs compose W E Outer z jumps 0 0 0 debt 1 (nodes result) (units 0) here here (at_with k c d) a.function k (λ v. k1) c d objects (Gives sc (bases W E Outer z objects (g ∷ fs)) 2 8 2 (ty_of a.function.answer) c) (value_of result here.state)
+      then_splits runs compose W E Outer z jumps 0 0 0 debt 1 (nodes result) (units 0) here here (at_with k c d) a.function k (λ v. k1) c d objects (HoldsValue sc (bases W E Outer z objects (g ∷ fs)) 2 8 2 (ty_of a.function.answer) c) (value_of result here.state)
       (λ cost v. deliver cost target v work there) (λ v q. absurd (omega (arith, q, some))) (none runs z.w (at_with k c d)) (omega arith) (omega arith) st (value_within result here.state) (comes_splits z.w sc 0 k k1 c d _ (value_of result here.state) run)
       (λ u v c1 least most gives path.
       let fo = frame_on z.p.unit g fs a.function r.is in
@@ -315,8 +315,8 @@ module _ (runs : RunLaws) (compose : RunsCompose) (W E : Type 0) (Outer : W → 
       few_nodes h = h.few
 
   -- an answer goes to a place in memory
-  pub finishes : (place : CExpr) (v : Value) (rest : CStmts) (work : List Work) (t : Ty) → Fits (shapes z.p.unit) (layout_of z.p.unit objects) t v → c.regs 2 ≡ word_of_value W E Outer z objects v → (made sc place).stands ≡ None
-      → IsAnswered (text W E Outer z) a.function place t → CodeAt z.w k (answer_code sc place) → Block (text W E Outer z) a.function (k + length (answer_code sc place)) debt rest (λ to left. Ahead (text W E Outer z) (a ∷ others) to left work)
+  pub finishes : (place : CExpr) (v : Value) (rest : CStmts) (work : List Work) (t : Ty) → Fits (shapes z.p.unit) (store_typing z.p.unit objects) t v → c.regs 2 ≡ word_of_value W E Outer z objects v → (made sc place).stands ≡ None
+      → HasAnswerPlace (text W E Outer z) a.function place t → CodeAt z.w k (answer_code sc place) → Block (text W E Outer z) a.function (k + length (answer_code sc place)) debt rest (λ to left. Ahead (text W E Outer z) (a ∷ others) to left work)
       → GoesOn W E Outer z debt here (at_with k c d) (store (units 0) place v rest work here)
   finishes place v rest work t fits is stands answered code block =
       let same : answer_code sc place ≡ on_spot (λ b y. Sw 2 b y) 8 ((made sc place).place 8) = ap (λ o. stored_code 2 8 o (made sc place).place) stands in

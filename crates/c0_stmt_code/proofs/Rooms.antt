@@ -3,12 +3,12 @@ use Rattle.std.specs.Prelude.{map, slice_get, Some, unwrap_or, if◌then◌else�
 use Rattle.std.specs.Option.{option_map}
 use Rattle.std.proofs.Common.{◌≡◌, ◌≢◌, ℕ, ◌+◌, ◌-◌, ◌<◌, ◌≤◌, Bool, true, false, List, [], ◌∷◌, ◌++◌, refl, ap, ap₂, ◌∙◌, arith, eq-eqb, ne_eqb}
 use Rattle.std.proofs.lemmas.Bool.{cond-true, cond-false}
-use Rattle.mips_table.specs.Code.{Contents, Behind, Configuration as Machine, put}
+use Rattle.mips_table.specs.Code.{Contents, Behind, CodeState, put}
 use Rattle.c0_tree.specs.Tree.{CDecl, CFunction, CUnit}
 use Rattle.c0_meaning.specs.Ty.{Ty}
 use Rattle.c0_meaning.specs.Env.{Typed, Shape, typed_of}
 use Rattle.c0_meaning.specs.Words.{all_words}
-use Rattle.c0_meaning.specs.Limits.{frame, locals_of}
+use Rattle.c0_meaning.specs.Limits.{words_of_frame, locals_of}
 use Rattle.c0_meaning.specs.Sound.{shapes}
 use Rattle.c0_meaning.specs.State.{Frame, stack_words}
 use Rattle.c0_meaning.specs.TypedState.{types_of}
@@ -16,8 +16,8 @@ use Rattle.c0_expr_code.specs.Bases.{words_of_all, RegionHeld}
 use Rattle.c0_stmt_code.specs.Setup.{Setup}
 use Rattle.c0_stmt_code.specs.Ahead.{Activation}
 use Rattle.c0_stmt_code.specs.Code.{calls_in}
-use Rattle.c0_stmt_code.specs.Standing.{scope, bases, end_of, VariablesHeld, Waiting, Runs}
-use Rattle.c0_stmt_code.proofs.Needs.{HeldStays}
+use Rattle.c0_stmt_code.specs.Standing.{scope, bases, end_of, VariablesHeld, Waiting, FunctionRuns}
+use Rattle.c0_stmt_code.proofs.Premises.{HeldStays}
 
 -- a word that is written, and the others
 pub put_same : (m : ℕ → ℕ) (a v : ℕ) → put m a v a ≡ v
@@ -36,11 +36,11 @@ words_joined structs [] bs = words_by_types structs (map typed_of bs) ∙ omega 
 words_joined structs (a ∷ ds) bs = let e = words_joined structs ds bs in omega (arith, e)
 
 -- a frame has three words beside its variables
-pub frame_words : (u : CUnit) (f : CFunction) → words_of_all (shapes u) (types_of (map typed_of (f.params ++ locals_of f.body))) + 3 ≡ frame (shapes u) f
+pub frame_words : (u : CUnit) (f : CFunction) → words_of_all (shapes u) (types_of (map typed_of (f.params ++ locals_of f.body))) + 3 ≡ words_of_frame (shapes u) f
 frame_words u f = let e = words_joined (shapes u) f.params (locals_of f.body) in omega (arith, e)
 
-pub frame_on : (u : CUnit) (g : Frame) (fs : List Frame) (f : CFunction) → slice_get u.functions g.function ≡ Some f → stack_words u (g ∷ fs) ≡ frame (shapes u) f + stack_words u fs
-frame_on u g fs f is = ap (λ o. unwrap_or (option_map (frame (shapes u)) o) 0 + stack_words u fs) is
+pub frame_on : (u : CUnit) (g : Frame) (fs : List Frame) (f : CFunction) → slice_get u.functions g.function ≡ Some f → stack_words u (g ∷ fs) ≡ words_of_frame (shapes u) f + stack_words u fs
+frame_on u g fs f is = ap (λ o. unwrap_or (option_map (words_of_frame (shapes u)) o) 0 + stack_words u fs) is
 
 module _ (W E : Type 0) (Outer : W → Contents → Behind → Type 0) (z : Setup W E Outer) (held : HeldStays (shapes z.p.unit)) where
   -- the variables in a frame stay while its words do
@@ -48,13 +48,13 @@ module _ (W E : Type 0) (Outer : W → Contents → Behind → Type 0) (z : Setu
       → ((x : ℕ) → end_of W E Outer z fs + 3 ≤ x → x < end_of W E Outer z (g ∷ fs) → m' x ≡ m x) → VariablesHeld W E Outer z objects r m f (g ∷ fs) → VariablesHeld W E Outer z objects r' m' f (g ∷ fs)
   variables_same objects r r' m m' f g fs b form is e v = by_form (scope W E Outer z f).in_registers form v
     where
-      by_form : (b : Bool) → b ≡ false → RegionHeld (scope W E Outer z f) (bases W E Outer z objects (g ∷ fs)) (if b then r else m) (if b then 20 else (end_of W E Outer z (g ∷ fs) - frame (shapes z.p.unit) f) + 3) (types_of (scope W E Outer z f).env.locals) g.variables
-          → RegionHeld (scope W E Outer z f) (bases W E Outer z objects (g ∷ fs)) (if b then r' else m') (if b then 20 else (end_of W E Outer z (g ∷ fs) - frame (shapes z.p.unit) f) + 3) (types_of (scope W E Outer z f).env.locals) g.variables
+      by_form : (b : Bool) → b ≡ false → RegionHeld (scope W E Outer z f) (bases W E Outer z objects (g ∷ fs)) (if b then r else m) (if b then 20 else (end_of W E Outer z (g ∷ fs) - words_of_frame (shapes z.p.unit) f) + 3) (types_of (scope W E Outer z f).env.locals) g.variables
+          → RegionHeld (scope W E Outer z f) (bases W E Outer z objects (g ∷ fs)) (if b then r' else m') (if b then 20 else (end_of W E Outer z (g ∷ fs) - words_of_frame (shapes z.p.unit) f) + 3) (types_of (scope W E Outer z f).env.locals) g.variables
       by_form true q h = absurd (cc)
       by_form false q h =
           let on = frame_on z.p.unit g fs f is in
           let ws = frame_words z.p.unit f in
-          held.same (scope W E Outer z f) (bases W E Outer z objects (g ∷ fs)) m m' ((end_of W E Outer z (g ∷ fs) - frame (shapes z.p.unit) f) + 3) (types_of (scope W E Outer z f).env.locals) g.variables refl
+          held.same (scope W E Outer z f) (bases W E Outer z objects (g ∷ fs)) m m' ((end_of W E Outer z (g ∷ fs) - words_of_frame (shapes z.p.unit) f) + 3) (types_of (scope W E Outer z f).env.locals) g.variables refl
           (λ x le lt. e x (omega (arith, on, le)) (omega (arith, on, ws, lt))) h
 
   -- the functions that wait stay while the words of their frames do
@@ -77,7 +77,7 @@ module _ (W E : Type 0) (Outer : W → Contents → Behind → Type 0) (z : Setu
 
   -- the function that runs stays while the registers from 20 on and its frame's words do
   pub runs_same : (objects : List Ty) (c c' : Contents) (a : Activation) (g : Frame) (fs : List Frame) → ((x : ℕ) → 20 ≤ x → c'.regs x ≡ c.regs x) → ((x : ℕ) → end_of W E Outer z fs ≤ x → x < end_of W E Outer z (g ∷ fs) → c'.memory x ≡ c.memory x)
-      → Runs W E Outer z objects c a g fs → Runs W E Outer z objects c' a g fs
+      → FunctionRuns W E Outer z objects c a g fs → FunctionRuns W E Outer z objects c' a g fs
   runs_same objects c c' a g fs regs words h =
       let on = frame_on z.p.unit g fs a.function h.is in
       let ws = frame_words z.p.unit a.function in
@@ -88,11 +88,11 @@ module _ (W E : Type 0) (Outer : W → Contents → Behind → Type 0) (z : Setu
         variables = by_form (scope W E Outer z a.function).in_registers h.variables;
       }
     where
-      by_form : (b : Bool) → RegionHeld (scope W E Outer z a.function) (bases W E Outer z objects (g ∷ fs)) (if b then c.regs else c.memory) (if b then 20 else (end_of W E Outer z (g ∷ fs) - frame (shapes z.p.unit) a.function) + 3) (types_of (scope W E Outer z a.function).env.locals) g.variables
-          → RegionHeld (scope W E Outer z a.function) (bases W E Outer z objects (g ∷ fs)) (if b then c'.regs else c'.memory) (if b then 20 else (end_of W E Outer z (g ∷ fs) - frame (shapes z.p.unit) a.function) + 3) (types_of (scope W E Outer z a.function).env.locals) g.variables
+      by_form : (b : Bool) → RegionHeld (scope W E Outer z a.function) (bases W E Outer z objects (g ∷ fs)) (if b then c.regs else c.memory) (if b then 20 else (end_of W E Outer z (g ∷ fs) - words_of_frame (shapes z.p.unit) a.function) + 3) (types_of (scope W E Outer z a.function).env.locals) g.variables
+          → RegionHeld (scope W E Outer z a.function) (bases W E Outer z objects (g ∷ fs)) (if b then c'.regs else c'.memory) (if b then 20 else (end_of W E Outer z (g ∷ fs) - words_of_frame (shapes z.p.unit) a.function) + 3) (types_of (scope W E Outer z a.function).env.locals) g.variables
       by_form true v = held.same (scope W E Outer z a.function) (bases W E Outer z objects (g ∷ fs)) c.regs c'.regs 20 (types_of (scope W E Outer z a.function).env.locals) g.variables refl (λ x le lt. regs x le) v
       by_form false v =
           let on = frame_on z.p.unit g fs a.function h.is in
           let ws = frame_words z.p.unit a.function in
-          held.same (scope W E Outer z a.function) (bases W E Outer z objects (g ∷ fs)) c.memory c'.memory ((end_of W E Outer z (g ∷ fs) - frame (shapes z.p.unit) a.function) + 3) (types_of (scope W E Outer z a.function).env.locals) g.variables refl
+          held.same (scope W E Outer z a.function) (bases W E Outer z objects (g ∷ fs)) c.memory c'.memory ((end_of W E Outer z (g ∷ fs) - words_of_frame (shapes z.p.unit) a.function) + 3) (types_of (scope W E Outer z a.function).env.locals) g.variables refl
           (λ x le lt. words x (omega (arith, on, le)) (omega (arith, on, ws, lt))) v

@@ -9,7 +9,7 @@ use Rattle.mips_table.specs.Device.{Idle}
 use Rattle.mips_table.specs.Code.{put, put_reg, Contents, reg, with_reg, Behind, World, at_with, Reaches, CodeAt}
 use Rattle.masm.specs.Says.{Gives, Writes}
 use Rattle.masm.specs.Laws.{RunsCompose, StraightRuns}
-use Rattle.c0_expr_code.specs.Code.{Spot, is_near, low, high, on_spot}
+use Rattle.c0_expr_code.specs.Code.{AddressingMode, is_near, low, high, on_spot}
 use Rattle.c0_stmt_code.proofs.Blocks.{front, back}
 
 -- registers that are written, and the others
@@ -44,21 +44,21 @@ pub record Near (r : ℕ) (b a : Contents) : Type 0 where
   pub others : (x : ℕ) → x ≢ 1 → x ≢ r → a.regs x ≡ b.regs x
 
 -- code on a place isn't empty
-pub spot_longer : (i : ℕ → ℕ → Inst) (r : ℕ) (x : Spot) → length x.code < length (on_spot i r x)
+pub spot_longer : (i : ℕ → ℕ → Inst) (r : ℕ) (x : AddressingMode) → length x.code < length (on_spot i r x)
 spot_longer i r x = elim (cases_Bool (is_near x.displacement)) [
   | inl e ↦ let same = ap (λ is. length (x.code ++ is)) (cond-true (is_near x.displacement) (i x.base (low x.displacement) ∷ []) (Lui 1 (high x.displacement) ∷ Addu r x.base 1 ∷ i r (low x.displacement) ∷ []) e) in omega (arith, same, length-append x.code (i x.base (low x.displacement) ∷ []))
   | inr e ↦ let same = ap (λ is. length (x.code ++ is)) (cond-false (is_near x.displacement) (i x.base (low x.displacement) ∷ []) (Lui 1 (high x.displacement) ∷ Addu r x.base 1 ∷ i r (low x.displacement) ∷ []) e) in omega (arith, same, length-append x.code (Lui 1 (high x.displacement) ∷ Addu r x.base 1 ∷ i r (low x.displacement) ∷ []))
 ]
 
 -- the code that a place needs first
-pub spot_front : (w : World) (n : ℕ) (i : ℕ → ℕ → Inst) (r : ℕ) (x : Spot) → CodeAt w n (on_spot i r x) → CodeAt w n x.code
+pub spot_front : (w : World) (n : ℕ) (i : ℕ → ℕ → Inst) (r : ℕ) (x : AddressingMode) → CodeAt w n (on_spot i r x) → CodeAt w n x.code
 spot_front w n i r x code = front w n x.code (if is_near x.displacement then i x.base (low x.displacement) ∷ [] else Lui 1 (high x.displacement) ∷ Addu r x.base 1 ∷ i r (low x.displacement) ∷ []) code
 
 -- how many steps an instruction on a place takes, behind the place's own code
-abbrev pub place_steps : Spot → ℕ
+abbrev pub place_steps : AddressingMode → ℕ
 place_steps x = if is_near x.displacement then 1 else 3
 
-pub few_steps : (x : Spot) → place_steps x ≤ 3
+pub few_steps : (x : AddressingMode) → place_steps x ≤ 3
 few_steps x = elim (cases_Bool (is_near x.displacement)) [
   | inl e ↦ let one : place_steps x ≡ 1 = cond-true (is_near x.displacement) 1 3 e in omega (arith, one)
   | inr e ↦ let three : place_steps x ≡ 3 = cond-false (is_near x.displacement) 1 3 e in omega (arith, three)
@@ -70,7 +70,7 @@ back_is_near k le lt = eq-eqb (extended (low k)) k (cond-false (nat_lt (k % 2 ^ 
 
 module _ (compose : RunsCompose) (w : World) (straight : StraightRuns w) where
   -- an instruction on a place, where it is known what it does at the place's address
-  pub on_place : (P : Contents → Type 0) (i : ℕ → ℕ → Inst) (x : Spot) (r n : ℕ) (b : Contents) (k : Behind) → k.pending ≡ Idle → r ≢ 0 → x.base ≢ 1 → CodeAt w n (on_spot i r x)
+  pub on_place : (P : Contents → Type 0) (i : ℕ → ℕ → Inst) (x : AddressingMode) (r n : ℕ) (b : Contents) (k : Behind) → k.pending ≡ Idle → r ≢ 0 → x.base ≢ 1 → CodeAt w n (on_spot i r x)
       → ((q m : ℕ) (a : Contents) → w.code m ≡ Some (i q (low x.displacement)) → Near r b a → sum (reg a.regs q) (extended (low x.displacement)) ≡ (reg b.regs x.base + x.displacement) % 2 ^ 32 → (c : Contents) × P c × Reaches w 1 (at_with m a k) (at_with (m + 1) c k))
       → (c : Contents) × P c × Reaches w (place_steps x) (at_with (n + length x.code) b k) (at_with (n + length (on_spot i r x)) c k)
   on_place P i x r n b k idle rz bz code law = elim (cases_Bool (is_near x.displacement)) [
@@ -103,7 +103,7 @@ module _ (compose : RunsCompose) (w : World) (straight : StraightRuns w) where
     pub special : c.special ≡ b.special
     pub others : (x : ℕ) → x ≢ 1 → x ≢ r → c.regs x ≡ b.regs x
 
-  pub writes : (q : ℕ) (x : Spot) (r n a v : ℕ) (b : Contents) (k : Behind) → k.pending ≡ Idle → r ≢ 0 → x.base ≢ 1 → q ≢ 1 → q ≢ r → CodeAt w n (on_spot (λ y z. Sw q y z) r x) → (reg b.regs x.base + x.displacement) % 2 ^ 32 ≡ 4 * a → a < w.words → w.kept a ≡ None → reg b.regs q ≡ v
+  pub writes : (q : ℕ) (x : AddressingMode) (r n a v : ℕ) (b : Contents) (k : Behind) → k.pending ≡ Idle → r ≢ 0 → x.base ≢ 1 → q ≢ 1 → q ≢ r → CodeAt w n (on_spot (λ y z. Sw q y z) r x) → (reg b.regs x.base + x.displacement) % 2 ^ 32 ≡ 4 * a → a < w.words → w.kept a ≡ None → reg b.regs q ≡ v
       → (c : Contents) × Wrote r a v b c × Reaches w (place_steps x) (at_with (n + length x.code) b k) (at_with (n + length (on_spot (λ y z. Sw q y z) r x)) c k)
   writes q x r n a v b k idle rz bz qz qr code is inside kept holds =
       on_place (Wrote r a v b) (λ y z. Sw q y z) x r n b k idle rz bz code

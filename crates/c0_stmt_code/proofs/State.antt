@@ -1,32 +1,32 @@
 -- The functions under way, and the state in which the code of expressions runs.
 use Rattle.std.specs.Prelude.{map, slice_get, if◌then◌else◌, Option, Some}
 use Rattle.std.proofs.Common.{◌≡◌, ℕ, ◌+◌, ◌-◌, ◌*◌, ◌≤◌, Bool, true, false, List, [], ◌∷◌, refl, sym, ap, ap₂, ◌∙◌, subst, arith}
-use Rattle.mips_table.specs.Code.{Contents, Behind, Configuration as Machine}
+use Rattle.mips_table.specs.Code.{Contents, Behind, CodeState}
 use Rattle.c0_tree.specs.Tree.{CFunction}
 use Rattle.c0_meaning.specs.Ty.{Ty}
 use Rattle.c0_meaning.specs.Env.{typed_of}
 use Rattle.c0_meaning.specs.Sound.{shapes}
 use Rattle.c0_meaning.specs.Value.{Value}
-use Rattle.c0_meaning.specs.State.{Frame, State, stack_words}
+use Rattle.c0_meaning.specs.State.{Frame, C0State, stack_words}
 use Rattle.c0_meaning.specs.World.{Configuration}
-use Rattle.c0_meaning.specs.Limits.{frame}
+use Rattle.c0_meaning.specs.Limits.{words_of_frame}
 use Rattle.c0_meaning.specs.TypedState.{types_of, IsTypedWith}
 use Rattle.c0_expr_code.specs.Scope.{Scope}
 use Rattle.c0_expr_code.specs.Bases.{words_of_all, RegionHeld}
-use Rattle.c0_expr_code.specs.Relation.{Ready, Keeps}
+use Rattle.c0_expr_code.specs.Relation.{Ready, KeepsRegisters}
 use Rattle.c0_stmt_code.specs.Code.{calls_in}
 use Rattle.c0_stmt_code.specs.Setup.{Setup}
 use Rattle.c0_stmt_code.specs.Ahead.{Activation, env_in}
-use Rattle.c0_stmt_code.specs.Standing.{AreDeclared, text, scope, bases, end_of, unit_scope, Waiting, Runs, UnderWay, Stands}
-use Rattle.c0_stmt_code.proofs.Needs.{ExpressionsDo, HeldStays}
-use Rattle.c0_stmt_code.proofs.Held.{Rest, region}
+use Rattle.c0_stmt_code.specs.Standing.{AreDeclared, text, scope, bases, end_of, unit_scope, Waiting, FunctionRuns, UnderWay, ConfigurationStands}
+use Rattle.c0_stmt_code.proofs.Premises.{ExpressionsDo, HeldStays}
+use Rattle.c0_stmt_code.proofs.ValuesStay.{Rest, region}
 
 -- what a scope has beside structs and globals
 abbrev pub rest_of : Scope → Rest
 rest_of sc = record { functions = sc.env.functions; primitives = sc.env.primitives; locals = sc.env.locals; in_registers = sc.in_registers; frame = sc.frame; exit = sc.exit }
 
 -- a configuration by its parts
-abbrev pub state_of : Value → Value → ℕ → List Frame → State
+abbrev pub state_of : Value → Value → ℕ → List Frame → C0State
 state_of gv hv hw frames = record { global_values = gv; heap_values = hv; heap_words = hw; frames = frames }
 
 abbrev pub standing_at : {W E : Type 0} → Value → Value → ℕ → List Frame → W → List (List E) → Option Value → Configuration W E
@@ -35,13 +35,13 @@ standing_at gv hv hw frames world calls answer = record { state = state_of gv hv
 module _ (W E : Type 0) (Outer : W → Contents → Behind → Type 0) (z : Setup W E Outer) where
   -- what is known of the expressions of each function that runs
   abbrev pub Exprs : Type 0
-  Exprs = (objects : List Ty) (s : State) (g : Frame) (fs : List Frame) (f : CFunction) → s.frames ≡ g ∷ fs → slice_get z.p.unit.functions g.function ≡ Some f → IsTypedWith z.p.unit objects s → AreDeclared (shapes z.p.unit) objects
+  Exprs = (objects : List Ty) (s : C0State) (g : Frame) (fs : List Frame) (f : CFunction) → s.frames ≡ g ∷ fs → slice_get z.p.unit.functions g.function ≡ Some f → IsTypedWith z.p.unit objects s → AreDeclared (shapes z.p.unit) objects
       → words_of_all (shapes z.p.unit) objects ≤ z.p.heap → stack_words z.p.unit (g ∷ fs) ≤ z.p.stack
       → ExpressionsDo z.w (env_in (text W E Outer z) f) (scope W E Outer z f) (bases W E Outer z objects (g ∷ fs)) s
 
   -- the state stands ready for the expressions of the function that runs
   pub ready : (objects : List Ty) (gv hv : Value) (hw : ℕ) (g : Frame) (fs : List Frame) (world : W) (calls : List (List E)) (answer : Option Value) (c : Contents) (d : Behind) (a : Activation)
-      → Stands W E Outer z objects (standing_at gv hv hw (g ∷ fs) world calls answer) c d → Runs W E Outer z objects c a g fs
+      → ConfigurationStands W E Outer z objects (standing_at gv hv hw (g ∷ fs) world calls answer) c d → FunctionRuns W E Outer z objects c a g fs
       → Ready (scope W E Outer z a.function) (bases W E Outer z objects (g ∷ fs)) (state_of gv hv hw (g ∷ fs)) c
   ready objects gv hv hw g fs world calls answer c d a st r = record {
     globals_at = st.globals_at;
@@ -55,7 +55,7 @@ module _ (W E : Type 0) (Outer : W → Contents → Behind → Type 0) (z : Setu
 
   module _ (held : HeldStays (shapes z.p.unit)) where
     -- the functions under way stay so under code of expressions
-    pub under_on : (objects : List Ty) (frames : List Frame) (c c' : Contents) (acts : List Activation) → Keeps 0 0 c c' → UnderWay W E Outer z objects c acts frames → UnderWay W E Outer z objects c' acts frames
+    pub under_on : (objects : List Ty) (frames : List Frame) (c c' : Contents) (acts : List Activation) → KeepsRegisters 0 0 c c' → UnderWay W E Outer z objects c acts frames → UnderWay W E Outer z objects c' acts frames
     under_on objects (g ∷ fs) c c' (a ∷ others) k h = (
       record {
         is = h.0.is;
@@ -66,10 +66,10 @@ module _ (W E : Type 0) (Outer : W → Contents → Behind → Type 0) (z : Setu
       subst (λ m. Waiting W E Outer z objects m others fs) (sym k.memory) h.1,
     )
       where
-        by_form : (b : Bool) → RegionHeld (scope W E Outer z a.function) (bases W E Outer z objects (g ∷ fs)) (if b then c.regs else c.memory) (if b then 20 else (end_of W E Outer z (g ∷ fs) - frame (shapes z.p.unit) a.function) + 3) (types_of (scope W E Outer z a.function).env.locals) g.variables
-            → RegionHeld (scope W E Outer z a.function) (bases W E Outer z objects (g ∷ fs)) (if b then c'.regs else c'.memory) (if b then 20 else (end_of W E Outer z (g ∷ fs) - frame (shapes z.p.unit) a.function) + 3) (types_of (scope W E Outer z a.function).env.locals) g.variables
+        by_form : (b : Bool) → RegionHeld (scope W E Outer z a.function) (bases W E Outer z objects (g ∷ fs)) (if b then c.regs else c.memory) (if b then 20 else (end_of W E Outer z (g ∷ fs) - words_of_frame (shapes z.p.unit) a.function) + 3) (types_of (scope W E Outer z a.function).env.locals) g.variables
+            → RegionHeld (scope W E Outer z a.function) (bases W E Outer z objects (g ∷ fs)) (if b then c'.regs else c'.memory) (if b then 20 else (end_of W E Outer z (g ∷ fs) - words_of_frame (shapes z.p.unit) a.function) + 3) (types_of (scope W E Outer z a.function).env.locals) g.variables
         by_form true v = held.same (scope W E Outer z a.function) (bases W E Outer z objects (g ∷ fs)) c.regs c'.regs 20 (types_of (scope W E Outer z a.function).env.locals) g.variables refl (λ x le lt. k.above x (λ e. absurd (omega (arith, e, le))) le) v
-        by_form false v = subst (λ m. RegionHeld (scope W E Outer z a.function) (bases W E Outer z objects (g ∷ fs)) m ((end_of W E Outer z (g ∷ fs) - frame (shapes z.p.unit) a.function) + 3) (types_of (scope W E Outer z a.function).env.locals) g.variables) (sym k.memory) v
+        by_form false v = subst (λ m. RegionHeld (scope W E Outer z a.function) (bases W E Outer z objects (g ∷ fs)) m ((end_of W E Outer z (g ∷ fs) - words_of_frame (shapes z.p.unit) a.function) + 3) (types_of (scope W E Outer z a.function).env.locals) g.variables) (sym k.memory) v
     under_on objects [] c c' acts k h = absurd (none acts h)
       where
         none : (acts : List Activation) → UnderWay W E Outer z objects c acts [] → ⊥

@@ -3,7 +3,7 @@ use Rattle.std.specs.Prelude.{max, ◌&&◌, ◌||◌, IsTrue, Some, None, if◌
 use Rattle.std.proofs.Common.{◌≡◌, ◌≢◌, ℕ, suc, ◌+◌, ◌*◌, ◌%◌, ◌^◌, ◌<◌, ◌≤◌, Bool, true, false, Option, List, ◌∷◌, ◌++◌, length, refl, ap, subst, arith, length-append}
 use Rattle.mips_table.specs.declared.inst.Inst.{Inst}
 use Rattle.mips_table.specs.declared.inst.Inst.TheVariants.{Sw}
-use Rattle.mips_table.specs.Code.{Contents, reg, Behind, World, Configuration as Machine, at_with, RunLaws, CodeAt}
+use Rattle.mips_table.specs.Code.{Contents, reg, Behind, World, CodeState, at_with, RunLaws, CodeAt}
 use Rattle.masm.specs.Laws.{RunsCompose, JumpsLead, StraightRuns}
 use Rattle.c0_tree.specs.Size.{need, nodes, stmts_nodes}
 use Rattle.c0_tree.specs.Tree.{CExpr, CStmts, done, next, CFunction}
@@ -21,13 +21,13 @@ use Rattle.c0_expr_code.specs.Scope.{Scope, are_free_of_calls}
 use Rattle.c0_expr_code.specs.Code.{on_spot, made, operand_code, operand_register}
 use Rattle.c0_expr_code.specs.Bases.{Bases}
 use Rattle.c0_expr_code.specs.Test.{test_code}
-use Rattle.c0_expr_code.specs.Relation.{Ready, Keeps, Gives, Source, nought, its, far, ends}
+use Rattle.c0_expr_code.specs.Relation.{Ready, KeepsRegisters, HoldsValue, Source, nought, its, far, ends}
 use Rattle.c0_stmt_code.specs.Code.{Links, are_calling, calls_in, skip, assigned_code, assign_code, otherwise, otherwise_at, choice_code, back, turn_code, while_code, stmt_code, stmts_code}
 use Rattle.c0_stmt_code.specs.Setup.{Setup}
 use Rattle.c0_stmt_code.specs.Ahead.{Activation, env_in, Skips, Block, LoopStands, Ahead}
-use Rattle.c0_stmt_code.specs.Standing.{text, scope, bases, Waiting, Runs, Stands}
-use Rattle.c0_stmt_code.proofs.Needs.{ExpressionsDo, HeldStays, TypedStays, LengthsFit}
-use Rattle.c0_stmt_code.proofs.Ways.{none}
+use Rattle.c0_stmt_code.specs.Standing.{text, scope, bases, Waiting, FunctionRuns, ConfigurationStands}
+use Rattle.c0_stmt_code.proofs.Premises.{ExpressionsDo, HeldStays, TypedStays, LengthsFit}
+use Rattle.c0_stmt_code.proofs.RunStretches.{none}
 use Rattle.c0_stmt_code.proofs.Blocks.{or_left, or_right, front, skipped, Follows, behind, block_of}
 use Rattle.c0_stmt_code.proofs.Blocks as blocks
 use Rattle.c0_stmt_code.proofs.Costs.{value_within, truth_within}
@@ -35,7 +35,7 @@ use Rattle.c0_stmt_code.proofs.Lengths.{stmts_length, stmt_some}
 use Rattle.c0_stmt_code.proofs.Places.{source_not_one, keeps_low, its_exprs, its_ready, store_in}
 use Rattle.c0_stmt_code.proofs.State.{state_of, standing_at, Exprs, under_on}
 use Rattle.c0_stmt_code.proofs.Spots.{like_read}
-use Rattle.c0_stmt_code.proofs.Sim.{GoesOn, Path, stands_on, arrives, then_comes, then_splits}
+use Rattle.c0_stmt_code.proofs.StepSimulation.{GoesOn, Path, stands_on, arrives, then_comes, then_splits}
 
 -- the greater of two
 max_left : (a b c : ℕ) → max a b ≤ c → a ≤ c
@@ -45,7 +45,7 @@ max_right : (a b c : ℕ) → max a b ≤ c → b ≤ c
 max_right a b c h = omega (arith, h)
 
 -- a register that holds an operand is left as it is while the next free registers are used
-pub source_kept : (r q : ℕ) (a b : Contents) → 8 ≤ r → r < 19 → Source r q → Keeps (suc r) (suc r) a b → reg b.regs q ≡ reg a.regs q
+pub source_kept : (r q : ℕ) (a b : Contents) → 8 ≤ r → r < 19 → Source r q → KeepsRegisters (suc r) (suc r) a b → reg b.regs q ≡ reg a.regs q
 source_kept r _ a b le lt nought h = refl
 source_kept r _ a b le lt its h = like_read b.regs a.regs r (h.below r (λ e. absurd (omega (arith, e, le))) (λ e. absurd (omega (arith, e))) (omega arith))
 source_kept r q a b le lt (far g) h = like_read b.regs a.regs q (h.above q (λ e. absurd (omega (arith, e, g, lt))) g)
@@ -72,7 +72,7 @@ module _ (w : World) (sc : Scope) (x : Links) where
 module _ (runs : RunLaws) (compose : RunsCompose) (W E : Type 0) (Outer : W → Contents → Behind → Type 0) (z : Setup W E Outer) (jumps : JumpsLead z.w) (straight : StraightRuns z.w)
     (held : HeldStays (shapes z.p.unit)) (typing : TypedStays z.p.unit) (exprs : Exprs W E Outer z) (fit : (f : CFunction) → LengthsFit (scope W E Outer z f))
     (objects : List Ty) (gv hv : Value) (hw : ℕ) (g : Frame) (fs : List Frame) (world : W) (calls : List (List E)) (answer : Option Value) (c : Contents) (d : Behind) (a : Activation) (others : List Activation)
-    (st : Stands W E Outer z objects (standing_at gv hv hw (g ∷ fs) world calls answer) c d) (r : Runs W E Outer z objects c a g fs) (waits : Waiting W E Outer z objects c.memory others fs)
+    (st : ConfigurationStands W E Outer z objects (standing_at gv hv hw (g ∷ fs) world calls answer) c d) (r : FunctionRuns W E Outer z objects c a g fs) (waits : Waiting W E Outer z objects c.memory others fs)
     (k debt : ℕ) (rest : CStmts) (work : List Work) where
   abbrev sc : Scope
   sc = scope W E Outer z a.function
@@ -80,7 +80,7 @@ module _ (runs : RunLaws) (compose : RunsCompose) (W E : Type 0) (Outer : W → 
   abbrev here : Configuration W E
   here = standing_at gv hv hw (g ∷ fs) world calls answer
 
-  abbrev s : Machine
+  abbrev s : CodeState
   s = at_with k c d
 
   abbrev frame_bases : Bases
@@ -108,7 +108,7 @@ module _ (runs : RunLaws) (compose : RunsCompose) (W E : Type 0) (Outer : W → 
       let nv = max_left (need v) (need p + 1) 12 need_fits in
       let np = max_right (need v) (need p + 1) 12 need_fits in
       let run = do_exprs.operand v t given left.scalar (omega (arith, few)) 8 k c d st.idle do_ready (front z.w k (operand_code (made sc v) 8) (on_spot (λ y x. Sw (operand_register (made sc v) 8) y x) 9 ((made sc p).place 9)) there) (omega arith) (omega (arith, nv)) in
-      then_comes runs compose W E Outer z jumps 0 0 0 debt 1 (nodes v) (units 1) here here s a.function k (k + length (operand_code (made sc v) 8)) c d objects (Gives sc frame_bases (operand_register (made sc v) 8) 8 8 t c) (value_of v here.state) (λ cost x. store cost p x rest work here)
+      then_comes runs compose W E Outer z jumps 0 0 0 debt 1 (nodes v) (units 1) here here s a.function k (k + length (operand_code (made sc v) 8)) c d objects (HoldsValue sc frame_bases (operand_register (made sc v) 8) 8 8 t c) (value_of v here.state) (λ cost x. store cost p x rest work here)
       (none runs z.w s) (omega arith) (omega arith) st (value_within v here.state) run.1
       (λ u x c1 least most gives path1.
       let keeps = keeps_low 8 c c1 (omega arith) gives.keeps in
@@ -149,7 +149,7 @@ module _ (runs : RunLaws) (compose : RunsCompose) (W E : Type 0) (Outer : W → 
       (front z.w k (its_test t false (far_of x y)) (its_stmts x ++ otherwise y (its_stmts y)) code) (omega arith) (let n = test.shallow in omega (arith, n))
       (record { same = omega (arith, small); short = omega (arith, small); ahead = omega (arith, l1, l2, at, few); behind = omega arith }) in
       let after = blocks.back z.w k (its_test t false (far_of x y)) (its_stmts x ++ otherwise y (its_stmts y)) code in
-      then_splits runs compose W E Outer z jumps 0 0 1 debt 1 (nodes t) (units 1) here here s a.function k (ends false (end + (yes_words x + otherwise_at y)) end) c d objects (λ b c'. Keeps 8 8 c c') (truth (value_of t here.state))
+      then_splits runs compose W E Outer z jumps 0 0 1 debt 1 (nodes t) (units 1) here here s a.function k (ends false (end + (yes_words x + otherwise_at y)) end) c d objects (λ b c'. KeepsRegisters 8 8 c c') (truth (value_of t here.state))
       (λ cost b. Go cost (push (if b then x else y) (push rest work)) here) (apart_ends some) (none runs z.w s) (omega arith) (omega arith) st (truth_within t here.state) run
       (λ u b c1 least most kept path1. branches b u c1 least most kept path1 after l1 l2 at)
     where
@@ -164,7 +164,7 @@ module _ (runs : RunLaws) (compose : RunsCompose) (W E : Type 0) (Outer : W → 
       follows : Follows (text W E Outer z) (a ∷ others) (k + length (choice_code sc t y (its_stmts x) (its_stmts y))) debt (push rest work)
       follows = behind (text W E Outer z) a others (k + length (choice_code sc t y (its_stmts x) (its_stmts y))) debt rest work block
 
-      branches : (b : Bool) (u : ℕ) (c1 : Contents) → 1 ≤ u → u ≤ nodes t → Keeps 8 8 c c1
+      branches : (b : Bool) (u : ℕ) (c1 : Contents) → 1 ≤ u → u ≤ nodes t → KeepsRegisters 8 8 c c1
           → Path runs compose W E Outer z jumps (0 + 1) (0 + (1 + 16 * u)) s (at_with (ends false (k + length (its_test t false (far_of x y)) + (yes_words x + otherwise_at y)) (k + length (its_test t false (far_of x y))) b) c1 d)
           → CodeAt z.w (k + length (its_test t false (far_of x y))) (its_stmts x ++ otherwise y (its_stmts y))
           → length (its_test t false (far_of x y)) ≤ 15 * nodes t → length (its_stmts x) ≤ 16 * stmts_nodes x → otherwise_at y ≤ 1
@@ -206,7 +206,7 @@ module _ (runs : RunLaws) (compose : RunsCompose) (W E : Type 0) (Outer : W → 
   body_at done from = from
   body_at (next q w) from = from + 1
 
-  pub turns : (from first extra : ℕ) (s0 : Machine) (t : CExpr) (x : CStmts) → LoopStands (text W E Outer z) a.function from t x → Behind_it (from + length (its_loop t x)) debt → 1 ≤ extra → extra ≤ 2 → first ≤ 1
+  pub turns : (from first extra : ℕ) (s0 : CodeState) (t : CExpr) (x : CStmts) → LoopStands (text W E Outer z) a.function from t x → Behind_it (from + length (its_loop t x)) debt → 1 ≤ extra → extra ≤ 2 → first ≤ 1
       → Path runs compose W E Outer z jumps 0 first s0 (at_with (turn_at t x from) c d) → GoesOn W E Outer z debt here s0 (test_loop (units extra) t x rest work here)
   turns from first extra s0 t x stands block paid few_units le path =
       let f = fit a.function in
@@ -219,7 +219,7 @@ module _ (runs : RunLaws) (compose : RunsCompose) (W E : Type 0) (Outer : W → 
       let body = body_words x in
       let run = do_exprs.test t stands.test.value (omega (arith, n)) true (back sc t (its_stmts x)) (body_at x from) 8 (turn_at t x from) c d st.idle do_ready there (omega arith) (let m = stands.test.shallow in omega (arith, m))
       (record { same = omega (arith, same, body, l1, l2, n); short = omega arith; ahead = omega (arith, body); behind = omega (arith, body, l1, l2, n) }) in
-      then_splits runs compose W E Outer z jumps 0 first 1 debt 1 (nodes t) (units extra) here here s0 a.function (turn_at t x from) (ends true (body_at x from) (turn_at t x from + length (turn_code sc t (its_stmts x)))) c d objects (λ b c'. Keeps 8 8 c c') (truth (value_of t here.state))
+      then_splits runs compose W E Outer z jumps 0 first 1 debt 1 (nodes t) (units extra) here here s0 a.function (turn_at t x from) (ends true (body_at x from) (turn_at t x from + length (turn_code sc t (its_stmts x)))) c d objects (λ b c'. KeepsRegisters 8 8 c c') (truth (value_of t here.state))
       (λ cost b. Go cost (if b then push x (again t x rest ∷ work) else push rest work) here) (apart_ends x) path (omega (arith, paid, le)) (omega arith) st (truth_within t here.state) run
       (λ u b c1 least most kept path1. branches b u c1 least most kept path1)
     where
@@ -249,7 +249,7 @@ module _ (runs : RunLaws) (compose : RunsCompose) (W E : Type 0) (Outer : W → 
           let there : from + 1 + length (its_stmts (next q w)) ≡ turn_at t x from = ap (λ y. from + 1 + length (its_stmts y)) e in
           (debt, omega arith, block_of (text W E Outer z) a.function (λ to left. Ahead (text W E Outer z) (a ∷ others) to left (again t x rest ∷ work)) (next q w) (from + 1) 0 (turn_at t x from) debt debt typed few free its_calls code there (omega arith) then_again)
 
-      branches : (b : Bool) (u : ℕ) (c1 : Contents) → 1 ≤ u → u ≤ nodes t → Keeps 8 8 c c1
+      branches : (b : Bool) (u : ℕ) (c1 : Contents) → 1 ≤ u → u ≤ nodes t → KeepsRegisters 8 8 c c1
           → Path runs compose W E Outer z jumps (0 + 1) (first + (1 + 16 * u)) s0 (at_with (ends true (body_at x from) (turn_at t x from + length (turn_code sc t (its_stmts x))) b) c1 d)
           → GoesOn W E Outer z debt here s0 (Go (plus (units extra) (units u)) (if b then push x (again t x rest ∷ work) else push rest work) here)
       branches true u c1 least most kept path1 =

@@ -1,19 +1,19 @@
 -- What a step costs: a unit of its own at least; a primitive's units where a call of one has ended; and few units where it faults.
 use Rattle.std.specs.Prelude.{slice_get, ok_or, Ok, Err, nat_lt, if◌then◌else◌}
 use Rattle.std.proofs.Common.{◌≡◌, ◌⊎◌, inl, inr, ℕ, suc, ◌+◌, ◌≤◌, Bool, true, false, List, [], ◌∷◌, length, refl, arith, length-append}
-use Rattle.mips_table.specs.Code.{Contents, Behind, Configuration as Machine}
+use Rattle.mips_table.specs.Code.{Contents, Behind, CodeState}
 use Rattle.c0_tree.specs.declared.tree.Kind.{Kind}
 use Rattle.c0_tree.specs.declared.tree.Kind.TheVariants.{Unresolved, Struct, Field, Global, Local, Function, Primitive}
 use Rattle.c0_tree.specs.Size.{nodes, args_nodes, stmt_nodes}
 use Rattle.c0_tree.specs.Tree.{CExpr, CStmt, assign, call, new, choice, loop, CStmts, CBody, code, asm}
 use Rattle.c0_meaning.specs.Ty.{Ty, ty_of}
-use Rattle.c0_meaning.specs.Limits.{frame}
+use Rattle.c0_meaning.specs.Limits.{words_of_frame}
 use Rattle.c0_meaning.specs.Sound.{shapes}
 use Rattle.c0_meaning.specs.State.{stack_words}
 use Rattle.c0_meaning.specs.Value.{Value, Values}
 use Rattle.c0_meaning.specs.Operators.{stuck}
 use Rattle.c0_meaning.specs.Evaluation.{Costed, costs, at_no_cost, truth, value_of, place_of, values_of}
-use Rattle.c0_meaning.specs.World.{Setting, Cost, units, total, plus, Configuration, ended, after_call, call_cost}
+use Rattle.c0_meaning.specs.World.{Setting, Cost, units, total, plus, Configuration, calls_ended, after_call, call_cost}
 use Rattle.c0_meaning.specs.Running.{Target, into, outward, Work, act_on, finish, again, leave, begin, Step, then_go, store, deliver, enter, call_function, call_with, allocate, test_loop, act_statement, act}
 use Rattle.c0_stmt_code.specs.Setup.{Setup}
 use Rattle.c0_stmt_code.specs.Ahead.{Activation, Awaits, Ahead}
@@ -34,7 +34,7 @@ module _ (W E : Type 0) (p : Setting W E) (h : Configuration W E) where
   store_some cost place v rest work none few small =
       then_some cost 1 (nodes place) h (place_of place h.state) _ (place_within place h.state) (omega arith) (omega (arith, few, small)) (λ n l lo hi. (omega (arith, lo), inl (omega (arith, none))))
 
-  deliver_some : (cost : Cost) (target : Target) (v : Value) (work : List Work) (d : Configuration W E) → 1 ≤ cost.own → (cost.primitive ≡ 0) ⊎ (ended d ≡ suc (ended h)) → CostsSome h (deliver cost target v work d)
+  deliver_some : (cost : Cost) (target : Target) (v : Value) (work : List Work) (d : Configuration W E) → 1 ≤ cost.own → (cost.primitive ≡ 0) ⊎ (calls_ended d ≡ suc (calls_ended h)) → CostsSome h (deliver cost target v work d)
   deliver_some cost (into place rest) v work d some o = (some, o)
   deliver_some cost outward v work d some o = (some, o)
 
@@ -45,7 +45,7 @@ module _ (W E : Type 0) (p : Setting W E) (h : Configuration W E) where
   function_some : (cost : Cost) (n : ℕ) (args : Values) (target : Target) (work : List Work) → cost.primitive ≡ 0 → total cost ≤ 8000000 → CostsSome h (call_function p cost n args target work h)
   function_some cost n args target work none few =
       then_some (plus cost (units 1)) 0 0 h (at_no_cost (ok_or (slice_get p.unit.functions n) stuck)) _ (omega arith, omega arith) (omega arith) (omega (arith, few))
-      (λ k f lo hi. either (nat_lt p.stack (stack_words p.unit h.state.frames + frame (shapes p.unit) f)) _ _ (omega arith, omega (arith, few, hi))
+      (λ k f lo hi. either (nat_lt p.stack (stack_words p.unit h.state.frames + words_of_frame (shapes p.unit) f)) _ _ (omega arith, omega (arith, few, hi))
       (enter_some (plus (plus cost (units 1)) (units k)) n f.body args target work (omega arith) (omega (arith, none))))
 
   call_some : (cost : Cost) (kind : Kind) (n : ℕ) (args : Values) (target : Target) (work : List Work) → 1 ≤ cost.own → cost.primitive ≡ 0 → total cost ≤ 8000000 → CostsSome h (call_with p cost kind n args target work h)
@@ -94,7 +94,7 @@ module _ (W E : Type 0) (Outer : W → Contents → Behind → Type 0) (z : Setu
   place_few (a ∷ others) k debt t place rest work ahead = ahead.0.few
   place_few [] k debt t place rest work ahead = absurd ahead
 
-  pub costs_some : (debt : ℕ) (item : Work) (work : List Work) (h : Configuration W E) (s : Machine) → Simulated W E Outer z debt (item ∷ work) h s → CostsSome h (act z.p item work h)
+  pub costs_some : (debt : ℕ) (item : Work) (work : List Work) (h : Configuration W E) (s : CodeState) → Simulated W E Outer z debt (item ∷ work) h s → CostsSome h (act z.p item work h)
   costs_some debt (act_on t rest) work h s sim = statement_some W E z.p h t rest work (statement_few sim.activations s.at debt t rest work sim.ahead)
   costs_some debt (finish place v rest) work h s sim = store_some W E z.p h (units 0) place v rest work refl (omega arith) (place_few sim.activations s.at debt sim.t place rest work sim.ahead)
   costs_some debt (again t body rest) work h s sim = loop_some W E z.p h (units 1) t body rest work (omega arith) refl (omega arith) (loop_few sim.activations s.at debt t body rest work sim.ahead)

@@ -2,7 +2,7 @@
 use Rattle.std.specs.Prelude.{map, slice_get, IsTrue, Some, None}
 use Rattle.std.proofs.Common.{◌≡◌, ℕ, zero, suc, ◌+◌, ◌*◌, ◌≤◌, Bool, true, false, Option, List, [], ◌∷◌, ◌++◌, length, refl, sym, ap, ◌∙◌, subst, arith}
 use Rattle.mips_table.specs.declared.inst.Inst.TheVariants.{Jal, Sw}
-use Rattle.mips_table.specs.Code.{Contents, Behind, Configuration as Machine, at_with, RunLaws, CodeAt}
+use Rattle.mips_table.specs.Code.{Contents, Behind, CodeState, at_with, RunLaws, CodeAt}
 use Rattle.masm.specs.Laws.{RunsCompose, JumpsLead, StraightRuns}
 use Rattle.c0_tree.specs.declared.tree.Kind.{Kind}
 use Rattle.c0_tree.specs.declared.tree.Kind.TheVariants.{Unresolved, Struct, Field, Global, Local, Function, Primitive}
@@ -18,9 +18,9 @@ use Rattle.c0_meaning.specs.Value.{Value, Values}
 use Rattle.c0_meaning.specs.State.{Frame}
 use Rattle.c0_meaning.specs.Numbered.{IsNumbered, an_assignment, an_object, a_call, a_choice, a_loop, IsNumberedLeft, AreNumberedGiven, none, more, callee_at}
 use Rattle.c0_meaning.specs.Evaluation.{values_of}
-use Rattle.c0_meaning.specs.World.{Cost, units, Configuration, ended}
+use Rattle.c0_meaning.specs.World.{Cost, units, Configuration, calls_ended}
 use Rattle.c0_meaning.specs.Running.{Target, into, outward, Work, act_on, finish, again, leave, begin, then_go, call_with, call_function, act_statement, act}
-use Rattle.c0_meaning.specs.TypedState.{types_of, Fits, AllFit, layout_of}
+use Rattle.c0_meaning.specs.TypedState.{types_of, Fits, AllFit, store_typing}
 use Rattle.c0_expr_code.specs.Scope.{Scope, is_free_of_calls}
 use Rattle.c0_expr_code.specs.Bases.{words_of_all}
 use Rattle.c0_expr_code.specs.Laws.{IsOpened, AreasHold}
@@ -28,9 +28,9 @@ use Rattle.c0_expr_code.specs.Code.{made}
 use Rattle.c0_stmt_code.specs.Code.{args_code, answer_code, stored_code, callee_index, stmt_code, stmts_code}
 use Rattle.c0_stmt_code.specs.Setup.{Setup}
 use Rattle.c0_stmt_code.specs.Ahead.{Activation, env_in, StatementStands, Block, Awaits, Ahead}
-use Rattle.c0_stmt_code.specs.Standing.{text, scope, bases, end_of, unit_scope, word_of_value, AreIn, Waiting, Runs, UnderWay, Stands, Simulated, StepIs}
-use Rattle.c0_stmt_code.proofs.Needs.{HeldStays, TypedStays, FunctionsAre, LengthsFit}
-use Rattle.c0_stmt_code.proofs.Ways.{Way, none as no_way, away, within}
+use Rattle.c0_stmt_code.specs.Standing.{text, scope, bases, end_of, unit_scope, word_of_value, AreIn, Waiting, FunctionRuns, UnderWay, ConfigurationStands, Simulated, StepIs}
+use Rattle.c0_stmt_code.proofs.Premises.{HeldStays, TypedStays, FunctionsAre, LengthsFit}
+use Rattle.c0_stmt_code.proofs.RunStretches.{Way, none as no_way, away, within}
 use Rattle.c0_stmt_code.proofs.Blocks.{skipped}
 use Rattle.c0_stmt_code.proofs.Lengths.{stmts_length}
 use Rattle.c0_stmt_code.proofs.State.{standing_at, Exprs}
@@ -47,7 +47,7 @@ use Rattle.c0_stmt_code.proofs.CallActs.{signature_from, calls_function}
 use Rattle.c0_stmt_code.proofs.Primitives.{calls_primitive}
 use Rattle.c0_stmt_code.proofs.Spots.{spot_longer}
 use Rattle.c0_stmt_code.proofs.Returns.{leaves, leaves_light, finishes}
-use Rattle.c0_stmt_code.proofs.Sim.{GoesOn, goes_on, Path}
+use Rattle.c0_stmt_code.proofs.StepSimulation.{GoesOn, goes_on, Path}
 
 -- a body that isn't an asm text
 pub record HasCode (b : CBody) : Type 0 where
@@ -96,11 +96,11 @@ module _ (runs : RunLaws) (compose : RunsCompose) (W E : Type 0) (Outer : W → 
     (new_runs : NewRuns z.w) (some_words : (t : CTy) → IsDeclarable (shapes z.p.unit) t → 1 ≤ words (shapes z.p.unit) (ty_of t)) where
   -- the first call
   begins : (objects : List Ty) (gv hv : Value) (hw : ℕ) (fs : List Frame) (world : W) (calls : List (List E)) (answer : Option Value) (c : Contents) (d : Behind) (acts : List Activation)
-      → Stands W E Outer z objects (standing_at gv hv hw fs world calls answer) c d → Waiting W E Outer z objects c.memory acts fs → c.regs 29 ≡ 4 * end_of W E Outer z fs
+      → ConfigurationStands W E Outer z objects (standing_at gv hv hw fs world calls answer) c d → Waiting W E Outer z objects c.memory acts fs → c.regs 29 ≡ 4 * end_of W E Outer z fs
       → (n to debt : ℕ) (f : CFunction) → slice_get z.p.unit.functions n ≡ Some f → (args : Values) (target : Target) (work : List Work) → c.regs 31 ≡ 4 * to
-      → AllFit (shapes z.p.unit) (layout_of z.p.unit objects) (types_of (map typed_of f.params)) args → AreIn (unit_scope z.p.unit) (bases W E Outer z objects []) c.regs 20 args
+      → AllFit (shapes z.p.unit) (store_typing z.p.unit objects) (types_of (map typed_of f.params)) args → AreIn (unit_scope z.p.unit) (bases W E Outer z objects []) c.regs 20 args
       → Awaits (text W E Outer z) acts to debt (ty_of f.answer) target work (λ others at left. Ahead (text W E Outer z) others at left work)
-      → (l m : ℕ) (cost : Cost) (h0 : Configuration W E) (s0 : Machine) → Path runs compose W E Outer z jumps l m s0 (at_with ((text W E Outer z).links.function n) c d) → cost.own + 9 ≤ 2048 * (l + 1) → m ≤ 30 * cost.own → length calls ≡ ended h0
+      → (l m : ℕ) (cost : Cost) (h0 : Configuration W E) (s0 : CodeState) → Path runs compose W E Outer z jumps l m s0 (at_with ((text W E Outer z).links.function n) c d) → cost.own + 9 ≤ 2048 * (l + 1) → m ≤ 30 * cost.own → length calls ≡ calls_ended h0
       → GoesOn W E Outer z debt h0 s0 (call_function z.p cost n args target work (standing_at gv hv hw fs world calls answer))
   begins objects gv hv hw fs world calls answer c d acts st waits at_end n to debt f is args target work return_at fits arguments ahead l m cost h0 s0 path low high en =
       by_body f.body refl
@@ -118,7 +118,7 @@ module _ (runs : RunLaws) (compose : RunsCompose) (W E : Type 0) (Outer : W → 
           enters_asm runs compose W E Outer z jumps straight held asm_runs objects gv hv hw fs world calls answer c d acts st waits at_end n to debt f is args target work return_at fits arguments ahead l m ((text W E Outer z).links.function n) cost h0 s0 bytes span ws e q.0 (omega (arith, l4, size)) size q.2 q.3 path (z.functions n f is) low high en
 
   module _ (objects : List Ty) (gv hv : Value) (hw : ℕ) (g : Frame) (fs : List Frame) (world : W) (calls : List (List E)) (answer : Option Value) (c : Contents) (d : Behind) (a : Activation) (others : List Activation)
-      (st : Stands W E Outer z objects (standing_at gv hv hw (g ∷ fs) world calls answer) c d) (r : Runs W E Outer z objects c a g fs) (waits : Waiting W E Outer z objects c.memory others fs)
+      (st : ConfigurationStands W E Outer z objects (standing_at gv hv hw (g ∷ fs) world calls answer) c d) (r : FunctionRuns W E Outer z objects c a g fs) (waits : Waiting W E Outer z objects c.memory others fs)
       (k debt : ℕ) where
     abbrev sc : Scope
     sc = scope W E Outer z a.function
@@ -226,7 +226,7 @@ module _ (runs : RunLaws) (compose : RunsCompose) (W E : Type 0) (Outer : W → 
     acts (begin n args) work ahead = absurd ahead
 
   by_parts : (frames : List Frame) (objects : List Ty) (gv hv : Value) (hw : ℕ) (world : W) (calls : List (List E)) (answer : Option Value) (c : Contents) (d : Behind) (under_way : List Activation) (k debt : ℕ) (item : Work) (work : List Work)
-      → Stands W E Outer z objects (standing_at gv hv hw frames world calls answer) c d → UnderWay W E Outer z objects c under_way frames → Ahead (text W E Outer z) under_way k debt (item ∷ work)
+      → ConfigurationStands W E Outer z objects (standing_at gv hv hw frames world calls answer) c d → UnderWay W E Outer z objects c under_way frames → Ahead (text W E Outer z) under_way k debt (item ∷ work)
       → StepIs W E Outer z debt item (standing_at gv hv hw frames world calls answer) (at_with k c d) (act z.p item work (standing_at gv hv hw frames world calls answer))
   by_parts (g ∷ fs) objects gv hv hw world calls answer c d (a ∷ others) k debt item work st under ahead =
       acts objects gv hv hw g fs world calls answer c d a others st under.0 under.1 k debt item work ahead
@@ -235,7 +235,7 @@ module _ (runs : RunLaws) (compose : RunsCompose) (W E : Type 0) (Outer : W → 
   by_parts (g ∷ fs) objects gv hv hw world calls answer c d [] k debt item work st under ahead = absurd under
 
   finish_parts : (frames : List Frame) (objects : List Ty) (gv hv : Value) (hw : ℕ) (world : W) (calls : List (List E)) (answer : Option Value) (c : Contents) (d : Behind) (under_way : List Activation) (k debt : ℕ) (place : CExpr) (v : Value) (rest : CStmts) (work : List Work) (t : Ty)
-      → Stands W E Outer z objects (standing_at gv hv hw frames world calls answer) c d → UnderWay W E Outer z objects c under_way frames → Fits (shapes z.p.unit) (layout_of z.p.unit objects) t v → c.regs 2 ≡ word_of_value W E Outer z objects v
+      → ConfigurationStands W E Outer z objects (standing_at gv hv hw frames world calls answer) c d → UnderWay W E Outer z objects c under_way frames → Fits (shapes z.p.unit) (store_typing z.p.unit objects) t v → c.regs 2 ≡ word_of_value W E Outer z objects v
       → Awaits (text W E Outer z) under_way k debt t (into place rest) work (λ others to left. Ahead (text W E Outer z) others to left work)
       → GoesOn W E Outer z debt (standing_at gv hv hw frames world calls answer) (at_with k c d) (act z.p (finish place v rest) work (standing_at gv hv hw frames world calls answer))
   finish_parts (g ∷ fs) objects gv hv hw world calls answer c d (a ∷ others) k debt place v rest work t st under fits is ahead =
@@ -250,8 +250,8 @@ module _ (runs : RunLaws) (compose : RunsCompose) (W E : Type 0) (Outer : W → 
   finish_parts (g ∷ fs) objects gv hv hw world calls answer c d [] k debt place v rest work t st under fits is ahead = absurd under
 
   begin_parts : (frames : List Frame) (objects : List Ty) (gv hv : Value) (hw : ℕ) (world : W) (calls : List (List E)) (answer : Option Value) (c : Contents) (d : Behind) (under_way : List Activation) (k debt n to : ℕ) (args : Values) (work : List Work) (f : CFunction)
-      → Stands W E Outer z objects (standing_at gv hv hw frames world calls answer) c d → Waiting W E Outer z objects c.memory under_way frames → c.regs 29 ≡ 4 * end_of W E Outer z frames → slice_get z.p.unit.functions n ≡ Some f → k ≡ (text W E Outer z).links.function n → c.regs 31 ≡ 4 * to
-      → AllFit (shapes z.p.unit) (layout_of z.p.unit objects) (types_of (map typed_of f.params)) args → AreIn (unit_scope z.p.unit) (bases W E Outer z objects []) c.regs 20 args → Awaits (text W E Outer z) under_way to debt (ty_of f.answer) outward work (λ others at left. Ahead (text W E Outer z) others at left work)
+      → ConfigurationStands W E Outer z objects (standing_at gv hv hw frames world calls answer) c d → Waiting W E Outer z objects c.memory under_way frames → c.regs 29 ≡ 4 * end_of W E Outer z frames → slice_get z.p.unit.functions n ≡ Some f → k ≡ (text W E Outer z).links.function n → c.regs 31 ≡ 4 * to
+      → AllFit (shapes z.p.unit) (store_typing z.p.unit objects) (types_of (map typed_of f.params)) args → AreIn (unit_scope z.p.unit) (bases W E Outer z objects []) c.regs 20 args → Awaits (text W E Outer z) under_way to debt (ty_of f.answer) outward work (λ others at left. Ahead (text W E Outer z) others at left work)
       → GoesOn W E Outer z debt (standing_at gv hv hw frames world calls answer) (at_with k c d) (act z.p (begin n args) work (standing_at gv hv hw frames world calls answer))
   begin_parts [] objects gv hv hw world calls answer c d [] k debt n to args work f st waits at_end is at ret fits are ahead =
       begins objects gv hv hw [] world calls answer c d [] st waits at_end n to debt f is args outward work ret fits are ahead 0 0 (units 0) (standing_at gv hv hw [] world calls answer) (at_with k c d)
@@ -259,7 +259,7 @@ module _ (runs : RunLaws) (compose : RunsCompose) (W E : Type 0) (Outer : W → 
   begin_parts (g ∷ fs) objects gv hv hw world calls answer c d [] k debt n to args work f st waits at_end is at ret fits are ahead = absurd waits
   begin_parts frames objects gv hv hw world calls answer c d (a ∷ others) k debt n to args work f st waits at_end is at ret fits are ahead = absurd ahead
 
-  pub steps : (debt : ℕ) (item : Work) (work : List Work) (h : Configuration W E) (s : Machine) → Simulated W E Outer z debt (item ∷ work) h s → StepIs W E Outer z debt item h s (act z.p item work h)
+  pub steps : (debt : ℕ) (item : Work) (work : List Work) (h : Configuration W E) (s : CodeState) → Simulated W E Outer z debt (item ∷ work) h s → StepIs W E Outer z debt item h s (act z.p item work h)
   steps debt (act_on t rest) work h s sim = by_parts h.state.frames sim.objects h.state.global_values h.state.heap_values h.state.heap_words h.world h.calls h.answer s.contents s.behind sim.activations s.at debt (act_on t rest) work sim.stands sim.under_way sim.ahead
   steps debt (again t body rest) work h s sim = by_parts h.state.frames sim.objects h.state.global_values h.state.heap_values h.state.heap_words h.world h.calls h.answer s.contents s.behind sim.activations s.at debt (again t body rest) work sim.stands sim.under_way sim.ahead
   steps debt (leave result target) work h s sim = by_parts h.state.frames sim.objects h.state.global_values h.state.heap_values h.state.heap_words h.world h.calls h.answer s.contents s.behind sim.activations s.at debt (leave result target) work sim.stands sim.under_way sim.ahead
@@ -282,7 +282,7 @@ module _ (areas : AreasHold) (W E : Type 0) (Outer : W → Contents → Behind �
   under_opened objects c [] (a ∷ others) under = absurd under
   under_opened objects c (g ∷ fs) [] under = absurd under
 
-  pub opened_of : (debt : ℕ) (item : Work) (work : List Work) (h : Configuration W E) (s : Machine) → Simulated W E Outer z debt (item ∷ work) h s → IsOpened (shapes z.p.unit)
+  pub opened_of : (debt : ℕ) (item : Work) (work : List Work) (h : Configuration W E) (s : CodeState) → Simulated W E Outer z debt (item ∷ work) h s → IsOpened (shapes z.p.unit)
   opened_of debt (act_on t rest) work h s sim = under_opened sim.objects s.contents h.state.frames sim.activations sim.under_way
   opened_of debt (again t body rest) work h s sim = under_opened sim.objects s.contents h.state.frames sim.activations sim.under_way
   opened_of debt (leave result target) work h s sim = under_opened sim.objects s.contents h.state.frames sim.activations sim.under_way

@@ -1,31 +1,31 @@
 -- A scalar is stored at a location: the state of C0 with it stands in the machine.
 use Rattle.std.specs.Prelude.{map, IsTrue, if◌then◌else◌}
 use Rattle.std.proofs.Common.{◌≡◌, ◌≢◌, ℕ, ◌+◌, ◌-◌, ◌<◌, ◌≤◌, inl, Bool, true, false, Option, List, [], ◌∷◌, refl, ap, ap₂, ◌∙◌, arith}
-use Rattle.mips_table.specs.Code.{Contents, Behind, Configuration as Machine, put as put_word}
+use Rattle.mips_table.specs.Code.{Contents, Behind, CodeState, put as put_word}
 use Rattle.c0_meaning.specs.Ty.{Ty, is_scalar}
 use Rattle.c0_meaning.specs.Env.{typed_of}
-use Rattle.c0_meaning.specs.Limits.{frame}
+use Rattle.c0_meaning.specs.Limits.{words_of_frame}
 use Rattle.c0_meaning.specs.Sound.{shapes}
 use Rattle.c0_meaning.specs.Addresses.{words_to_part}
-use Rattle.c0_meaning.specs.Value.{Region, globals, heap, locals, Value, put}
+use Rattle.c0_meaning.specs.Value.{Region, globals, heap, locals, Value, value_with}
 use Rattle.c0_meaning.specs.State.{Frame, write}
-use Rattle.c0_meaning.specs.TypedState.{types_of, LeadsFrom, Fits, layout_of}
-use Rattle.c0_expr_code.specs.Bases.{word_at, word, RegionHeld}
+use Rattle.c0_meaning.specs.TypedState.{types_of, LeadsFrom, Fits, store_typing}
+use Rattle.c0_expr_code.specs.Bases.{location_word, word, RegionHeld}
 use Rattle.c0_stmt_code.specs.Code.{calls_in}
 use Rattle.c0_stmt_code.specs.Setup.{Setup}
 use Rattle.c0_stmt_code.specs.Ahead.{Activation}
-use Rattle.c0_stmt_code.specs.Standing.{scope, bases, end_of, unit_scope, Waiting, Runs, UnderWay, Stands}
-use Rattle.c0_stmt_code.proofs.Needs.{HeldStays, TypedStays, types_for}
-use Rattle.c0_stmt_code.proofs.Held.{word_same}
+use Rattle.c0_stmt_code.specs.Standing.{scope, bases, end_of, unit_scope, Waiting, FunctionRuns, UnderWay, ConfigurationStands}
+use Rattle.c0_stmt_code.proofs.Premises.{HeldStays, TypedStays, types_for}
+use Rattle.c0_stmt_code.proofs.ValuesStay.{word_same}
 use Rattle.c0_stmt_code.proofs.State.{rest_of, state_of, standing_at}
 use Rattle.c0_stmt_code.proofs.Rooms.{put_same, put_other, words_by_types, frame_words, frame_on, waiting_same, runs_same}
 
 module _ (W E : Type 0) (Outer : W → Contents → Behind → Type 0) (z : Setup W E Outer) (held : HeldStays (shapes z.p.unit)) (typing : TypedStays z.p.unit)
     (objects : List Ty) (gv hv : Value) (hw : ℕ) (g : Frame) (fs : List Frame) (world : W) (calls : List (List E)) (answer : Option Value) (c : Contents) (d : Behind) (a : Activation) (others : List Activation)
-    (st : Stands W E Outer z objects (standing_at gv hv hw (g ∷ fs) world calls answer) c d) (r : Runs W E Outer z objects c a g fs) (waits : Waiting W E Outer z objects c.memory others fs) where
+    (st : ConfigurationStands W E Outer z objects (standing_at gv hv hw (g ∷ fs) world calls answer) c d) (r : FunctionRuns W E Outer z objects c a g fs) (waits : Waiting W E Outer z objects c.memory others fs) where
   -- the word of a location
   abbrev pub place : Region → List ℕ → ℕ
-  place region path = word_at (scope W E Outer z a.function) (bases W E Outer z objects (g ∷ fs)) (record { region = region; path = path })
+  place region path = location_word (scope W E Outer z a.function) (bases W E Outer z objects (g ∷ fs)) (record { region = region; path = path })
 
   abbrev pub its_word : Value → ℕ
   its_word v = word (scope W E Outer z a.function) (bases W E Outer z objects (g ∷ fs)) v
@@ -36,7 +36,7 @@ module _ (W E : Type 0) (Outer : W → Contents → Behind → Type 0) (z : Setu
     pub to : place region path < z.a.stack + z.p.stack
 
   -- the local's word, in a frame
-  local_at : (path : List ℕ) (b : Bool) → b ≡ false → (if b then 20 else (end_of W E Outer z (g ∷ fs) - frame (shapes z.p.unit) a.function) + 3) ≡ end_of W E Outer z fs + 3
+  local_at : (path : List ℕ) (b : Bool) → b ≡ false → (if b then 20 else (end_of W E Outer z (g ∷ fs) - words_of_frame (shapes z.p.unit) a.function) + 3) ≡ end_of W E Outer z fs + 3
   local_at path true e = absurd (cc)
   local_at path false e = let on = frame_on z.p.unit g fs a.function r.is in omega (arith, on)
 
@@ -64,13 +64,13 @@ module _ (W E : Type 0) (Outer : W → Contents → Behind → Type 0) (z : Setu
       let o = st.stack_room in
       record { from = omega (arith, f, g, at); to = omega (arith, i, at, on, ws, o) }
 
-  module _ (c' : Contents) (t : Ty) (v : Value) (special : c'.special ≡ c.special) (above : (x : ℕ) → 20 ≤ x → c'.regs x ≡ c.regs x) (scalar : IsTrue (is_scalar t)) (fits : Fits (shapes z.p.unit) (layout_of z.p.unit objects) t v) where
+  module _ (c' : Contents) (t : Ty) (v : Value) (special : c'.special ≡ c.special) (above : (x : ℕ) → 20 ≤ x → c'.regs x ≡ c.regs x) (scalar : IsTrue (is_scalar t)) (fits : Fits (shapes z.p.unit) (store_typing z.p.unit objects) t v) where
     -- the word of a value, for every function
     canonical : its_word v ≡ word (unit_scope z.p.unit) (bases W E Outer z objects []) v
     canonical = word_same (shapes z.p.unit) (map typed_of z.p.unit.globals) z.a.globals z.a.heap objects objects (λ path t h. refl) (rest_of (unit_scope z.p.unit)) (rest_of (scope W E Outer z a.function)) (end_of W E Outer z []) (end_of W E Outer z (g ∷ fs)) t v fits
 
     pub stored : (region : Region) (path : List ℕ) → LeadsFrom (shapes z.p.unit) (types_for z.p.unit objects a.function region) path t → (region ≡ locals → (scope W E Outer z a.function).in_registers ≡ false) → c'.memory ≡ put_word c.memory (place region path) (its_word v)
-        → Stands W E Outer z objects (record (standing_at gv hv hw (g ∷ fs) world calls answer) { state = write (state_of gv hv hw (g ∷ fs)) (record { region = region; path = path }) v }) c' d × UnderWay W E Outer z objects c' (a ∷ others) (write (state_of gv hv hw (g ∷ fs)) (record { region = region; path = path }) v).frames
+        → ConfigurationStands W E Outer z objects (record (standing_at gv hv hw (g ∷ fs) world calls answer) { state = write (state_of gv hv hw (g ∷ fs)) (record { region = region; path = path }) v }) c' d × UnderWay W E Outer z objects c' (a ∷ others) (write (state_of gv hv hw (g ∷ fs)) (record { region = region; path = path }) v).frames
     stored globals path l form m =
         let i = held.inside (types_of (map typed_of z.p.unit.globals)) path t l scalar in
         let w = words_by_types (shapes z.p.unit) (map typed_of z.p.unit.globals) in
@@ -188,10 +188,10 @@ module _ (W E : Type 0) (Outer : W → Contents → Behind → Type 0) (z : Setu
           ),
         )
       where
-        by_form : (b : Bool) → b ≡ false → (if b then 20 else (end_of W E Outer z (g ∷ fs) - frame (shapes z.p.unit) a.function) + 3) ≡ end_of W E Outer z fs + 3
-            → c'.memory ((if b then 20 else (end_of W E Outer z (g ∷ fs) - frame (shapes z.p.unit) a.function) + 3) + words_to_part (shapes z.p.unit) (types_of (scope W E Outer z a.function).env.locals) path) ≡ its_word v
-            → ((k : ℕ) → k ≢ (if b then 20 else (end_of W E Outer z (g ∷ fs) - frame (shapes z.p.unit) a.function) + 3) + words_to_part (shapes z.p.unit) (types_of (scope W E Outer z a.function).env.locals) path → c'.memory k ≡ c.memory k)
-            → RegionHeld (scope W E Outer z a.function) (bases W E Outer z objects (g ∷ fs)) (if b then c.regs else c.memory) (if b then 20 else (end_of W E Outer z (g ∷ fs) - frame (shapes z.p.unit) a.function) + 3) (types_of (scope W E Outer z a.function).env.locals) g.variables
-            → RegionHeld (scope W E Outer z a.function) (bases W E Outer z objects (g ∷ fs)) (if b then c'.regs else c'.memory) (if b then 20 else (end_of W E Outer z (g ∷ fs) - frame (shapes z.p.unit) a.function) + 3) (types_of (scope W E Outer z a.function).env.locals) (put g.variables path v)
+        by_form : (b : Bool) → b ≡ false → (if b then 20 else (end_of W E Outer z (g ∷ fs) - words_of_frame (shapes z.p.unit) a.function) + 3) ≡ end_of W E Outer z fs + 3
+            → c'.memory ((if b then 20 else (end_of W E Outer z (g ∷ fs) - words_of_frame (shapes z.p.unit) a.function) + 3) + words_to_part (shapes z.p.unit) (types_of (scope W E Outer z a.function).env.locals) path) ≡ its_word v
+            → ((k : ℕ) → k ≢ (if b then 20 else (end_of W E Outer z (g ∷ fs) - words_of_frame (shapes z.p.unit) a.function) + 3) + words_to_part (shapes z.p.unit) (types_of (scope W E Outer z a.function).env.locals) path → c'.memory k ≡ c.memory k)
+            → RegionHeld (scope W E Outer z a.function) (bases W E Outer z objects (g ∷ fs)) (if b then c.regs else c.memory) (if b then 20 else (end_of W E Outer z (g ∷ fs) - words_of_frame (shapes z.p.unit) a.function) + 3) (types_of (scope W E Outer z a.function).env.locals) g.variables
+            → RegionHeld (scope W E Outer z a.function) (bases W E Outer z objects (g ∷ fs)) (if b then c'.regs else c'.memory) (if b then 20 else (end_of W E Outer z (g ∷ fs) - words_of_frame (shapes z.p.unit) a.function) + 3) (types_of (scope W E Outer z a.function).env.locals) (value_with g.variables path v)
         by_form true q at here other h = absurd (cc)
-        by_form false q at here other h = held.stored (scope W E Outer z a.function) (bases W E Outer z objects (g ∷ fs)) c.memory c'.memory ((end_of W E Outer z (g ∷ fs) - frame (shapes z.p.unit) a.function) + 3) (types_of (scope W E Outer z a.function).env.locals) path t g.variables v refl l scalar h here other
+        by_form false q at here other h = held.stored (scope W E Outer z a.function) (bases W E Outer z objects (g ∷ fs)) c.memory c'.memory ((end_of W E Outer z (g ∷ fs) - words_of_frame (shapes z.p.unit) a.function) + 3) (types_of (scope W E Outer z a.function).env.locals) path t g.variables v refl l scalar h here other

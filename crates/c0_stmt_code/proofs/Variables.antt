@@ -6,11 +6,11 @@ use Rattle.c0_meaning.specs.Ty as ty
 use Rattle.c0_meaning.specs.Env.{Typed, Shape}
 use Rattle.c0_meaning.specs.Words.{fields_named, holds, words}
 use Rattle.c0_meaning.specs.Value.{Value, int, bool, null, at, group, Values, empty, part, followed_by, repeated, zero_with, zeros_with, zero_within, zero_of, zeros_of}
-use Rattle.c0_meaning.specs.TypedState.{Layout, types_of, Fits, AllFit}
+use Rattle.c0_meaning.specs.TypedState.{StoreTyping, types_of, Fits, AllFit}
 use Rattle.c0_expr_code.specs.Scope.{Scope}
 use Rattle.c0_expr_code.specs.Bases.{Bases, words_of_all, word, Held, AllHeld}
 use Rattle.c0_stmt_code.specs.Standing.{AreIn}
-use Rattle.c0_stmt_code.proofs.Needs.{AllScalar}
+use Rattle.c0_stmt_code.proofs.Premises.{AllScalar}
 
 -- a value as it is at the start
 abbrev mutual
@@ -56,7 +56,7 @@ module _ (structs : List Shape) where
   zeros_zero ds = withs_zero (zero_within (length structs) structs) (within_zero (length structs)) ds
 
 -- values that are 0 stand in words that are 0
-module _ (sc : Scope) (p : Bases) (layout : Layout) (opened : (x : List ℕ) → words sc.env.structs (ty.named x) ≡ words_of_all sc.env.structs (types_of (fields_named sc.env.structs x))) (m : ℕ → ℕ) where
+module _ (sc : Scope) (p : Bases) (layout : StoreTyping) (opened : (x : List ℕ) → words sc.env.structs (ty.named x) ≡ words_of_all sc.env.structs (types_of (fields_named sc.env.structs x))) (m : ℕ → ℕ) where
   copies : (n : ℕ) (t : Ty) → words_of_all sc.env.structs (replicate n t) ≡ n * words sc.env.structs t
   copies zero t = omega arith
   copies (suc n) t = let g = copies n t in omega (arith, g)

@@ -57,7 +57,7 @@ Block x f k debt (next t rest) follows =
     StatementStands x f k t × Block x f (k + length (stmt_code (x.scope f) x.links t)) debt rest follows
 
 -- a place that an answer of a type goes to, which is found with free registers from 8 on
-pub record IsAnswered (x : Text) (f : CFunction) (place : CExpr) (t : Ty) : Type 0 where
+pub record HasAnswerPlace (x : Text) (f : CFunction) (place : CExpr) (t : Ty) : Type 0 where
   pub left : IsNumberedLeft (env_in x f) place t
   pub shallow : new_need place ≤ MAX_NEED
   pub few : nodes place ≤ MAX_NODES
@@ -65,7 +65,7 @@ pub record IsAnswered (x : Text) (f : CFunction) (place : CExpr) (t : Ty) : Type
 -- where an answer goes: to a place of the caller, whose code and statements behind it stand where the callee returns to; or out
 abbrev pub Awaits : Text → List Activation → (to debt : ℕ) → Ty → Target → List Work → (List Activation → ℕ → ℕ → Type 0) → Type 0
 Awaits x (a ∷ rest) to debt t (into place behind) work follows =
-    IsAnswered x a.function place t × CodeAt x.w to (answer_code (x.scope a.function) place)
+    HasAnswerPlace x a.function place t × CodeAt x.w to (answer_code (x.scope a.function) place)
     × Block x a.function (to + length (answer_code (x.scope a.function) place)) debt behind (follows (a ∷ rest))
 Awaits x [] to debt t outward [] follows = to ≡ x.back
 Awaits x activations to debt t target work follows = ⊥

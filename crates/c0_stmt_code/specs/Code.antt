@@ -12,7 +12,7 @@ use Rattle.c0_meaning.specs.Env.{typed_of}
 use Rattle.c0_meaning.specs.Words.{words, all_words}
 use Rattle.c0_meaning.specs.Operators.{StackOut}
 use Rattle.c0_expr_code.specs.Scope.{Scope}
-use Rattle.c0_expr_code.specs.Code.{Spot, Made, frame_back, register_of, constant_code, on_spot, operand_code, operand_register, made, value_code}
+use Rattle.c0_expr_code.specs.Code.{AddressingMode, Made, frame_back, register_of, constant_code, on_spot, operand_code, operand_register, made, value_code}
 use Rattle.c0_expr_code.specs.Test.{test_code}
 use Rattle.c0_asm_body.specs.Code.{asm_code}
 
@@ -33,7 +33,7 @@ abbrev pub skip : ℕ → Inst
 skip n = Beq 0 0 (n % 2 ^ 16)
 
 -- the value of register q goes to a variable that stands in a register, or to a place, with the free registers from r
-abbrev pub stored_code : (q r : ℕ) → Option ℕ → (ℕ → Spot) → List Inst
+abbrev pub stored_code : (q r : ℕ) → Option ℕ → (ℕ → AddressingMode) → List Inst
 stored_code q r (Some x) place = Addu x q 0 ∷ []
 stored_code q r None place = on_spot (λ b k. Sw q b k) r (place r)
 
@@ -117,7 +117,7 @@ abbrev mutual
   are_calling (next s rest) = is_calling s || are_calling rest
 
 -- the frame's word of a number: register 29 is the frame's end
-abbrev pub frame_spot : Scope → ℕ → Spot
+abbrev pub frame_spot : Scope → ℕ → AddressingMode
 frame_spot sc i = record { code = []; base = FRAME_END; displacement = (frame_back sc + 4 * i) % 2 ^ 32 }
 
 -- a register becomes register 29 and so many bytes, modulo 2 ^ 32

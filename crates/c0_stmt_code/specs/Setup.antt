@@ -4,7 +4,7 @@ use Rattle.mips_table.specs.declared.inst.Inst.{Inst}
 use Rattle.mips_table.specs.declared.inst.Inst.TheVariants.{Jal}
 use Rattle.mips_table.specs.Arith.{flag}
 use Rattle.mips_table.specs.Device.{Idle}
-use Rattle.mips_table.specs.Code.{Contents, Behind, World, Sound, Configuration, CodeAt}
+use Rattle.mips_table.specs.Code.{Contents, Behind, World, Sound, CodeState, CodeAt}
 use Rattle.masm.specs.declared.registers.Places.{Places}
 use Rattle.cvm_words.specs.Words.{word_of}
 use Rattle.c0_tree.specs.Primitives.{CPrimitive}
@@ -32,7 +32,7 @@ ArePassed regs r empty = Unit {0}
 ArePassed regs r (part v vs) = (regs r ≡ scalar_word v) × ArePassed regs (suc r) vs
 
 -- where the data of a unit stand: the words of its globals, its heap and its stack, and the word to which the first function returns
-pub record Data : Type 0 where
+pub record UnitData : Type 0 where
   pub globals : ℕ
   pub heap : ℕ
   pub stack : ℕ
@@ -43,17 +43,17 @@ abbrev pub global_words : CUnit → ℕ
 global_words u = all_words (shapes u) (map typed_of u.globals)
 
 -- a word that a call of a primitive leaves as it was: of the globals, of the heap as far as it is used, and of the stack
-abbrev pub IsKept : CUnit → Data → (used stack : ℕ) → ℕ → Type 0
+abbrev pub IsKept : CUnit → UnitData → (used stack : ℕ) → ℕ → Type 0
 IsKept u a used stack k =
     ((a.globals ≤ k) × (k < a.globals + global_words u)) ⊎ (((a.heap ≤ k) × (k < a.heap + used)) ⊎ ((a.stack ≤ k) × (k < a.stack + stack)))
 
 -- a word that the code of a unit may write: from the first global to the stack's end, and that of the words used of the heap
-abbrev pub IsOurs : Data → (stack : ℕ) → ℕ → Type 0
+abbrev pub IsOurs : UnitData → (stack : ℕ) → ℕ → Type 0
 IsOurs a stack k = ((a.globals ≤ k) × (k < a.stack + stack)) ⊎ (k ≡ 1026)
 
 -- Where a call of a primitive ends, and what it leaves as it was: registers 28 to 30, the unit's words and the layer's five variables that the
 -- unit knows.
-pub record Back (u : CUnit) (a : Data) (stack to : ℕ) (s t : Configuration) : Type 0 where
+pub record HasReturned (u : CUnit) (a : UnitData) (stack to : ℕ) (s t : CodeState) : Type 0 where
   pub at : t.at ≡ to
   pub globals_at : t.contents.regs 28 ≡ s.contents.regs 28
   pub frame_end : t.contents.regs 29 ≡ s.contents.regs 29
@@ -63,7 +63,7 @@ pub record Back (u : CUnit) (a : Data) (stack to : ℕ) (s t : Configuration) : 
   pub idle : t.behind.pending ≡ Idle
 
 -- a call of the primitive of a number, with its arguments and the word to which it returns, at which code of the unit stands
-pub record Called (w : World) (x : Links) (row : CPrimitive) (n : ℕ) (vs : Values) (to : ℕ) (s : Configuration) : Type 0 where
+pub record PrimitiveIsCalled (w : World) (x : Links) (row : CPrimitive) (n : ℕ) (vs : Values) (to : ℕ) (s : CodeState) : Type 0 where
   pub at : s.at ≡ x.primitive n
   pub scalars : AreScalars row.args vs
   pub arguments : ArePassed s.contents.regs 20 vs
@@ -80,7 +80,7 @@ pub record Setup (W E : Type 0) (Outer : W → Contents → Behind → Type 0) :
   pub p : Setting W E
   pub well_formed : IsWellFormed table p.unit
   pub places : Places
-  pub a : Data
+  pub a : UnitData
   -- globals, heap and stack follow one another, behind the layer's variables, and may be written
   pub low : 1031 ≤ a.globals
   pub globals_fit : a.globals + global_words p.unit ≤ a.heap

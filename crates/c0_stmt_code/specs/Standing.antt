@@ -1,7 +1,7 @@
 -- How a configuration of C0 with what is left to do stands in the machine.
 use Rattle.std.specs.Prelude.{◌≡◌, ℕ, suc, ◌+◌, ◌*◌, ◌≤◌, ◌⊎◌, true, false, if◌then◌else◌, List, [], ◌∷◌, map, Some, Ok, slice_get}
 use Rattle.mips_table.specs.Device.{Idle}
-use Rattle.mips_table.specs.Code.{Contents, Behind, Configuration as Machine, Steps}
+use Rattle.mips_table.specs.Code.{Contents, Behind, CodeState, Steps}
 use Rattle.c0_tree.specs.Primitives.{CPrimitive}
 use Rattle.c0_tree.specs.declared.tree.Kind.TheVariants.{Primitive}
 use Rattle.c0_tree.specs.Tree.{CTy, call, CFunction, CUnit}
@@ -11,16 +11,16 @@ use Rattle.c0_meaning.specs.Typed.{IsDeclarable}
 use Rattle.c0_meaning.specs.Sound.{shapes}
 use Rattle.c0_meaning.specs.Value.{Value, Values, empty, part}
 use Rattle.c0_meaning.specs.State.{Frame, variables_of, stack_words}
-use Rattle.c0_meaning.specs.World.{Cost, total, Configuration, ended, after_call, call_cost}
+use Rattle.c0_meaning.specs.World.{Cost, total, Configuration, calls_ended, after_call, call_cost}
 use Rattle.c0_meaning.specs.Operators.{KernelFault, faulted, stuck}
 use Rattle.c0_meaning.specs.Evaluation.{costs, values_of}
 use Rattle.c0_meaning.specs.Running.{Target, into, outward, Work, act_on, finish, again, leave, begin, Step, Go, Stop, act}
-use Rattle.c0_meaning.specs.TypedState.{types_of, Fits, AllFit, layout_of, IsTypedWith, IsScalar}
+use Rattle.c0_meaning.specs.TypedState.{types_of, Fits, AllFit, store_typing, IsTypedWith, IsScalar}
 use Rattle.c0_expr_code.specs.Scope.{Scope, scope_of, exit_of}
 use Rattle.c0_expr_code.specs.Bases.{Bases, words_of_all, locals_start, word, RegionHeld}
 use Rattle.c0_stmt_code.specs.Code.{links_of, calls_in}
-use Rattle.c0_stmt_code.specs.Setup.{Setup, scalar_word, Back, Called}
-use Rattle.c0_stmt_code.specs.Journey.{Led, Stopped}
+use Rattle.c0_stmt_code.specs.Setup.{Setup, scalar_word, HasReturned, PrimitiveIsCalled}
+use Rattle.c0_stmt_code.specs.Journey.{Led, RunStopped}
 use Rattle.c0_stmt_code.specs.Ahead.{Activation, Text, Awaits, Ahead}
 
 -- what holds for a unit in every function: values of globals and of the heap point to nothing else
@@ -33,10 +33,10 @@ AreIn sc b regs r empty = Unit {0}
 AreIn sc b regs r (part v vs) = (regs r ≡ word sc b v) × AreIn sc b regs (suc r) vs
 
 -- A work item is a call statement of the primitive of this number, and these are the values of its arguments.
-abbrev pub IsCallOf : {W E : Type 0} → Configuration W E → Work → (number : ℕ) → Values → Type 0
-IsCallOf h (act_on (call span place call_span callee args) rest) number values =
+abbrev pub IsPrimitiveCall : {W E : Type 0} → Configuration W E → Work → (number : ℕ) → Values → Type 0
+IsPrimitiveCall h (act_on (call span place call_span callee args) rest) number values =
     (callee.kind ≡ Primitive) × (callee.number ≡ number) × ((cost : ℕ) × (values_of args h.state ≡ costs cost (Ok values)))
-IsCallOf h item number values = ⊥
+IsPrimitiveCall h item number values = ⊥
 
 -- each of these types is one that may be declared
 abbrev pub AreDeclared : List Shape → List Ty → Type 0
@@ -79,7 +79,7 @@ module _ (W E : Type 0) (Outer : W → Contents → Behind → Type 0) (z : Setu
 
   -- The function that runs: its return address stands in register 31, or in its frame's first word where its code writes that register;
   -- register 29 is its frame's end, or that of the frame below where its variables stand in registers.
-  pub record Runs (objects : List Ty) (c : Contents) (a : Activation) (g : Frame) (frames : List Frame) : Type 0 where
+  pub record FunctionRuns (objects : List Ty) (c : Contents) (a : Activation) (g : Frame) (frames : List Frame) : Type 0 where
     pub is : slice_get z.p.unit.functions g.function ≡ Some a.function
     pub return_at : (if calls_in a.function.body then c.memory (end_of frames) else c.regs 31) ≡ 4 * a.to
     pub frame_at : c.regs 29 ≡ 4 * (if (scope a.function).in_registers then end_of frames else end_of (g ∷ frames))
@@ -87,13 +87,13 @@ module _ (W E : Type 0) (Outer : W → Contents → Behind → Type 0) (z : Setu
 
   -- the functions that are under way
   abbrev pub UnderWay : List Ty → Contents → List Activation → List Frame → Type 0
-  UnderWay objects c (a ∷ rest) (g ∷ frames) = Runs objects c a g frames × Waiting objects c.memory rest frames
+  UnderWay objects c (a ∷ rest) (g ∷ frames) = FunctionRuns objects c a g frames × Waiting objects c.memory rest frames
   UnderWay objects c activations frames = ⊥
 
   -- the globals and the heap stand in memory, typed, as far as it is used; so do the layer's variables that the unit knows; registers 28 and 30 are
   -- the
   -- globals' address and the stack's end; and the rest of the machine stands for the world's value
-  pub record Stands (objects : List Ty) (h : Configuration W E) (c : Contents) (d : Behind) : Type 0 where
+  pub record ConfigurationStands (objects : List Ty) (h : Configuration W E) (c : Contents) (d : Behind) : Type 0 where
     pub typed : IsTypedWith z.p.unit objects h.state
     pub declared : AreDeclared (shapes z.p.unit) objects
     pub used : words_of_all (shapes z.p.unit) objects ≡ h.state.heap_words
@@ -116,28 +116,28 @@ module _ (W E : Type 0) (Outer : W → Contents → Behind → Type 0) (z : Setu
   word_of_value objects v = word (unit_scope z.p.unit) (bases objects []) v
 
   -- what is left to do stands ahead
-  pub record Under (debt : ℕ) (work : List Work) (h : Configuration W E) (s : Machine) : Type 0 where
+  pub record Under (debt : ℕ) (work : List Work) (h : Configuration W E) (s : CodeState) : Type 0 where
     pub objects : List Ty
-    pub stands : Stands objects h s.contents s.behind
+    pub stands : ConfigurationStands objects h s.contents s.behind
     pub activations : List Activation
     pub under_way : UnderWay objects s.contents activations h.state.frames
     pub ahead : Ahead text activations s.at debt work
 
   -- an answer stands in register 2, and its place is found next
-  pub record Answered (debt : ℕ) (target : Target) (v : Value) (work : List Work) (h : Configuration W E) (s : Machine) : Type 0 where
+  pub record AnswerWaits (debt : ℕ) (target : Target) (v : Value) (work : List Work) (h : Configuration W E) (s : CodeState) : Type 0 where
     pub objects : List Ty
-    pub stands : Stands objects h s.contents s.behind
+    pub stands : ConfigurationStands objects h s.contents s.behind
     pub activations : List Activation
     pub under_way : UnderWay objects s.contents activations h.state.frames
     pub t : Ty
-    pub fits : Fits (shapes z.p.unit) (layout_of z.p.unit objects) t v
+    pub fits : Fits (shapes z.p.unit) (store_typing z.p.unit objects) t v
     pub answer : s.contents.regs 2 ≡ word_of_value objects v
     pub ahead : Awaits text activations s.at debt t target work (λ others to left. Ahead text others to left work)
 
   -- a function is entered, with its arguments in registers and its return address in register 31
-  pub record Entered (debt n : ℕ) (args : Values) (target : Target) (work : List Work) (h : Configuration W E) (s : Machine) : Type 0 where
+  pub record FunctionEntered (debt n : ℕ) (args : Values) (target : Target) (work : List Work) (h : Configuration W E) (s : CodeState) : Type 0 where
     pub objects : List Ty
-    pub stands : Stands objects h s.contents s.behind
+    pub stands : ConfigurationStands objects h s.contents s.behind
     pub activations : List Activation
     pub waiting : Waiting objects s.contents.memory activations h.state.frames
     pub frame_at : s.contents.regs 29 ≡ 4 * end_of h.state.frames
@@ -146,14 +146,14 @@ module _ (W E : Type 0) (Outer : W → Contents → Behind → Type 0) (z : Setu
     pub at : s.at ≡ text.links.function n
     pub to : ℕ
     pub return_at : s.contents.regs 31 ≡ 4 * to
-    pub fits : AllFit (shapes z.p.unit) (layout_of z.p.unit objects) (types_of (map typed_of function.params)) args
+    pub fits : AllFit (shapes z.p.unit) (store_typing z.p.unit objects) (types_of (map typed_of function.params)) args
     pub arguments : AreIn (unit_scope z.p.unit) (bases objects []) s.contents.regs 20 args
     pub ahead : Awaits text activations to debt (ty_of function.answer) target work (λ others to left. Ahead text others to left work)
 
   -- the first function has returned with its answer
-  pub record Ended (h : Configuration W E) (s : Machine) : Type 0 where
+  pub record Ended (h : Configuration W E) (s : CodeState) : Type 0 where
     pub objects : List Ty
-    pub stands : Stands objects h s.contents s.behind
+    pub stands : ConfigurationStands objects h s.contents s.behind
     pub no_frames : h.state.frames ≡ []
     pub at : s.at ≡ z.a.back
     pub value : Value
@@ -161,64 +161,64 @@ module _ (W E : Type 0) (Outer : W → Contents → Behind → Type 0) (z : Setu
     pub answer : s.contents.regs 2 ≡ word_of_value objects value
 
   -- what is left to do stands in the machine
-  abbrev pub Simulated : ℕ → List Work → Configuration W E → Machine → Type 0
+  abbrev pub Simulated : ℕ → List Work → Configuration W E → CodeState → Type 0
   Simulated debt [] h s = Ended h s
   Simulated debt (act_on t rest ∷ work) h s = Under debt (act_on t rest ∷ work) h s
-  Simulated debt (finish place v rest ∷ work) h s = Answered debt (into place rest) v work h s
+  Simulated debt (finish place v rest ∷ work) h s = AnswerWaits debt (into place rest) v work h s
   Simulated debt (again t body rest ∷ work) h s = Under debt (again t body rest ∷ work) h s
   Simulated debt (leave answer target ∷ work) h s = Under debt (leave answer target ∷ work) h s
-  Simulated debt (begin n args ∷ work) h s = Entered debt n args outward work h s
+  Simulated debt (begin n args ∷ work) h s = FunctionEntered debt n args outward work h s
 
   -- a fault's exit is reached, and the data stand
-  pub record AtExit (f : KernelFault) (h : Configuration W E) (s : Machine) : Type 0 where
+  pub record AtExit (f : KernelFault) (h : Configuration W E) (s : CodeState) : Type 0 where
     pub objects : List Ty
-    pub stands : Stands objects h s.contents s.behind
+    pub stands : ConfigurationStands objects h s.contents s.behind
     pub at : s.at ≡ exit_of z.places f
 
   -- a step is done: its own units have led the machine to where what is left to do stands
-  abbrev pub IsGone : (debt : ℕ) → Configuration W E → Machine → Cost → List Work → Configuration W E → Type 0
-  IsGone debt h s cost work h' = (t : Machine) × (left : ℕ) × Led z.w cost.own debt left h h' s t × Simulated left work h' t
+  abbrev pub IsGone : (debt : ℕ) → Configuration W E → CodeState → Cost → List Work → Configuration W E → Type 0
+  IsGone debt h s cost work h' = (t : CodeState) × (left : ℕ) × Led z.w cost.own debt left h h' s t × Simulated left work h' t
 
   -- A step is a call statement of a primitive: its own units have led the machine to the primitive's entry, with its arguments and the word to which it returns, and no more than the heap is used. And
   -- wherever it comes back, with its answer in register 2, while the rest of the machine stands for the world's value after it, the step is done.
-  pub record IsCalling (debt : ℕ) (item : Work) (h : Configuration W E) (s : Machine) (cost : Cost) (work : List Work) (h' : Configuration W E) : Type 0 where
+  pub record IsCalling (debt : ℕ) (item : Work) (h : Configuration W E) (s : CodeState) (cost : Cost) (work : List Work) (h' : Configuration W E) : Type 0 where
     pub number : ℕ
     pub row : CPrimitive
     pub args : Values
     pub to : ℕ
     pub own : ℕ
-    pub entry : Machine
-    pub calls : IsCallOf h item number args
+    pub entry : CodeState
+    pub calls : IsPrimitiveCall h item number args
     pub is : slice_get z.table number ≡ Some row
     pub high : own ≤ 30 * cost.own
     pub low : cost.own ≤ 2048 * own
     pub run : Steps z.w own s entry
-    pub called : Called z.w text.links row number args to entry
+    pub called : PrimitiveIsCalled z.w text.links row number args to entry
     pub outer : Outer h.world entry.contents entry.behind
     pub room : entry.contents.memory 1026 ≤ z.p.heap
     pub units : cost.primitive ≡ (call_cost (z.p.meaning number args h.world)).primitive
     pub pages : cost.pages ≡ (z.p.meaning number args h.world).pages
     pub after : h' ≡ after_call h (z.p.meaning number args h.world)
-    pub returns : (t : Machine) → Back z.p.unit z.a z.p.stack to entry t → IsScalar row.answer (z.p.meaning number args h.world).answer
+    pub returns : (t : CodeState) → HasReturned z.p.unit z.a z.p.stack to entry t → IsScalar row.answer (z.p.meaning number args h.world).answer
         → t.contents.regs 2 ≡ scalar_word (z.p.meaning number args h.world).answer → Outer h'.world t.contents t.behind → Simulated debt work h' t
 
   -- what a step of the meaning comes to in the machine: the step of this work item
-  abbrev pub StepIs : (debt : ℕ) → Work → Configuration W E → Machine → Step W E → Type 0
+  abbrev pub StepIs : (debt : ℕ) → Work → Configuration W E → CodeState → Step W E → Type 0
   StepIs debt item h s (Go cost work h') = IsGone debt h s cost work h' ⊎ IsCalling debt item h s cost work h'
-  StepIs debt item h s (Stop cost (faulted f) h') = (t : Machine) × Stopped z.w cost.own debt h h' s t × AtExit f h' t
+  StepIs debt item h s (Stop cost (faulted f) h') = (t : CodeState) × RunStopped z.w cost.own debt h h' s t × AtExit f h' t
   StepIs debt item h s (Stop cost stuck h') = ⊥
 
 -- A step costs a unit of its own at least; it costs none of a primitive, unless a call of one has ended. One that faults costs few.
 abbrev pub CostsSome : {W E : Type 0} → Configuration W E → Step W E → Type 0
-CostsSome h (Go cost work h') = (1 ≤ cost.own) × ((cost.primitive ≡ 0) ⊎ (ended h' ≡ suc (ended h)))
+CostsSome h (Go cost work h') = (1 ≤ cost.own) × ((cost.primitive ≡ 0) ⊎ (calls_ended h' ≡ suc (calls_ended h)))
 CostsSome h (Stop cost f h') = (1 ≤ cost.own) × (total cost ≤ 8388608)
 
 -- a law: so does each step, where what is left to do stands in the machine
 abbrev pub StepsCostSome : (W E : Type 0) (Outer : W → Contents → Behind → Type 0) → Type 0
-StepsCostSome W E Outer = (z : Setup W E Outer) (debt : ℕ) (item : Work) (work : List Work) (h : Configuration W E) (s : Machine)
+StepsCostSome W E Outer = (z : Setup W E Outer) (debt : ℕ) (item : Work) (work : List Work) (h : Configuration W E) (s : CodeState)
     → Simulated W E Outer z debt (item ∷ work) h s → CostsSome h (act z.p item work h)
 
 -- A law: where what is left to do stands in the machine, a step of C0's meaning is a run of the code, over any machine with primitives.
 abbrev pub StepsRun : (W E : Type 0) (Outer : W → Contents → Behind → Type 0) → Type 0
-StepsRun W E Outer = (z : Setup W E Outer) (debt : ℕ) (item : Work) (work : List Work) (h : Configuration W E) (s : Machine)
+StepsRun W E Outer = (z : Setup W E Outer) (debt : ℕ) (item : Work) (work : List Work) (h : Configuration W E) (s : CodeState)
     → Simulated W E Outer z debt (item ∷ work) h s → StepIs W E Outer z debt item h s (act z.p item work h)

@@ -3,7 +3,7 @@ use Rattle.std.specs.Prelude.{◌≡◌, ℕ, ◌+◌, ◌<◌, ◌≤◌, List}
 use Rattle.c0_meaning.specs.Env.{Typed}
 use Rattle.c0_meaning.specs.Words.{all_words}
 use Rattle.c0_meaning.specs.Value.{group, zeros_of}
-use Rattle.c0_meaning.specs.TypedState.{Layout, types_of, AllFit}
+use Rattle.c0_meaning.specs.TypedState.{StoreTyping, types_of, AllFit}
 use Rattle.c0_expr_code.specs.Laws.{IsOpened}
 use Rattle.c0_expr_code.specs.Scope.{Scope}
 use Rattle.c0_expr_code.specs.Bases.{Bases, RegionHeld}
@@ -14,6 +14,6 @@ AreZeros m from count = (k : ℕ) → from ≤ k → k < from + count → m k �
 
 -- A LAW: the zeros of variables of these types stand wherever so many words are 0
 abbrev pub ZerosAreHeld : Type 0
-ZerosAreHeld = (sc : Scope) (p : Bases) (layout : Layout) (m : ℕ → ℕ) (from : ℕ) (ds : List Typed) → IsOpened sc.env.structs
+ZerosAreHeld = (sc : Scope) (p : Bases) (layout : StoreTyping) (m : ℕ → ℕ) (from : ℕ) (ds : List Typed) → IsOpened sc.env.structs
     → AllFit sc.env.structs layout (types_of ds) (zeros_of sc.env.structs ds) → AreZeros m from (all_words sc.env.structs ds)
     → RegionHeld sc p m from (types_of ds) (group (zeros_of sc.env.structs ds))

@@ -2,7 +2,7 @@
 
 ghost use Rattle.std.specs.Prelude.{◌≡◌, ◌+◌, ◌/◌, ◌%◌, ◌^◌, ◌<◌, ◌≤◌, map, slice_index};
 ghost use Rattle.std.specs.List.{All};
-ghost use Rattle.masm.specs.Places.{ArePlaces, IsPlace};
+ghost use Rattle.masm.specs.Places.{ArePlaces, IsJumpTarget};
 ghost use Rattle.c0_tree.specs.Size.{need};
 ghost use Rattle.c0_tree.specs.View.{expr_view, type_view};
 ghost use Rattle.c0_meaning.specs.Sound.{IsSized};
@@ -29,7 +29,7 @@ use std::alloc::AllocError;
 
 // The jump index of the address of a number; 0 where there is none.
 fn index_at(addresses: &[u32], number: u32) -> u32
-    requires { All IsPlace addresses.now }
+    requires { All IsJumpTarget addresses.now }
     ensures value { result ≡ slice_index addresses.now number / 4 }
     ensures small { result < 2 ^ 26 }
 {

@@ -14,7 +14,7 @@ use Rattle.c0_struct_sizes.specs.declared.walk.Mark.{Mark}
 use Rattle.c0_struct_sizes.specs.declared.walk.Mark.TheVariants.{Unseen, Open, Done}
 use Rattle.c0_struct_sizes.specs.Graph.{IsIn}
 use Rattle.c0_struct_sizes.specs.Parts.{edges, TellsFirst}
-use Rattle.c0_struct_sizes.specs.Walk.{State, mark_of, IsWalk, IsWalkOver, is_cyclic_mark, listed_cyclic, copies, numbers_below, first_state}
+use Rattle.c0_struct_sizes.specs.Walk.{WalkState, mark_of, IsWalk, IsWalkOver, is_cyclic_mark, listed_cyclic, copies, numbers_below, walk_start}
 use Rattle.c0_struct_sizes.proofs.GraphLemmas.{in_left, in_right, in_parts}
 use Rattle.c0_struct_sizes.proofs.Telling.{text_at, named_text, named_below, unnamed_fields, unnamed_words, nothing_held, held_leads, leads_held}
 
@@ -58,7 +58,7 @@ in_below (suc n) v h =
       | inr last ↦ elim last [ inl same ↦ omega (arith, same) | inr none ↦ absurd none ]
     ]
 
-pub first_is_walk : (edges : ℕ → List ℕ) (right : ℕ → ℕ → Type 0) (count : ℕ) → IsWalk edges count right (first_state count)
+pub first_is_walk : (edges : ℕ → List ℕ) (right : ℕ → ℕ → Type 0) (count : ℕ) → IsWalk edges count right (walk_start count)
 first_is_walk edges right count =
     let unseen : (v : ℕ) → mark_of (copies Unseen count) v ≡ Unseen = λ v. copies_at Unseen count v in
     record {
@@ -100,7 +100,7 @@ mapped_at f [] n h = absurd (omega arith)
 mapped_at f (s ∷ rest) zero h = refl
 mapped_at f (s ∷ rest) (suc n) h = mapped_at f rest n (omega arith)
 
-module _ (number : List ℕ → Option ℕ) (structs : List CStruct) (told : TellsFirst number structs) (s : State) (w : IsWalkOver number structs s) (over : length s.todo + length s.groups ≡ 0) where
+module _ (number : List ℕ → Option ℕ) (structs : List CStruct) (told : TellsFirst number structs) (s : WalkState) (w : IsWalkOver number structs s) (over : length s.todo + length s.groups ≡ 0) where
   -- each struct is done
   done_at : (v : ℕ) → v < length structs → (b : Bool) × (mark_of s.marks v ≡ Done b)
   done_at v lt = by_mark (mark_of s.marks v) refl

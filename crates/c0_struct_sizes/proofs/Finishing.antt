@@ -6,7 +6,7 @@ use Rattle.c0_struct_sizes.specs.declared.walk.Mark.{Mark}
 use Rattle.c0_struct_sizes.specs.declared.walk.Mark.TheVariants.{Unseen, Open, Done}
 use Rattle.c0_struct_sizes.specs.declared.walk.Group.{Group}
 use Rattle.c0_struct_sizes.specs.Graph.{IsIn, Leads, by_edge, by_way, Reaches}
-use Rattle.c0_struct_sizes.specs.Walk.{State, mark_of, node_at, group_at, IsFollowed, is_done, is_open, is_left, IsGroup, IsBefore, IsWalk, set_all, last_of, last_start, finished, others_left}
+use Rattle.c0_struct_sizes.specs.Walk.{WalkState, mark_of, node_at, group_at, IsFollowed, is_done, is_open, is_left, IsGroup, IsBefore, IsWalk, set_all, last_of, last_start, finished, others_left}
 use Rattle.c0_struct_sizes.proofs.GraphLemmas.{PlaceOf, place_of, in_drop, length-set_all, set_all_cases, reaches_leads, leads_reaches}
 use Rattle.c0_struct_sizes.proofs.Steps.{reach_last, followed_on}
 
@@ -28,11 +28,11 @@ ends marks start left w none (is_open q e le) = inr (q, (e, le))
 ends marks start left w none (is_left i) = absurd (subst (λ (l : List ℕ). IsIn l w) none i)
 
 module _ (edges : ℕ → List ℕ) (count : ℕ) (right : ℕ → ℕ → Type 0) where
-  edge_ends : (s : State) → IsWalk edges count right s → 0 < length s.groups → length s.todo ≤ others_left s → (i w : ℕ) → last_start s ≤ i → i < length s.path → IsIn (edges (node_at s.path i)) w → Ends s.marks (last_start s) w
+  edge_ends : (s : WalkState) → IsWalk edges count right s → 0 < length s.groups → length s.todo ≤ others_left s → (i w : ℕ) → last_start s ≤ i → i < length s.path → IsIn (edges (node_at s.path i)) w → Ends s.marks (last_start s) w
   edge_ends s walk some none i w le lt e =
       ends s.marks (last_start s) (drop (others_left s) s.todo) w (drop_all (others_left s) s.todo none) ((walk.groups (last_of s) (omega arith)).followed i w le lt e)
 
-  pub group_finished : (s : State) → IsWalk edges count right s → 0 < length s.groups → length s.todo ≤ others_left s
+  pub group_finished : (s : WalkState) → IsWalk edges count right s → 0 < length s.groups → length s.todo ≤ others_left s
       → (cyclic : Bool) (words : ℕ)
       → ((i : ℕ) → last_start s ≤ i → i < length s.path → cyclic ≡ true → Leads edges (node_at s.path i) (node_at s.path i))
       → ((i : ℕ) → last_start s ≤ i → i < length s.path → cyclic ≡ false → Leads edges (node_at s.path i) (node_at s.path i) → ⊥)
@@ -202,7 +202,7 @@ module _ (edges : ℕ → List ℕ) (count : ℕ) (right : ℕ → ℕ → Type 
       }
 
   -- where the start of the last group leads to itself, each number of the group does
-  pub all_turn : (s : State) → IsWalk edges count right s → 0 < length s.groups → Leads edges (node_at s.path (last_start s)) (node_at s.path (last_start s)) → (i : ℕ) → last_start s ≤ i → i < length s.path → Leads edges (node_at s.path i) (node_at s.path i)
+  pub all_turn : (s : WalkState) → IsWalk edges count right s → 0 < length s.groups → Leads edges (node_at s.path (last_start s)) (node_at s.path (last_start s)) → (i : ℕ) → last_start s ≤ i → i < length s.path → Leads edges (node_at s.path i) (node_at s.path i)
   all_turn s w some turns i le lt =
       let start : ℕ = last_start s in
       let back : Reaches edges (node_at s.path i) (node_at s.path start) = reach_last edges count right s w (last_of s) (omega arith) i lt in
@@ -212,19 +212,19 @@ module _ (edges : ℕ → List ℕ) (count : ℕ) (right : ℕ → ℕ → Type 
       ]
 
   -- the start of a group of several numbers leads to itself
-  pub several_turn : (s : State) → IsWalk edges count right s → 0 < length s.groups → suc (last_start s) < length s.path → Leads edges (node_at s.path (last_start s)) (node_at s.path (last_start s))
+  pub several_turn : (s : WalkState) → IsWalk edges count right s → 0 < length s.groups → suc (last_start s) < length s.path → Leads edges (node_at s.path (last_start s)) (node_at s.path (last_start s))
   several_turn s w some more =
       let start : ℕ = last_start s in
       leads_reaches edges (node_at s.path start) (node_at s.path (suc start)) (node_at s.path start) (w.path.leads start (suc start) (omega arith) more)
       (reach_last edges count right s w (last_of s) (omega arith) (suc start) more)
 
   -- what is done leads to what is done alone
-  done_leads : (s : State) → IsWalk edges count right s → (v u : ℕ) → Leads edges v u → (b : Bool) → mark_of s.marks v ≡ Done b → (c : Bool) × (mark_of s.marks u ≡ Done c)
+  done_leads : (s : WalkState) → IsWalk edges count right s → (v u : ℕ) → Leads edges v u → (b : Bool) → mark_of s.marks v ≡ Done b → (c : Bool) × (mark_of s.marks u ≡ Done c)
   done_leads s w v u (by_edge e) b m = w.done.closed v u b m e
   done_leads s w v u (by_way {v = a} {u = x} {w = y} e rest) b m = let c = w.done.closed v x b m e in done_leads s w x u rest c.0 c.1
 
   -- the edges of a group of one number that has no edge to itself lead to what is done
-  pub alone_done : (s : State) → IsWalk edges count right s → 0 < length s.groups → length s.todo ≤ others_left s → length s.path ≤ suc (last_start s)
+  pub alone_done : (s : WalkState) → IsWalk edges count right s → 0 < length s.groups → length s.todo ≤ others_left s → length s.path ≤ suc (last_start s)
       → (IsIn (edges (node_at s.path (last_start s))) (node_at s.path (last_start s)) → ⊥)
       → (u : ℕ) → IsIn (edges (node_at s.path (last_start s))) u → (b : Bool) × (mark_of s.marks u ≡ Done b)
   alone_done s w some none one self u e =
@@ -241,12 +241,12 @@ module _ (edges : ℕ → List ℕ) (count : ℕ) (right : ℕ → ℕ → Type 
             absurd (self (subst (λ (x : ℕ). IsIn (edges (node_at s.path start)) x) (sym same) e))
       ]
 
-  alone_from : (s : State) → IsWalk edges count right s → (v : ℕ) → ((u : ℕ) → IsIn (edges v) u → (b : Bool) × (mark_of s.marks u ≡ Done b)) → (x : ℕ) → Leads edges v x → (b : Bool) × (mark_of s.marks x ≡ Done b)
+  alone_from : (s : WalkState) → IsWalk edges count right s → (v : ℕ) → ((u : ℕ) → IsIn (edges v) u → (b : Bool) × (mark_of s.marks u ≡ Done b)) → (x : ℕ) → Leads edges v x → (b : Bool) × (mark_of s.marks x ≡ Done b)
   alone_from s w v all x (by_edge e) = all x e
   alone_from s w v all x (by_way {v = a} {u = y} {w = z} e rest) = let c = all y e in done_leads s w y x rest c.0 c.1
 
   -- so the number doesn't lead to itself
-  pub alone_loose : (s : State) → IsWalk edges count right s → 0 < length s.groups → length s.todo ≤ others_left s → length s.path ≤ suc (last_start s)
+  pub alone_loose : (s : WalkState) → IsWalk edges count right s → 0 < length s.groups → length s.todo ≤ others_left s → length s.path ≤ suc (last_start s)
       → (IsIn (edges (node_at s.path (last_start s))) (node_at s.path (last_start s)) → ⊥)
       → Leads edges (node_at s.path (last_start s)) (node_at s.path (last_start s)) → ⊥
   alone_loose s w some none one self l =

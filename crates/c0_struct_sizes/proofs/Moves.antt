@@ -12,7 +12,7 @@ use Rattle.c0_struct_sizes.specs.declared.walk.Mark.{Mark}
 use Rattle.c0_struct_sizes.specs.declared.walk.Mark.TheVariants.{Unseen, Open, Done}
 use Rattle.c0_struct_sizes.specs.Graph.{IsIn, Leads, by_edge}
 use Rattle.c0_struct_sizes.specs.Parts.{has_part, fields_at, edges, AreWordsOf, TellsFirst}
-use Rattle.c0_struct_sizes.specs.Walk.{State, mark_of, node_at, group_at, is_done, is_open, IsWalk, met, set_all, last_of, last_start, finished, without_target, joined, target_of, others_left, mark_work, unseen_work, work_over, is_last_cyclic, last_words}
+use Rattle.c0_struct_sizes.specs.Walk.{WalkState, mark_of, node_at, group_at, is_done, is_open, IsWalk, met, set_all, last_of, last_start, finished, without_target, joined, target_of, others_left, mark_work, unseen_work, work_over, is_last_cyclic, last_words}
 use Rattle.c0_struct_sizes.proofs.GraphLemmas.{in_at, in_drop}
 use Rattle.c0_struct_sizes.proofs.Steps.{target_held, target_dropped, groups_joined, number_met}
 use Rattle.c0_struct_sizes.proofs.Finishing.{group_finished, all_turn, several_turn, alone_done, alone_loose}
@@ -49,11 +49,11 @@ all_done edges marks (v ∷ rest) b =
     omega arith
 
 module _ (number : List ℕ → Option ℕ) (structs : List CStruct) where
-  abbrev Over : State → Type 0
+  abbrev Over : WalkState → Type 0
   Over s = IsWalk (edges number structs) (length structs) (AreWordsOf number structs) s
 
   -- no group starts behind the last one
-  last_behind : (s : State) → Over s → (k : ℕ) → k < length s.groups → ((group_at s.groups k).path_start ≤ last_start s) × ((group_at s.groups k).todo_start ≤ others_left s)
+  last_behind : (s : WalkState) → Over s → (k : ℕ) → k < length s.groups → ((group_at s.groups k).path_start ≤ last_start s) × ((group_at s.groups k).todo_start ≤ others_left s)
   last_behind s w k h =
       elim (cases_lt k (last_of s)) [
         | inl below ↦ let o = w.order k (last_of s) below (omega arith) in let p : (group_at s.groups k).path_start < last_start s = o.path_before in (omega arith, o.todo_before)
@@ -62,29 +62,29 @@ module _ (number : List ℕ → Option ℕ) (structs : List CStruct) where
             subst (λ (j : ℕ). ((group_at s.groups j).path_start ≤ last_start s) × ((group_at s.groups j).todo_start ≤ others_left s)) same (omega arith, omega arith)
       ]
 
-  pub target_below : (s : State) → Over s → others_left s < length s.todo → target_of s < length structs
+  pub target_below : (s : WalkState) → Over s → others_left s < length s.todo → target_of s < length structs
   target_below s w left = w.within (target_of s) (in_at s.todo (length s.todo - 1) (omega arith))
 
   -- a group stands where the path isn't empty
-  pub group_there : (s : State) → Over s → (p : ℕ) → mark_of s.marks (target_of s) ≡ Open p → 0 < length s.groups
+  pub group_there : (s : WalkState) → Over s → (p : ℕ) → mark_of s.marks (target_of s) ≡ Open p → 0 < length s.groups
   group_there s w p placed =
       let at = w.path.placed (target_of s) p placed in
       let b = w.back p at.0 in
       let a : b.group < length s.groups = b.among in
       omega arith
 
-  pub path_there : (s : State) → Over s → 0 < length s.groups → last_start s < length s.path
+  pub path_there : (s : WalkState) → Over s → 0 < length s.groups → last_start s < length s.path
   path_there s w some = (w.groups (last_of s) (omega arith)).path_in
 
   -- each number of the path leads to the last edge that is left
-  path_leads : (s : State) → Over s → others_left s < length s.todo → (i : ℕ) → i < length s.path → Leads (edges number structs) (node_at s.path i) (target_of s)
+  path_leads : (s : WalkState) → Over s → others_left s < length s.todo → (i : ℕ) → i < length s.path → Leads (edges number structs) (node_at s.path i) (target_of s)
   path_leads s w left i lt =
       let b = w.back i lt in
       let a : b.group < length s.groups = b.among in
       target_held (edges number structs) (length structs) (AreWordsOf number structs) s w (last_of s) (omega arith) (target_of s)
       (in_drop s.todo (others_left s) (length s.todo - 1) (omega arith) (omega arith)) i lt
 
-  pub turned : (s : State) → Over s → others_left s < length s.todo → (p : ℕ) → mark_of s.marks (target_of s) ≡ Open p → p < last_start s → Over (joined s)
+  pub turned : (s : WalkState) → Over s → others_left s < length s.todo → (p : ℕ) → mark_of s.marks (target_of s) ≡ Open p → p < last_start s → Over (joined s)
   turned s w left p placed before =
       let at = w.path.placed (target_of s) p placed in
       let low : p < length s.path = at.0 in
@@ -106,26 +106,26 @@ module _ (number : List ℕ → Option ℕ) (structs : List CStruct) where
       (subst (λ (k : ℕ). Leads (edges number structs) (node_at s.path (group_at s.groups k).path_start) (node_at s.path p)) (sym last)
       (subst (λ (x : ℕ). Leads (edges number structs) (node_at s.path (last_start s)) x) (sym at.1) (path_leads s w left (last_start s) start)))
 
-  pub closed : (s : State) → Over s → others_left s < length s.todo → (p : ℕ) → mark_of s.marks (target_of s) ≡ Open p → last_start s ≤ p → Over (without_target s)
+  pub closed : (s : WalkState) → Over s → others_left s < length s.todo → (p : ℕ) → mark_of s.marks (target_of s) ≡ Open p → last_start s ≤ p → Over (without_target s)
   closed s w left p placed above =
       target_dropped (edges number structs) (length structs) (AreWordsOf number structs) s w (omega arith)
       (λ k h. let l = last_behind s w k h in let le : (group_at s.groups k).todo_start ≤ others_left s = l.1 in omega arith)
       (λ k h. let l = last_behind s w k h in let le : (group_at s.groups k).path_start ≤ last_start s = l.0 in is_open p placed (omega arith))
       (λ e. absurd cc)
 
-  pub passed : (s : State) → Over s → others_left s < length s.todo → (b : Bool) → mark_of s.marks (target_of s) ≡ Done b → Over (without_target s)
+  pub passed : (s : WalkState) → Over s → others_left s < length s.todo → (b : Bool) → mark_of s.marks (target_of s) ≡ Done b → Over (without_target s)
   passed s w left b is =
       target_dropped (edges number structs) (length structs) (AreWordsOf number structs) s w (omega arith)
       (λ k h. let l = last_behind s w k h in let le : (group_at s.groups k).todo_start ≤ others_left s = l.1 in omega arith)
       (λ k h. is_done b is)
       (λ e. absurd cc)
 
-  pub entered : TellsFirst number structs → (s : State) → Over s → others_left s < length s.todo → mark_of s.marks (target_of s) ≡ Unseen → Over (met (edges number structs) (target_of s) s)
+  pub entered : TellsFirst number structs → (s : WalkState) → Over s → others_left s < length s.todo → mark_of s.marks (target_of s) ≡ Unseen → Over (met (edges number structs) (target_of s) s)
   entered told s w left unseen =
       number_met (edges number structs) (length structs) (AreWordsOf number structs) s w (target_of s) (target_below s w left) unseen (path_leads s w left)
       (λ u h. edge_below number structs told (target_of s) u h)
 
-  pub entered_falls : (s : State) → Over s → others_left s < length s.todo → mark_of s.marks (target_of s) ≡ Unseen → work_over number structs (met (edges number structs) (target_of s) s) < work_over number structs s
+  pub entered_falls : (s : WalkState) → Over s → others_left s < length s.todo → mark_of s.marks (target_of s) ≡ Unseen → work_over number structs (met (edges number structs) (target_of s) s) < work_over number structs s
   entered_falls s w left unseen =
       let v : ℕ = target_of s in
       let low : v < length structs = target_below s w left in
@@ -136,7 +136,7 @@ module _ (number : List ℕ → Option ℕ) (structs : List CStruct) where
       let groups : length (s.groups ++ record { path_start = length s.path; todo_start = length s.todo } ∷ []) ≡ length s.groups + 1 = length-append s.groups (record { path_start = length s.path; todo_start = length s.todo } ∷ []) in
       omega arith
 
-  pub finished_falls : (s : State) → 0 < length s.groups → (b : Bool) (count : ℕ) → work_over number structs (finished b count s) < work_over number structs s
+  pub finished_falls : (s : WalkState) → 0 < length s.groups → (b : Bool) (count : ℕ) → work_over number structs (finished b count s) < work_over number structs s
   finished_falls s some b count =
       let marks : unseen_work (edges number structs) 0 (set_all s.marks (drop (last_start s) s.path) (Done b)) ≤ unseen_work (edges number structs) 0 s.marks
       = all_done (edges number structs) s.marks (drop (last_start s) s.path) b in
@@ -158,7 +158,7 @@ module _ (number : List ℕ → Option ℕ) (structs : List CStruct) where
   or_right_false false b h = h
 
   -- the last group, where it is on a cycle
-  pub completed_cyclic : TellsFirst number structs → WordsAreThose → (s : State) → Over s → 0 < length s.groups → length s.todo ≤ others_left s → is_last_cyclic number structs s ≡ true → Over (finished true 0 s)
+  pub completed_cyclic : TellsFirst number structs → WordsAreThose → (s : WalkState) → Over s → 0 < length s.groups → length s.todo ≤ others_left s → is_last_cyclic number structs s ≡ true → Over (finished true 0 s)
   completed_cyclic told laws s w some none test =
       let v : ℕ = node_at s.path (last_start s) in
       let turns : Leads (edges number structs) v v
@@ -176,7 +176,7 @@ module _ (number : List ℕ → Option ℕ) (structs : List CStruct) where
       (λ i le lt. cyclic_words number structs told laws (node_at s.path i) (each i le lt))
 
   -- the last group, where it isn't
-  pub completed_loose : TellsFirst number structs → WordsAreThose → (s : State) → Over s → 0 < length s.groups → length s.todo ≤ others_left s → is_last_cyclic number structs s ≡ false → Over (finished false (last_words number structs s) s)
+  pub completed_loose : TellsFirst number structs → WordsAreThose → (s : WalkState) → Over s → 0 < length s.groups → length s.todo ≤ others_left s → is_last_cyclic number structs s ≡ false → Over (finished false (last_words number structs s) s)
   completed_loose told laws s w some none test =
       let start : ℕ = last_start s in
       let v : ℕ = node_at s.path start in

@@ -8,7 +8,7 @@ use Rattle.c0_struct_sizes.specs.declared.walk.Mark.{Mark}
 use Rattle.c0_struct_sizes.specs.declared.walk.Mark.TheVariants.{Unseen, Open, Done}
 use Rattle.c0_struct_sizes.specs.declared.walk.Group.{Group}
 use Rattle.c0_struct_sizes.specs.Graph.{IsIn, Leads, by_edge, Reaches}
-use Rattle.c0_struct_sizes.specs.Walk.{State, mark_of, node_at, group_at, IsFollowed, is_done, is_open, is_left, IsGroup, IsBefore, LeadsBack, AreDone, IsWalk, met, last_of, without_target, joined, target_of}
+use Rattle.c0_struct_sizes.specs.Walk.{WalkState, mark_of, node_at, group_at, IsFollowed, is_done, is_open, is_left, IsGroup, IsBefore, LeadsBack, AreDone, IsWalk, met, last_of, without_target, joined, target_of}
 use Rattle.c0_struct_sizes.proofs.GraphLemmas.{equal, in_left, in_right, in_parts, last_split, reaches_leads, leads_reaches, leads_edge}
 
 -- an edge stays followed where what is done or open stays so, and what is left stays left or is followed
@@ -35,7 +35,7 @@ done_same edges right old new words kept was d = record {
 
 module _ (edges : ℕ → List ℕ) (count : ℕ) (right : ℕ → ℕ → Type 0) where
   -- each number of the path reaches the start of the last group
-  pub reach_last : (s : State) → IsWalk edges count right s → (last : ℕ) → length s.groups ≡ suc last → (i : ℕ) → i < length s.path → Reaches edges (node_at s.path i) (node_at s.path (group_at s.groups last).path_start)
+  pub reach_last : (s : WalkState) → IsWalk edges count right s → (last : ℕ) → length s.groups ≡ suc last → (i : ℕ) → i < length s.path → Reaches edges (node_at s.path i) (node_at s.path (group_at s.groups last).path_start)
   reach_last s w last len i h =
       let b = w.back i h in
       elim (cases_lt b.group last) [
@@ -51,12 +51,12 @@ module _ (edges : ℕ → List ℕ) (count : ℕ) (right : ℕ → ℕ → Type 
       ]
 
   -- each number of the path leads to what is left of the last group
-  pub target_held : (s : State) → IsWalk edges count right s → (last : ℕ) → length s.groups ≡ suc last → (x : ℕ) → IsIn (drop (group_at s.groups last).todo_start s.todo) x → (i : ℕ) → i < length s.path → Leads edges (node_at s.path i) x
+  pub target_held : (s : WalkState) → IsWalk edges count right s → (last : ℕ) → length s.groups ≡ suc last → (x : ℕ) → IsIn (drop (group_at s.groups last).todo_start s.todo) x → (i : ℕ) → i < length s.path → Leads edges (node_at s.path i) x
   target_held s w last len x h i lt =
       reaches_leads edges (node_at s.path i) (node_at s.path (group_at s.groups last).path_start) x (reach_last s w last len i lt) ((w.groups last (omega arith)).held x h)
 
   -- an edge taken off that is followed for each group
-  pub target_dropped : (s : State) → IsWalk edges count right s → 0 < length s.todo
+  pub target_dropped : (s : WalkState) → IsWalk edges count right s → 0 < length s.todo
       → ((k : ℕ) → k < length s.groups → (group_at s.groups k).todo_start < length s.todo)
       → ((k : ℕ) → k < length s.groups → IsFollowed s.marks (group_at s.groups k).path_start [] (target_of s))
       → (mark_of s.marks (target_of s) ≡ Unseen → ⊥)
@@ -109,7 +109,7 @@ module _ (edges : ℕ → List ℕ) (count : ℕ) (right : ℕ → ℕ → Type 
       }
 
   -- the last group made a part of the one before it, where the path leads from its start to a number that stands before it
-  pub groups_joined : (s : State) → IsWalk edges count right s → (m : ℕ) → length s.groups ≡ suc (suc m) → (p : ℕ) → p < (group_at s.groups (suc m)).path_start
+  pub groups_joined : (s : WalkState) → IsWalk edges count right s → (m : ℕ) → length s.groups ≡ suc (suc m) → (p : ℕ) → p < (group_at s.groups (suc m)).path_start
       → Leads edges (node_at s.path (group_at s.groups (suc m)).path_start) (node_at s.path p)
       → IsWalk edges count right (joined s)
   groups_joined s w m len p before leads =
@@ -162,7 +162,7 @@ module _ (edges : ℕ → List ℕ) (count : ℕ) (right : ℕ → ℕ → Type 
       }
 
   -- a number met that was unseen, where each number of the path leads to it
-  pub number_met : (s : State) → IsWalk edges count right s → (v : ℕ) → v < count → mark_of s.marks v ≡ Unseen
+  pub number_met : (s : WalkState) → IsWalk edges count right s → (v : ℕ) → v < count → mark_of s.marks v ≡ Unseen
       → ((i : ℕ) → i < length s.path → Leads edges (node_at s.path i) v)
       → ((u : ℕ) → IsIn (edges v) u → u < count)
       → IsWalk edges count right (met edges v s)

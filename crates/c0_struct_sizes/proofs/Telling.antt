@@ -10,7 +10,7 @@ use Rattle.c0_tree.specs.Tree.{CTy, int, bool, pointer, named, array, CDecl, CSt
 use Rattle.c0_meaning.specs.Ty as ty
 use Rattle.c0_meaning.specs.Ty.{ty_of}
 use Rattle.c0_meaning.specs.Env.{Shape, Typed, shape_of, typed_of, first_named, fields_of}
-use Rattle.c0_meaning.specs.Words.{is_made_of, fields_named, have_field, has_field_of, Holds, by_field, by_part, words, all_words, WordsAreThose}
+use Rattle.c0_meaning.specs.Words.{is_made_of, fields_named, have_field, has_field_of, StructHolds, by_field, by_part, words, all_words, WordsAreThose}
 use Rattle.c0_meaning.proofs.Capped.{capped_product}
 use Rattle.c0_name_check.specs.Names.{number_named}
 use Rattle.c0_meaning.specs.Sizes.{WORDS_CAP}
@@ -125,7 +125,7 @@ in_has_part number (d ∷ rest) n h =
     ]
 
 -- what has no fields holds nothing
-pub nothing_held : {shapes : List Shape} {a b : List ℕ} → Holds shapes a b → fields_named shapes a ≡ [] → ⊥
+pub nothing_held : {shapes : List Shape} {a b : List ℕ} → StructHolds shapes a b → fields_named shapes a ≡ [] → ⊥
 nothing_held (by_field {owner} {x} h) none = false≢true (subst (λ (fs : List Typed). have_field fs x ≡ true) none h)
 nothing_held (by_part {owner} {part} {x} h rest) none = false≢true (subst (λ (fs : List Typed). have_field fs part ≡ true) none h)
 
@@ -159,7 +159,7 @@ module _ (number : List ℕ → Option ℕ) (structs : List CStruct) (told : Tel
   edge_below v u h = let p = parts_name number (fields_at structs v) u h in named_below p.0 u p.1.1
 
   -- a struct leads to each that it holds
-  pub held_leads : {x y : List ℕ} → Holds (map shape_of structs) x y → (i j : ℕ) → number x ≡ Some i → number y ≡ Some j → Leads (edges number structs) i j
+  pub held_leads : {x y : List ℕ} → StructHolds (map shape_of structs) x y → (i j : ℕ) → number x ≡ Some i → number y ≡ Some j → Leads (edges number structs) i j
   held_leads (by_field {owner} {x} h) i j e f =
       by_edge (parts_number number (fields_at structs i) x j (subst (λ (fs : List Typed). have_field fs x ≡ true) (named_fields owner i e) h) f)
   held_leads (by_part {owner} {part} {x} h rest) i j e f = by_number (number part) refl (λ m g. held_leads rest m j g f)
@@ -169,7 +169,7 @@ module _ (number : List ℕ → Option ℕ) (structs : List CStruct) (told : Tel
       by_number (Some m) g on = by_way (parts_number number (fields_at structs i) part m (subst (λ (fs : List Typed). have_field fs part ≡ true) (named_fields owner i e) h) g) (on m g)
 
   -- a struct holds each to which it leads
-  pub leads_held : {i j : ℕ} → Leads (edges number structs) i j → (x y : List ℕ) → number x ≡ Some i → number y ≡ Some j → Holds (map shape_of structs) x y
+  pub leads_held : {i j : ℕ} → Leads (edges number structs) i j → (x y : List ℕ) → number x ≡ Some i → number y ≡ Some j → StructHolds (map shape_of structs) x y
   leads_held (by_edge {v} {w} h) x y e f =
       let p = parts_name number (fields_at structs v) w h in
       let same : p.0 ≡ y = sym (named_text p.0 w p.1.1) ∙ named_text y w f in

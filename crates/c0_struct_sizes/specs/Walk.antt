@@ -15,7 +15,7 @@ use Rattle.c0_struct_sizes.specs.Graph.{IsIn, Leads, Reaches}
 use Rattle.c0_struct_sizes.specs.Parts.{edges, AreWordsOf, has_part, fields_at, all_capped}
 
 -- where a walk stands
-pub record State : Type 0 where
+pub record WalkState : Type 0 where
   pub marks : List Mark
   pub path : List ℕ
   pub todo : List ℕ
@@ -23,7 +23,7 @@ pub record State : Type 0 where
   pub words : List ℕ
 
 -- where the walk stands that is kept so
-abbrev pub state_of : Walk → State
+abbrev pub state_of : Walk → WalkState
 state_of w = record { marks = w.marks.items; path = w.path.items; todo = w.todo.items; groups = w.groups.items; words = w.words.items }
 
 -- the mark of a number
@@ -77,7 +77,7 @@ pub record AreDone (edges : ℕ → List ℕ) (right : ℕ → ℕ → Type 0) (
   pub sized : (v : ℕ) (b : Bool) → mark_of marks v ≡ Done b → right v (get_or words v 0)
 
 -- what holds wherever a walk over so many numbers stands, where this is right of a number and its words
-pub record IsWalk (edges : ℕ → List ℕ) (count : ℕ) (right : ℕ → ℕ → Type 0) (s : State) : Type 0 where
+pub record IsWalk (edges : ℕ → List ℕ) (count : ℕ) (right : ℕ → ℕ → Type 0) (s : WalkState) : Type 0 where
   pub marks : length s.marks ≡ count
   pub words : length s.words ≡ count
   pub path : IsPath edges count s.marks s.path
@@ -89,7 +89,7 @@ pub record IsWalk (edges : ℕ → List ℕ) (count : ℕ) (right : ℕ → ℕ 
   pub waiting : (v : ℕ) → v < count → mark_of s.marks v ≡ Unseen → IsIn s.todo v
 
 -- this number met: it is a group of its own, and its edges are left
-abbrev pub met : (ℕ → List ℕ) → ℕ → State → State
+abbrev pub met : (ℕ → List ℕ) → ℕ → WalkState → WalkState
 met edges v s = record {
   marks = set s.marks v (Open (length s.path));
   path = s.path ++ v ∷ [];
@@ -104,15 +104,15 @@ set_all xs [] a = xs
 set_all xs (i ∷ is) a = set_all (set xs i a) is a
 
 -- the number of the last group
-abbrev pub last_of : State → ℕ
+abbrev pub last_of : WalkState → ℕ
 last_of s = length s.groups - 1
 
 -- where the last group starts on the path
-abbrev pub last_start : State → ℕ
+abbrev pub last_start : WalkState → ℕ
 last_start s = (group_at s.groups (last_of s)).path_start
 
 -- the last group done, on a cycle or not, with so many words each
-abbrev pub finished : Bool → ℕ → State → State
+abbrev pub finished : Bool → ℕ → WalkState → WalkState
 finished b count s = record {
   marks = set_all s.marks (drop (last_start s) s.path) (Done b);
   path = take (last_start s) s.path;
@@ -122,19 +122,19 @@ finished b count s = record {
 }
 
 -- the last edge left taken off
-abbrev pub without_target : State → State
+abbrev pub without_target : WalkState → WalkState
 without_target s = record { marks = s.marks; path = s.path; todo = take (length s.todo - 1) s.todo; groups = s.groups; words = s.words }
 
 -- the last group made a part of the one before it
-abbrev pub joined : State → State
+abbrev pub joined : WalkState → WalkState
 joined s = record { marks = s.marks; path = s.path; todo = s.todo; groups = take (last_of s) s.groups; words = s.words }
 
 -- the last number whose edge is left
-abbrev pub target_of : State → ℕ
+abbrev pub target_of : WalkState → ℕ
 target_of s = get_or s.todo (length s.todo - 1) 0
 
 -- how many edges are left that aren't of the last group
-abbrev pub others_left : State → ℕ
+abbrev pub others_left : WalkState → ℕ
 others_left s = (group_at s.groups (last_of s)).todo_start
 
 -- the work of a mark, where meeting its number makes so much
@@ -149,29 +149,29 @@ unseen_work edges k [] = 0
 unseen_work edges k (m ∷ ms) = mark_work m (2 + length (edges k)) + unseen_work edges (suc k) ms
 
 -- how much is left of a walk
-abbrev pub work : (ℕ → List ℕ) → State → ℕ
+abbrev pub work : (ℕ → List ℕ) → WalkState → ℕ
 work edges s = unseen_work edges 0 s.marks + length s.todo + length s.groups
 
 -- what holds wherever a walk over structs stands
-abbrev pub IsWalkOver : (List ℕ → Option ℕ) → List CStruct → State → Type 0
+abbrev pub IsWalkOver : (List ℕ → Option ℕ) → List CStruct → WalkState → Type 0
 IsWalkOver number structs s = IsWalk (edges number structs) (length structs) (AreWordsOf number structs) s
 
 -- how much is left of a walk over structs
-abbrev pub work_over : (List ℕ → Option ℕ) → List CStruct → State → ℕ
+abbrev pub work_over : (List ℕ → Option ℕ) → List CStruct → WalkState → ℕ
 work_over number structs s = work (edges number structs) s
 
 -- less is left of a walk over structs
-abbrev pub GoesOn : (List ℕ → Option ℕ) → List CStruct → State → State → Type 0
-GoesOn number structs old new = work_over number structs new < work_over number structs old
+abbrev pub WalkGoesOn : (List ℕ → Option ℕ) → List CStruct → WalkState → WalkState → Type 0
+WalkGoesOn number structs old new = work_over number structs new < work_over number structs old
 
 -- whether the last group lies on a cycle: it has several structs, or its one struct has itself as a part
-abbrev pub is_last_cyclic : (List ℕ → Option ℕ) → List CStruct → State → Bool
+abbrev pub is_last_cyclic : (List ℕ → Option ℕ) → List CStruct → WalkState → Bool
 is_last_cyclic number structs s =
     nat_lt 1 (length s.path - last_start s)
     || has_part number (fields_at structs (node_at s.path (last_start s))) (node_at s.path (last_start s))
 
 -- the words of the fields of the first struct of the last group, up to the cap
-abbrev pub last_words : (List ℕ → Option ℕ) → List CStruct → State → ℕ
+abbrev pub last_words : (List ℕ → Option ℕ) → List CStruct → WalkState → ℕ
 last_words number structs s = min (all_capped number s.words (fields_at structs (node_at s.path (last_start s)))) WORDS_CAP
 
 -- whether a mark is that of a number on a cycle
@@ -196,8 +196,8 @@ numbers_below zero = []
 numbers_below (suc n) = numbers_below n ++ n ∷ []
 
 -- where a walk over so many numbers begins
-abbrev pub first_state : ℕ → State
-first_state count = record { marks = copies Unseen count; path = []; todo = numbers_below count; groups = []; words = copies 0 count }
+abbrev pub walk_start : ℕ → WalkState
+walk_start count = record { marks = copies Unseen count; path = []; todo = numbers_below count; groups = []; words = copies 0 count }
 
 -- the words that a list gives structs by their numbers
 abbrev pub words_listed : List ℕ → (List ℕ → Option ℕ) → List CStruct → List ℕ

@@ -5,7 +5,7 @@ ghost use Rattle.c0_name_check.specs.Names.{look};
 ghost use Rattle.c0_struct_sizes.specs.Parts as parts;
 ghost use Rattle.c0_name_check.specs.Structs.{listed_words};
 ghost use Rattle.c0_struct_sizes.specs.Parts.{TellsFirst};
-ghost use Rattle.c0_struct_sizes.specs.Walk.{GoesOn, IsWalkOver, finished, first_state, is_last_cyclic, joined, last_start, last_words, listed_cyclic};
+ghost use Rattle.c0_struct_sizes.specs.Walk.{WalkGoesOn, IsWalkOver, finished, walk_start, is_last_cyclic, joined, last_start, last_words, listed_cyclic};
 ghost use Rattle.c0_struct_sizes.specs.Walk.{mark_of, met, node_at, others_left, set_all, state_of, target_of, without_target};
 ghost use Rattle.c0_struct_sizes.specs.declared.walk.Mark.TheVariants.{Open};
 ghost use Rattle.c0_tree.specs.View.{decl_view, struct_view};
@@ -204,7 +204,7 @@ impl Walk {
         requires grouped { 0 < length self.old.groups.items }
         requires followed { length self.old.todo.items ≤ others_left (state_of self.old) }
         ensures walk { IsWalkOver (look names.now) (map struct_view structs.now) (state_of self.new) }
-        ensures falls { GoesOn (look names.now) (map struct_view structs.now) (state_of self.old) (state_of self.new) }
+        ensures falls { WalkGoesOn (look names.now) (map struct_view structs.now) (state_of self.old) (state_of self.new) }
     {
         holding_is_as_tested();
         words_are_those_of_the_parts();
@@ -222,7 +222,7 @@ impl Walk {
         requires left { others_left (state_of self.old) < length self.old.todo.items }
         requires placed { mark_of self.old.marks.items (target_of (state_of self.old)) ≡ Open place }
         ensures walk { IsWalkOver (look names.now) (map struct_view structs.now) (state_of self.new) }
-        ensures falls { GoesOn (look names.now) (map struct_view structs.now) (state_of self.old) (state_of self.new) }
+        ensures falls { WalkGoesOn (look names.now) (map struct_view structs.now) (state_of self.old) (state_of self.new) }
     {
         if place < self.last_start() {
             self.join_groups();
@@ -237,7 +237,7 @@ impl Walk {
         requires walk { IsWalkOver (look names.now) (map struct_view structs.now) (state_of self.old) }
         requires left { others_left (state_of self.old) < length self.old.todo.items }
         ensures walk { OnOk result (IsWalkOver (look names.now) (map struct_view structs.now) (state_of self.new)) }
-        ensures falls { OnOk result (GoesOn (look names.now) (map struct_view structs.now) (state_of self.old) (state_of self.new)) }
+        ensures falls { OnOk result (WalkGoesOn (look names.now) (map struct_view structs.now) (state_of self.old) (state_of self.new)) }
     {
         let target = self.target();
         match self.mark(target) {
@@ -254,7 +254,7 @@ impl Walk {
         requires walk { IsWalkOver (look names.now) (map struct_view structs.now) (state_of self.old) }
         requires under_way { 0 < length self.old.todo.items + length self.old.groups.items }
         ensures walk { OnOk result (IsWalkOver (look names.now) (map struct_view structs.now) (state_of self.new)) }
-        ensures falls { OnOk result (GoesOn (look names.now) (map struct_view structs.now) (state_of self.old) (state_of self.new)) }
+        ensures falls { OnOk result (WalkGoesOn (look names.now) (map struct_view structs.now) (state_of self.old) (state_of self.new)) }
     {
         if self.others_left() < self.todo.len() {
             self.follow(names, structs)?;
@@ -290,7 +290,7 @@ impl Walk {
 
 // Where a walk over so many structs begins: each is left to be met.
 fn first_walk(alloc: Global, count: u32) -> Result<Walk, AllocError>
-    ensures { IfOk result (λ w. state_of w ≡ first_state count) }
+    ensures { IfOk result (λ w. state_of w ≡ walk_start count) }
 {
     let mut walk = Walk {
         marks: Vec::new(alloc),

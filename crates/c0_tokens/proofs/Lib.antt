@@ -1,7 +1,7 @@
 pub mod Runs
 pub mod Spelt
-pub mod Shorter
+pub mod TokensShorten
 pub mod Steps
 pub mod Ends
 pub mod Longest
-pub mod Small
+pub mod TokensAreSmall

@@ -3,9 +3,9 @@ use Rattle.std.proofs.Common.{◌≡◌, ℕ, suc, ◌+◌, ◌-◌, ◌<◌, �
 use Rattle.std.proofs.lemmas.List.{map-append}
 use Rattle.c0_tokens.specs.Tokens.{CLexeme, name, number, asm_text, fixed, faulty, end, CToken}
 use Rattle.c0_tokens.specs.declared.token.TokenFault.TheVariants.{TooNested}
-use Rattle.c0_tokens.specs.Lexis.{Cut, cut, next_text, is_asm, is_last, tokens_within}
+use Rattle.c0_tokens.specs.Lexis.{Cut, longest_token, next_text, is_asm_word, is_last, tokens_within}
 use Rattle.c0_tokens.specs.Nesting.{Depth, depth_after, at_depth, is_too_nested, nested, opens, closes, ends_run}
-use Rattle.c0_tokens.proofs.Shorter.{next_cut, next_shorter, next_within, left_within, enough}
+use Rattle.c0_tokens.proofs.TokensShorten.{next_cut, next_shorter, next_within, left_within, enough}
 
 -- the tokens of what is left of a source, from a depth on
 abbrev pub left : ℕ → Depth → Bool → List ℕ → List CToken
@@ -31,7 +31,7 @@ pub record IsStep (size : ℕ) (d : Depth) (after_asm : Bool) (rest text : List 
   pub rest_within : length c.rest ≤ length text
   pub shorter : is_last lexeme ≡ false → length c.rest < length rest
   pub last : is_last lexeme ≡ true → left size d after_asm rest ≡ record { lexeme = lexeme; start = size - length text; stop = size - length c.rest } ∷ []
-  pub more : is_last lexeme ≡ false → left size d after_asm rest ≡ record { lexeme = lexeme; start = size - length text; stop = size - length c.rest } ∷ left size (depth_after d c.lexeme) (is_asm c.lexeme) c.rest
+  pub more : is_last lexeme ≡ false → left size d after_asm rest ≡ record { lexeme = lexeme; start = size - length text; stop = size - length c.rest } ∷ left size (depth_after d c.lexeme) (is_asm_word c.lexeme) c.rest
 
 -- the bound on the number of tokens opens
 opened : (size : ℕ) (d : Depth) (after_asm : Bool) (rest : List ℕ) → left size d after_asm rest ≡ nested d (tokens_within (suc (length rest)) size after_asm rest)
@@ -53,13 +53,13 @@ step size d after_asm rest =
           let shorter : length c.rest < length rest = next_shorter after_asm rest plain in
           opened size d after_asm rest
           ∙ rw (e, plain) (ap (λ ts. record { lexeme = lexeme; start = size - length (next_text after_asm rest); stop = size - length c.rest } ∷ nested (depth_after d c.lexeme) ts)
-          (enough (length rest) (length c.rest + 1) size (is_asm c.lexeme) c.rest shorter (omega arith)));
+          (enough (length rest) (length c.rest + 1) size (is_asm_word c.lexeme) c.rest shorter (omega arith)));
     }
 
 -- what an iteration found: the text from the next token on, the token at its front, and the token as it is read at the depth
 pub record IsFound (d : Depth) (after_asm : Bool) (rest text : List ℕ) (c : Cut) (lexeme : CLexeme) : Type 0 where
   pub text_is : text ≡ next_text after_asm rest
-  pub cut_is : c ≡ cut after_asm text
+  pub cut_is : c ≡ longest_token after_asm text
   pub lexeme_is : lexeme ≡ at_depth d c.lexeme
 
 -- what an iteration found is a step
@@ -67,7 +67,7 @@ pub found : (size : ℕ) {d : Depth} {after_asm : Bool} {rest text : List ℕ} {
 found size {d} {after_asm} {rest} {text} {c} {lexeme} f =
     subst (λ l. IsStep size d after_asm rest text c l) (sym f.lexeme_is)
     (subst (λ k. IsStep size d after_asm rest text k (at_depth d k.lexeme)) (sym f.cut_is)
-    (subst (λ t. IsStep size d after_asm rest t (cut after_asm t) (at_depth d (cut after_asm t).lexeme)) (sym f.text_is) (step size d after_asm rest)))
+    (subst (λ t. IsStep size d after_asm rest t (longest_token after_asm t) (at_depth d (longest_token after_asm t).lexeme)) (sym f.text_is) (step size d after_asm rest)))
 
 -- the token pushed is the first of those that were left
 pub pushed : {A : Type 0} (f : A → CToken) (items : List A) (x : A) (more left whole : List CToken) → map f items ++ left ≡ whole → left ≡ f x ∷ more → map f (items ++ x ∷ []) ++ more ≡ whole

@@ -87,9 +87,9 @@ abbrev pub number_cut : List ℕ → Cut
 number_cut text = record { lexeme = number_lexeme (take_while is_digit text); rest = drop (length (take_while is_digit text)) text }
 
 -- the longest token at the front of bytes where no blank or comment stands, and whether the token before it was the word asm
-abbrev pub cut : Bool → List ℕ → Cut
-cut after_asm [] = record { lexeme = end; rest = [] }
-cut after_asm (a ∷ rest) =
+abbrev pub longest_token : Bool → List ℕ → Cut
+longest_token after_asm [] = record { lexeme = end; rest = [] }
+longest_token after_asm (a ∷ rest) =
     if after_asm && (a == 123) then asm_cut rest else
     if is_letter a then word_cut (a ∷ rest) else
     if is_digit a then number_cut (a ∷ rest) else
@@ -105,9 +105,9 @@ abbrev pub next_text : Bool → List ℕ → List ℕ
 next_text after_asm text = if after_asm && is_unclosed (drop (gap text) text) then [] else drop (gap text) text
 
 -- whether a token is the word asm
-abbrev pub is_asm : CLexeme → Bool
-is_asm (fixed Asm) = true
-is_asm _ = false
+abbrev pub is_asm_word : CLexeme → Bool
+is_asm_word (fixed Asm) = true
+is_asm_word _ = false
 
 -- nothing is read after the end of a source, nor after a token that no source has
 abbrev pub is_last : CLexeme → Bool
@@ -121,9 +121,9 @@ abbrev pub tokens_within : ℕ → ℕ → Bool → List ℕ → List CToken
 tokens_within zero size after_asm text = []
 tokens_within (suc n) size after_asm text =
     let here = next_text after_asm text in
-    let c = cut after_asm here in
+    let c = longest_token after_asm here in
     record { lexeme = c.lexeme; start = size - length here; stop = size - length c.rest }
-    ∷ (if is_last c.lexeme then [] else tokens_within n size (is_asm c.lexeme) c.rest)
+    ∷ (if is_last c.lexeme then [] else tokens_within n size (is_asm_word c.lexeme) c.rest)
 
 -- the tokens of a source, up to its end or the first byte or number that is bad
 abbrev pub plain_tokens : List ℕ → List CToken

@@ -12,9 +12,9 @@ EndsOnce (t ∷ []) = is_last t.lexeme ≡ true
 EndsOnce (t ∷ u ∷ rest) = (is_last t.lexeme ≡ false) × EndsOnce (u ∷ rest)
 
 -- tokens stand one after another between two places, and each that a source may have has a byte
-abbrev pub InOrder : ℕ → ℕ → List CToken → Type 0
-InOrder from to [] = from ≤ to
-InOrder from to (t ∷ rest) = (from ≤ t.start) × (t.start ≤ t.stop) × (is_last t.lexeme ≡ false → t.start < t.stop) × InOrder t.stop to rest
+abbrev pub TokensInOrder : ℕ → ℕ → List CToken → Type 0
+TokensInOrder from to [] = from ≤ to
+TokensInOrder from to (t ∷ rest) = (from ≤ t.start) × (t.start ≤ t.stop) × (is_last t.lexeme ≡ false → t.start < t.stop) × TokensInOrder t.stop to rest
 
 -- a number is at most 2147483647
 abbrev pub NumberFits : CLexeme → Type 0

@@ -3,8 +3,8 @@ ghost use Rattle.std.specs.Prelude.{◌≡◌, ◌<◌, ◌≤◌, ◌+◌, true
 ghost use Rattle.std.specs.List.{AllPass, prefix_len, position_or_len};
 ghost use Rattle.c0_tokens.specs.Lexis.{is_digit as is_digit_of, is_letter as is_letter_of, is_word_byte as is_word_byte_of, is_blank as is_blank_of};
 ghost use Rattle.c0_tokens.specs.Lexis.{is_close_brace, gap, digits_value as digits_value_of, number_lexeme as number_lexeme_of, word_lexeme as word_lexeme_of};
-ghost use Rattle.c0_tokens.specs.Lexis.{mark_cut as mark_cut_of, asm_cut as asm_cut_of, word_cut as word_cut_of, number_cut as number_cut_of, cut};
-ghost use Rattle.c0_tokens.specs.Lexis.{is_unclosed as is_unclosed_of, next_text as next_text_of, is_asm as is_asm_of, is_last as is_last_of};
+ghost use Rattle.c0_tokens.specs.Lexis.{mark_cut as mark_cut_of, asm_cut as asm_cut_of, word_cut as word_cut_of, number_cut as number_cut_of, longest_token};
+ghost use Rattle.c0_tokens.specs.Lexis.{is_unclosed as is_unclosed_of, next_text as next_text_of, is_asm_word as is_asm_of, is_last as is_last_of};
 ghost use Rattle.c0_tokens.specs.Nesting.{tokens_of};
 ghost use Rattle.c0_tokens.specs.Tokens.{lexeme_view, token_view};
 ghost use Rattle.c0_tokens.specs.View.{cut_view};
@@ -193,7 +193,7 @@ fn number_cut(text: &[u8]) -> Cut<'_>
 // The longest token at the front of a text where no gap stands, and whether the word `asm` came before it.
 fn first_token(text: &[u8], after_asm: bool) -> Cut<'_>
     requires { after_asm && is_unclosed_of text.now ≡ false }
-    ensures { cut_view result ≡ cut after_asm text.now }
+    ensures { cut_view result ≡ longest_token after_asm text.now }
 {
     if text.is_empty() {
         Cut {

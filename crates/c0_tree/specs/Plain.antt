@@ -47,13 +47,13 @@ is_plain_body (code locals stmts answer) = is_short locals && (nat_lt (stmts_len
 is_plain_body (asm text span words) = is_short text && is_short words
 
 -- whether a list has a part
-abbrev pub has_part : {A : Type 0} → List A → Bool
-has_part [] = false
-has_part (x ∷ xs) = true
+abbrev pub is_nonempty : {A : Type 0} → List A → Bool
+is_nonempty [] = false
+is_nonempty (x ∷ xs) = true
 
 -- whether a struct is so: it has a field, and not too many
 abbrev pub is_plain_struct : CStruct → Bool
-is_plain_struct s = has_part s.fields && is_short s.fields
+is_plain_struct s = is_nonempty s.fields && is_short s.fields
 
 -- whether a unit is so
 abbrev pub is_plain : CUnit → Bool

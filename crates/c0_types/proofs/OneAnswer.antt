@@ -16,7 +16,7 @@ use Rattle.c0_types.specs.declared.source_fault.SourceFault.TheVariants.{Reading
 
 -- a reading has one answer
 abbrev pub OneReading : Type 0
-OneReading = (source : List ℕ) (a b : Result CUnit ReadFault) → reading.IsAnswer source a → reading.IsAnswer source b → a ≡ b
+OneReading = (source : List ℕ) (a b : Result CUnit ReadFault) → reading.IsTreeAnswer source a → reading.IsTreeAnswer source b → a ≡ b
 
 -- the fault of a number
 back_at : ℕ → Fault → TypeFault
@@ -73,23 +73,23 @@ same_fault : (f g : TypeFault) → type_fault_view f ≡ type_fault_view g → f
 same_fault f g e = sym (back_view f) ∙ (ap back e ∙ back_view g)
 
 -- the answer of a reading
-read_fault : (program : Program) (source : List ℕ) (f : ReadFault) → IsFirstFaultAs program source (Reading f) → reading.IsAnswer source (Err f)
+read_fault : (program : Program) (source : List ℕ) (f : ReadFault) → IsFirstFaultAs program source (Reading f) → reading.IsTreeAnswer source (Err f)
 read_fault program source f h = (λ e. h.read (ap Reading e), h.fault)
 
 -- there is one tree, one fault of reading, and not both
-one_tree : OneReading → (source : List ℕ) (t u : CUnit) → reading.IsAnswer source (Ok t) → reading.IsAnswer source (Ok u) → t ≡ u
+one_tree : OneReading → (source : List ℕ) (t u : CUnit) → reading.IsTreeAnswer source (Ok t) → reading.IsTreeAnswer source (Ok u) → t ≡ u
 one_tree one source t u a b =
     let left : Result CUnit ReadFault = Ok t in
     let right : Result CUnit ReadFault = Ok u in
     let e : left ≡ right = one source left right a b in cc
 
-one_reading : OneReading → (source : List ℕ) (f g : ReadFault) → reading.IsAnswer source (Err f) → reading.IsAnswer source (Err g) → f ≡ g
+one_reading : OneReading → (source : List ℕ) (f g : ReadFault) → reading.IsTreeAnswer source (Err f) → reading.IsTreeAnswer source (Err g) → f ≡ g
 one_reading one source f g a b =
     let left : Result CUnit ReadFault = Err f in
     let right : Result CUnit ReadFault = Err g in
     let e : left ≡ right = one source left right a b in cc
 
-no_reading : OneReading → (source : List ℕ) (t : CUnit) (f : ReadFault) → reading.IsAnswer source (Ok t) → reading.IsAnswer source (Err f) → ⊥
+no_reading : OneReading → (source : List ℕ) (t : CUnit) (f : ReadFault) → reading.IsTreeAnswer source (Ok t) → reading.IsTreeAnswer source (Err f) → ⊥
 no_reading one source t f a b =
     let left : Result CUnit ReadFault = Ok t in
     let right : Result CUnit ReadFault = Err f in

@@ -4,13 +4,13 @@ use Rattle.std.specs.Prelude.{IsTrue, is_some}
 use Rattle.std.specs.List.{All}
 use Rattle.std.proofs.lemmas.Bool.{cond-true}
 use Rattle.std.proofs.lemmas.List.Elements.{All-cons, All-nil, All-head, All-tail}
-use Rattle.mips_asm.specs.Text.{lines_of}
+use Rattle.mips_asm.specs.Text.{asm_lines}
 use Rattle.c0_asm_text.specs.AsmText.{line_words, first_bad, bad_line}
 use Rattle.c0_tree.specs.declared.tree.Span.{Span}
 use Rattle.c0_tree.specs.Tree.{CBody, code, asm, CFunction}
 use Rattle.c0_meaning.specs.Typed.{ProgramsAreFaultless}
 use Rattle.c0_meaning.specs.Unit.{program_faults}
-use Rattle.c0_types.specs.Source.{line_fault, asm_fault, asm_faults, read_unit}
+use Rattle.c0_types.specs.Source.{asm_line_fault, asm_fault, asm_faults, read_unit}
 use Rattle.c0_types.specs.TypedSource.{IsAllowedBody, SourcesAreFaultless}
 
 none_left : {A : Type 0} (xs ys : List A) → xs ++ ys ≡ [] → xs ≡ []
@@ -37,17 +37,17 @@ bad_none number (line ∷ rest) h = by_test (is_some (line_words line)) refl h (
     by_test true e k on = All-cons (λ (line : List ℕ). IsTrue (is_some (line_words line))) line rest e (on k)
     by_test false e k on = absurd (cc)
 
-no_line : (o : Option ℕ) (span : Span) → line_fault o span ≡ [] → o ≡ None
+no_line : (o : Option ℕ) (span : Span) → asm_line_fault o span ≡ [] → o ≡ None
 no_line None span h = refl
 no_line (Some n) span h = cc
 
 body_none : (b : CBody) → IsAllowedBody b → asm_fault b ≡ []
 body_none (code locals stmts answer) h = refl
-body_none (asm text span words) h = ap (λ o. line_fault o span) (none_bad 1 (lines_of text) h)
+body_none (asm text span words) h = ap (λ o. asm_line_fault o span) (none_bad 1 (asm_lines text) h)
 
 none_body : (b : CBody) → asm_fault b ≡ [] → IsAllowedBody b
 none_body (code locals stmts answer) h = tt
-none_body (asm text span words) h = bad_none 1 (lines_of text) (no_line (bad_line text) span h)
+none_body (asm text span words) h = bad_none 1 (asm_lines text) (no_line (bad_line text) span h)
 
 texts_none : (fs : List CFunction) → All (λ f. IsAllowedBody f.body) fs → asm_faults fs ≡ []
 texts_none [] h = refl

@@ -11,7 +11,7 @@ use Rattle.c0_meaning.specs.Ty.{ty_of}
 use Rattle.c0_meaning.specs.Env.{Signature, signature_of, Env}
 use Rattle.c0_meaning.specs.Fault.{Fault, kept_all}
 use Rattle.c0_name_check.proofs.Meeting.{kept_all-append}
-use Rattle.c0_body_check.specs.Scope.{Tells, signature_view}
+use Rattle.c0_body_check.specs.Scope.{MapTells, signature_view}
 use Rattle.c0_body_check.proofs.InPlace.{done, rest, done-next, done-step, rest-next, map-set, map-get_or}
 use Rattle.c0_types.specs.declared.bodies.Declared.{Declared}
 use Rattle.c0_types.specs.Known.{KnowsUnit, unit_env}
@@ -33,7 +33,7 @@ knows_same d xs ys e k = record {
   structs = k.structs;
   fields = k.fields;
   globals = k.globals;
-  functions = subst (λ (l : List Signature). Tells (λ s. s.text) d.names.now.functions l) (sym e) k.functions;
+  functions = subst (λ (l : List Signature). MapTells (λ s. s.text) d.names.now.functions l) (sym e) k.functions;
   primitives = k.primitives;
 }
 

@@ -12,7 +12,7 @@ use Rattle.c0_tree.specs.declared.tree.Unit.{Unit as Source}
 use Rattle.c0_tree.specs.declared.tree.Kind.TheVariants.{Global, Local}
 use Rattle.c0_tree.specs.declared.primitive.Primitive.{Primitive}
 use Rattle.c0_tree.specs.Tree.{CDecl, CStruct, CFunction, CUnit}
-use Rattle.c0_tree.specs.Plain.{has_part, is_plain, is_plain_body, is_plain_struct, is_short}
+use Rattle.c0_tree.specs.Plain.{is_nonempty, is_plain, is_plain_body, is_plain_struct, is_short}
 use Rattle.c0_tree.specs.Primitives.{CPrimitive, primitive_view}
 use Rattle.c0_tree.specs.View.{decl_view, function_view, struct_view, unit_view}
 use Rattle.c0_meaning.specs.Env.{Shape, Typed, Signature, shape_of, typed_of, signature_of, primitive_signature, env_of}
@@ -68,7 +68,7 @@ plain_parts u h =
       structs = short struct_view u.structs.items (and_left a (b && (c && (d && e))) h);
       globals = short decl_view u.globals.items (and_left b (c && (d && e)) h1);
       functions = short function_view u.functions.items (and_left c (d && e) h2);
-      fields = λ k s within. below (length (get_or ss k s).fields) (length (get_or ss k s).fields) refl (and_right (has_part (get_or ss k s).fields) (is_short (get_or ss k s).fields) (all_at is_plain_struct ss k s (and_left d e h3) within));
+      fields = λ k s within. below (length (get_or ss k s).fields) (length (get_or ss k s).fields) refl (and_right (is_nonempty (get_or ss k s).fields) (is_short (get_or ss k s).fields) (all_at is_plain_struct ss k s (and_left d e h3) within));
       bodies = and_right d e h3;
     }
 

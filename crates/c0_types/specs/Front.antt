@@ -3,7 +3,7 @@ use Rattle.std.specs.Prelude.{ℕ, ◌≡◌, ◌≢◌, ◌≤◌, List, [], le
 use Rattle.c0_tree.specs.declared.primitive.Program.{Program}
 use Rattle.c0_tree.specs.declared.primitive.Program.TheVariants.{Kernel}
 use Rattle.c0_tree.specs.Tree.{CUnit}
-use Rattle.c0_parser.specs.Faults.{Reads, FaultIs}
+use Rattle.c0_parser.specs.Faults.{ReadsAs, FaultIs}
 use Rattle.c0_parser.specs.declared.fault.ReadFault.TheVariants.{Memory}
 use Rattle.c0_types.specs.declared.fault.TypeFault.{TypeFault}
 use Rattle.c0_types.specs.declared.fault.TypeFault.TheVariants.{Memory as NoMemory}
@@ -17,7 +17,7 @@ use Rattle.c0_types.specs.declared.source_fault.SourceFault.TheVariants.{Reading
 pub record IsUnitAs (program : Program) (source : List ℕ) (checked : CUnit) : Type 0 where
   pub short : length source ≤ 1048576
   pub tree : CUnit
-  pub reads : Reads source tree
+  pub reads : ReadsAs source tree
   pub faultless : source_faults_as program tree ≡ []
   pub resolved : checked ≡ checked_as program tree
 
@@ -25,12 +25,12 @@ pub record IsUnitAs (program : Program) (source : List ℕ) (checked : CUnit) : 
 pub record IsMistypedAs (program : Program) (source : List ℕ) (f : TypeFault) : Type 0 where
   pub short : length source ≤ 1048576
   pub tree : CUnit
-  pub reads : Reads source tree
+  pub reads : ReadsAs source tree
   pub answers : FaultAnswersAs program tree f
 
 -- what is so of the tree that a source that isn't too long reads as
 abbrev pub OfTree : List ℕ → (CUnit → Type 0) → Type 0
-OfTree source is = (tree : CUnit) → length source ≤ 1048576 → Reads source tree → is tree
+OfTree source is = (tree : CUnit) → length source ≤ 1048576 → ReadsAs source tree → is tree
 
 -- a unit is the checked one of this tree, in which no fault of typing stands
 abbrev pub IsCheckedOf : Program → CUnit → CUnit → Type 0
@@ -64,8 +64,8 @@ IsUnitOf = IsUnitAs Kernel
 abbrev pub IsMistyped : List ℕ → TypeFault → Type 0
 IsMistyped = IsMistypedAs Kernel
 
-abbrev pub IsFaultOf : List ℕ → SourceFault → Type 0
-IsFaultOf = IsFaultAs Kernel
+abbrev pub IsSourceFaultOf : List ℕ → SourceFault → Type 0
+IsSourceFaultOf = IsFaultAs Kernel
 
 abbrev pub IsFaultIn : CUnit → SourceFault → Type 0
 IsFaultIn = IsFaultInAs Kernel
@@ -73,5 +73,5 @@ IsFaultIn = IsFaultInAs Kernel
 abbrev pub IsFirstFault : List ℕ → SourceFault → Type 0
 IsFirstFault = IsFirstFaultAs Kernel
 
-abbrev pub IsAnswer : List ℕ → Result CUnit SourceFault → Type 0
-IsAnswer = IsAnswerAs Kernel
+abbrev pub IsFrontAnswer : List ℕ → Result CUnit SourceFault → Type 0
+IsFrontAnswer = IsAnswerAs Kernel

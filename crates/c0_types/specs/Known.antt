@@ -6,7 +6,7 @@ use Rattle.c0_tree.specs.declared.tree.Function.{Function}
 use Rattle.c0_tree.specs.declared.primitive.Primitive.{Primitive}
 use Rattle.c0_meaning.specs.Env.{Env}
 use Rattle.c0_name_check.specs.Structs.{KnowsStructs}
-use Rattle.c0_body_check.specs.Scope.{FieldsTell, Tells, shape_view, signature_view, typed_view, primitive_signature_view}
+use Rattle.c0_body_check.specs.Scope.{FieldsTell, MapTells, shape_view, signature_view, typed_view, primitive_signature_view}
 use Rattle.c0_types.specs.declared.structs.KnownStructs.{KnownStructs}
 use Rattle.c0_types.specs.declared.space.UnitNames.{UnitNames}
 use Rattle.c0_types.specs.declared.bodies.Declared.{Declared}
@@ -25,9 +25,9 @@ env_in structs globals functions primitives = record {
 pub record TellUnit (known : KnownStructs) (names : UnitNames) (ss : List StructDef) (gs : List Decl) (fs : List Function) (ps : List Primitive) : Type 0 where
   pub structs : KnowsStructs known.names known.words.items (map shape_view ss)
   pub fields : FieldsTell known.field_names.items ss
-  pub globals : Tells (λ v. v.text) names.globals (map typed_view gs)
-  pub functions : Tells (λ s. s.text) names.functions (map signature_view fs)
-  pub primitives : Tells (λ s. s.text) names.primitives (map primitive_signature_view ps)
+  pub globals : MapTells (λ v. v.text) names.globals (map typed_view gs)
+  pub functions : MapTells (λ s. s.text) names.functions (map signature_view fs)
+  pub primitives : MapTells (λ s. s.text) names.primitives (map primitive_signature_view ps)
 
 -- the environment of what is declared, with these functions
 abbrev pub unit_env : Declared → List Function → Env

@@ -16,7 +16,7 @@ use Rattle.c0_meaning.specs.Words.{all_words}
 use Rattle.c0_tree.specs.Plain.{is_short, is_plain_body}
 use Rattle.c0_tree.specs.Size.{body_nodes}
 use Rattle.c0_asm_text.specs.AsmText.{text_words, bad_line}
-use Rattle.c0_types.specs.Source.{read_body, asm_fault, line_fault}
+use Rattle.c0_types.specs.Source.{read_body, asm_fault, asm_line_fault}
 
 -- the faults of a function's heading: of its result, of its parameters, and of their number
 abbrev pub heading_faults : List Shape → CFunction → List Fault
@@ -92,7 +92,7 @@ inner_faults env name params result b =
 abbrev pub text_faults : Span → List CDecl → List ℕ → Span → List Fault
 text_faults name params text span =
     decl_name_faults (params ++ [])
-    ++ (fault_if (nat_lt MAX_FUNCTION_NODES (1 + length params + length (text_words text))) TOO_MANY_NODES name ++ line_fault (bad_line text) span)
+    ++ (fault_if (nat_lt MAX_FUNCTION_NODES (1 + length params + length (text_words text))) TOO_MANY_NODES name ++ asm_line_fault (bad_line text) span)
 
 -- the faults of a function's body, in the environment of its unit
 abbrev pub faults_of_body : Env → CFunction → List Fault

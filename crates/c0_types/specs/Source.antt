@@ -23,14 +23,14 @@ abbrev pub read_unit : CUnit → CUnit
 read_unit u = record { length = u.length; structs = u.structs; globals = u.globals; functions = map read_function u.functions }
 
 -- the fault of an asm text at this span, of which this line isn't allowed
-abbrev pub line_fault : Option ℕ → Span → List Fault
-line_fault None span = []
-line_fault (Some line) span = record { number = ASM_NOT_ALLOWED; span = span; line = line } ∷ []
+abbrev pub asm_line_fault : Option ℕ → Span → List Fault
+asm_line_fault None span = []
+asm_line_fault (Some line) span = record { number = ASM_NOT_ALLOWED; span = span; line = line } ∷ []
 
 -- the fault of a body's asm text: the first of its lines that isn't allowed
 abbrev pub asm_fault : CBody → List Fault
 asm_fault (code locals stmts answer) = []
-asm_fault (asm text span words) = line_fault (bad_line text) span
+asm_fault (asm text span words) = asm_line_fault (bad_line text) span
 
 -- the faults of the asm texts of functions
 abbrev pub asm_faults : List CFunction → List Fault

@@ -3,7 +3,7 @@
 ghost use Rattle.std.specs.Prelude.{◌≡◌, ◌<◌, ◌+◌, ◌-◌, ◌^◌, ◌++◌, true, IsTrue, Some, None, [], IfOk, IfSome, OnOk, is_some, length, map, min};
 ghost use Rattle.std.specs.Option.{option_or};
 ghost use Rattle.c0_asm_text.specs.AsmText.{bad_line, text_words};
-ghost use Rattle.c0_body_check.specs.Scope.{Tells, typed_view};
+ghost use Rattle.c0_body_check.specs.Scope.{MapTells, typed_view};
 ghost use Rattle.c0_body_check.specs.Stmts.{code_faults, resolved_of_stmts};
 ghost use Rattle.c0_meaning.specs.Asm.{are_allowed_words};
 ghost use Rattle.c0_meaning.specs.DeclaredTypes.{declared_faults};
@@ -20,7 +20,7 @@ ghost use Rattle.c0_tree.specs.View.{body_view, decl_view, expr_view, stmts_view
 ghost use Rattle.c0_types.specs.Checks.{checked_as_body, faults_as_body, faults_as_text};
 ghost use Rattle.c0_types.specs.Known.{KnowsUnit};
 ghost use Rattle.c0_types.specs.Parts.{nodes_with};
-ghost use Rattle.c0_types.specs.Source.{line_fault, read_body};
+ghost use Rattle.c0_types.specs.Source.{asm_line_fault, read_body};
 
 use crate::decls::check_decls;
 use crate::space::UnitNames;
@@ -63,7 +63,7 @@ fn name_locals(
     least: &mut Option<Fault>,
 ) -> Result<Names, AllocError>
     requires { length params.now < 2 ^ 32 }
-    ensures names { IfOk result (λ n. Tells (λ d. d.name.text) n (map decl_view params.now ++ map decl_view locals.now)) }
+    ensures names { IfOk result (λ n. MapTells (λ d. d.name.text) n (map decl_view params.now ++ map decl_view locals.now)) }
     ensures met { OnOk result (met_view least.new ≡ kept_all (met_view least.old) (decl_name_faults (map decl_view params.now ++ map decl_view locals.now))) }
     ensures few { OnOk result (length params.now + length locals.now < 2 ^ 32) }
 {
@@ -162,7 +162,7 @@ fn asm_nodes(params: usize, words: usize) -> u32
 // Meets a line of an asm text that isn't allowed, if there is one.
 fn meet_line(least: &mut Option<Fault>, line: Option<u64>, span: Span)
     requires { IfSome line (λ n. n < 2 ^ 32) }
-    ensures { met_view least.new ≡ kept_all (met_view least.old) (line_fault line span) }
+    ensures { met_view least.new ≡ kept_all (met_view least.old) (asm_line_fault line span) }
 {
     match line {
         None => {}

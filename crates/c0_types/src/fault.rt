@@ -2,7 +2,7 @@
 
 ghost use Rattle.c0_types.specs.declared.fault.TypeFault.TheVariants.{Memory as NoMemory};
 ghost use Rattle.std.specs.Prelude.{◌≡◌, Some};
-ghost use Rattle.c0_name_check.specs.Met.{fault_view, number_of};
+ghost use Rattle.c0_name_check.specs.Met.{fault_view, mistake_number};
 ghost use Rattle.c0_types.specs.Answer.{type_fault_view, type_fault_number, type_fault_span, type_fault_line};
 ghost use Rattle.c0_meaning.specs.Fault.{fault};
 
@@ -161,7 +161,7 @@ impl From<AllocError> for TypeFault {
 
 // What is answered of a mistake at a span.
 fn named(mistake: Mistake, span: Span) -> TypeFault
-    ensures { type_fault_view result ≡ Some (fault (number_of mistake) span) }
+    ensures { type_fault_view result ≡ Some (fault (mistake_number mistake) span) }
 {
     match mistake {
         Mistake::UnknownName => TypeFault::UnknownName(span),

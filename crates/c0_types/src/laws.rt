@@ -5,7 +5,7 @@ ghost use Rattle.c0_tree.specs.Tree.{CUnit};
 ghost use Rattle.c0_tree.specs.declared.primitive.Program.TheVariants.{User};
 ghost use Rattle.c0_tree.specs.declared.primitive.Program.{Program};
 ghost use Rattle.c0_meaning.specs.Unit.{IsCheckedAs};
-ghost use Rattle.c0_types.specs.Front.{IsAnswer, IsAnswerAs, IsUnitAs};
+ghost use Rattle.c0_types.specs.Front.{IsFrontAnswer, IsAnswerAs, IsUnitAs};
 ghost use Rattle.c0_types.specs.TypedSource.{SourcesAreFaultless};
 ghost use Rattle.c0_types.specs.declared.source_fault.SourceFault.{SourceFault};
 
@@ -24,7 +24,7 @@ pub fn sources_are_typed_or_faulty()
 
 /// A law: of a kernel's source there is one answer, its checked unit or its first fault.
 pub fn sources_have_one_answer()
-    ensures { (source : List ℕ) (a b : Result CUnit SourceFault) → IsAnswer source a → IsAnswer source b → a ≡ b }
+    ensures { (source : List ℕ) (a b : Result CUnit SourceFault) → IsFrontAnswer source a → IsFrontAnswer source b → a ≡ b }
 {
     readings_have_one_answer();
     least_fault_is_there();

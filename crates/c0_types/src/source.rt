@@ -6,7 +6,7 @@ ghost use Rattle.c0_parser.specs.declared.fault.ReadFault.TheVariants.{SourceToo
 ghost use Rattle.c0_tree.specs.declared.primitive.Program.TheVariants.{User};
 ghost use Rattle.c0_meaning.specs.Unit.{IsCheckedAs};
 ghost use Rattle.c0_types.specs.Source.{checked_unit, source_faults};
-ghost use Rattle.c0_types.specs.Front.{OfTree, IsCheckedOf, IsUnitAs, IsUnitOf, IsFaultAs, IsFaultOf, IsFaultIn, IsFaultInAs};
+ghost use Rattle.c0_types.specs.Front.{OfTree, IsCheckedOf, IsUnitAs, IsUnitOf, IsFaultAs, IsSourceFaultOf, IsFaultIn, IsFaultInAs};
 ghost use Rattle.c0_types.specs.declared.source_fault.SourceFault.TheVariants.{Reading};
 
 use crate::source_fault::SourceFault;
@@ -40,7 +40,7 @@ fn read_as(alloc: Global, program: Program, source: &[u8]) -> Result<Unit, Sourc
 pub fn read_unit(alloc: Global, source: &[u8]) -> Result<Checked, SourceFault>
     ensures too_long { 1048576 < length source.now → result ≡ Err (Reading SourceTooLong) }
     ensures found { IfOk result (λ c. IsUnitOf source.now (unit_view c)) }
-    ensures fault { IfErr result (IsFaultOf source.now) }
+    ensures fault { IfErr result (IsSourceFaultOf source.now) }
     ensures only { OfTree source.now (λ u. MatchResult result (λ c. (source_faults u ≡ []) × (unit_view c ≡ checked_unit u)) (IsFaultIn u)) }
 {
     match read_as(alloc, Program::Kernel, source) {

@@ -2,7 +2,7 @@
 
 ghost use Rattle.std.specs.Prelude.{◌≡◌, ◌<◌, ◌^◌, ℕ, List, IfOk, OnOk, length, map};
 ghost use Rattle.std.specs.List.{All};
-ghost use Rattle.c0_body_check.specs.Scope.{FieldsTell, Tells, typed_view};
+ghost use Rattle.c0_body_check.specs.Scope.{FieldsTell, MapTells, typed_view};
 ghost use Rattle.c0_meaning.specs.DeclaredTypes as spec;
 ghost use Rattle.c0_meaning.specs.Env.{Shape, shape_of};
 ghost use Rattle.c0_meaning.specs.Fault.{kept_all};
@@ -94,7 +94,7 @@ fn check_struct(
     least: &mut Option<Fault>,
 ) -> Result<Names, AllocError>
     requires few { length definition.old.fields.items < 2 ^ 32 }
-    ensures fields { IfOk result (λ n. OfStructs names.now words.now (λ shapes. Tells (λ v. v.text) n (map typed_view definition.new.fields.items))) }
+    ensures fields { IfOk result (λ n. OfStructs names.now words.now (λ shapes. MapTells (λ v. v.text) n (map typed_view definition.new.fields.items))) }
     ensures named { OnOk result (OfStructs names.now words.now (ResolvesStruct number definition.old definition.new)) }
     ensures met { OnOk result (OfStructs names.now words.now (MeetsStruct least.old least.new holds_itself definition.old)) }
 {

@@ -5,7 +5,7 @@ ghost use Rattle.std.specs.List.{list_any, list_all};
 ghost use Rattle.c0_meaning.specs.Fault.{kept_all};
 ghost use Rattle.c0_meaning.specs.Limits as limits;
 ghost use Rattle.c0_meaning.specs.Unit.{IsCheckedAs};
-ghost use Rattle.c0_name_check.specs.Met.{Meets, met_view, number_of};
+ghost use Rattle.c0_name_check.specs.Met.{Meets, met_view, mistake_number};
 ghost use Rattle.c0_name_check.specs.Structs.{OfStructs};
 ghost use Rattle.c0_tree.specs.Plain.{is_plain};
 ghost use Rattle.c0_tree.specs.Primitives.{primitive_view, primitives_of};
@@ -43,7 +43,7 @@ const MAX_UNIT_NODES: u32 = 100_000;
 
 // What is wrong with a unit that has no function with which its run begins.
 fn without_first(program: Program) -> Mistake
-    ensures { number_of result ≡ limits.none_first program }
+    ensures { mistake_number result ≡ limits.none_first program }
 {
     match program {
         Program::Kernel => Mistake::NoDispatch,

@@ -6,7 +6,7 @@ use Rattle.std.proofs.lemmas.List.{length-map, map-append}
 use Rattle.std.proofs.lemmas.List.Elements.{All-cons}
 use Rattle.mips_table.specs.declared.inst.Inst.{Inst}
 use Rattle.mips_table.specs.Encoding.{encoding}
-use Rattle.masm.specs.Places.{IsPlace}
+use Rattle.masm.specs.Places.{IsJumpTarget}
 use Rattle.masm.specs.declared.registers.Places.{Places}
 use Rattle.c0_tree.specs.Tree.{CFunction, CUnit}
 use Rattle.c0_tree.specs.Primitives.{CPrimitive}
@@ -16,20 +16,20 @@ use Rattle.c0_meaning.specs.Unit.{IsWellFormed}
 use Rattle.c0_expr_code.specs.Scope.{scope_of}
 use Rattle.c0_stmt_code.specs.Code.{links_of, function_code}
 use Rattle.c0_stmt_code.specs.Lengths.{FunctionsAreShort, LengthsAreFixed}
-use Rattle.c0_unit.specs.Code.{scope, links, functions_code, words_of, starts_from}
+use Rattle.c0_unit.specs.Code.{scope, links, functions_code, words_of_functions, starts_from}
 use Rattle.c0_unit.specs.Laws.{ArePlacedAt}
-use Rattle.c0_unit.proofs.Units.{sum-cons, code_same, words_few, functions_length}
+use Rattle.c0_unit.proofs.UnitPlaces.{sum-cons, code_same, words_few, functions_length}
 
 -- a unit that is well formed has few nodes
 pub few_nodes : UnitsAreFaultless → (table : List CPrimitive) (u : CUnit) → IsWellFormed table u → all_nodes u.functions ≤ 100000
 few_nodes faultless table u well = ((faultless table u).1 well.typed).nodes
 
 -- the addresses of parts are places, where the parts end early enough
-pub are_places : (ns : List ℕ) (at : ℕ) → at + sum ns < 2 ^ 26 → All IsPlace (starts_from at ns)
+pub are_places : (ns : List ℕ) (at : ℕ) → at + sum ns < 2 ^ 26 → All IsJumpTarget (starts_from at ns)
 are_places [] at lt = λ k d less. absurd (omega (arith, less))
 are_places (n ∷ ns) at lt =
     let s = sum-cons n ns in
-    All-cons (λ a. IsPlace a) (4 * at) (starts_from (at + n) ns) (omega arith, omega (arith, lt)) (are_places ns (at + n) (omega (arith, s, lt)))
+    All-cons (λ a. IsJumpTarget a) (4 * at) (starts_from (at + n) ns) (omega arith, omega (arith, lt)) (are_places ns (at + n) (omega (arith, s, lt)))
 
 some_at : (fs : List CFunction) (n : ℕ) → n < length fs → (f : CFunction) × (slice_get fs n ≡ Some f)
 some_at [] n lt = absurd (omega (arith, lt))
@@ -58,7 +58,7 @@ module _ (u : CUnit) where
       ap (λ (is : List Inst). function_code (scope u g) (links starts) g ++ is) (take_code starts fs n f e)
       ∙ sym (append_assoc (function_code (scope u g) (links starts) g) (functions_code u starts (take n fs)) (function_code (scope u f) (links starts) f))
 
-  take_words : (fs : List CFunction) (n : ℕ) (f : CFunction) → slice_get fs n ≡ Some f → words_of u (take (suc n) fs) ≡ words_of u (take n fs) ++ length (function_code (scope u f) (links []) f) ∷ []
+  take_words : (fs : List CFunction) (n : ℕ) (f : CFunction) → slice_get fs n ≡ Some f → words_of_functions u (take (suc n) fs) ≡ words_of_functions u (take n fs) ++ length (function_code (scope u f) (links []) f) ∷ []
   take_words [] n f e = absurd (cc)
   take_words (g ∷ fs) zero f e = let same : g ≡ f = cc in ap (λ (h : CFunction). length (function_code (scope u h) (links []) h) ∷ []) same
   take_words (g ∷ fs) (suc n) f e = ap (λ (ns : List ℕ). length (function_code (scope u g) (links []) g) ∷ ns) (take_words fs n f e)
@@ -87,17 +87,17 @@ module _ (u : CUnit) where
   pub grown_starts : LengthsAreFixed → (by : List ℕ) (n k base at : ℕ) → k ≡ suc n → n < length u.functions → (before old starts more : List ℕ)
       → old ≡ before ++ map encoding (functions_code u by (take n u.functions))
       → at ≡ 4 * (base + length old)
-      → starts ≡ starts_from (base + length before) (words_of u (take n u.functions))
+      → starts ≡ starts_from (base + length before) (words_of_functions u (take n u.functions))
       → more ≡ starts ++ at ∷ []
-      → more ≡ starts_from (base + length before) (words_of u (take k u.functions))
+      → more ≡ starts_from (base + length before) (words_of_functions u (take k u.functions))
   grown_starts fixed by n k base at next lt before old starts more was here are then =
       let found = some_at u.functions n lt in
-      let ns = words_of u (take n u.functions) in
-      let whole : words_of u (take k u.functions) ≡ words_of u (take n u.functions) ++ length (function_code (scope u found.0) (links []) found.0) ∷ [] =
-      ap (λ (j : ℕ). words_of u (take j u.functions)) next ∙ take_words u.functions n found.0 found.1 in
+      let ns = words_of_functions u (take n u.functions) in
+      let whole : words_of_functions u (take k u.functions) ≡ words_of_functions u (take n u.functions) ++ length (function_code (scope u found.0) (links []) found.0) ∷ [] =
+      ap (λ (j : ℕ). words_of_functions u (take j u.functions)) next ∙ take_words u.functions n found.0 found.1 in
       let long = ap (λ (ws : List ℕ). length ws) was in
       let all = functions_length fixed u by (take n u.functions) in
-      let where_ : at ≡ 4 * (base + length before + sum (words_of u (take n u.functions))) =
+      let where_ : at ≡ 4 * (base + length before + sum (words_of_functions u (take n u.functions))) =
       omega (arith, here, long, all, length-append before (map encoding (functions_code u by (take n u.functions))), length-map (functions_code u by (take n u.functions)) encoding) in
       then
       ∙ (ap (λ (ws : List ℕ). ws ++ at ∷ []) are
@@ -120,13 +120,13 @@ module _ (u : CUnit) where
   all_taken n e = ap (λ (k : ℕ). take k u.functions) e ∙ take-length u.functions
 
   pub code_long : LengthsAreFixed → (by : List ℕ) (n : ℕ) (before code : List ℕ) → n ≡ length u.functions → code ≡ before ++ map encoding (functions_code u by (take n u.functions))
-      → length code ≡ length before + sum (words_of u u.functions)
+      → length code ≡ length before + sum (words_of_functions u u.functions)
   code_long fixed by n before code e is =
       let long = ap (λ (ws : List ℕ). length ws) is in
       let same = ap (λ (fs : List CFunction). length (functions_code u by fs)) (all_taken n e) in
       let all = functions_length fixed u by u.functions in
       omega (arith, long, all, same, length-append before (map encoding (functions_code u by (take n u.functions))), length-map (functions_code u by (take n u.functions)) encoding)
 
-  pub starts_placed : (n at : ℕ) (starts : List ℕ) → n ≡ length u.functions → starts ≡ starts_from at (words_of u (take n u.functions)) → at + sum (words_of u u.functions) < 2 ^ 26 → All IsPlace starts
+  pub starts_placed : (n at : ℕ) (starts : List ℕ) → n ≡ length u.functions → starts ≡ starts_from at (words_of_functions u (take n u.functions)) → at + sum (words_of_functions u u.functions) < 2 ^ 26 → All IsJumpTarget starts
   starts_placed n at starts e is lt =
-      subst (λ (xs : List ℕ). All IsPlace xs) (sym (is ∙ ap (λ (fs : List CFunction). starts_from at (words_of u fs)) (all_taken n e))) (are_places (words_of u u.functions) at lt)
+      subst (λ (xs : List ℕ). All IsJumpTarget xs) (sym (is ∙ ap (λ (fs : List CFunction). starts_from at (words_of_functions u fs)) (all_taken n e))) (are_places (words_of_functions u u.functions) at lt)

@@ -3,7 +3,7 @@ use Rattle.std.specs.Prelude.{slice_get, map, unwrap_or, ℤ, ◌==◌}
 use Rattle.std.proofs.Common.{◌≡◌, ℕ, zero, suc, ◌+◌, ◌*◌, ◌≤◌, List, [], ◌∷◌, ◌++◌, length, Some, None, refl, sym, ap, ◌∙◌, subst, arith, append_assoc, length-append, eqb-true}
 use Rattle.std.proofs.lemmas.Bool.{and_parts}
 use Rattle.mips_table.specs.declared.inst.Inst.{Inst}
-use Rattle.mips_table.specs.Code.{Contents, World, Configuration as Machine, at_with, Program, on_flat, Sound, Steps, CodeAt, RunLaws}
+use Rattle.mips_table.specs.Code.{Contents, World, CodeState, at_with, Program, on_flat, Sound, Steps, CodeAt, RunLaws}
 use Rattle.mips_table.specs.Simulation.{nothing_behind}
 use Rattle.masm.specs.declared.registers.Places.{Places}
 use Rattle.layer_map.specs.Map.{layer_words}
@@ -16,7 +16,7 @@ use Rattle.c0_meaning.specs.Limits.{is_main, first_number}
 use Rattle.c0_meaning.specs.Sound.{shapes}
 use Rattle.c0_meaning.specs.RunLaws.{FirstIsTyped, HasFirst}
 use Rattle.c0_meaning.specs.State.{first_state}
-use Rattle.c0_meaning.specs.TypedState.{Layout, types_of, AllFit, layout_of, IsTypedWith}
+use Rattle.c0_meaning.specs.TypedState.{StoreTyping, types_of, AllFit, store_typing, IsTypedWith}
 use Rattle.c0_meaning.specs.Unit.{IsWellFormed, IsCheckedAs}
 use Rattle.c0_meaning.specs.Value.{empty}
 use Rattle.c0_runtime.specs.Code.{entry_code, new_code}
@@ -26,10 +26,10 @@ use Rattle.c0_expr_code.specs.Laws.{IsOpened, AreasHold}
 use Rattle.c0_expr_code.specs.Bases.{words_of_all}
 use Rattle.c0_stmt_code.specs.Code.{links_of, function_code}
 use Rattle.c0_stmt_code.specs.Setup.{Setup}
-use Rattle.c0_stmt_code.specs.Standing.{unit_scope, bases, Stands, StepsRun}
+use Rattle.c0_stmt_code.specs.Standing.{unit_scope, bases, ConfigurationStands, StepsRun}
 use Rattle.c0_stmt_code.specs.Zeros.{ZerosAreHeld}
 use Rattle.c0_unit.specs.Code.{code_words, globals_start, unit_code}
-use Rattle.c0_unit.specs.Flat.{Rooms, data_of, HoldsProgram, IsLoaded, Outer, setting, started, FlatRun}
+use Rattle.c0_unit.specs.Flat.{Rooms, unit_data, HoldsProgram, IsUnitLoaded, Outer, setting, started, FlatRun}
 use Rattle.c0_unit.specs.Laws.{ArePlacesOf, StandsIn, UnitStands}
 
 -- the one row has one argument
@@ -43,7 +43,7 @@ few_of (suc n) row e = absurd (none_some e)
     none_some : {A : Type 0} {a : A} → None ≡ Some a → ⊥
     none_some q = cc
 
-no_params : (structs : List Shape) (layout : Layout) (ds : List CDecl) → length ds ≡ 0 → AllFit structs layout (types_of (map typed_of ds)) empty
+no_params : (structs : List Shape) (layout : StoreTyping) (ds : List CDecl) → length ds ≡ 0 → AllFit structs layout (types_of (map typed_of ds)) empty
 no_params structs layout [] e = tt
 no_params structs layout (d ∷ ds) e = absurd (omega (arith, e))
 
@@ -90,7 +90,7 @@ module _ (u : CUnit) (places : Places) (checked : IsCheckedAs User u) (are : Are
     p = setting u r;
     well_formed = checked.well_formed;
     places = places;
-    a = data_of u r;
+    a = unit_data u r;
     low = omega arith;
     globals_fit = h.globals;
     heap_fits = h.heap;
@@ -111,7 +111,7 @@ module _ (u : CUnit) (places : Places) (checked : IsCheckedAs User u) (are : Are
       (piece_at (on_flat p) (unit_code u (first_number User u)) h.code (entry_code places.globals (4 * (links_of places).function (first_number User u))) [] st.rest st.entry)
 
   module _ (runs : RunLaws) (entry : EntryRuns (on_flat p)) (typed : FirstIsTyped) (areas : AreasHold) (zeros : ZerosAreHeld) (main : HasFirst User) (each : StepsRun (List ℤ) ℤ Outer)
-      (c : Contents) (loaded : IsLoaded u r c) (answers : List ℤ) where
+      (c : Contents) (loaded : IsUnitLoaded u r c) (answers : List ℤ) where
     stack_is : StackIs (on_flat p) r.stack r.stack_words c
     stack_is = let sf = h.stack in let hf = h.heap in let gf = h.globals in record { first_word = loaded.stack_first; stack_word = loaded.stack_words; variables = omega (arith, sf, hf, gf); inside = sf }
 
@@ -127,14 +127,14 @@ module _ (u : CUnit) (places : Places) (checked : IsCheckedAs User u) (are : Are
     none_typed : IsTypedWith u [] (first_state u)
     none_typed = no_objects u typed checked.well_formed
 
-    stands : (c' : Contents) → IsEntered places.globals r.stack r.stack_words (layer_words + 7) c c' → Stands (List ℤ) ℤ Outer setup [] (started u answers) c' nothing_behind
+    stands : (c' : Contents) → IsEntered places.globals r.stack r.stack_words (layer_words + 7) c c' → ConfigurationStands (List ℤ) ℤ Outer setup [] (started u answers) c' nothing_behind
     stands c' ent = record {
       typed = record { global_values = none_typed.global_values; heap_values = none_typed.heap_values; frames = none_typed.frames };
       declared = λ i t e. absurd (cc);
       used = refl;
       room = omega arith;
       stack_room = omega arith;
-      globals = zeros (unit_scope u) (bases (List ℤ) ℤ Outer setup [] []) (layout_of u []) c'.memory (data_of u r).globals (map typed_of u.globals) opened none_typed.global_values
+      globals = zeros (unit_scope u) (bases (List ℤ) ℤ Outer setup [] []) (store_typing u []) c'.memory (unit_data u r).globals (map typed_of u.globals) opened none_typed.global_values
           (λ k le lt. ap (λ m. m k) ent.memory ∙ loaded.zeros k le lt);
       heap = tt;
       used_word = ap (λ m. m 1026) ent.memory ∙ loaded.used;
@@ -178,7 +178,7 @@ module _ (u : CUnit) (places : Places) (checked : IsCheckedAs User u) (are : Are
             at = refl;
             to = layer_words + 7;
             return_at = e.1.back;
-            fits = no_params (shapes u) (layout_of u []) main_is.0.params main_is.2;
+            fits = no_params (shapes u) (store_typing u []) main_is.0.params main_is.2;
             arguments = tt;
             ahead = refl;
           };

@@ -2,4 +2,4 @@ pub mod Declared
 pub mod Emitted
 pub mod Flat
 pub mod Standing
-pub mod Units
+pub mod UnitPlaces

@@ -10,7 +10,7 @@ use Rattle.std.specs.declared.vec.Vec.{Vec}
 use Rattle.mips_table.specs.declared.inst.Inst.{Inst}
 use Rattle.mips_table.specs.Encoding.{InRange}
 use Rattle.masm.specs.declared.registers.Places.{Places}
-use Rattle.masm.specs.Places.{IsPlace, ArePlaces}
+use Rattle.masm.specs.Places.{IsJumpTarget, ArePlaces}
 use Rattle.c0_tree.specs.declared.tree.Unit.{Unit as Source}
 use Rattle.c0_tree.specs.Primitives.{CPrimitive}
 use Rattle.c0_tree.specs.Tree.{CFunction, CUnit}
@@ -24,15 +24,15 @@ use Rattle.c0_expr_code.specs.Scope.{exit_number, scope_of}
 use Rattle.c0_stmt_code.specs.Code.{links_of, function_code}
 use Rattle.c0_stmt_code.specs.Lengths.{FunctionsAreShort, LengthsAreFixed}
 use Rattle.c0_stmt_code.specs.Ranges.{AreNear, FunctionsAreInRange}
-use Rattle.c0_unit.specs.Code.{fault_exits, primitive_entries, routines_at, functions_at, scope, links, functions_code, words_of, starts_from, function_starts, globals_start, routines_code, unit_code}
+use Rattle.c0_unit.specs.Code.{fault_exits, primitive_entries, routines_at, functions_at, scope, links, functions_code, words_of_functions, starts_from, function_starts, globals_start, routines_code, unit_code}
 use Rattle.c0_unit.specs.Laws.{ArePlacesOf, StandsIn, UnitStands}
 use Rattle.c0_unit.proofs.Emitted.{few_nodes, are_places}
-use Rattle.c0_unit.proofs.Units.{behind, code_same, words_few, functions_length, function_stands}
+use Rattle.c0_unit.proofs.UnitPlaces.{behind, code_same, words_few, functions_length, function_stands}
 
-place_at : (xs : List ℕ) (n : ℕ) → All IsPlace xs → IsPlace (slice_index xs n)
+place_at : (xs : List ℕ) (n : ℕ) → All IsJumpTarget xs → IsJumpTarget (slice_index xs n)
 place_at [] n h = (refl, omega arith)
-place_at (x ∷ xs) zero h = All-head IsPlace x xs h
-place_at (x ∷ xs) (suc n) h = place_at xs n (All-tail IsPlace x xs h)
+place_at (x ∷ xs) zero h = All-head IsJumpTarget x xs h
+place_at (x ∷ xs) (suc n) h = place_at xs n (All-tail IsJumpTarget x xs h)
 
 -- the entries of primitives are words of the layer's, a word each
 entry_at : (n : ℕ) → n < 10 → slice_index primitive_entries n / 4 ≡ 2048 + n
@@ -100,20 +100,20 @@ module _ (faultless : UnitsAreFaultless) (short : FunctionsAreShort) (table : Li
   abbrev first_start : ℕ
   first_start = slice_index (function_starts u) first
 
-  few_words : sum (words_of u u.functions) ≤ 3200000
+  few_words : sum (words_of_functions u u.functions) ≤ 3200000
   few_words =
       let nodes = few_nodes faultless table u well in
       let few = words_few short u u.functions in
       omega (arith, nodes, few)
 
   -- the addresses of functions are places, and so is that of the globals
-  pub starts_placed : All IsPlace (function_starts u)
-  starts_placed = let few = few_words in are_places (words_of u u.functions) functions_at (omega (arith, few))
+  pub starts_placed : All IsJumpTarget (function_starts u)
+  starts_placed = let few = few_words in are_places (words_of_functions u u.functions) functions_at (omega (arith, few))
 
-  pub globals_placed : IsPlace (globals_start u)
+  pub globals_placed : IsJumpTarget (globals_start u)
   globals_placed = let few = few_words in (omega arith, omega (arith, few))
 
-  start_placed : (n : ℕ) → IsPlace (slice_index (function_starts u) n)
+  start_placed : (n : ℕ) → IsJumpTarget (slice_index (function_starts u) n)
   start_placed n = place_at (function_starts u) n starts_placed
 
   near : AreNear (links (function_starts u))
@@ -205,7 +205,7 @@ starts_length at (n ∷ ns) = let r = starts_length (at + n) ns in omega (arith,
 
 -- a unit's functions begin at as many addresses
 tree_starts : (u : CUnit) → length (function_starts u) ≡ length u.functions
-tree_starts u = starts_length functions_at (words_of u u.functions) ∙ length-map u.functions (λ f. length (function_code (scope u f) (links []) f))
+tree_starts u = starts_length functions_at (words_of_functions u u.functions) ∙ length-map u.functions (λ f. length (function_code (scope u f) (links []) f))
 
 pub starts_are_many : (s : Source) → length (function_starts (unit_view s)) ≡ length s.functions.items
 starts_are_many s = tree_starts (unit_view s) ∙ length-map s.functions.items function_view
@@ -237,18 +237,18 @@ tree_places faultless short table u well =
       record { globals_at = refl; faults = refl; multiply = refl; divide = refl; remainder = refl; new_object = refl; functions = refl; primitives = refl },
       record {
         globals = globals_placed faultless short table u well 0;
-        faults = all_each IsPlace fault_exits exits_placed;
+        faults = all_each IsJumpTarget fault_exits exits_placed;
         multiply = (refl, omega arith);
         divide = (refl, omega arith);
         remainder = (refl, omega arith);
         new_object = (refl, omega arith);
         functions = starts_placed faultless short table u well 0;
-        primitives = all_each IsPlace primitive_entries entries_placed;
+        primitives = all_each IsJumpTarget primitive_entries entries_placed;
       },
     )
   where
-    exits_placed : Each IsPlace fault_exits
+    exits_placed : Each IsJumpTarget fault_exits
     exits_placed = search rules
 
-    entries_placed : Each IsPlace primitive_entries
+    entries_placed : Each IsJumpTarget primitive_entries
     entries_placed = search rules

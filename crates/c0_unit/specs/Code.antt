@@ -6,7 +6,7 @@ use Rattle.mips_table.specs.Encoding.{encoding}
 use Rattle.layer_map.specs.Map.{layer_words, primitives_at, exits_at, next_page}
 use Rattle.c0_tree.specs.declared.primitive.Program.TheVariants.{Kernel, User}
 use Rattle.c0_tree.specs.Tree.{CFunction, CUnit}
-use Rattle.c0_meaning.specs.Limits.{frame, first_number}
+use Rattle.c0_meaning.specs.Limits.{words_of_frame, first_number}
 use Rattle.c0_meaning.specs.Sound.{shapes}
 use Rattle.c0_meaning.specs.TypeAt.{env_in}
 use Rattle.c0_runtime.specs.declared.entry.TheConstants.{ENTRY_WORDS}
@@ -34,7 +34,7 @@ functions_at = routines_at + RUNTIME_WORDS
 
 -- what the code of a function depends on
 abbrev pub scope : CUnit → CFunction → Scope
-scope u f = record { env = env_in u f; in_registers = keeps_registers f; frame = frame (shapes u) f; exit = λ fault. slice_index fault_exits (exit_number fault) / 4 }
+scope u f = record { env = env_in u f; in_registers = keeps_registers f; frame = words_of_frame (shapes u) f; exit = λ fault. slice_index fault_exits (exit_number fault) / 4 }
 
 -- the indices of what calls name, where the functions begin at these addresses
 abbrev pub links : List ℕ → Links
@@ -54,12 +54,12 @@ abbrev pub all_functions : CUnit → List ℕ → List Inst
 all_functions u starts = functions_code u starts u.functions
 
 -- the words of functions: they don't depend on where functions begin
-abbrev pub words_of : CUnit → List CFunction → List ℕ
-words_of u functions = map (λ f. length (function_code (scope u f) (links []) f)) functions
+abbrev pub words_of_functions : CUnit → List CFunction → List ℕ
+words_of_functions u functions = map (λ f. length (function_code (scope u f) (links []) f)) functions
 
 -- those of all functions of a unit
 abbrev pub lengths_of : CUnit → List ℕ
-lengths_of u = words_of u u.functions
+lengths_of u = words_of_functions u u.functions
 
 -- the addresses of parts of so many words, one behind the other from a word on
 abbrev pub starts_from : ℕ → List ℕ → List ℕ

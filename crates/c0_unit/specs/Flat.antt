@@ -1,7 +1,7 @@
 -- A user program's code on a flat machine: what holds it, how it is loaded, and that it runs as the program means.
 use Rattle.std.specs.Prelude.{◌≡◌, ℕ, ℤ, ◌+◌, ◌*◌, ◌/◌, ◌≤◌, List, [], ◌∷◌, Some, None, slice_get}
 use Rattle.mips_table.specs.declared.inst.Inst.TheVariants.{J, Jal}
-use Rattle.mips_table.specs.Code.{Contents, Behind, Configuration as Machine, at_with, Program, on_flat, Sound, Steps}
+use Rattle.mips_table.specs.Code.{Contents, Behind, CodeState, at_with, Program, on_flat, Sound, Steps}
 use Rattle.mips_table.specs.Simulation.{nothing_behind}
 use Rattle.layer_map.specs.Map.{layer_words, next_page, heap_used_at, heap_words_at, heap_first_at, stack_first_at, stack_words_at, primitives_at, exits_at, leave_at}
 use Rattle.c0_tree.specs.declared.primitive.Program.TheVariants.{User}
@@ -17,7 +17,7 @@ use Rattle.c0_meaning.specs.Value.{empty}
 use Rattle.c0_meaning.specs.World.{Setting, Configuration, beginning}
 use Rattle.c0_expr_code.specs.Scope.{exit_number, exit_of}
 use Rattle.c0_stmt_code.specs.Code.{MAX_STACK, links_of}
-use Rattle.c0_stmt_code.specs.Setup.{Data, global_words, IsOurs, Setup}
+use Rattle.c0_stmt_code.specs.Setup.{UnitData, global_words, IsOurs, Setup}
 use Rattle.c0_stmt_code.specs.Standing.{Simulated, StepIs}
 use Rattle.c0_stmt_code.specs.Zeros.{AreZeros}
 use Rattle.c0_unit.specs.Code.{code_words, unit_code}
@@ -30,28 +30,28 @@ pub record Rooms : Type 0 where
   pub stack_words : ℕ
 
 -- where its data stand, and the word to which `main` returns
-abbrev pub data_of : CUnit → Rooms → Data
-data_of u r = record { globals = next_page (layer_words + code_words u); heap = r.heap; stack = r.stack; back = layer_words + 7 }
+abbrev pub unit_data : CUnit → Rooms → UnitData
+unit_data u r = record { globals = next_page (layer_words + code_words u); heap = r.heap; stack = r.stack; back = layer_words + 7 }
 
 -- A flat machine holds a program: its code stands from 0x10000 on, and alone calls words below; globals, heap and stack follow it, and may be written.
 pub record HoldsProgram (u : CUnit) (r : Rooms) (p : Program) : Type 0 where
   pub sound : Sound (on_flat p)
   pub code : (k : ℕ) (i : _) → slice_get (unit_code u (first_number User u)) k ≡ Some i → p.code (layer_words + k) ≡ Some i
   pub calls : (k to : ℕ) → p.code k ≡ Some (Jal to) → layer_words ≤ k
-  pub globals : (data_of u r).globals + global_words u ≤ r.heap
+  pub globals : (unit_data u r).globals + global_words u ≤ r.heap
   pub heap : r.heap + r.heap_words ≤ r.stack
   pub stack : r.stack + r.stack_words ≤ p.words
   pub small : r.stack_words ≤ MAX_STACK
-  pub free : (k : ℕ) → IsOurs (data_of u r) r.stack_words k → p.kept k ≡ None
+  pub free : (k : ℕ) → IsOurs (unit_data u r) r.stack_words k → p.kept k ≡ None
 
 -- It is loaded: the variables of heap and stack have their words, none of the heap is used, and the globals are 0.
-pub record IsLoaded (u : CUnit) (r : Rooms) (c : Contents) : Type 0 where
+pub record IsUnitLoaded (u : CUnit) (r : Rooms) (c : Contents) : Type 0 where
   pub used : c.memory heap_used_at ≡ 0
   pub heap_words : c.memory heap_words_at ≡ r.heap_words
   pub heap_first : c.memory heap_first_at ≡ 4 * r.heap
   pub stack_first : c.memory stack_first_at ≡ 4 * r.stack
   pub stack_words : c.memory stack_words_at ≡ r.stack_words
-  pub zeros : AreZeros c.memory (data_of u r).globals (global_words u)
+  pub zeros : AreZeros c.memory (unit_data u r).globals (global_words u)
 
 -- nothing of the machine stands for the answers that are left: a call of `trap` takes them from what answers it
 abbrev pub Outer : List ℤ → Contents → Behind → Type 0
@@ -79,12 +79,12 @@ pub record FlatRun (u : CUnit) (r : Rooms) (p : Program) (c : Contents) (answers
   pub behind : layer_words ≤ z.a.back
   pub steps : ℕ
   pub few : steps ≤ 7
-  pub entered : Machine
+  pub entered : CodeState
   pub run : Steps (on_flat p) steps (at_with layer_words c nothing_behind) entered
   pub stands : Simulated (List ℤ) ℤ Outer z 0 (begin (first_number User u) empty ∷ []) (started u answers) entered
-  pub follows : (debt : ℕ) (item : Work) (work : List Work) (h : Configuration (List ℤ) ℤ) (s : Machine) → Simulated (List ℤ) ℤ Outer z debt (item ∷ work) h s
+  pub follows : (debt : ℕ) (item : Work) (work : List Work) (h : Configuration (List ℤ) ℤ) (s : CodeState) → Simulated (List ℤ) ℤ Outer z debt (item ∷ work) h s
       → StepIs (List ℤ) ℤ Outer z debt item h s (act z.p item work h)
 
 -- on every flat machine that holds the program and is loaded with it
 abbrev pub RunsFlat : CUnit → Type 0
-RunsFlat u = (r : Rooms) (p : Program) (c : Contents) (answers : List ℤ) → HoldsProgram u r p → IsLoaded u r c → FlatRun u r p c answers
+RunsFlat u = (r : Rooms) (p : Program) (c : Contents) (answers : List ℤ) → HoldsProgram u r p → IsUnitLoaded u r c → FlatRun u r p c answers

@@ -2,7 +2,7 @@
 
 ghost use Rattle.std.specs.Prelude.{◌≡◌, ◌+◌, ◌*◌, ◌≤◌, All, length, sum, IfOk, OnOk};
 ghost use Rattle.layer_map.specs.Map.{layer_words};
-ghost use Rattle.masm.specs.Places.{IsPlace, ArePlaces};
+ghost use Rattle.masm.specs.Places.{IsJumpTarget, ArePlaces};
 ghost use Rattle.c0_tree.specs.View.{unit_view};
 ghost use Rattle.c0_expr_code.specs.Emit.{Appends};
 ghost use Rattle.c0_unit.specs.Code.{all_functions, lengths_of, starts_from};
@@ -31,7 +31,7 @@ pub fn emit_functions(
     ensures starts { IfOk result (λ s. s.items ≡ starts_from (layer_words + length code.old.items) (lengths_of (unit_view layout.now.unit.now))) }
     ensures length { OnOk result (length code.new.items ≡ length code.old.items + sum (lengths_of (unit_view layout.now.unit.now))) }
     ensures few { OnOk result (length code.new.items ≤ 3300000) }
-    ensures are_places { IfOk result (λ s. All IsPlace s.items) }
+    ensures are_places { IfOk result (λ s. All IsJumpTarget s.items) }
 {
     units_are_typed_or_faulty();
     functions_are_short();

@@ -1,7 +1,7 @@
 // Where the parts of a unit stand.
 
 ghost use Rattle.std.specs.Prelude.{◌≡◌, ◌+◌, ◌*◌, ◌≤◌, All, IfOk};
-ghost use Rattle.masm.specs.Places.{IsPlace, ArePlaces};
+ghost use Rattle.masm.specs.Places.{IsJumpTarget, ArePlaces};
 ghost use Rattle.c0_unit.specs.Code.{fault_exits, primitive_entries, routines_at};
 ghost use Rattle.c0_unit.specs.Laws.{ArePlacedAt};
 
@@ -39,8 +39,8 @@ fn routine(word: u32) -> u32
 
 /// The places of code in which the functions begin at these addresses, and the globals at this one.
 pub fn placed_at(alloc: Global, functions: Vec<u32>, globals: u32) -> Result<Places, AllocError>
-    requires functions { All IsPlace functions.items }
-    requires globals { IsPlace globals }
+    requires functions { All IsJumpTarget functions.items }
+    requires globals { IsJumpTarget globals }
     ensures placed { IfOk result (λ p. ArePlacedAt p functions.items globals) }
     ensures places { IfOk result ArePlaces }
 {

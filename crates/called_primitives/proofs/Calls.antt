@@ -9,11 +9,11 @@ use Rattle.c0_tree.specs.declared.tree.Kind.{Kind}
 use Rattle.c0_tree.specs.declared.tree.Kind.TheVariants.{Function, Primitive}
 use Rattle.c0_tree.specs.Tree.{CExpr, assign, call, new, choice, loop, CFunction, CStmts, done, next, CBody, code, asm, CUnit}
 use Rattle.c0_meaning.specs.Ty.{ty_of}
-use Rattle.c0_meaning.specs.Limits.{frame, first_number}
+use Rattle.c0_meaning.specs.Limits.{words_of_frame, first_number}
 use Rattle.c0_meaning.specs.Sound.{shapes}
 use Rattle.c0_meaning.specs.Words.{words}
 use Rattle.c0_meaning.specs.Value.{Value, int, Values, empty, part}
-use Rattle.c0_meaning.specs.State.{State, stack_words}
+use Rattle.c0_meaning.specs.State.{C0State, stack_words}
 use Rattle.c0_meaning.specs.Operators.{StackOut, faulted, stuck}
 use Rattle.c0_meaning.specs.Evaluation.{Costed, costs, at_no_cost, truth, value_of, values_of, place_of}
 use Rattle.c0_meaning.specs.World.{Called, Setting, Cost, units, total, plus, Configuration, beginning, with_state, after_call, call_cost}
@@ -21,8 +21,8 @@ use Rattle.c0_meaning.specs.Running.{Target, into, outward, Work, act_on, finish
 use Rattle.c0_meaning.specs.Execution.{Outcome, then_run, run, dispatch}
 use Rattle.c0_meaning.specs.RunLaws.{cost_of, stands_at}
 use Rattle.cvm_model.specs.Kernel.{Core, Changes}
-use Rattle.cvm_model.specs.KernelMeaning.{Machines, machines_of, ints_of, called_by, kernel_primitive, setting_of, call_with as asked_with}
-use Rattle.cvm_model.specs.Primitives.{Call, primitive_number}
+use Rattle.cvm_model.specs.KernelMeaning.{Machines, machines_of, ints_of, called_by, kernel_primitive, setting_of, call_numbered as asked_with}
+use Rattle.cvm_model.specs.Primitives.{KernelCall, primitive_number}
 use Rattle.called_primitives.specs.Calls.{call_may, statement_may, block_may, body_may, calls_only}
 
 abbrev pub Here : Type 0
@@ -33,7 +33,7 @@ Here = Configuration Machines Changes
 pub record AreKept (may : ℕ → Bool) (C : Cost → Type 0) (Q : Here → Type 0) : Type 0 where
   pub own : (n : ℕ) → C (units n)
   pub sum : (a b : Cost) → C a → C b → C (plus a b)
-  pub written : (c : Here) (s : State) → Q c → Q (with_state c s)
+  pub written : (c : Here) (s : C0State) → Q c → Q (with_state c s)
   pub answered : (c : Here) (v : Value) → Q c → Q (record c { answer = Some v })
   pub costs : (n : ℕ) (args : Values) (c : Here) → may n ≡ true → C (call_cost (kernel_primitive n args c.world))
   pub called : (n : ℕ) (args : Values) (c : Here) → may n ≡ true → Q c → Q (after_call c (kernel_primitive n args c.world))
@@ -109,10 +109,10 @@ module _ (may : ℕ → Bool) where
         one = kept.sum (plus k (units 1)) (units 0) (kept.sum k (units 1) a (kept.own 1)) (kept.own 0)
 
         by : (o : Option CFunction) → slice_get u.functions n ≡ o → Stays (then_go (plus k (units 1)) c (at_no_cost (ok_or o stuck)) (λ cost f.
-            if nat_lt p.stack (stack_words u c.state.frames + frame (shapes u) f) then Stop cost (faulted StackOut) c
+            if nat_lt p.stack (stack_words u c.state.frames + words_of_frame (shapes u) f) then Stop cost (faulted StackOut) c
             else enter setting cost n f.body args target w c))
         by None e = (one, q)
-        by (Some f) e = either (nat_lt p.stack (stack_words u c.state.frames + frame (shapes u) f)) _ _ (one, q) (enters _ n f.body args target w c (function_may u.functions n f only e) r h one q)
+        by (Some f) e = either (nat_lt p.stack (stack_words u c.state.frames + words_of_frame (shapes u) f)) _ _ (one, q) (enters _ n f.body args target w c (function_may u.functions n f only e) r h one q)
 
     calls_with : (k : Cost) (kind : Kind) (n : ℕ) (args : Values) (target : Target) (w : List Work) (c : Here) → call_may may kind n ≡ true → target_may target ≡ true → work_may w ≡ true → C k → Q c
         → Stays (call_with setting k kind n args target w c)
@@ -167,11 +167,11 @@ module _ (may : ℕ → Bool) where
         runs (suc n) n (units 0) (begin (first_number Kernel u) (part (int cause) (part (int edata) (part (int user) empty))) ∷ []) (beginning (record c.c0 { frames = [] }) (machines_of p c)) refl (kept.own 0) q
 
 -- A CALL OF A NUMBER is the primitive with this number, or none
-abbrev IsNumbered : ℕ → Option Call → Type 0
+abbrev IsNumbered : ℕ → Option KernelCall → Type 0
 IsNumbered n None = Unit {0}
 IsNumbered n (Some asked) = primitive_number asked ≡ n
 
-by_number : (n k : ℕ) (x y : Option Call) → (k ≡ n → IsNumbered n x) → IsNumbered n y → IsNumbered n (if n == k then x else y)
+by_number : (n k : ℕ) (x y : Option KernelCall) → (k ≡ n → IsNumbered n x) → IsNumbered n y → IsNumbered n (if n == k then x else y)
 by_number n k x y h g = by (n == k) refl
   where
     by : (b : Bool) → (n == k) ≡ b → IsNumbered n (if b then x else y)
@@ -188,8 +188,8 @@ numbered n (a ∷ b ∷ c ∷ d ∷ f ∷ []) = by_number n 6 _ _ (λ e. e) tt
 numbered n (a ∷ b ∷ c ∷ d ∷ f ∷ g ∷ rest) = tt
 
 -- so what is so of each primitive that may be called, and of a call that is none, is so of each call of a number that may be called
-module _ (may : ℕ → Bool) (P : Called Machines Changes → Type 0) (m : Machines) (none : P (called_by m None)) (each : (asked : Call) → may (primitive_number asked) ≡ true → P (called_by m (Some asked))) where
-  by_call : (n : ℕ) (o : Option Call) → IsNumbered n o → may n ≡ true → P (called_by m o)
+module _ (may : ℕ → Bool) (P : Called Machines Changes → Type 0) (m : Machines) (none : P (called_by m None)) (each : (asked : KernelCall) → may (primitive_number asked) ≡ true → P (called_by m (Some asked))) where
+  by_call : (n : ℕ) (o : Option KernelCall) → IsNumbered n o → may n ≡ true → P (called_by m o)
   by_call n None h e = none
   by_call n (Some asked) h e = each asked (subst (λ i. may i ≡ true) (sym h) e)
 

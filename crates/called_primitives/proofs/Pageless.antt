@@ -11,7 +11,7 @@ use Rattle.c0_meaning.specs.World.{Cost}
 use Rattle.c0_meaning.specs.Execution.{Outcome, Done, Failed, NotYet, dispatch}
 use Rattle.cvm_model.specs.Kernel.{Core, Changes}
 use Rattle.cvm_model.specs.KernelMeaning.{Machines, machines_of, kernel_primitive, outcome_of, setting_of, kernel_meaning}
-use Rattle.cvm_model.specs.Primitives.{Call, VmGet, VmSet, VmSize, VmResize, VmWord, VmPut, VmCopy, ConPut, ConGet, ConLeft, primitive_number, Given, is_good, prim}
+use Rattle.cvm_model.specs.Primitives.{KernelCall, VmGet, VmSet, VmSize, VmResize, VmWord, VmPut, VmCopy, ConPut, ConGet, ConLeft, primitive_number, Given, is_good, prim}
 use Rattle.cvm_model.specs.Cvm.{System, dispatch_of}
 use Rattle.cvm_model.specs.Invariant.{Dispatch}
 use Rattle.cvm_model.specs.Systems.{UsePages}
@@ -23,7 +23,7 @@ either_given : (b : Bool) (g h : Given) → g.pages ≡ 0 → h.pages ≡ 0 → 
 either_given true g h a b = a
 either_given false g h a b = b
 
-pageless_call : (most : ℕ) (asked : Call) (users : List Flat) (o : Console) → needs_no_page (primitive_number asked) ≡ true → (prim most asked users o).pages ≡ 0
+pageless_call : (most : ℕ) (asked : KernelCall) (users : List Flat) (o : Console) → needs_no_page (primitive_number asked) ≡ true → (prim most asked users o).pages ≡ 0
 pageless_call most (VmGet u r) users o e = either_given (is_good most users (VmGet u r)) _ _ refl refl
 pageless_call most (VmSet u r v) users o e = either_given (is_good most users (VmSet u r v)) _ _ refl refl
 pageless_call most (VmSize u) users o e = either_given (is_good most users (VmSize u)) _ _ refl refl

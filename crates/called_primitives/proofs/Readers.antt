@@ -14,7 +14,7 @@ use Rattle.c0_meaning.specs.World.{Called, Cost, entries_of, journal}
 use Rattle.c0_meaning.specs.Execution.{Outcome, Done, Failed, NotYet, dispatch}
 use Rattle.cvm_model.specs.Kernel.{Core, JournalEntry, Changes}
 use Rattle.cvm_model.specs.KernelMeaning.{Machines, machines_of, kernel_primitive, outcome_of, setting_of}
-use Rattle.cvm_model.specs.Primitives.{Call, VmGet, VmSet, VmSize, VmResize, VmWord, VmPut, VmCopy, ConPut, ConGet, ConLeft, primitive_number, Given, is_good, prim}
+use Rattle.cvm_model.specs.Primitives.{KernelCall, VmGet, VmSet, VmSize, VmResize, VmWord, VmPut, VmCopy, ConPut, ConGet, ConLeft, primitive_number, Given, is_good, prim}
 use Rattle.cvm_model.specs.Journal.{changes_of}
 use Rattle.called_primitives.specs.Calls.{calls_only}
 use Rattle.called_primitives.specs.Kernels.{only_reads, ReadersChangeNone}
@@ -36,7 +36,7 @@ either_given : (b : Bool) (users : List Flat) (g h : Given) → IsQuiet users g 
 either_given true users g h a b = a
 either_given false users g h a b = b
 
-quiet_call : (most : ℕ) (asked : Call) (users : List Flat) (o : Console) → only_reads (primitive_number asked) ≡ true → IsQuiet users (prim most asked users o)
+quiet_call : (most : ℕ) (asked : KernelCall) (users : List Flat) (o : Console) → only_reads (primitive_number asked) ≡ true → IsQuiet users (prim most asked users o)
 quiet_call most (VmGet u r) users o e = either_given (is_good most users (VmGet u r)) users _ _ (refl, refl) (refl, refl)
 quiet_call most (VmSet u r v) users o e = absurd (cc)
 quiet_call most (VmSize u) users o e = either_given (is_good most users (VmSize u)) users _ _ (refl, refl) (refl, refl)

@@ -1,6 +1,6 @@
 -- An invariant of a kernel's data that each dispatch keeps holds in every run: the rule for whole systems (proofs/Systems), of a property that the steps of users
 -- don't touch. No contract can carry it, since a property ranges over types: this file may be cited from other crates. To be used by `invariants_hold`, with the
--- law `runs_are_lawful`, for a kernel whose dispatches keep a property (`IsInvariant`); `keeps_by` of proofs/Kept gives that of what its code does.
+-- law `runs_are_lawful`, for a kernel whose dispatches keep a property (`IsInvariant`); `keeps_by` of proofs/KeepsDispatch gives that of what its code does.
 use Rattle.std.proofs.Common.{◌≡◌, ℕ, ℤ, List, [], ◌∷◌, ◌++◌, length, refl, sym, ap, ◌∙◌, subst}
 use Rattle.std.specs.Prelude.{◌≢◌}
 use Rattle.mips_table.specs.declared.cause.Cause.{Cause}
@@ -8,7 +8,7 @@ use Rattle.c0_tree.specs.Tree.{CUnit}
 use Rattle.c0_meaning.specs.Execution as c0_run
 use Rattle.layer_map.specs.declared.params.Params.{Params}
 use Rattle.cvm_model.specs.KernelMeaning.{Machines, outcome_of, kernel_meaning}
-use Rattle.cvm_model.specs.Kernel.{Core, Changes, End, Answers, NotYet}
+use Rattle.cvm_model.specs.Kernel.{Core, Changes, DispatchEnd, Answers, NotYet}
 use Rattle.cvm_model.specs.Cvm.{System, Running, dispatch_of, next_of, status_of, core_of}
 use Rattle.cvm_model.specs.declared.row.Next.{Next}
 use Rattle.cvm_model.specs.declared.row.Next.TheVariants.{User, Halt, Fault}
@@ -40,7 +40,7 @@ module _ (y : System) (u : CUnit) (is : y.boot.meaning ≡ kernel_meaning u y.bo
   kept_of past Halt o before e h = subst (λ u. I past o.c0 u) (sym e) h
   kept_of past (Fault f) o before e h = subst (λ u. I past o.c0 u) (sym e) h
 
-  answered : (e : End) (a : ℤ) → e ≡ Answers a → e ≢ NotYet
+  answered : (e : DispatchEnd) (a : ℤ) → e ≡ Answers a → e ≢ NotYet
   answered e a is f = absurd (let g : Answers a ≡ NotYet = sym is ∙ f in cc)
 
   all_of : (k cause edata : ℕ) (past : List Dispatch) (at : Core) → Keeps y n I k cause edata past at → KeepsAll y n OfSystem k cause edata past at

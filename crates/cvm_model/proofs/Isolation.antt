@@ -4,9 +4,9 @@ use Rattle.std.proofs.lemmas.Bool.{eqb-false}
 use Rattle.std.proofs.lemmas.List.{length-map}
 use Rattle.std.specs.Prelude.{◌≢◌, ℤ, pos, negsuc, option_and_then, bit_or}
 use Rattle.mips_table.specs.Arith.{signed}
-use Rattle.mips_table.specs.Machine.{number_of}
-use Rattle.mips_table.specs.Flat.{Flat, VStep, Next as Goes, Trap, vstep}
-use Rattle.cvm_model.specs.Kernel.{Core, JournalEntry, Stepped, Trapped, End, Answers, Faults, NotYet, DispatchOutcome}
+use Rattle.mips_table.specs.Machine.{cause_number}
+use Rattle.mips_table.specs.Flat.{Flat, VStep, Goes, Trap, vstep}
+use Rattle.cvm_model.specs.Kernel.{Core, JournalEntry, Stepped, Trapped, DispatchEnd, Answers, Faults, NotYet, DispatchOutcome}
 use Rattle.cvm_model.specs.declared.kernel_fault.KernelFault.TheVariants.{BadUser}
 use Rattle.cvm_model.specs.Primitives.{no_flat, user_of, with_user}
 use Rattle.cvm_model.specs.Cvm.{System, Cvm, Status, Running, Halted, Faulted, Interrupts, user_step, begin, next_of, status_of, core_of, dispatched, after_dispatch, dispatch_of, begun, turn_by, turn, first_flat, first_core, first_cvm, cvm}
@@ -57,7 +57,7 @@ record Turned (y : System) (k u : ℕ) (c d : Cvm) (entries : List JournalEntry)
   replayed : replay (user_of c.core.users u) entries ≡ Some (user_of d.core.users u)
 
 -- the end of a dispatch, after entries that lead to the state at its call
-dispatch_turned : (y : System) (k u : ℕ) (c d : Cvm) (cause edata user pending : ℕ) (at : Core) (o : DispatchOutcome) (e : End) (first : List JournalEntry) →
+dispatch_turned : (y : System) (k u : ℕ) (c d : Cvm) (cause edata user pending : ℕ) (at : Core) (o : DispatchOutcome) (e : DispatchEnd) (first : List JournalEntry) →
     CallsReplay o at → length at.users ≡ length y.boot.users → IsOf (length y.boot.users) u → replay (user_of c.core.users u) first ≡ Some (user_of at.users u) →
     after_dispatch y c k cause edata user pending o e ≡ Some d → Turned y k u c d (first ++ changes_of u o.calls)
 dispatch_turned y k u c d cause edata user pending at o e first r count is before h = ends e h
@@ -79,7 +79,7 @@ dispatch_turned y k u c d cause edata user pending at o e first r count is befor
           replayed = replayed ∙ ap (λ us. Some (user_of us u)) (sym users);
         }
 
-    ends : (e : End) → after_dispatch y c k cause edata user pending o e ≡ Some d → Turned y k u c d (first ++ changes_of u o.calls)
+    ends : (e : DispatchEnd) → after_dispatch y c k cause edata user pending o e ≡ Some d → Turned y k u c d (first ++ changes_of u o.calls)
     ends (Answers a) h = by (next_of (length y.boot.users) a) (next_is_user (length y.boot.users) a o.after) (some_same _ _ h)
     ends (Faults f) h = by (Fault f) (λ run. absurd (cc)) (some_same _ _ h)
     ends NotYet h = absurd (cc)
@@ -127,11 +127,11 @@ begun_turned y r n (suc k) u c d lines s run is h = by (nat_eq lines 0) h
         }
     by_step (Trap f cause edata) e h =
         let trapped : Core = record c.core { users = with_user c.core.users c.core.current f } in
-        let before : replay (user_of c.core.users u) (cond (nat_eq c.core.current u) (Trapped (number_of cause) edata ∷ []) []) ≡ Some (user_of trapped.users u) =
-        stepped_user c.core.users u c.core.current f (Trapped (number_of cause) edata) (subst (λ n. IsOf n u) (sym s.count) is) (subst (λ n. IsOf n c.core.current) (sym s.count) at)
-        (ap (λ v. replay_trap v (number_of cause) edata) e ∙ same_trap (number_of cause) edata f) in
-        dispatch_turned y (suc k) u c d (number_of cause) edata c.core.current 0 trapped (dispatch_of y n (number_of cause) edata trapped) _
-        (cond (nat_eq c.core.current u) (Trapped (number_of cause) edata ∷ []) []) (r n trapped (pos (number_of cause)) (signed edata) (pos c.core.current))
+        let before : replay (user_of c.core.users u) (cond (nat_eq c.core.current u) (Trapped (cause_number cause) edata ∷ []) []) ≡ Some (user_of trapped.users u) =
+        stepped_user c.core.users u c.core.current f (Trapped (cause_number cause) edata) (subst (λ n. IsOf n u) (sym s.count) is) (subst (λ n. IsOf n c.core.current) (sym s.count) at)
+        (ap (λ v. replay_trap v (cause_number cause) edata) e ∙ same_trap (cause_number cause) edata f) in
+        dispatch_turned y (suc k) u c d (cause_number cause) edata c.core.current 0 trapped (dispatch_of y n (cause_number cause) edata trapped) _
+        (cond (nat_eq c.core.current u) (Trapped (cause_number cause) edata ∷ []) []) (r n trapped (pos (cause_number cause)) (signed edata) (pos c.core.current))
         (length-set c.core.users (c.core.current - 1) f ∙ s.count) is before h
 
     by : (b : Bool) → begun y n (suc k) c (cond b (user_step c.core (vstep (user_of c.core.users c.core.current))) (Interrupts 1 lines c.core 0)) ≡ Some d →

@@ -7,8 +7,8 @@ use Rattle.std.proofs.lemmas.Bool.{and_parts}
 use Rattle.std.proofs.lemmas.List.Elements.{All-head, All-tail}
 use Rattle.std.proofs.lemmas.List.Folds.{list_all-append}
 use Rattle.mips_table.specs.Arith.{signed}
-use Rattle.mips_table.specs.Flat.{VStep, Next as Goes, Trap, Flat, vstep}
-use Rattle.mips_table.specs.Machine.{number_of, Console}
+use Rattle.mips_table.specs.Flat.{VStep, Goes, Trap, Flat, vstep}
+use Rattle.mips_table.specs.Machine.{cause_number, Console}
 use Rattle.mips_table.specs.declared.cause.Cause.{Cause}
 use Rattle.mips_table.specs.declared.cause.Cause.TheVariants as causes
 use Rattle.c0_tree.specs.declared.primitive.Scalar.{Scalar}
@@ -23,8 +23,8 @@ use Rattle.c0_meaning.specs.RunLaws.{FirstIsTyped, DispatchesAreSafe, stands_at}
 use Rattle.c0_meaning.specs.EntryLaws.{EntriesPass, DispatchesPass}
 use Rattle.cvm_model.specs.declared.row.Next.{Next}
 use Rattle.cvm_model.specs.declared.row.Next.TheVariants.{User, Halt, Fault}
-use Rattle.cvm_model.specs.Kernel.{Core, Changes, JournalEntry, Stepped, Trapped, DispatchOutcome, End, Answers, Faults, NotYet}
-use Rattle.cvm_model.specs.Primitives.{Call, VmGet, VmSet, VmSize, VmResize, VmWord, VmPut, VmCopy, ConPut, ConGet, ConLeft, is_good, granted, refused, unchanged, prim, puts, arguments_of, user_of, pages_of}
+use Rattle.cvm_model.specs.Kernel.{Core, Changes, JournalEntry, Stepped, Trapped, DispatchOutcome, DispatchEnd, Answers, Faults, NotYet}
+use Rattle.cvm_model.specs.Primitives.{KernelCall, VmGet, VmSet, VmSize, VmResize, VmWord, VmPut, VmCopy, ConPut, ConGet, ConLeft, is_good, granted, refused, unchanged, prim, puts, arguments_of, user_of, pages_of}
 use Rattle.cvm_model.specs.KernelMeaning.{Machines, ints_of, called_by, kernel_primitive, setting_of, machines_of, outcome_of}
 use Rattle.cvm_model.specs.Stands.{IsUser, input_room}
 use Rattle.cvm_model.specs.Cvm.{System, Cvm, Status, Running, Halted, Faulted, Interrupts, user_step, begin, next_of, status_of, core_of, dispatched, after_dispatch, dispatch_of, begun, turn_by, turn, cvm, first_cvm}
@@ -44,7 +44,7 @@ puts_hold b [] = refl
 puts_hold b (w ∷ ws) = puts_hold (b + 4) ws
 
 -- what a call makes, where its arguments are ints
-granted_hold : (users : List Flat) (o : Console) (c : Call) → AllByRecursion (FitsSigned w32) (arguments_of c) → list_all holds_word (granted users o c).changes.entries ≡ true
+granted_hold : (users : List Flat) (o : Console) (c : KernelCall) → AllByRecursion (FitsSigned w32) (arguments_of c) → list_all holds_word (granted users o c).changes.entries ≡ true
 granted_hold users o (VmGet u r) h = refl
 granted_hold users o (VmSet u r v) h = ap (λ b. b && true) (lt-ltb (cast_unsigned w32 v) (2 ^ 32) (cast_small v h.1.1.0))
 granted_hold users o (VmSize u) h = refl
@@ -56,7 +56,7 @@ granted_hold users o (ConPut w) h = refl
 granted_hold users o ConGet h = refl
 granted_hold users o ConLeft h = refl
 
-prim_hold : (most : ℕ) (c : Call) (users : List Flat) (o : Console) → AllByRecursion (FitsSigned w32) (arguments_of c) → list_all holds_word (prim most c users o).changes.entries ≡ true
+prim_hold : (most : ℕ) (c : KernelCall) (users : List Flat) (o : Console) → AllByRecursion (FitsSigned w32) (arguments_of c) → list_all holds_word (prim most c users o).changes.entries ≡ true
 prim_hold most c users o h = by (is_good most users c)
   where
     by : (b : Bool) → list_all holds_word (if b then granted users o c else unchanged users o (refused c) 0 0).changes.entries ≡ true
@@ -169,7 +169,7 @@ module _ (first : FirstIsTyped) (safe : DispatchesAreSafe Machines Changes) (pas
 
   -- after a dispatch
   ends_fine : (k : ℕ) (c d : Cvm) (cause edata user pending : ℕ) (there : Core) → cause ≤ 8 → Good there
-      → (e : End) → after_dispatch y c k cause edata user pending (dispatch_of y n cause edata there) e ≡ Some d → Fine (suc k) d
+      → (e : DispatchEnd) → after_dispatch y c k cause edata user pending (dispatch_of y n cause edata there) e ≡ Some d → Fine (suc k) d
   ends_fine k c d cause edata user pending there few g e h = ends e h
     where
       after : Core
@@ -185,13 +185,13 @@ module _ (first : FirstIsTyped) (safe : DispatchesAreSafe Machines Changes) (pas
       by Halt is same = subst (Fine (suc k)) same (record { typed = typed_after cause edata there few g; fit = known.dispatch n cause edata there g.fit; low = λ run. absurd (cc); user = λ run le. absurd (cc) })
       by (Fault f) is same = subst (Fine (suc k)) same (record { typed = typed_after cause edata there few g; fit = known.dispatch n cause edata there g.fit; low = λ run. absurd (cc); user = λ run le. absurd (cc) })
 
-      ends : (e : End) → after_dispatch y c k cause edata user pending (dispatch_of y n cause edata there) e ≡ Some d → Fine (suc k) d
+      ends : (e : DispatchEnd) → after_dispatch y c k cause edata user pending (dispatch_of y n cause edata there) e ≡ Some d → Fine (suc k) d
       ends (Answers a) h = by (next_of (length y.boot.users) a) (next_is_user (length y.boot.users) a after) (same_cvm _ d h)
       ends (Faults f) h = by (Fault f) (λ run. absurd (cc)) (same_cvm _ d h)
       ends NotYet h = no_some d h
 
   -- a trap's cause is small
-  cause_small : (cause : Cause) → number_of cause ≤ 8
+  cause_small : (cause : Cause) → cause_number cause ≤ 8
   cause_small causes.Reset = omega arith
   cause_small _ = omega arith
 
@@ -213,7 +213,7 @@ module _ (first : FirstIsTyped) (safe : DispatchesAreSafe Machines Changes) (pas
           subst (Fine (suc (suc k))) (same_cvm _ d e) (record { typed = g.typed; fit = g.fit; low = λ r. g.low; user = λ r le. h.user run (omega arith) })
       by_step (Trap f cause edata) q e =
           let g = stepped k c (Trap f cause edata) q run h in
-          ends_fine (suc k) c d (number_of cause) edata c.core.current 0 (with_machine c.core f) (cause_small cause) g (dispatch_of y n (number_of cause) edata (with_machine c.core f)).end e
+          ends_fine (suc k) c d (cause_number cause) edata c.core.current 0 (with_machine c.core f) (cause_small cause) g (dispatch_of y n (cause_number cause) edata (with_machine c.core f)).end e
 
       by : (b : Bool) → begun y n (suc k) c (if b then user_step c.core (vstep (user_of c.core.users c.core.current)) else Interrupts 1 lines c.core 0) ≡ Some d → Fine (suc (suc k)) d
       by true e = by_step (vstep (user_of c.core.users c.core.current)) refl e
@@ -231,9 +231,9 @@ module _ (first : FirstIsTyped) (safe : DispatchesAreSafe Machines Changes) (pas
       by_step : (v : VStep) → vstep (user_of c.core.users c.core.current) ≡ v → list_all holds_word (begin_entries y n (λ calls. calls) user c.core (user_step c.core v)) ≡ true
       by_step (Goes f) q = one_holds (nat_eq c.core.current user) Stepped refl
       by_step (Trap f cause edata) q =
-          list_all-append holds_word (if nat_eq c.core.current user then Trapped (number_of cause) edata ∷ [] else []) (changes_of user (dispatch_of y n (number_of cause) edata (with_machine c.core f)).calls)
-          ∙ ap₂ (λ a b. a && b) (one_holds (nat_eq c.core.current user) (Trapped (number_of cause) edata) refl)
-          (calls_hold (number_of cause) edata user (with_machine c.core f) (cause_small cause) (stepped k c (Trap f cause edata) q run h))
+          list_all-append holds_word (if nat_eq c.core.current user then Trapped (cause_number cause) edata ∷ [] else []) (changes_of user (dispatch_of y n (cause_number cause) edata (with_machine c.core f)).calls)
+          ∙ ap₂ (λ a b. a && b) (one_holds (nat_eq c.core.current user) (Trapped (cause_number cause) edata) refl)
+          (calls_hold (cause_number cause) edata user (with_machine c.core f) (cause_small cause) (stepped k c (Trap f cause edata) q run h))
 
       by : (b : Bool) → list_all holds_word (begin_entries y n (λ calls. calls) user c.core (if b then user_step c.core (vstep (user_of c.core.users c.core.current)) else Interrupts 1 lines c.core 0)) ≡ true
       by true = by_step (vstep (user_of c.core.users c.core.current)) refl

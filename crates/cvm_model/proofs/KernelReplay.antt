@@ -10,7 +10,7 @@ use Rattle.c0_meaning.specs.Execution as c0_run
 use Rattle.c0_meaning.specs.RunLaws.{PrimitivesAlone, stands_at}
 use Rattle.mips_table.specs.Flat.{Flat}
 use Rattle.cvm_model.specs.Kernel.{Core, Changes}
-use Rattle.cvm_model.specs.Primitives.{Call, VmGet, VmSet, VmSize, VmResize, VmWord, VmPut, VmCopy, ConPut, ConGet, ConLeft, is_good, granted, refused, unchanged, prim, user_of}
+use Rattle.cvm_model.specs.Primitives.{KernelCall, VmGet, VmSet, VmSize, VmResize, VmWord, VmPut, VmCopy, ConPut, ConGet, ConLeft, is_good, granted, refused, unchanged, prim, user_of}
 use Rattle.cvm_model.specs.KernelMeaning.{Machines, ints_of, called_by, kernel_primitive, setting_of, machines_of, outcome_of, UnitsReplay}
 use Rattle.cvm_model.specs.KernelMeaning as kernel
 use Rattle.cvm_model.specs.Journal.{changes_of, replay, CallsReplay}
@@ -24,7 +24,7 @@ record Kept (users : List Flat) (m : Machines) (calls : List (List Changes)) : T
   each : (u : ℕ) → 1 ≤ u → u ≤ length users → replay (user_of users u) (changes_of u (entries_of calls)) ≡ Some (user_of m.users u)
 
 -- a call changes no number of machines
-granted_count : (users : List Flat) (o : Console) (c : Call) → length (granted users o c).users ≡ length users
+granted_count : (users : List Flat) (o : Console) (c : KernelCall) → length (granted users o c).users ≡ length users
 granted_count users o (VmGet u r) = refl
 granted_count users o (VmSet u r v) = length-set _ _ _
 granted_count users o (VmSize u) = refl
@@ -36,7 +36,7 @@ granted_count users o (ConPut w) = refl
 granted_count users o ConGet = refl
 granted_count users o ConLeft = refl
 
-pub prim_count : (most : ℕ) (c : Call) (users : List Flat) (o : Console) → length (prim most c users o).users ≡ length users
+pub prim_count : (most : ℕ) (c : KernelCall) (users : List Flat) (o : Console) → length (prim most c users o).users ≡ length users
 prim_count most c users o = by (is_good most users c)
   where
     by : (b : Bool) → length (cond b (granted users o c) (unchanged users o (refused c) 0 0)).users ≡ length users
@@ -61,7 +61,7 @@ one_more users m after calls c k same step = record {
       ∙ ap (option_and_then (λ g. replay g (changes_of u (c ∷ [])))) (k.each u from to) ∙ step u from (omega arith);
 }
 
-called : (users : List Flat) (m : Machines) (calls : List (List Changes)) (o : Option Call) → Kept users m calls → Kept users (called_by m o).world (calls ++ (called_by m o).entries ∷ [])
+called : (users : List Flat) (m : Machines) (calls : List (List Changes)) (o : Option KernelCall) → Kept users m calls → Kept users (called_by m o).world (calls ++ (called_by m o).entries ∷ [])
 called users m calls None k = one_more users m m calls _ k refl (λ u from to. unchanged_case m.users u)
 called users m calls (Some c) k = one_more users m _ calls _ k (prim_count m.most c m.users m.console) (λ u from to. primitives_replay m.most c m.users m.console u from to)
 
@@ -72,7 +72,7 @@ made users [] m before k = subst (Kept users m) (sym (append-nil before)) k
 made users (c ∷ rest) m before k =
     let r = kernel_primitive c.number c.args m in
     subst (Kept users (world_after kernel_primitive rest r.world)) (append_assoc before (r.entries ∷ []) (entries_made kernel_primitive rest r.world))
-    (made users rest r.world (before ++ r.entries ∷ []) (called users m before (option_and_then (kernel.call_with c.number) (ints_of c.args)) k))
+    (made users rest r.world (before ++ r.entries ∷ []) (called users m before (option_and_then (kernel.call_numbered c.number) (ints_of c.args)) k))
 
 outcome : (c : Core) (o : c0_run.Outcome Machines Changes) → Kept c.users (stands_at o).world (stands_at o).calls → CallsReplay (outcome_of c o) c
 outcome c (c0_run.Done used d) g = record { count = g.count; each = g.each }

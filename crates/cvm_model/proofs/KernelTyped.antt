@@ -13,17 +13,17 @@ use Rattle.c0_tree.specs.Primitives.{CPrimitive, kernel_primitives}
 use Rattle.c0_tree.specs.Tree.{CUnit}
 use Rattle.c0_meaning.specs.Ty as ty
 use Rattle.c0_meaning.specs.Value.{int, bool, null, at, group, Values, empty, part}
-use Rattle.c0_meaning.specs.State.{State}
+use Rattle.c0_meaning.specs.State.{C0State}
 use Rattle.c0_meaning.specs.Operators.{faulted, stuck}
 use Rattle.c0_meaning.specs.Execution as c0_run
-use Rattle.c0_meaning.specs.TypedState.{Layout, AllFit, IsTypedState, IsTypedFrame, layout_of, IsScalar, AreScalars, AnswersFit, IsSafe}
+use Rattle.c0_meaning.specs.TypedState.{StoreTyping, AllFit, IsTypedState, IsTypedFrame, store_typing, IsScalar, AreScalars, AnswersFit, RunIsSafe}
 use Rattle.c0_meaning.specs.RunLaws.{FirstIsTyped, DispatchesAreSafe, DispatchesAnswer, AnswersAnInt}
 use Rattle.c0_meaning.specs.World.{Cost, Configuration}
 use Rattle.mips_table.specs.Flat.{Flat}
 use Rattle.layer_map.specs.Map.{Map, ParamsInRange}
 use Rattle.cvm_model.specs.Kernel.{Core, Changes, Answers, NotYet}
-use Rattle.cvm_model.specs.Primitives.{Call, VmGet, VmSet, VmSize, VmResize, VmWord, VmPut, VmCopy, ConPut, ConGet, ConLeft, Given, primitive_number, arguments_of, is_good, is_within, granted, refused, unchanged, prim, no_flat, user_of, pages_of, with_register, resized, with_word, with_words}
-use Rattle.cvm_model.specs.KernelMeaning.{Machines, ints_of, call_with, called_by, kernel_primitive, setting_of, machines_of, answer_end, outcome_of}
+use Rattle.cvm_model.specs.Primitives.{KernelCall, VmGet, VmSet, VmSize, VmResize, VmWord, VmPut, VmCopy, ConPut, ConGet, ConLeft, Given, primitive_number, arguments_of, is_good, is_within, granted, refused, unchanged, prim, no_flat, user_of, pages_of, with_register, resized, with_word, with_words}
+use Rattle.cvm_model.specs.KernelMeaning.{Machines, ints_of, call_numbered, called_by, kernel_primitive, setting_of, machines_of, answer_end, outcome_of}
 use Rattle.cvm_model.specs.Stands.{CoreFits, UserFits, input_room}
 use Rattle.cvm_model.specs.TypedKernel.{RowsAreCalled, UnitsAnswerInts, UnitsStayTyped, UnitsWantUnits}
 use Rattle.cvm_model.proofs.PrimitiveReplays.{and_left, and_right, place_is}
@@ -62,7 +62,7 @@ within_pages : (most : ℕ) (p : ℤ) → is_within 0 most p ≡ true → nat_ab
 within_pages most (pos n) h = leb-true n most (and_right _ _ h)
 within_pages most (negsuc n) h = absurd (cc)
 
-granted_small : (most : ℕ) (c : Call) (users : List Flat) (o : Console) → most ≤ 1024 → list_all is_small users ≡ true → length o.input ≤ input_room → is_good most users c ≡ true → Small most (granted users o c)
+granted_small : (most : ℕ) (c : KernelCall) (users : List Flat) (o : Console) → most ≤ 1024 → list_all is_small users ≡ true → length o.input ≤ input_room → is_good most users c ≡ true → Small most (granted users o c)
 granted_small most (VmGet u r) users o k h i g = record { users = h; input = i }
 granted_small most (VmSet u r v) users o k h i g =
     let f : Flat = user_of users (nat_abs u) in
@@ -94,7 +94,7 @@ granted_small most (ConPut w) users o k h i g = record { users = h; input = put_
 granted_small most ConGet users o k h i g = record { users = h; input = omega (arith, length-drop 1 o.input) }
 granted_small most ConLeft users o k h i g = record { users = h; input = i }
 
-prim_small : (most : ℕ) (c : Call) (users : List Flat) (o : Console) → most ≤ 1024 → list_all is_small users ≡ true → length o.input ≤ input_room → Small most (prim most c users o)
+prim_small : (most : ℕ) (c : KernelCall) (users : List Flat) (o : Console) → most ≤ 1024 → list_all is_small users ≡ true → length o.input ≤ input_room → Small most (prim most c users o)
 prim_small most c users o k h i = by (is_good most users c) refl
   where
     by : (b : Bool) → is_good most users c ≡ b → Small most (cond b (granted users o c) (unchanged users o (refused c) 0 0))
@@ -102,7 +102,7 @@ prim_small most c users o k h i = by (is_good most users c) refl
     by false e = record { users = h; input = i }
 
 -- THE ANSWERS
-abbrev pub scalar_of : Call → Scalar
+abbrev pub scalar_of : KernelCall → Scalar
 scalar_of (VmSet u r v) = Boolean
 scalar_of (VmResize u p) = Boolean
 scalar_of (VmPut u a v) = Boolean
@@ -123,7 +123,7 @@ minus_one = record { sfits = omega arith }
 pub small_fits : (n : ℕ) → n ≤ 4096 → FitsSigned w32 (pos n)
 small_fits n h = record { sfits = omega (arith, h) }
 
-refused_fits : (c : Call) → IsScalar (scalar_of c) (refused c)
+refused_fits : (c : KernelCall) → IsScalar (scalar_of c) (refused c)
 refused_fits (VmGet u r) = minus_one
 refused_fits (VmSet u r v) = tt
 refused_fits (VmSize u) = minus_one
@@ -135,7 +135,7 @@ refused_fits (ConPut w) = tt
 refused_fits ConGet = minus_one
 refused_fits ConLeft = minus_one
 
-granted_fits : (users : List Flat) (o : Console) (c : Call) → list_all is_small users ≡ true → length o.input ≤ input_room → IsScalar (scalar_of c) (granted users o c).answer
+granted_fits : (users : List Flat) (o : Console) (c : KernelCall) → list_all is_small users ≡ true → length o.input ≤ input_room → IsScalar (scalar_of c) (granted users o c).answer
 granted_fits users o (VmGet u r) h i = signed_fits _
 granted_fits users o (VmSet u r v) h i = tt
 granted_fits users o (VmSize u) h i = small_fits _ (let s : pages_of (user_of users (nat_abs u)) ≤ 1024 = leb-true _ 1024 (index_all users (nat_abs u - 1) h) in omega (arith, s))
@@ -147,7 +147,7 @@ granted_fits users o (ConPut w) h i = tt
 granted_fits users o ConGet h i = signed_fits _
 granted_fits users o ConLeft h i = small_fits _ i
 
-prim_fits : (most : ℕ) (c : Call) (users : List Flat) (o : Console) → list_all is_small users ≡ true → length o.input ≤ input_room → IsScalar (scalar_of c) (prim most c users o).answer
+prim_fits : (most : ℕ) (c : KernelCall) (users : List Flat) (o : Console) → list_all is_small users ≡ true → length o.input ≤ input_room → IsScalar (scalar_of c) (prim most c users o).answer
 prim_fits most c users o h i = by (is_good most users c)
   where
     by : (b : Bool) → IsScalar (scalar_of c) (cond b (granted users o c) (unchanged users o (refused c) 0 0)).answer
@@ -160,7 +160,7 @@ record Ints (k : ℕ) (args : Values) : Type 0 where
   size : length list ≡ k
   is : ints_of args ≡ Some list
 
-abbrev nowhere : Layout
+abbrev nowhere : StoreTyping
 nowhere = record { globals = []; objects = [] }
 
 ints : (k : ℕ) (args : Values) → AllFit [] nowhere (replicate k ty.int) args → Ints k args
@@ -175,45 +175,45 @@ ints (suc k) (part (group ws) vs) h = absurd h.0
 
 -- the call of a row of the table
 pub record Told (n : ℕ) (row : CPrimitive) (args : Values) : Type 0 where
-  pub call : Call
-  pub is : option_and_then (call_with n) (ints_of args) ≡ Some call
+  pub call : KernelCall
+  pub is : option_and_then (call_numbered n) (ints_of args) ≡ Some call
   pub scalar : scalar_of call ≡ row.answer
   pub number : primitive_number call ≡ n
   pub arguments : ints_of args ≡ Some (arguments_of call)
 
 row_told : (n k : ℕ) (row : CPrimitive) (args : Values) → AllFit [] nowhere (replicate k ty.int) args →
-    ((xs : List ℤ) → length xs ≡ k → (c : Call) × (call_with n xs ≡ Some c) × (scalar_of c ≡ row.answer) × (primitive_number c ≡ n) × (arguments_of c ≡ xs)) → Told n row args
+    ((xs : List ℤ) → length xs ≡ k → (c : KernelCall) × (call_numbered n xs ≡ Some c) × (scalar_of c ≡ row.answer) × (primitive_number c ≡ n) × (arguments_of c ≡ xs)) → Told n row args
 row_told n k row args h f =
     let r : Ints k args = ints k args h in
     let c = f r.list r.size in
-    record { call = c.0; is = ap (option_and_then (call_with n)) r.is ∙ c.1; scalar = c.2; number = c.3; arguments = r.is ∙ ap (λ xs. Some xs) (sym c.4) }
+    record { call = c.0; is = ap (option_and_then (call_numbered n)) r.is ∙ c.1; scalar = c.2; number = c.3; arguments = r.is ∙ ap (λ xs. Some xs) (sym c.4) }
 
-no_ints : (n : ℕ) (s : Scalar) (c : Call) → call_with n [] ≡ Some c → scalar_of c ≡ s → primitive_number c ≡ n → arguments_of c ≡ [] → (xs : List ℤ) → length xs ≡ 0 → (c : Call) × (call_with n xs ≡ Some c) × (scalar_of c ≡ s) × (primitive_number c ≡ n) × (arguments_of c ≡ xs)
+no_ints : (n : ℕ) (s : Scalar) (c : KernelCall) → call_numbered n [] ≡ Some c → scalar_of c ≡ s → primitive_number c ≡ n → arguments_of c ≡ [] → (xs : List ℤ) → length xs ≡ 0 → (c : KernelCall) × (call_numbered n xs ≡ Some c) × (scalar_of c ≡ s) × (primitive_number c ≡ n) × (arguments_of c ≡ xs)
 no_ints n s c e t m r [] h = (c, e, t, m, r)
 no_ints n s c e t m r (a ∷ xs) h = absurd (omega (arith, h))
 
-one_int : (n : ℕ) (s : Scalar) (f : ℤ → Call) → ((a : ℤ) → call_with n (a ∷ []) ≡ Some (f a)) → ((a : ℤ) → scalar_of (f a) ≡ s) → ((a : ℤ) → primitive_number (f a) ≡ n) → ((a : ℤ) → arguments_of (f a) ≡ a ∷ []) → (xs : List ℤ) → length xs ≡ 1 →
-    (c : Call) × (call_with n xs ≡ Some c) × (scalar_of c ≡ s) × (primitive_number c ≡ n) × (arguments_of c ≡ xs)
+one_int : (n : ℕ) (s : Scalar) (f : ℤ → KernelCall) → ((a : ℤ) → call_numbered n (a ∷ []) ≡ Some (f a)) → ((a : ℤ) → scalar_of (f a) ≡ s) → ((a : ℤ) → primitive_number (f a) ≡ n) → ((a : ℤ) → arguments_of (f a) ≡ a ∷ []) → (xs : List ℤ) → length xs ≡ 1 →
+    (c : KernelCall) × (call_numbered n xs ≡ Some c) × (scalar_of c ≡ s) × (primitive_number c ≡ n) × (arguments_of c ≡ xs)
 one_int n s f e t m r [] h = absurd (omega (arith, h))
 one_int n s f e t m r (a ∷ []) h = (f a, e a, t a, m a, r a)
 one_int n s f e t m r (a ∷ b ∷ xs) h = absurd (omega (arith, h))
 
-two_ints : (n : ℕ) (s : Scalar) (f : ℤ → ℤ → Call) → ((a b : ℤ) → call_with n (a ∷ b ∷ []) ≡ Some (f a b)) → ((a b : ℤ) → scalar_of (f a b) ≡ s) → ((a b : ℤ) → primitive_number (f a b) ≡ n) → ((a b : ℤ) → arguments_of (f a b) ≡ a ∷ b ∷ []) → (xs : List ℤ) → length xs ≡ 2 →
-    (c : Call) × (call_with n xs ≡ Some c) × (scalar_of c ≡ s) × (primitive_number c ≡ n) × (arguments_of c ≡ xs)
+two_ints : (n : ℕ) (s : Scalar) (f : ℤ → ℤ → KernelCall) → ((a b : ℤ) → call_numbered n (a ∷ b ∷ []) ≡ Some (f a b)) → ((a b : ℤ) → scalar_of (f a b) ≡ s) → ((a b : ℤ) → primitive_number (f a b) ≡ n) → ((a b : ℤ) → arguments_of (f a b) ≡ a ∷ b ∷ []) → (xs : List ℤ) → length xs ≡ 2 →
+    (c : KernelCall) × (call_numbered n xs ≡ Some c) × (scalar_of c ≡ s) × (primitive_number c ≡ n) × (arguments_of c ≡ xs)
 two_ints n s f e t m r [] h = absurd (omega (arith, h))
 two_ints n s f e t m r (a ∷ []) h = absurd (omega (arith, h))
 two_ints n s f e t m r (a ∷ b ∷ []) h = (f a b, e a b, t a b, m a b, r a b)
 two_ints n s f e t m r (a ∷ b ∷ c ∷ xs) h = absurd (omega (arith, h))
 
-three_ints : (n : ℕ) (s : Scalar) (f : ℤ → ℤ → ℤ → Call) → ((a b c : ℤ) → call_with n (a ∷ b ∷ c ∷ []) ≡ Some (f a b c)) → ((a b c : ℤ) → scalar_of (f a b c) ≡ s) → ((a b c : ℤ) → primitive_number (f a b c) ≡ n) → ((a b c : ℤ) → arguments_of (f a b c) ≡ a ∷ b ∷ c ∷ []) → (xs : List ℤ) → length xs ≡ 3 →
-    (c : Call) × (call_with n xs ≡ Some c) × (scalar_of c ≡ s) × (primitive_number c ≡ n) × (arguments_of c ≡ xs)
+three_ints : (n : ℕ) (s : Scalar) (f : ℤ → ℤ → ℤ → KernelCall) → ((a b c : ℤ) → call_numbered n (a ∷ b ∷ c ∷ []) ≡ Some (f a b c)) → ((a b c : ℤ) → scalar_of (f a b c) ≡ s) → ((a b c : ℤ) → primitive_number (f a b c) ≡ n) → ((a b c : ℤ) → arguments_of (f a b c) ≡ a ∷ b ∷ c ∷ []) → (xs : List ℤ) → length xs ≡ 3 →
+    (c : KernelCall) × (call_numbered n xs ≡ Some c) × (scalar_of c ≡ s) × (primitive_number c ≡ n) × (arguments_of c ≡ xs)
 three_ints n s f e t m r [] h = absurd (omega (arith, h))
 three_ints n s f e t m r (a ∷ []) h = absurd (omega (arith, h))
 three_ints n s f e t m r (a ∷ b ∷ []) h = absurd (omega (arith, h))
 three_ints n s f e t m r (a ∷ b ∷ c ∷ []) h = (f a b c, e a b c, t a b c, m a b c, r a b c)
 three_ints n s f e t m r (a ∷ b ∷ c ∷ d ∷ xs) h = absurd (omega (arith, h))
 
-five_ints : (xs : List ℤ) → length xs ≡ 5 → (c : Call) × (call_with 6 xs ≡ Some c) × (scalar_of c ≡ Boolean) × (primitive_number c ≡ 6) × (arguments_of c ≡ xs)
+five_ints : (xs : List ℤ) → length xs ≡ 5 → (c : KernelCall) × (call_numbered 6 xs ≡ Some c) × (scalar_of c ≡ Boolean) × (primitive_number c ≡ 6) × (arguments_of c ≡ xs)
 five_ints [] h = absurd (omega (arith, h))
 five_ints (a ∷ []) h = absurd (omega (arith, h))
 five_ints (a ∷ b ∷ []) h = absurd (omega (arith, h))
@@ -262,10 +262,10 @@ answers_fit = record {
 }
 
 -- without its frames a typed state is typed
-no_frames : (u : CUnit) (s : State) → IsTypedState u s → IsTypedState u (record s { frames = [] })
-no_frames u s t = (t.0, record { global_values = t.1.global_values; heap_values = t.1.heap_values; frames = All-nil (IsTypedFrame u (layout_of u t.0)) }, t.2)
+no_frames : (u : CUnit) (s : C0State) → IsTypedState u s → IsTypedState u (record s { frames = [] })
+no_frames u s t = (t.0, record { global_values = t.1.global_values; heap_values = t.1.heap_values; frames = All-nil (IsTypedFrame u (store_typing u t.0)) }, t.2)
 
-pub safe_typed : (u : CUnit) (c : Core) (o : c0_run.Outcome Machines Changes) → IsSafe are_small u o → IsTypedState u (outcome_of c o).after.c0
+pub safe_typed : (u : CUnit) (c : Core) (o : c0_run.Outcome Machines Changes) → RunIsSafe are_small u o → IsTypedState u (outcome_of c o).after.c0
 safe_typed u c (c0_run.Done k d) h = no_frames u d.state h.0
 safe_typed u c (c0_run.Failed k (faulted f) d) h = no_frames u d.state h.0
 safe_typed u c (c0_run.Failed k stuck d) h = absurd h
@@ -292,7 +292,7 @@ units_stay_typed first safe u m checked range = record {
 }
 
 -- a run that is not over wants units
-wanting : (u : CUnit) (c : Core) (o : c0_run.Outcome Machines Changes) → IsSafe are_small u o → AnswersAnInt o → (outcome_of c o).end ≡ NotYet →
+wanting : (u : CUnit) (c : Core) (o : c0_run.Outcome Machines Changes) → RunIsSafe are_small u o → AnswersAnInt o → (outcome_of c o).end ≡ NotYet →
     (used : Cost) × (d : Configuration Machines Changes) × (o ≡ c0_run.NotYet used d)
 wanting u c (c0_run.Done k d) h a e = let is : answer_end d.answer ≡ Answers a.0 = ap answer_end a.1 in absurd (cc)
 wanting u c (c0_run.Failed k (faulted f) d) h a e = absurd (cc)

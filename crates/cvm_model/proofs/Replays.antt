@@ -3,7 +3,7 @@ use Rattle.std.proofs.Common.{◌≡◌, ℕ, zero, suc, ◌+◌, [], ◌∷◌,
 use Rattle.std.specs.Prelude.{◌≢◌, option_and_then, bit_or, pos}
 use Rattle.mips_table.specs.Flat.{Flat}
 use Rattle.mips_table.specs.Arith.{signed}
-use Rattle.cvm_model.specs.Kernel.{Core, End, Answers, Faults, NotYet, DispatchOutcome, MeaningLaws}
+use Rattle.cvm_model.specs.Kernel.{Core, DispatchEnd, Answers, Faults, NotYet, DispatchOutcome, MeaningLaws}
 use Rattle.cvm_model.specs.Cvm.{System, Cvm, Status, Running, Halted, Faulted, Begin, Steps, Traps, Interrupts, begin, after_dispatch, dispatch_of, dispatches, begun, turn_by, turn, cvm, UnitsDontMatter}
 use Rattle.cvm_model.specs.Journal.{replay, replay_entry, ReplayJoins}
 
@@ -17,7 +17,7 @@ joins f (e ∷ rest) b = by (replay_entry e f) (λ g. joins g rest b)
     by (Some g) h = h g
 
 -- a dispatch with a state after it is over
-is_over : (y : System) (c d : Cvm) (k cause edata user pending : ℕ) (o : DispatchOutcome) (e : End) → after_dispatch y c k cause edata user pending o e ≡ Some d → e ≢ NotYet
+is_over : (y : System) (c d : Cvm) (k cause edata user pending : ℕ) (o : DispatchOutcome) (e : DispatchEnd) → after_dispatch y c k cause edata user pending o e ≡ Some d → e ≢ NotYet
 is_over y c d k cause edata user pending o (Answers a) h = λ n. absurd (cc)
 is_over y c d k cause edata user pending o (Faults f) h = λ n. absurd (cc)
 is_over y c d k cause edata user pending o NotYet h = λ n. absurd (cc)

@@ -1,8 +1,8 @@
 -- A running state's user is one of the users: an untrapped step leaves who is current, and a dispatch that goes on names a user.
 use Rattle.std.proofs.Common.{◌≡◌, ℕ, zero, suc, ◌+◌, ◌<◌, ◌≤◌, Bool, true, false, nat_lt, List, length, Option, Some, None, refl, sym, ap, ◌∙◌, subst, arith, ltb-true}
 use Rattle.std.specs.Prelude.{ℤ, pos, negsuc, ◌==◌, if◌then◌else◌, bit_or}
-use Rattle.mips_table.specs.Flat.{VStep, Next as Goes, Trap, vstep}
-use Rattle.cvm_model.specs.Kernel.{Core, End, Answers, Faults, NotYet, DispatchOutcome}
+use Rattle.mips_table.specs.Flat.{VStep, Goes, Trap, vstep}
+use Rattle.cvm_model.specs.Kernel.{Core, DispatchEnd, Answers, Faults, NotYet, DispatchOutcome}
 use Rattle.cvm_model.specs.declared.kernel_fault.KernelFault.TheVariants.{BadUser}
 use Rattle.cvm_model.specs.Primitives.{user_of, with_user}
 use Rattle.cvm_model.specs.declared.row.Next.TheVariants.{User, Halt, Fault}
@@ -22,7 +22,7 @@ next_one users (pos (suc n)) c e = by (nat_lt n users) refl e
 next_one users (negsuc n) c e = absurd (cc)
 
 -- a dispatch that was over
-ended_one : (y : System) (c : Cvm) (k cause edata user pending : ℕ) (o : DispatchOutcome) (end : End) (d : Cvm) → after_dispatch y c k cause edata user pending o end ≡ Some d → d.status ≡ Running
+ended_one : (y : System) (c : Cvm) (k cause edata user pending : ℕ) (o : DispatchOutcome) (end : DispatchEnd) (d : Cvm) → after_dispatch y c k cause edata user pending o end ≡ Some d → d.status ≡ Running
     → IsOne (length y.boot.users) d.core.current
 ended_one y c k cause edata user pending o (Answers a) d e r =
     let is : dispatched y c k cause edata user pending o (next_of (length y.boot.users) a) ≡ d = cc in

@@ -12,9 +12,9 @@ use Rattle.mips_table.specs.declared.cause.Cause.{Cause}
 use Rattle.mips_table.specs.declared.cause.Cause.TheVariants as causes
 use Rattle.mips_table.specs.declared.inst.Inst.{Inst}
 use Rattle.mips_table.specs.Decoding.{decoding}
-use Rattle.mips_table.specs.Processor.{Access, Move, Loaded, Stored, Trapped, write, is_aligned, accessed, advanced, performed, effect_on, executed}
+use Rattle.mips_table.specs.Processor.{Access, Move, Loaded, Stored, Trapped, write_register, is_aligned, accessed, advanced, performed, effect_on, executed}
 use Rattle.mips_table.specs.Machine.{LOG_ROOM, Console, log_has_room}
-use Rattle.mips_table.specs.Flat.{Flat, VStep, Next as Goes, Trap, flat_access, word_at, answered, vstep}
+use Rattle.mips_table.specs.Flat.{Flat, VStep, Goes, Trap, flat_access, word_at, after_move, vstep}
 use Rattle.mips_table.specs.Arith.{signed}
 use Rattle.layer_map.specs.declared.params.Params.{Params}
 use Rattle.layer_map.specs.Map.{next_page}
@@ -25,7 +25,7 @@ use Rattle.c0_meaning.specs.Execution.{run_within}
 use Rattle.c0_meaning.specs.Execution as c0_run
 use Rattle.c0_meaning.specs.RunLaws.{PrimitivesAlone, stands_at}
 use Rattle.cvm_model.specs.Kernel.{Core, Changes, KernelMeaning}
-use Rattle.cvm_model.specs.Primitives.{Call, VmGet, VmSet, VmSize, VmResize, VmWord, VmPut, VmCopy, ConPut, ConGet, ConLeft, is_good, is_within, granted, refused, unchanged, prim, no_flat, user_of, with_user, pages_of, with_register, resized, with_word, with_words}
+use Rattle.cvm_model.specs.Primitives.{KernelCall, VmGet, VmSet, VmSize, VmResize, VmWord, VmPut, VmCopy, ConPut, ConGet, ConLeft, is_good, is_within, granted, refused, unchanged, prim, no_flat, user_of, with_user, pages_of, with_register, resized, with_word, with_words}
 use Rattle.cvm_model.specs.KernelMeaning.{Machines, ints_of, called_by, kernel_primitive, setting_of, machines_of, outcome_of, kernel_meaning, UnitsAreKernels}
 use Rattle.cvm_model.specs.KernelMeaning as kernel
 use Rattle.cvm_model.specs.Stands.{input_room}
@@ -95,7 +95,7 @@ module _ (most count : ℕ) (users : List Flat) (o : Console) (h : Shapes most c
   put_shaped w false e = h
   put_shaped w true e = record { same = refl; size = h.size; each = h.each; log = omega (arith, ltb-true (length o.log) LOG_ROOM e, length-append o.log (w ∷ [])); input = h.input }
 
-  granted_shaped : (c : Call) → is_good most users c ≡ true → Kept (granted users o c).users (granted users o c).console
+  granted_shaped : (c : KernelCall) → is_good most users c ≡ true → Kept (granted users o c).users (granted users o c).console
   granted_shaped (VmGet u r) g = h
   granted_shaped (VmSet u r v) g = one_set (nat_abs u) _ (register_shaped most (user_of users (nat_abs u)) (nat_abs r) (cast_unsigned w32 v) (user_shaped (nat_abs u)))
   granted_shaped (VmSize u) g = h
@@ -123,21 +123,21 @@ module _ (most count : ℕ) (users : List Flat) (o : Console) (h : Shapes most c
   granted_shaped ConGet g = record { same = refl; size = h.size; each = h.each; log = h.log; input = let few : length o.input ≤ input_room = h.input in omega (arith, few, length-drop 1 o.input) }
   granted_shaped ConLeft g = h
 
-  prim_shaped : (c : Call) → Kept (prim most c users o).users (prim most c users o).console
+  prim_shaped : (c : KernelCall) → Kept (prim most c users o).users (prim most c users o).console
   prim_shaped c = by (is_good most users c) refl
     where
       by : (b : Bool) → is_good most users c ≡ b → let g = if b then granted users o c else unchanged users o (refused c) 0 0 in Kept g.users g.console
       by true e = granted_shaped c e
       by false e = h
 
-called_shaped : (most count : ℕ) (m : Machines) (c : Option Call) → Shapes most count m → Shapes most count (called_by m c).world
+called_shaped : (most count : ℕ) (m : Machines) (c : Option KernelCall) → Shapes most count m → Shapes most count (called_by m c).world
 called_shaped most count m None h = h
 called_shaped most count m (Some c) h =
     let k = prim_shaped m.most count m.users m.console (subst (λ n. Shapes n count m) (sym h.same) h) c in
     subst (λ n. Shapes n count (called_by m (Some c)).world) h.same (record { same = refl; size = k.size; each = k.each; log = k.log; input = k.input })
 
 primitive_shaped : (most count : ℕ) (k : ℕ) (args : Values) (m : Machines) → Shapes most count m → Shapes most count (kernel_primitive k args m).world
-primitive_shaped most count k args m h = called_shaped most count m (option_and_then (kernel.call_with k) (ints_of args)) h
+primitive_shaped most count k args m h = called_shaped most count m (option_and_then (kernel.call_numbered k) (ints_of args)) h
 
 -- A STEP OF A USER keeps the shape of its machine
 record Alike (f g : Flat) : Type 0 where
@@ -147,22 +147,22 @@ record Alike (f g : Flat) : Type 0 where
 same_alike : (f : Flat) → Alike f f
 same_alike f = record { regs = refl; words = refl }
 
-write_length : (regs : List ℕ) (r v : ℕ) → length (write regs r v) ≡ length regs
+write_length : (regs : List ℕ) (r v : ℕ) → length (write_register regs r v) ≡ length regs
 write_length regs r v = by (r == 0)
   where
     by : (b : Bool) → length (if b then regs else slice_set regs r v) ≡ length regs
     by true = refl
     by false = length-set regs r v
 
-accessed_alike : (f : Flat) (may : Bool) (misaligned refused : Cause) (address pc : ℕ) (m : Move) → Alike f (after (answered f m)) → Alike f (after (answered f (accessed may misaligned refused address pc m)))
+accessed_alike : (f : Flat) (may : Bool) (misaligned refused : Cause) (address pc : ℕ) (m : Move) → Alike f (after (after_move f m)) → Alike f (after (after_move f (accessed may misaligned refused address pc m)))
 accessed_alike f may a b address pc m h = by (is_aligned address) may
   where
-    by : (aligned may : Bool) → Alike f (after (answered f (if not aligned then Trapped a address pc else if not may then Trapped b address pc else m)))
+    by : (aligned may : Bool) → Alike f (after (after_move f (if not aligned then Trapped a address pc else if not may then Trapped b address pc else m)))
     by false may = record { regs = refl; words = refl }
     by true false = record { regs = refl; words = refl }
     by true true = h
 
-performed_alike : (f : Flat) (a : Access) (word : ℕ) (e : Effect) → Alike f (after (answered f (performed a f.cpu word e)))
+performed_alike : (f : Flat) (a : Access) (word : ℕ) (e : Effect) → Alike f (after (after_move f (performed a f.cpu word e)))
 performed_alike f a word (effects.Set r v to) = record { regs = write_length f.cpu.regs r v; words = refl }
 performed_alike f a word (effects.Wide hi lo to) = record { regs = refl; words = refl }
 performed_alike f a word (effects.Load r address) =
@@ -173,7 +173,7 @@ performed_alike f a word effects.Overflow = record { regs = refl; words = refl }
 performed_alike f a word effects.Call = record { regs = refl; words = refl }
 performed_alike f a word effects.System = same_alike f
 
-executed_alike : (f : Flat) (a : Access) (word : ℕ) (i : Option Inst) → Alike f (after (answered f (executed a f.cpu word i)))
+executed_alike : (f : Flat) (a : Access) (word : ℕ) (i : Option Inst) → Alike f (after (after_move f (executed a f.cpu word i)))
 executed_alike f a word None = record { regs = refl; words = refl }
 executed_alike f a word (Some inst) = performed_alike f a word (effect_on inst f.cpu)
 
@@ -190,9 +190,9 @@ module _ (alone : PrimitivesAlone Machines Changes) (y : System) (u : CUnit) (is
     at_core c = P (machines_of y.boot.params c)
 
     most_stays : (m : Machines) (k : ℕ) (args : Values) → (kernel_primitive k args m).world.most ≡ m.most
-    most_stays m k args = by (option_and_then (kernel.call_with k) (ints_of args))
+    most_stays m k args = by (option_and_then (kernel.call_numbered k) (ints_of args))
       where
-        by : (c : Option Call) → (called_by m c).world.most ≡ m.most
+        by : (c : Option KernelCall) → (called_by m c).world.most ≡ m.most
         by None = refl
         by (Some c) = refl
 
@@ -209,9 +209,9 @@ module _ (alone : PrimitivesAlone Machines Changes) (y : System) (u : CUnit) (is
         (dispatch_keeps (λ m. m.most ≡ y.boot.params.pages) (λ k args m e. most_stays m k args ∙ e) alone u y.boot.params n c (pos cause) (signed edata) (pos c.current) refl))
 
   count_stays : (k : ℕ) (args : Values) (m : Machines) → length m.users ≡ length y.boot.users → length (kernel_primitive k args m).world.users ≡ length y.boot.users
-  count_stays k args m h = by (option_and_then (kernel.call_with k) (ints_of args))
+  count_stays k args m h = by (option_and_then (kernel.call_numbered k) (ints_of args))
     where
-      by : (c : Option Call) → length (called_by m c).world.users ≡ length y.boot.users
+      by : (c : Option KernelCall) → length (called_by m c).world.users ≡ length y.boot.users
       by None = h
       by (Some c) = prim_count m.most c m.users m.console ∙ h
 

@@ -1,5 +1,5 @@
 -- An invariant over whole states that each dispatch and each untrapped step of a user keep holds in every run. No contract can carry the rule, since a property
--- ranges over types: this file may be cited from other crates. To be used by `systems_hold`, with the law `runs_are_lawful`; `keeps_all_by` of proofs/KeptAll
+-- ranges over types: this file may be cited from other crates. To be used by `systems_hold`, with the law `runs_are_lawful`; `keeps_all_by` of proofs/KeepsSystem
 -- gives the obligation of a dispatch of what its code does.
 use Rattle.std.proofs.Common.{◌≡◌, ℕ, zero, suc, ◌+◌, ◌<◌, ◌≤◌, ◌^◌, ℤ, List, [], ◌∷◌, ◌++◌, length, Bool, true, false, nat_lt, Option, Some, None, refl, sym, ap, ap₂, ◌∙◌, subst, arith, ltb-true}
 use Rattle.std.specs.Prelude.{◌≢◌, bit_or, ◌==◌, not, if◌then◌else◌, pos, negsuc}
@@ -11,10 +11,10 @@ use Rattle.mips_table.specs.declared.effect.Effect.{Effect}
 use Rattle.mips_table.specs.declared.effect.Effect.TheVariants as effects
 use Rattle.mips_table.specs.declared.inst.Inst.{Inst}
 use Rattle.mips_table.specs.Decoding.{decoding}
-use Rattle.mips_table.specs.Machine.{number_of}
+use Rattle.mips_table.specs.Machine.{cause_number}
 use Rattle.mips_table.specs.Processor.{Cpu, Access, Move, Loaded, Stored, Trapped, is_aligned, accessed, advanced, performed, effect_on, executed}
-use Rattle.mips_table.specs.Flat.{Flat, VStep, Next as Goes, Trap, flat_access, word_at, answered, vstep}
-use Rattle.cvm_model.specs.Kernel.{Core, End, Answers, Faults, NotYet, DispatchOutcome, MeaningLaws}
+use Rattle.mips_table.specs.Flat.{Flat, VStep, Goes, Trap, flat_access, word_at, after_move, vstep}
+use Rattle.cvm_model.specs.Kernel.{Core, DispatchEnd, Answers, Faults, NotYet, DispatchOutcome, MeaningLaws}
 use Rattle.cvm_model.specs.Primitives.{user_of, with_user}
 use Rattle.cvm_model.specs.Stands.{IsUser}
 use Rattle.cvm_model.specs.Cvm.{System, Cvm, Status, Running, Halted, Faulted, Interrupts, begun, user_step, cvm, turn, turn_by, dispatch_of, dispatches, after_dispatch, dispatched, next_of, first_core, first_cvm, status_of, core_of}
@@ -30,15 +30,15 @@ abbrev pub TrapsOf : VStep → Type 0
 TrapsOf (Goes f) = Unit {0}
 TrapsOf (Trap f cause edata) = IsTrap cause
 
-accessed_traps : (f : Flat) (may : Bool) (misaligned refused : Cause) (address pc : ℕ) (m : Move) → IsTrap misaligned → IsTrap refused → TrapsOf (answered f m) → TrapsOf (answered f (accessed may misaligned refused address pc m))
+accessed_traps : (f : Flat) (may : Bool) (misaligned refused : Cause) (address pc : ℕ) (m : Move) → IsTrap misaligned → IsTrap refused → TrapsOf (after_move f m) → TrapsOf (after_move f (accessed may misaligned refused address pc m))
 accessed_traps f may a b address pc m ha hb h = by (is_aligned address) may
   where
-    by : (aligned may : Bool) → TrapsOf (answered f (if not aligned then Trapped a address pc else if not may then Trapped b address pc else m))
+    by : (aligned may : Bool) → TrapsOf (after_move f (if not aligned then Trapped a address pc else if not may then Trapped b address pc else m))
     by false may = ha
     by true false = hb
     by true true = h
 
-performed_traps : (f : Flat) (a : Access) (c : Cpu) (word : ℕ) (e : Effect) → TrapsOf (answered f (performed a c word e))
+performed_traps : (f : Flat) (a : Access) (c : Cpu) (word : ℕ) (e : Effect) → TrapsOf (after_move f (performed a c word e))
 performed_traps f a c word (effects.Set r v to) = tt
 performed_traps f a c word (effects.Wide hi lo to) = tt
 performed_traps f a c word (effects.Load r address) = accessed_traps f (a.may_load address) _ _ address c.pc (Loaded (advanced c) r address) tt tt tt
@@ -47,7 +47,7 @@ performed_traps f a c word effects.Overflow = tt
 performed_traps f a c word effects.Call = tt
 performed_traps f a c word effects.System = tt
 
-executed_traps : (f : Flat) (a : Access) (c : Cpu) (word : ℕ) (i : Option Inst) → TrapsOf (answered f (executed a c word i))
+executed_traps : (f : Flat) (a : Access) (c : Cpu) (word : ℕ) (i : Option Inst) → TrapsOf (after_move f (executed a c word i))
 executed_traps f a c word None = tt
 executed_traps f a c word (Some inst) = performed_traps f a c word (effect_on inst c)
 
@@ -142,17 +142,17 @@ module _ (y : System) (n : ℕ) (Fit : Core → Type 0) (I : SystemProperty) (kn
         pending = few;
       }
 
-  over_answer : (a : ℤ) (e : End) → e ≡ Answers a → e ≢ NotYet
+  over_answer : (a : ℤ) (e : DispatchEnd) → e ≡ Answers a → e ≢ NotYet
   over_answer a e is f = absurd (let g : Answers a ≡ NotYet = sym is ∙ f in cc)
 
-  over_fault : (f : _) (e : End) → e ≡ Faults f → e ≢ NotYet
+  over_fault : (f : _) (e : DispatchEnd) → e ≡ Faults f → e ≢ NotYet
   over_fault f e is g = absurd (let h : Faults f ≡ NotYet = sym is ∙ g in cc)
 
   dispatch_comes : (past : List Dispatch) (k cause edata : ℕ) (c : Cvm) (at : Core) (pending : ℕ) → Fit at → c.rows ≡ rows_of past → pending < 2 ^ 8 → KeepsIfOver y n I k cause edata past at
       → Comes (suc k) (past ++ made_by y n k cause edata at (dispatch_of y n cause edata at) ∷ []) (dispatches y n k c cause edata at pending)
   dispatch_comes past k cause edata c at pending fit rows few h = by (dispatch_of y n cause edata at).end refl
     where
-      by : (e : End) → (dispatch_of y n cause edata at).end ≡ e
+      by : (e : DispatchEnd) → (dispatch_of y n cause edata at).end ≡ e
           → Comes (suc k) (past ++ made_by y n k cause edata at (dispatch_of y n cause edata at) ∷ []) (after_dispatch y c k cause edata at.current pending (dispatch_of y n cause edata at) e)
       by (Answers a) e = behind past k cause edata c at pending fit rows few (h.kept (over_answer a _ e)) (next_of (length y.boot.users) a) (ap (next_by (length y.boot.users)) e) (named (length y.boot.users) a)
       by (Faults f) e = behind past k cause edata c at pending fit rows few (h.kept (over_fault f _ e)) (Fault f) (ap (next_by (length y.boot.users)) e) (λ u e. absurd (cc))
@@ -171,7 +171,7 @@ module _ (y : System) (n : ℕ) (Fit : Core → Type 0) (I : SystemProperty) (kn
   module _ (Keeps : (k cause edata : ℕ) → List Dispatch → Core → Type 0) (inv : IsKeptBy y Fit I Keeps) where
     -- what is owed of the dispatch that a running state comes to: by a trap, or by lines
     owed_trap : (past : List Dispatch) (k : ℕ) (c : Cvm) → c.status ≡ Running → Stands (suc k) past c → (f : Flat) (cause : Cause) (edata : ℕ) → vstep (user_of c.core.users c.core.current) ≡ Trap f cause edata →
-        Fit (with_machine c.core f) → IsTrap cause → Keeps (suc k) (number_of cause) edata past (with_machine c.core f)
+        Fit (with_machine c.core f) → IsTrap cause → Keeps (suc k) (cause_number cause) edata past (with_machine c.core f)
     owed_trap past k c on h f cause edata e fit is =
         inv.trap k cause edata past c.core (with_machine c.core f) (record { after = f; stepped = e; left = refl; is = is }) h.holds.fits (h.holds.user on) fit
         (stays_user c.core f (h.holds.user on) fit h.holds.fits) (sym h.holds.status ∙ on) (all_of (suc k) past c on h)
@@ -204,7 +204,7 @@ module _ (y : System) (n : ℕ) (Fit : Core → Type 0) (I : SystemProperty) (kn
           pending = none;
         })
     step_comes past k c on h (Trap f cause edata) e fit trap =
-        dispatch_comes past (suc k) (number_of cause) edata c _ 0 fit h.holds.rows none (owed_trap (KeepsIfOver y n I) inv past k c on h f cause edata e fit trap)
+        dispatch_comes past (suc k) (cause_number cause) edata c _ 0 fit h.holds.rows none (owed_trap (KeepsIfOver y n I) inv past k c on h f cause edata e fit trap)
 
     begun_comes : (past : List Dispatch) (k pend : ℕ) (c : Cvm) → c.status ≡ Running → Stands (suc k) past c → pend < 2 ^ 8 → (b : Bool) → (pend == 0) ≡ b
         → let v = if b then user_step c.core (vstep (user_of c.core.users c.core.current)) else Interrupts 1 pend c.core 0 in Comes (suc (suc k)) (past ++ of_begin y n (suc k) v) (begun y n (suc k) c v)
@@ -261,7 +261,7 @@ module _ (y : System) (n : ℕ) (Fit : Core → Type 0) (I : SystemProperty) (kn
     dispatch_defined : (past : List Dispatch) (k cause edata : ℕ) (c : Cvm) (at : Core) (pending : ℕ) → KeepsAll y n I k cause edata past at → IsDefined (dispatches y n k c cause edata at pending)
     dispatch_defined past k cause edata c at pending h = by (dispatch_of y n cause edata at).end refl
       where
-        by : (e : End) → (dispatch_of y n cause edata at).end ≡ e → IsDefined (after_dispatch y c k cause edata at.current pending (dispatch_of y n cause edata at) e)
+        by : (e : DispatchEnd) → (dispatch_of y n cause edata at).end ≡ e → IsDefined (after_dispatch y c k cause edata at.current pending (dispatch_of y n cause edata at) e)
         by (Answers a) e = (_, refl)
         by (Faults f) e = (_, refl)
         by NotYet e = absurd (h.over e)
@@ -269,7 +269,7 @@ module _ (y : System) (n : ℕ) (Fit : Core → Type 0) (I : SystemProperty) (kn
     step_defined : (past : List Dispatch) (k : ℕ) (c : Cvm) → c.status ≡ Running → Stands (suc k) past c → (v : VStep) → vstep (user_of c.core.users c.core.current) ≡ v
         → Fit (with_machine c.core (machine_after v)) → TrapsOf v → IsDefined (begun y n (suc k) c (user_step c.core v))
     step_defined past k c on h (Goes f) e fit trap = (_, refl)
-    step_defined past k c on h (Trap f cause edata) e fit trap = dispatch_defined past (suc k) (number_of cause) edata c _ 0 (owed_trap (KeepsAll y n I) inv past k c on h f cause edata e fit trap)
+    step_defined past k c on h (Trap f cause edata) e fit trap = dispatch_defined past (suc k) (cause_number cause) edata c _ 0 (owed_trap (KeepsAll y n I) inv past k c on h f cause edata e fit trap)
 
     begun_defined : (past : List Dispatch) (k pend : ℕ) (c : Cvm) → c.status ≡ Running → Stands (suc k) past c → pend < 2 ^ 8 → (b : Bool) → (pend == 0) ≡ b
         → IsDefined (begun y n (suc k) c (if b then user_step c.core (vstep (user_of c.core.users c.core.current)) else Interrupts 1 pend c.core 0))
@@ -342,7 +342,7 @@ module _ (y : System) (n : ℕ) where
   chains = record {
     start = λ fit. record { kept = λ over. chain_more 0 (first_core y) [] (first_core y) (made_by y n 0 0 0 (first_core y) (dispatch_of y n 0 0 (first_core y))) (at_start refl refl refl refl) refl refl (0, refl, refl) };
     line = λ k mask past c some few fit is on h. record { kept = λ over. chain_more 0 (first_core y) past c (made_by y n (suc k) 1 mask c (dispatch_of y n 1 mask c)) (by_line refl some few refl) refl refl h };
-    trap = λ k cause edata past before at came fit is fits one on h. record { kept = λ over. chain_more 0 (first_core y) past before (made_by y n (suc k) (number_of cause) edata at (dispatch_of y n (number_of cause) edata at)) (by_trap cause refl came) refl refl h };
+    trap = λ k cause edata past before at came fit is fits one on h. record { kept = λ over. chain_more 0 (first_core y) past before (made_by y n (suc k) (cause_number cause) edata at (dispatch_of y n (cause_number cause) edata at)) (by_trap cause refl came) refl refl h };
     step = λ k past c f e fit is fits on h. chain_steps 0 (first_core y) past (suc k) c f e h;
   }
 

@@ -1,12 +1,12 @@
 -- The CVM run: its state, one turn, and the turns from the start, with what they may cost.
 use Rattle.std.specs.Prelude.{◌≡◌, ℕ, zero, suc, ◌+◌, ◌-◌, ◌*◌, ◌≤◌, ℤ, pos, negsuc, ◌==◌, nat_lt, if◌then◌else◌, List, [], ◌∷◌, ◌++◌, length, map, replicate, bit_or, Option, Some, None}
 use Rattle.mips_table.specs.Arith.{signed}
-use Rattle.mips_table.specs.Machine.{number_of}
-use Rattle.mips_table.specs.Flat.{Flat, VStep, Next as Goes, Trap, vstep}
+use Rattle.mips_table.specs.Machine.{cause_number}
+use Rattle.mips_table.specs.Flat.{Flat, VStep, Goes, Trap, vstep}
 use Rattle.mips_table.specs.Machine.{zero_cpu}
 use Rattle.layer_map.specs.declared.params.Params.{Params}
 use Rattle.layer_map.specs.Map.{Map, next_page, layer_words}
-use Rattle.cvm_model.specs.Kernel.{Core, End, Answers, Faults, NotYet, DispatchOutcome, KernelMeaning, MeaningLaws}
+use Rattle.cvm_model.specs.Kernel.{Core, DispatchEnd, Answers, Faults, NotYet, DispatchOutcome, KernelMeaning, MeaningLaws}
 use Rattle.cvm_model.specs.declared.kernel_fault.KernelFault.{KernelFault}
 use Rattle.cvm_model.specs.declared.kernel_fault.KernelFault.TheVariants.{BadUser}
 use Rattle.cvm_model.specs.Primitives.{user_of, with_user}
@@ -62,7 +62,7 @@ pub data Begin : Type 0 where
 -- one step of the current user
 abbrev pub user_step : Core → VStep → Begin
 user_step c (Goes f) = Steps (record c { users = with_user c.users c.current f })
-user_step c (Trap f cause edata) = Traps (number_of cause) edata (record c { users = with_user c.users c.current f })
+user_step c (Trap f cause edata) = Traps (cause_number cause) edata (record c { users = with_user c.users c.current f })
 
 -- turn k with these lines pending: the reset clears none, and an external interrupt all
 abbrev pub begin : ℕ → Core → ℕ → Begin
@@ -123,7 +123,7 @@ dispatched y c k cause edata user pending o next = record {
 }
 
 -- by how it ended; a dispatch that isn't over has no state after it
-abbrev pub after_dispatch : System → Cvm → (k cause edata user pending : ℕ) → DispatchOutcome → End → Option Cvm
+abbrev pub after_dispatch : System → Cvm → (k cause edata user pending : ℕ) → DispatchOutcome → DispatchEnd → Option Cvm
 after_dispatch y c k cause edata user pending o (Answers a) = Some (dispatched y c k cause edata user pending o (next_of (length y.boot.users) a))
 after_dispatch y c k cause edata user pending o (Faults f) = Some (dispatched y c k cause edata user pending o (Fault f))
 after_dispatch y c k cause edata user pending o NotYet = None

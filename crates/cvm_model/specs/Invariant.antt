@@ -3,13 +3,13 @@
 use Rattle.std.specs.Prelude.{◌≡◌, ℕ, zero, suc, ◌*◌, ◌<◌, ◌≤◌, ◌^◌, ℤ, Option, Some, None, List, [], ◌∷◌, ◌++◌, length, map, bit_or, All}
 use Rattle.mips_table.specs.declared.cause.Cause.{Cause}
 use Rattle.mips_table.specs.declared.cause.Cause.TheVariants.{Reset, External}
-use Rattle.mips_table.specs.Flat.{VStep, Next as Goes, Trap, Flat, vstep}
-use Rattle.mips_table.specs.Machine.{number_of, LOG_ROOM}
+use Rattle.mips_table.specs.Flat.{VStep, Goes, Trap, Flat, vstep}
+use Rattle.mips_table.specs.Machine.{cause_number, LOG_ROOM}
 use Rattle.c0_tree.specs.Tree.{CUnit}
-use Rattle.c0_meaning.specs.State.{State as C0}
+use Rattle.c0_meaning.specs.State.{C0State}
 use Rattle.c0_meaning.specs.Value.{int}
 use Rattle.c0_meaning.specs.World.{Configuration}
-use Rattle.cvm_model.specs.Kernel.{Core, Changes, Answers, Faults, NotYet, End, DispatchOutcome}
+use Rattle.cvm_model.specs.Kernel.{Core, Changes, Answers, Faults, NotYet, DispatchEnd, DispatchOutcome}
 use Rattle.cvm_model.specs.KernelMeaning.{Machines, kernel_meaning, core_at, UnitsAreKernels}
 use Rattle.cvm_model.specs.Primitives.{pages_of, user_of, with_user}
 use Rattle.cvm_model.specs.Stands.{IsUser, input_room}
@@ -37,7 +37,7 @@ rows_of past = map row_of past
 
 -- a property of what a kernel shows between dispatches: the dispatches so far, its data, and the current user
 abbrev pub Property : Type 1
-Property = List Dispatch → C0 → ℕ → Type 0
+Property = List Dispatch → C0State → ℕ → Type 0
 
 -- who is next is a user or nobody, and no fault
 abbrev pub IsProper : Next → Type 0
@@ -51,7 +51,7 @@ current_after (User u) before = u
 current_after other before = before
 
 -- who is next, by how a dispatch ended; one that isn't over is in no run
-abbrev pub next_by : ℕ → End → Next
+abbrev pub next_by : ℕ → DispatchEnd → Next
 next_by users (Answers a) = next_of users a
 next_by users (Faults f) = Fault f
 next_by users NotYet = Halt
@@ -131,7 +131,7 @@ pub record IsInvariant (y : System) (n : ℕ) (Fit : Core → Type 0) (I : Prope
   pub start : Fit (first_core y) → Keeps y n I 0 0 0 [] (first_core y)
   pub line : (k mask : ℕ) (past : List Dispatch) (at : Core) → 1 ≤ mask → mask < 2 ^ 8 → Fit at → IsUser at at.current → I past at.c0 at.current → Keeps y n I (suc k) 1 mask past at
   pub trap : (k : ℕ) (cause : Cause) (edata : ℕ) (past : List Dispatch) (before at : Core) → IsTrapOf before cause edata at → Fit at → IsUser at at.current → I past at.c0 at.current
-      → Keeps y n I (suc k) (number_of cause) edata past at
+      → Keeps y n I (suc k) (cause_number cause) edata past at
 
 -- a status that is no kernel's fault
 abbrev pub IsSafe : Status → Type 0

@@ -4,7 +4,7 @@ use Rattle.std.specs.Prelude.{◌≡◌, ◌≢◌, ℕ, zero, suc, ◌+◌, ℤ
 use Rattle.std.specs.Int.{cast_unsigned, w32}
 use Rattle.mips_table.specs.Machine.{Console}
 use Rattle.c0_meaning.specs.Value.{Location, Value, int, bool, null, at, group, Values, empty, part}
-use Rattle.c0_meaning.specs.State.{State as C0}
+use Rattle.c0_meaning.specs.State.{C0State}
 use Rattle.c0_meaning.specs.RunLaws.{scalars}
 use Rattle.mips_table.specs.Flat.{Flat}
 use Rattle.cvm_model.specs.declared.kernel_fault.KernelFault.{KernelFault}
@@ -22,15 +22,15 @@ part_at (part v vs) zero = v
 part_at (part v vs) (suc i) = part_at vs i
 
 -- the words of those before it
-abbrev pub words_before : Values → ℕ → ℕ
-words_before empty i = 0
-words_before (part v vs) zero = 0
-words_before (part v vs) (suc i) = scalars v + words_before vs i
+abbrev pub value_words_before : Values → ℕ → ℕ
+value_words_before empty i = 0
+value_words_before (part v vs) zero = 0
+value_words_before (part v vs) (suc i) = scalars v + value_words_before vs i
 
 -- how many words after a value's first word the part at a path begins
-abbrev pub offset : List ℕ → Value → ℕ
-offset [] v = 0
-offset (i ∷ path) v = words_before (parts_of v) i + offset path (part_at (parts_of v) i)
+abbrev pub part_offset : List ℕ → Value → ℕ
+part_offset [] v = 0
+part_offset (i ∷ path) v = value_words_before (parts_of v) i + part_offset path (part_at (parts_of v) i)
 
 -- the words that stand for a value, where each location has its address; null is 0 and true is 1
 abbrev mutual
@@ -47,7 +47,7 @@ abbrev mutual
 
 -- the CVM state but for the pending lines and the status: the kernel's data, with no frames; user u is number u - 1 of the list
 pub record Core : Type 0 where
-  pub c0 : C0
+  pub c0 : C0State
   pub users : List Flat
   pub console : Console
   pub current : ℕ
@@ -81,14 +81,14 @@ pub record Changes : Type 0 where
   pub entries : List JournalEntry
 
 -- how a dispatch ended, within so many units
-pub data End : Type 0 where
-  Answers : (answer : ℤ) → End
-  Faults : (fault : KernelFault) → End
-  NotYet : End
+pub data DispatchEnd : Type 0 where
+  Answers : (answer : ℤ) → DispatchEnd
+  Faults : (fault : KernelFault) → DispatchEnd
+  NotYet : DispatchEnd
 
 -- the end; the state then; the calls of primitives that ended, in order; the units that it used, and the pages
 pub record DispatchOutcome : Type 0 where
-  pub end : End
+  pub end : DispatchEnd
   pub after : Core
   pub calls : List Changes
   pub units : ℕ
@@ -99,7 +99,7 @@ pub record DispatchOutcome : Type 0 where
 pub record KernelMeaning : Type 0 where
   pub global_words : ℕ
   pub names : List (List ℕ)
-  pub first : C0
+  pub first : C0State
   pub dispatch : ℕ → Core → (cause edata user : ℤ) → DispatchOutcome
 
 -- with more units a dispatch comes to the same end, or is at least as far; and a bad next user is no end of it

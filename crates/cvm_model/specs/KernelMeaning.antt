@@ -13,11 +13,11 @@ use Rattle.c0_meaning.specs.World.{Called, Setting, Cost, total, Configuration, 
 use Rattle.c0_meaning.specs.Execution as c0_run
 use Rattle.mips_table.specs.Flat.{Flat}
 use Rattle.layer_map.specs.declared.params.Params.{Params}
-use Rattle.cvm_model.specs.Kernel.{Core, Changes, End, Answers, Faults, NotYet, DispatchOutcome, KernelMeaning, MeaningLaws}
+use Rattle.cvm_model.specs.Kernel.{Core, Changes, DispatchEnd, Answers, Faults, NotYet, DispatchOutcome, KernelMeaning, MeaningLaws}
 use Rattle.cvm_model.specs.declared.kernel_fault.KernelFault.{KernelFault}
 use Rattle.cvm_model.specs.declared.kernel_fault.KernelFault.TheVariants.{NullUse, Bounds, DivZero, StackOut}
 use Rattle.cvm_model.specs.Journal.{KernelReplays}
-use Rattle.cvm_model.specs.Primitives.{Call, VmGet, VmSet, VmSize, VmResize, VmWord, VmPut, VmCopy, ConPut, ConGet, ConLeft, Given, primitive_number, arguments_of, prim, told}
+use Rattle.cvm_model.specs.Primitives.{KernelCall, VmGet, VmSet, VmSize, VmResize, VmWord, VmPut, VmCopy, ConPut, ConGet, ConLeft, Given, primitive_number, arguments_of, prim, changes_told}
 
 -- what primitives act on: users' machines of at most so many pages, and the console
 pub record Machines : Type 0 where
@@ -32,25 +32,25 @@ ints_of (part (int a) vs) = option_map (λ rest. a ∷ rest) (ints_of vs)
 ints_of other = None
 
 -- the call of the primitive of a number with these arguments
-abbrev pub call_with : ℕ → List ℤ → Option Call
-call_with k [] = if k == 8 then Some ConGet else if k == 9 then Some ConLeft else None
-call_with k (a ∷ []) = if k == 2 then Some (VmSize a) else if k == 7 then Some (ConPut a) else None
-call_with k (a ∷ b ∷ []) = if k == 0 then Some (VmGet a b) else if k == 3 then Some (VmResize a b) else if k == 4 then Some (VmWord a b) else None
-call_with k (a ∷ b ∷ c ∷ []) = if k == 1 then Some (VmSet a b c) else if k == 5 then Some (VmPut a b c) else None
-call_with k (a ∷ b ∷ c ∷ d ∷ e ∷ []) = if k == 6 then Some (VmCopy a b c d e) else None
-call_with k other = None
+abbrev pub call_numbered : ℕ → List ℤ → Option KernelCall
+call_numbered k [] = if k == 8 then Some ConGet else if k == 9 then Some ConLeft else None
+call_numbered k (a ∷ []) = if k == 2 then Some (VmSize a) else if k == 7 then Some (ConPut a) else None
+call_numbered k (a ∷ b ∷ []) = if k == 0 then Some (VmGet a b) else if k == 3 then Some (VmResize a b) else if k == 4 then Some (VmWord a b) else None
+call_numbered k (a ∷ b ∷ c ∷ []) = if k == 1 then Some (VmSet a b c) else if k == 5 then Some (VmPut a b c) else None
+call_numbered k (a ∷ b ∷ c ∷ d ∷ e ∷ []) = if k == 6 then Some (VmCopy a b c d e) else None
+call_numbered k other = None
 
 -- what it comes to: a number or arguments that no primitive has, as no checked unit gives them, answer null, which is no int and no bool
-abbrev pub after_primitive : Machines → Call → Given → Called Machines Changes
-after_primitive m call g = record { answer = g.answer; world = record m { users = g.users; console = g.console }; entries = told call g ∷ []; pages = g.pages; words = g.words }
+abbrev pub after_primitive : Machines → KernelCall → Given → Called Machines Changes
+after_primitive m call g = record { answer = g.answer; world = record m { users = g.users; console = g.console }; entries = changes_told call g ∷ []; pages = g.pages; words = g.words }
 
-abbrev pub called_by : Machines → Option Call → Called Machines Changes
+abbrev pub called_by : Machines → Option KernelCall → Called Machines Changes
 called_by m (Some call) = after_primitive m call (prim m.most call m.users m.console)
 called_by m None = record { answer = null; world = m; entries = record { number = 0; arguments = []; user = 0; entries = [] } ∷ []; pages = 0; words = 0 }
 
 -- the meaning of the kernel's primitives, each of which makes one entry: which call it was, and what it changed
 abbrev pub kernel_primitive : ℕ → Values → Machines → Called Machines Changes
-kernel_primitive n args m = called_by m (option_and_then (call_with n) (ints_of args))
+kernel_primitive n args m = called_by m (option_and_then (call_numbered n) (ints_of args))
 
 -- a fault of C0 as a fault of the kernel
 abbrev pub fault_of : c0.KernelFault → KernelFault
@@ -60,11 +60,11 @@ fault_of c0.DivZero = DivZero
 fault_of c0.StackOut = StackOut
 
 -- how a dispatch ended: a run that is stuck, as no checked unit's is, never ends
-abbrev pub answer_end : Option Value → End
+abbrev pub answer_end : Option Value → DispatchEnd
 answer_end (Some (int a)) = Answers a
 answer_end other = NotYet
 
-abbrev pub failure_end : Failure → End
+abbrev pub failure_end : Failure → DispatchEnd
 failure_end (faulted f) = Faults (fault_of f)
 failure_end stuck = NotYet
 
@@ -72,7 +72,7 @@ failure_end stuck = NotYet
 abbrev pub core_at : Core → Configuration Machines Changes → Core
 core_at c d = record c { c0 = record d.state { frames = [] }; users = d.world.users; console = d.world.console }
 
-abbrev pub outcome_at : Core → End → Cost → Configuration Machines Changes → DispatchOutcome
+abbrev pub outcome_at : Core → DispatchEnd → Cost → Configuration Machines Changes → DispatchOutcome
 outcome_at c end cost d = record { end = end; after = core_at c d; calls = journal d; units = total cost; pages = cost.pages }
 
 -- the outcome of a dispatch
@@ -99,7 +99,7 @@ kernel_meaning u p = record {
 
 -- a call is told by its number and its arguments
 abbrev pub CallsAreTold : Type 0
-CallsAreTold = (call : Call) → call_with (primitive_number call) (arguments_of call) ≡ Some call
+CallsAreTold = (call : KernelCall) → call_numbered (primitive_number call) (arguments_of call) ≡ Some call
 
 -- what the calls of a unit's dispatch changed, replayed, gives each user's machine
 abbrev pub UnitsReplay : Type 0

@@ -2,12 +2,12 @@
 use Rattle.std.specs.Prelude.{◌≡◌, ℕ, ℤ, List, [], ◌∷◌, codes, position, Option, Some, option_and_then}
 use Rattle.std.specs.Str.{bytes_eq}
 use Rattle.c0_tree.specs.Primitives.{kernel_primitives}
-use Rattle.cvm_model.specs.Primitives.{Call, VmGet, VmSet, VmSize, VmResize, VmWord, VmPut, VmCopy, ConPut, ConGet, ConLeft}
-use Rattle.cvm_model.specs.KernelMeaning.{call_with}
+use Rattle.cvm_model.specs.Primitives.{KernelCall, VmGet, VmSet, VmSize, VmResize, VmWord, VmPut, VmCopy, ConPut, ConGet, ConLeft}
+use Rattle.cvm_model.specs.KernelMeaning.{call_numbered}
 
 -- the call of the primitive of a name with these arguments, if there is one
-abbrev pub call_named : List ℕ → List ℤ → Option Call
-call_named name args = option_and_then (λ n. call_with n args) (position (λ row. bytes_eq row.name name) kernel_primitives)
+abbrev pub call_named : List ℕ → List ℤ → Option KernelCall
+call_named name args = option_and_then (λ n. call_numbered n args) (position (λ row. bytes_eq row.name name) kernel_primitives)
 
 -- what each name calls
 pub record NamesAreCalls : Type 0 where

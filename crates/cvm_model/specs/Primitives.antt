@@ -8,20 +8,20 @@ use Rattle.c0_meaning.specs.Value.{Value, int, bool}
 use Rattle.cvm_model.specs.Kernel.{UserChange, Changes, JournalEntry, Set, Size, Put}
 
 -- a call of a primitive, with its arguments
-pub data Call : Type 0 where
-  VmGet : (u r : ℤ) → Call
-  VmSet : (u r v : ℤ) → Call
-  VmSize : (u : ℤ) → Call
-  VmResize : (u pages : ℤ) → Call
-  VmWord : (u a : ℤ) → Call
-  VmPut : (u a v : ℤ) → Call
-  VmCopy : (u a v b n : ℤ) → Call
-  ConPut : (w : ℤ) → Call
-  ConGet : Call
-  ConLeft : Call
+pub data KernelCall : Type 0 where
+  VmGet : (u r : ℤ) → KernelCall
+  VmSet : (u r v : ℤ) → KernelCall
+  VmSize : (u : ℤ) → KernelCall
+  VmResize : (u pages : ℤ) → KernelCall
+  VmWord : (u a : ℤ) → KernelCall
+  VmPut : (u a v : ℤ) → KernelCall
+  VmCopy : (u a v b n : ℤ) → KernelCall
+  ConPut : (w : ℤ) → KernelCall
+  ConGet : KernelCall
+  ConLeft : KernelCall
 
 -- its number in the table of primitives
-abbrev pub primitive_number : Call → ℕ
+abbrev pub primitive_number : KernelCall → ℕ
 primitive_number (VmGet u r) = 0
 primitive_number (VmSet u r v) = 1
 primitive_number (VmSize u) = 2
@@ -34,7 +34,7 @@ primitive_number ConGet = 8
 primitive_number ConLeft = 9
 
 -- its arguments, in order
-abbrev pub arguments_of : Call → List ℤ
+abbrev pub arguments_of : KernelCall → List ℤ
 arguments_of (VmGet u r) = u ∷ r ∷ []
 arguments_of (VmSet u r v) = u ∷ r ∷ v ∷ []
 arguments_of (VmSize u) = u ∷ []
@@ -106,25 +106,25 @@ is_within low high (pos n) = nat_le low n && nat_le n high
 is_within low high (negsuc n) = false
 
 -- whether an int is an address of n words below the end of a machine's memory
-abbrev pub is_place : Flat → ℤ → ℕ → Bool
-is_place f (pos a) n = a % 4 == 0 && nat_le (a + 4 * n) (4096 * pages_of f)
-is_place f (negsuc a) n = false
+abbrev pub is_address : Flat → ℤ → ℕ → Bool
+is_address f (pos a) n = a % 4 == 0 && nat_le (a + 4 * n) (4096 * pages_of f)
+is_address f (negsuc a) n = false
 
 -- whether two ranges of n words share a word
-abbrev pub overlap : ℕ → ℕ → ℕ → Bool
-overlap a b n = nat_lt a (b + 4 * n) && nat_lt b (a + 4 * n)
+abbrev pub ranges_overlap : ℕ → ℕ → ℕ → Bool
+ranges_overlap a b n = nat_lt a (b + 4 * n) && nat_lt b (a + 4 * n)
 
 -- whether a call is good, with at most so many pages
-abbrev pub is_good : ℕ → List Flat → Call → Bool
+abbrev pub is_good : ℕ → List Flat → KernelCall → Bool
 is_good most users (VmGet u r) = is_within 1 (length users) u && is_within 1 32 r
 is_good most users (VmSet u r v) = is_within 1 (length users) u && is_within 1 32 r
 is_good most users (VmSize u) = is_within 1 (length users) u
 is_good most users (VmResize u pages) = is_within 1 (length users) u && is_within 0 most pages
-is_good most users (VmWord u a) = is_within 1 (length users) u && is_place (user_of users (nat_abs u)) a 1
-is_good most users (VmPut u a v) = is_within 1 (length users) u && is_place (user_of users (nat_abs u)) a 1
+is_good most users (VmWord u a) = is_within 1 (length users) u && is_address (user_of users (nat_abs u)) a 1
+is_good most users (VmPut u a v) = is_within 1 (length users) u && is_address (user_of users (nat_abs u)) a 1
 is_good most users (VmCopy u a v b (negsuc n)) = false
 is_good most users (VmCopy u a v b (pos n)) = is_within 1 (length users) u && is_within 1 (length users) v
-    && is_place (user_of users (nat_abs u)) a n && is_place (user_of users (nat_abs v)) b n && not (nat_abs u == nat_abs v && overlap (nat_abs a) (nat_abs b) n)
+    && is_address (user_of users (nat_abs u)) a n && is_address (user_of users (nat_abs v)) b n && not (nat_abs u == nat_abs v && ranges_overlap (nat_abs a) (nat_abs b) n)
 is_good most users other = true
 
 -- what is answered where nothing changes
@@ -137,7 +137,7 @@ changed users console u f entries words pages =
     record { answer = bool true; users = with_user users u f; console = console; changes = record { user = u; entries = entries }; words = words; pages = pages }
 
 -- what a bad call answers
-abbrev pub refused : Call → Value
+abbrev pub refused : KernelCall → Value
 refused (VmSet u r v) = bool false
 refused (VmResize u pages) = bool false
 refused (VmPut u a v) = bool false
@@ -146,7 +146,7 @@ refused (ConPut w) = bool false
 refused other = int (negsuc 0)
 
 -- a good call
-abbrev pub granted : List Flat → Console → Call → Given
+abbrev pub granted : List Flat → Console → KernelCall → Given
 granted users o (VmGet u r) = unchanged users o (int (signed (register_of (user_of users (nat_abs u)) (nat_abs r)))) 0 0
 granted users o (VmSet u r v) =
     let value = cast_unsigned w32 v in
@@ -170,12 +170,12 @@ granted users o ConGet = unchanged users (record o { input = drop 1 o.input }) (
 granted users o ConLeft = unchanged users o (int (pos (length o.input))) 0 0
 
 -- what a call comes to, for users of at most so many pages
-abbrev pub prim : ℕ → Call → List Flat → Console → Given
+abbrev pub prim : ℕ → KernelCall → List Flat → Console → Given
 prim most call users console = if is_good most users call then granted users console call else unchanged users console (refused call) 0 0
 
 -- what is told of a call that has ended: which it was, and what it changed
-abbrev pub told : Call → Given → Changes
-told call g = record { number = primitive_number call; arguments = arguments_of call; user = g.changes.user; entries = g.changes.entries }
+abbrev pub changes_told : KernelCall → Given → Changes
+changes_told call g = record { number = primitive_number call; arguments = arguments_of call; user = g.changes.user; entries = g.changes.entries }
 
 -- the units of a primitive: its call, and the words and pages that it touches
 abbrev pub units_of : Given → ℕ

@@ -1,6 +1,6 @@
 -- "The machine stands for this CVM state", in six parts.
 use Rattle.std.specs.Prelude.{◌≡◌, ℕ, ◌+◌, ◌*◌, ◌<◌, ◌≤◌, Bool, true, false, ◌&&◌, ◌||◌, ◌==◌, nat_lt, nat_le, List, [], ◌∷◌, length, take, drop, slice_index, bit_or, All}
-use Rattle.mips_table.specs.Device.{Idle, Outside}
+use Rattle.mips_table.specs.Device.{Idle, Environment}
 use Rattle.mips_table.specs.declared.special.TheConstants.{SR, PTO, PTL}
 use Rattle.mips_table.specs.Fits.{IsWord}
 use Rattle.mips_table.specs.Processor.{Cpu}
@@ -9,13 +9,13 @@ use Rattle.mips_table.specs.Machine.{State, LOG_ROOM}
 use Rattle.mips_table.specs.Turns.{is_on, in_user}
 use Rattle.mips_table.specs.Fits.{CpuFits, Fits}
 use Rattle.layer_map.specs.Map.{Map, current_at, heap_used_at, heap_words_at, stack_words_at, block_at, globals_at, heap_at, memory_words, table_of}
-use Rattle.page_model.specs.Paging.{PagesStand}
-use Rattle.page_model.specs.Places.{layout_of}
+use Rattle.page_model.specs.Paging.{PagingInvariant}
+use Rattle.page_model.specs.Places.{page_layout}
 use Rattle.c0_meaning.specs.Value as value
 use Rattle.c0_meaning.specs.Value.{Region, Location}
-use Rattle.c0_meaning.specs.State.{State as C0, region_value}
+use Rattle.c0_meaning.specs.State.{C0State, region_value}
 use Rattle.c0_meaning.specs.RunLaws.{scalars}
-use Rattle.cvm_model.specs.Kernel.{offset, flat, Core}
+use Rattle.cvm_model.specs.Kernel.{part_offset, flat, Core}
 use Rattle.cvm_model.specs.Primitives.{user_of, pages_of}
 use Rattle.cvm_model.specs.Cvm.{Status, Running, Cvm}
 use Rattle.cvm_model.specs.Paged.{paged_of, pages_by}
@@ -32,8 +32,8 @@ region_at m value.heap = heap_at m
 region_at m value.locals = 0
 
 -- the address of a location: its region's first word, and the words before it there
-abbrev pub address_of : Map → C0 → Location → ℕ
-address_of m c p = 4 * (region_at m p.region + offset p.path (region_value p.region c))
+abbrev pub address_of : Map → C0State → Location → ℕ
+address_of m c p = 4 * (region_at m p.region + part_offset p.path (region_value p.region c))
 
 -- these words stand in memory from a word on
 abbrev pub HoldsWords : List ℕ → ℕ → List ℕ → Type 0
@@ -44,7 +44,7 @@ abbrev pub is_own : Map → ℕ → Bool
 is_own m k = (nat_le 1024 k && nat_lt k 2048) || (nat_le (block_at 1) k && nat_lt k (block_at (m.users + 1)))
 
 -- PART 1: the kernel's data, and the words that stay as they were linked
-pub record DataStands (y : Site) (memory : List ℕ) (c : C0) : Type 0 where
+pub record DataStands (y : Site) (memory : List ℕ) (c : C0State) : Type 0 where
   pub globals : HoldsWords memory (globals_at y.map) (flat (address_of y.map c) c.global_values)
   pub heap : HoldsWords memory (heap_at y.map) (flat (address_of y.map c) c.heap_values)
   pub used : slice_index memory heap_used_at ≡ c.heap_words
@@ -106,14 +106,14 @@ pub record CoreFits (m : Map) (c : Core) : Type 0 where
   pub input : length c.console.input ≤ input_room
 
 -- THE RELATION, but for lines: parts 3 and 4 and the hand are `pages`, the rest of part 5 `sectors` to `idle`, part 6 `log` and `input`
-pub record Stands (x : Outside) (y : Site) (s : State) (status : Status) (c : Core) : Type 0 where
+pub record RunningRelation (x : Environment) (y : Site) (s : State) (status : Status) (c : Core) : Type 0 where
   pub fits : Fits x s
   pub whole : CoreFits y.map c
   pub memory : memory_words y.map ≤ length s.memory
   pub small : length s.memory ≤ 65000 * 1024
   pub kernel : DataStands y s.memory c.c0
   pub users : UsersStand y.map s status c
-  pub pages : PagesStand (layout_of y.map) (pages_by y.map.params.pages c.users) (paged_of y.map s)
+  pub pages : PagingInvariant (page_layout y.map) (pages_by y.map.params.pages c.users) (paged_of y.map s)
   pub sectors : y.map.users * y.map.params.pages ≤ x.count
   pub no_reset : s.reset ≡ false
   pub idle : s.device.pending ≡ Idle
@@ -121,6 +121,6 @@ pub record Stands (x : Outside) (y : Site) (s : State) (status : Status) (c : Co
   pub input : s.input ≡ c.console.input
 
 -- the relation whole: the latched lines are the pending ones with those raised since
-pub record StandsFor (x : Outside) (y : Site) (since : ℕ) (s : State) (c : Cvm) : Type 0 where
-  pub stands : Stands x y s c.status c.core
+pub record SimulationRelation (x : Environment) (y : Site) (since : ℕ) (s : State) (c : Cvm) : Type 0 where
+  pub stands : RunningRelation x y s c.status c.core
   pub lines : s.mask ≡ bit_or c.pending since

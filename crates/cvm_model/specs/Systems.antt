@@ -3,8 +3,8 @@
 -- its instances. The law `RunsAreChains` says of each run, with no invariant, how its dispatches follow one another.
 use Rattle.std.specs.Prelude.{◌≡◌, ◌≢◌, ℕ, zero, suc, ◌+◌, ◌<◌, ◌≤◌, ◌^◌, ◌==◌, if◌then◌else◌, ℤ, Some, List, [], ◌∷◌, ◌++◌, length}
 use Rattle.mips_table.specs.declared.cause.Cause.{Cause}
-use Rattle.mips_table.specs.Machine.{number_of}
-use Rattle.mips_table.specs.Flat.{Next as Goes, Flat, vstep}
+use Rattle.mips_table.specs.Machine.{cause_number}
+use Rattle.mips_table.specs.Flat.{Goes, Flat, vstep}
 use Rattle.c0_tree.specs.Tree.{CUnit}
 use Rattle.c0_meaning.specs.Value.{int}
 use Rattle.c0_meaning.specs.World.{Configuration}
@@ -50,7 +50,7 @@ pub record KeepsAll (y : System) (n : ℕ) (I : SystemProperty) (k cause edata :
 pub record KeepsIfOver (y : System) (n : ℕ) (I : SystemProperty) (k cause edata : ℕ) (past : List Dispatch) (at : Core) : Type 0 where
   pub kept : (dispatch_of y n cause edata at).end ≢ NotYet → DispatchKept y n I k cause edata past at
 
--- where the code of a dispatch is done, with an answer: so the rules for code serve this rule, by `keeps_all_by` of proofs/KeptAll
+-- where the code of a dispatch is done, with an answer: so the rules for code serve this rule, by `keeps_all_by` of proofs/KeepsSystem
 pub record KeptAllAt (y : System) (I : SystemProperty) (k cause edata : ℕ) (past : List Dispatch) (at : Core) (d : Configuration Machines Changes) : Type 0 where
   pub answer : ℤ
   pub answers : d.answer ≡ Some (int answer)
@@ -65,7 +65,7 @@ pub record IsKeptBy (y : System) (Fit : Core → Type 0) (I : SystemProperty) (K
   pub line : (k mask : ℕ) (past : List Dispatch) (c : Core) → 1 ≤ mask → mask < 2 ^ 8 → Fit c → IsUser c c.current → status_after past ≡ Running
       → I (suc k) past c → Keeps (suc k) 1 mask past c
   pub trap : (k : ℕ) (cause : Cause) (edata : ℕ) (past : List Dispatch) (before at : Core) → IsTrapOf before cause edata at → Fit before → IsUser before before.current →
-      Fit at → IsUser at at.current → status_after past ≡ Running → I (suc k) past before → Keeps (suc k) (number_of cause) edata past at
+      Fit at → IsUser at at.current → status_after past ≡ Running → I (suc k) past before → Keeps (suc k) (cause_number cause) edata past at
   pub step : (k : ℕ) (past : List Dispatch) (c : Core) (f : Flat) → vstep (user_of c.users c.current) ≡ Goes f → Fit c → IsUser c c.current → Fit (with_machine c f) →
       status_after past ≡ Running → I (suc k) past c → I (suc (suc k)) past (with_machine c f)
 
@@ -123,7 +123,7 @@ UserSteps (suc m) c d = (e : Core) × UserSteps m c e × ((f : Flat) × (vstep (
 pub data CameBy (b : Core) (d : Dispatch) : Type 0 where
   at_start : d.turn ≡ 0 → d.cause ≡ 0 → d.edata ≡ 0 → d.before ≡ b → CameBy b d
   by_line : d.cause ≡ 1 → 1 ≤ d.edata → d.edata < 2 ^ 8 → d.before ≡ b → CameBy b d
-  by_trap : (cause : Cause) → d.cause ≡ number_of cause → IsTrapOf b cause d.edata d.before → CameBy b d
+  by_trap : (cause : Cause) → d.cause ≡ cause_number cause → IsTrapOf b cause d.edata d.before → CameBy b d
 
 -- a dispatch is the next one, from a state behind so many turns: untrapped steps of the current user lead up to it, one for each turn between, and it is what
 -- the kernel means in the state where it is called

@@ -11,7 +11,7 @@ use Rattle.cvm_outside.specs.declared.sectors.DiskFault.{DiskFault}
 use Rattle.cvm_outside.proofs.Parts.{append_known-nil, append_known-append, part-front, part-back}
 use Rattle.cvm_outside.proofs.Follow.{both, first}
 use Rattle.cvm_outside.specs.Outside.{Outside, Output, Drive, Files}
-use Rattle.cvm_outside.specs.Script.{Call, Printed, Read, Wrote, Got, Stored, Who, TheSink, TheDisk, TheShelf, Performs, done, breaks, goes_on, Does, Fails, Rises, asked, scripts, Puts, blame, of_sink, of_disk, IsQuiet}
+use Rattle.cvm_outside.specs.Script.{Call, Printed, Read, Wrote, Got, Stored, Who, TheSink, TheDisk, TheShelf, Performs, done, breaks, goes_on, CallDone, CallFailed, Rises, disk_called, scripts, Puts, blame, of_sink, of_disk, WritesNoSector}
 
 -- nothing is put
 pub puts_none : (at : Output) → Puts [] at at None
@@ -67,11 +67,11 @@ read_once sector shelf sink old new (Ok v) within size same count calls =
     let at : Drive → Outside = λ d. record { shelf = shelf; sink = sink; disk = d } in
     goes_on (Read sector) [] _ _ _ None (same_drive (at) old new size same count.same calls, within) (done _)
   where
-    same_drive : (at : Drive → Outside) (old new : Drive) → new.size ≡ old.size → new.sectors ≡ old.sectors → new.faults ≡ old.faults → new.calls ≡ until_fault old.faults old.calls → at new ≡ at (asked old)
+    same_drive : (at : Drive → Outside) (old new : Drive) → new.size ≡ old.size → new.sectors ≡ old.sectors → new.faults ≡ old.faults → new.calls ≡ until_fault old.faults old.calls → at new ≡ at (disk_called old)
     same_drive at old new size same faults calls = rw (size, same, faults, calls) refl
 read_once sector shelf sink old new (Err e) within size same count calls = breaks (Read sector) [] _ _ (record { later = count.later; rose = count.rose }, torn (λ d. record { shelf = shelf; sink = sink; disk = d }), within)
   where
-    torn : (at : Drive → Outside) → at new ≡ at (record (asked old) { faults = new.faults })
+    torn : (at : Drive → Outside) → at new ≡ at (record (disk_called old) { faults = new.faults })
     torn at = rw (size, same, calls) refl
 
 -- one write
@@ -80,42 +80,42 @@ pub write_once : {T : Type 0} (sector : ℕ) (words : List ℕ) (shelf : Files) 
     Performs (Wrote sector words ∷ []) (record { shelf = shelf; sink = sink; disk = old }) (record { shelf = shelf; sink = sink; disk = new }) (blame of_disk r)
 write_once sector words shelf sink old new (Ok v) within size whole torn count calls = goes_on (Wrote sector words) [] _ _ _ None (all (λ d. record { shelf = shelf; sink = sink; disk = d }) new.faults count.same, within) (done _)
   where
-    all : (at : Drive → Outside) (n : ℕ) → n ≡ old.faults → at (record new { faults = n }) ≡ at (record (asked old) { sectors = with_sector old.sectors sector words })
+    all : (at : Drive → Outside) (n : ℕ) → n ≡ old.faults → at (record new { faults = n }) ≡ at (record (disk_called old) { sectors = with_sector old.sectors sector words })
     all at n e = rw (size, whole, calls, e) refl
 write_once sector words shelf sink old new (Err e) within size whole torn count calls =
     breaks (Wrote sector words) [] _ _ (record { later = count.later; rose = count.rose }, (torn.0, part (λ d. record { shelf = shelf; sink = sink; disk = d })), within)
   where
-    part : (at : Drive → Outside) → at new ≡ at (record (asked old) { faults = new.faults; sectors = with_sector old.sectors sector torn.0 })
+    part : (at : Drive → Outside) → at new ≡ at (record (disk_called old) { faults = new.faults; sectors = with_sector old.sectors sector torn.0 })
     part at = rw (size, torn.1, calls) refl
 
 -- no sector is written, and a disk keeps its size
-torn_sectors : (c : Call) (rest : List Call) (old new : Outside) → IsQuiet (c ∷ rest) → Fails c old new → new.disk.sectors ≡ old.disk.sectors
+torn_sectors : (c : Call) (rest : List Call) (old new : Outside) → WritesNoSector (c ∷ rest) → CallFailed c old new → new.disk.sectors ≡ old.disk.sectors
 torn_sectors (Printed t) rest old new quiet f = ap (λ (o : Outside). o.disk.sectors) f.2
 torn_sectors (Read q) rest old new quiet f = ap (λ (o : Outside). o.disk.sectors) f.1
 torn_sectors (Wrote q ws) rest old new quiet f = absurd quiet
 torn_sectors (Got n) rest old new quiet f = ap (λ (o : Outside). o.disk.sectors) f.2
 torn_sectors (Stored n bs) rest old new quiet f = ap (λ (o : Outside). o.disk.sectors) f.3
 
-more_quiet : (c : Call) (rest : List Call) (old mid : Outside) → IsQuiet (c ∷ rest) → Does c old mid → IsQuiet rest × (mid.disk.sectors ≡ old.disk.sectors)
+more_quiet : (c : Call) (rest : List Call) (old mid : Outside) → WritesNoSector (c ∷ rest) → CallDone c old mid → WritesNoSector rest × (mid.disk.sectors ≡ old.disk.sectors)
 more_quiet (Printed t) rest old mid quiet d = (quiet, ap (λ (o : Outside). o.disk.sectors) d.1)
 more_quiet (Read q) rest old mid quiet d = (quiet, ap (λ (o : Outside). o.disk.sectors) d.0)
 more_quiet (Wrote q ws) rest old mid quiet d = absurd quiet
 more_quiet (Got n) rest old mid quiet d = (quiet, ap (λ (o : Outside). o.disk.sectors) d.3)
 more_quiet (Stored n bs) rest old mid quiet d = (quiet, ap (λ (o : Outside). o.disk.sectors) d.3)
 
-pub unwritten : (a : List Call) (old new : Outside) (blamed : Option Who) → IsQuiet a → Performs a old new blamed → new.disk.sectors ≡ old.disk.sectors
+pub unwritten : (a : List Call) (old new : Outside) (blamed : Option Who) → WritesNoSector a → Performs a old new blamed → new.disk.sectors ≡ old.disk.sectors
 unwritten a old new blamed quiet (done _) = refl
 unwritten a old new blamed quiet (breaks c rest _ _ f) = torn_sectors c rest old new quiet f
 unwritten a old new blamed quiet (goes_on c rest _ mid _ _ d p) = let h = more_quiet c rest old mid quiet d in unwritten rest mid new blamed h.0 p ∙ h.1
 
-torn_size : (c : Call) (old new : Outside) → Fails c old new → new.disk.size ≡ old.disk.size
+torn_size : (c : Call) (old new : Outside) → CallFailed c old new → new.disk.size ≡ old.disk.size
 torn_size (Printed t) old new f = ap (λ (o : Outside). o.disk.size) f.2
 torn_size (Read q) old new f = ap (λ (o : Outside). o.disk.size) f.1
 torn_size (Wrote q ws) old new f = ap (λ (o : Outside). o.disk.size) f.1.1
 torn_size (Got n) old new f = ap (λ (o : Outside). o.disk.size) f.2
 torn_size (Stored n bs) old new f = ap (λ (o : Outside). o.disk.size) f.3
 
-done_size : (c : Call) (old mid : Outside) → Does c old mid → mid.disk.size ≡ old.disk.size
+done_size : (c : Call) (old mid : Outside) → CallDone c old mid → mid.disk.size ≡ old.disk.size
 done_size (Printed t) old mid d = ap (λ (o : Outside). o.disk.size) d.1
 done_size (Read q) old mid d = ap (λ (o : Outside). o.disk.size) d.0
 done_size (Wrote q ws) old mid d = ap (λ (o : Outside). o.disk.size) d.0
@@ -127,7 +127,7 @@ same_size a old new blamed (done _) = refl
 same_size a old new blamed (breaks c rest _ _ f) = torn_size c old new f
 same_size a old new blamed (goes_on c rest _ mid _ _ d p) = same_size rest mid new blamed p ∙ done_size c old mid d
 
-pub quiet_both : (a b : List Call) → IsQuiet a → IsQuiet b → IsQuiet (a ++ b)
+pub quiet_both : (a b : List Call) → WritesNoSector a → WritesNoSector b → WritesNoSector (a ++ b)
 quiet_both [] b h k = k
 quiet_both (Printed t ∷ a) b h k = quiet_both a b h k
 quiet_both (Read q ∷ a) b h k = quiet_both a b h k
@@ -144,7 +144,7 @@ pub scripts-suc : (f : ℕ → List Call) (n : ℕ) → scripts f (suc n) ≡ sc
 unfolding scripts
 scripts-suc f n = refl
 
-pub quiet_scripts : (f : ℕ → List Call) → ((i : ℕ) → IsQuiet (f i)) → (n : ℕ) → IsQuiet (scripts f n)
+pub quiet_scripts : (f : ℕ → List Call) → ((i : ℕ) → WritesNoSector (f i)) → (n : ℕ) → WritesNoSector (scripts f n)
 unfolding scripts
 quiet_scripts f each zero = tt
 quiet_scripts f each (suc n) = quiet_both (scripts f n) (f n) (quiet_scripts f each n) (each n)

@@ -7,7 +7,7 @@ use Rattle.cvm_outside.specs.Numbering.{until_fault, called}
 use Rattle.cvm_outside.specs.Told.{AppendsPart}
 use Rattle.cvm_outside.proofs.Parts.{append_known-nil, puts-both, part-none, part-front, part-back}
 use Rattle.cvm_outside.specs.Outside.{Outside, Drive, counts}
-use Rattle.cvm_outside.specs.Script.{Call, Printed, Read, Wrote, Got, Stored, Who, who, done, breaks, goes_on, Does, Fails, asked, spoken, asks}
+use Rattle.cvm_outside.specs.Script.{Call, Printed, Read, Wrote, Got, Stored, Who, who, done, breaks, goes_on, CallDone, CallFailed, disk_called, spoken, disk_calls}
 use Rattle.cvm_outside.specs.ScriptLaws.{PrintedBy, ScriptsTell, MadeBy, Counted, ScriptsCount}
 
 -- of texts that may be told the second behind the first
@@ -29,7 +29,7 @@ none old new whom (Some more) e = subst (λ (t : Option (List ℕ)). AppendsPart
 from : (blamed : Option Who) (old mid new : Option (List ℕ)) (rest : Option (List ℕ)) → mid ≡ old → IfSome rest (PrintedBy blamed mid new) → IfSome rest (PrintedBy blamed old new)
 from blamed old mid new rest e h = subst (λ (t : Option (List ℕ)). IfSome rest (PrintedBy blamed t new)) e h
 
-broken_text : (c : Call) (rest : List Call) (old new : Outside) (whom : Who) → Fails c old new → IfSome (spoken (c ∷ rest)) (PrintedBy (Some whom) old.sink.text new.sink.text)
+broken_text : (c : Call) (rest : List Call) (old new : Outside) (whom : Who) → CallFailed c old new → IfSome (spoken (c ∷ rest)) (PrintedBy (Some whom) old.sink.text new.sink.text)
 broken_text (Printed None) rest old new whom f = tt
 broken_text (Printed (Some text)) rest old new whom f = front old.sink.text new.sink.text text whom (spoken rest) f.0
 broken_text (Read q) rest old new whom f = none old.sink.text new.sink.text whom (spoken rest) (ap (λ (o : Outside). o.sink.text) f.1)
@@ -37,7 +37,7 @@ broken_text (Wrote q ws) rest old new whom f = none old.sink.text new.sink.text 
 broken_text (Got n) rest old new whom f = none old.sink.text new.sink.text whom (spoken rest) (ap (λ (o : Outside). o.sink.text) f.2)
 broken_text (Stored n bs) rest old new whom f = none old.sink.text new.sink.text whom (spoken rest) (ap (λ (o : Outside). o.sink.text) f.3)
 
-more_text : (c : Call) (rest : List Call) (old mid new : Outside) (blamed : Option Who) → Does c old mid → IfSome (spoken rest) (PrintedBy blamed mid.sink.text new.sink.text) → IfSome (spoken (c ∷ rest)) (PrintedBy blamed old.sink.text new.sink.text)
+more_text : (c : Call) (rest : List Call) (old mid new : Outside) (blamed : Option Who) → CallDone c old mid → IfSome (spoken rest) (PrintedBy blamed mid.sink.text new.sink.text) → IfSome (spoken (c ∷ rest)) (PrintedBy blamed old.sink.text new.sink.text)
 more_text (Printed None) rest old mid new blamed d h = tt
 more_text (Printed (Some text)) rest old mid new blamed d h = behind old.sink.text mid.sink.text new.sink.text text blamed (spoken rest) d.0 h
 more_text (Read q) rest old mid new blamed d h = from blamed old.sink.text mid.sink.text new.sink.text (spoken rest) (ap (λ (o : Outside). o.sink.text) d.0) h
@@ -51,7 +51,7 @@ tell a old new blamed (breaks c rest _ _ f) = broken_text c rest old new (who c)
 tell a old new blamed (goes_on c rest _ mid _ _ d p) = more_text c rest old mid new blamed d (tell rest mid new blamed p)
 
 -- a call more, before others
-called_first : (n : ℕ) (d : Drive) → called n (counts (asked d)) ≡ called (suc n) (counts d)
+called_first : (n : ℕ) (d : Drive) → called n (counts (disk_called d)) ≡ called (suc n) (counts d)
 called_first zero d = refl
 called_first (suc n) d = ap (until_fault d.faults) (called_first n d)
 
@@ -63,26 +63,26 @@ module _ (rest : List Call) (old mid new : Outside) (blamed : Option Who) (h : C
   silent : mid.disk ≡ old.disk → Counted rest old new blamed
   silent e = record { made = h.made; calls = h.calls ∙ ap (λ (d : Drive). called h.made (counts d)) e; which = h.which; some = h.some }
 
-  once : (n : ℕ) → n ≡ suc (asks rest) → counts mid.disk ≡ counts (asked old.disk) → (m : ℕ) × (new.disk.calls ≡ called (suc m) (counts old.disk)) × MadeBy blamed (suc m) n
-  once n is e = (h.made, h.calls ∙ ap (called h.made) e ∙ called_first h.made old.disk, subst (MadeBy blamed (suc h.made)) (sym is) (fewer blamed h.made (asks rest) h.which))
+  once : (n : ℕ) → n ≡ suc (disk_calls rest) → counts mid.disk ≡ counts (disk_called old.disk) → (m : ℕ) × (new.disk.calls ≡ called (suc m) (counts old.disk)) × MadeBy blamed (suc m) n
+  once n is e = (h.made, h.calls ∙ ap (called h.made) e ∙ called_first h.made old.disk, subst (MadeBy blamed (suc h.made)) (sym is) (fewer blamed h.made (disk_calls rest) h.which))
 
-as_counted : (a : List Call) (old new : Outside) (blamed : Option Who) → (m : ℕ) × (new.disk.calls ≡ called (suc m) (counts old.disk)) × MadeBy blamed (suc m) (asks a) → Counted a old new blamed
+as_counted : (a : List Call) (old new : Outside) (blamed : Option Who) → (m : ℕ) × (new.disk.calls ≡ called (suc m) (counts old.disk)) × MadeBy blamed (suc m) (disk_calls a) → Counted a old new blamed
 as_counted a old new blamed (m, e, w) = record { made = suc m; calls = e; which = w; some = λ h. omega arith }
 
-broken_count : (c : Call) (rest : List Call) (old new : Outside) → Fails c old new → Counted (c ∷ rest) old new (Some (who c))
+broken_count : (c : Call) (rest : List Call) (old new : Outside) → CallFailed c old new → Counted (c ∷ rest) old new (Some (who c))
 broken_count (Printed t) rest old new f = record { made = 0; calls = ap (λ (o : Outside). o.disk.calls) f.2; which = omega arith; some = λ e. absurd (cc) }
 broken_count (Read q) rest old new f = record { made = 1; calls = ap (λ (o : Outside). o.disk.calls) f.1; which = omega arith; some = λ e. omega arith }
 broken_count (Wrote q ws) rest old new f = record { made = 1; calls = ap (λ (o : Outside). o.disk.calls) f.1.1; which = omega arith; some = λ e. omega arith }
 broken_count (Got n) rest old new f = record { made = 0; calls = ap (λ (o : Outside). o.disk.calls) f.2; which = omega arith; some = λ e. absurd (cc) }
 broken_count (Stored n bs) rest old new f = record { made = 0; calls = ap (λ (o : Outside). o.disk.calls) f.3; which = omega arith; some = λ e. absurd (cc) }
 
-same_count : (c : Call) (rest : List Call) (old new : Outside) (blamed : Option Who) → asks (c ∷ rest) ≡ asks rest → Counted rest old new blamed → Counted (c ∷ rest) old new blamed
+same_count : (c : Call) (rest : List Call) (old new : Outside) (blamed : Option Who) → disk_calls (c ∷ rest) ≡ disk_calls rest → Counted rest old new blamed → Counted (c ∷ rest) old new blamed
 same_count c rest old new blamed e k = record { made = k.made; calls = k.calls; which = subst (MadeBy blamed k.made) (sym e) k.which; some = k.some }
 
-more_count : (c : Call) (rest : List Call) (old mid new : Outside) (blamed : Option Who) → Does c old mid → Counted rest mid new blamed → Counted (c ∷ rest) old new blamed
+more_count : (c : Call) (rest : List Call) (old mid new : Outside) (blamed : Option Who) → CallDone c old mid → Counted rest mid new blamed → Counted (c ∷ rest) old new blamed
 more_count (Printed t) rest old mid new blamed d h = same_count (Printed t) rest old new blamed refl (silent rest old mid new blamed h (ap (λ (o : Outside). o.disk) d.1))
-more_count (Read q) rest old mid new blamed d h = as_counted (Read q ∷ rest) old new blamed (once rest old mid new blamed h (suc (asks rest)) refl (ap (λ (o : Outside). counts o.disk) d.0))
-more_count (Wrote q ws) rest old mid new blamed d h = as_counted (Wrote q ws ∷ rest) old new blamed (once rest old mid new blamed h (suc (asks rest)) refl (ap (λ (o : Outside). counts o.disk) d.0))
+more_count (Read q) rest old mid new blamed d h = as_counted (Read q ∷ rest) old new blamed (once rest old mid new blamed h (suc (disk_calls rest)) refl (ap (λ (o : Outside). counts o.disk) d.0))
+more_count (Wrote q ws) rest old mid new blamed d h = as_counted (Wrote q ws ∷ rest) old new blamed (once rest old mid new blamed h (suc (disk_calls rest)) refl (ap (λ (o : Outside). counts o.disk) d.0))
 more_count (Got n) rest old mid new blamed d h = same_count (Got n) rest old new blamed refl (silent rest old mid new blamed h (ap (λ (o : Outside). o.disk) d.3))
 more_count (Stored n bs) rest old mid new blamed d h = same_count (Stored n bs) rest old new blamed refl (silent rest old mid new blamed h (ap (λ (o : Outside). o.disk) d.3))
 

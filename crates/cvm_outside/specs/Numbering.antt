@@ -14,12 +14,12 @@ abbrev pub fresh : List ℕ → Numbering
 fresh failing = record { failing = failing; next = 0; faults = 0; sound = 0 }
 
 -- one more, but a counter of 64 bits stands still at its last value
-abbrev pub counted : ℕ → ℕ
-counted n = min (n + 1) (2 ^ 64 - 1)
+abbrev pub counted_up : ℕ → ℕ
+counted_up n = min (n + 1) (2 ^ 64 - 1)
 
 -- a count of calls up to the first that failed, that one with it: one more, unless there was a fault before
 abbrev pub until_fault : (faults calls : ℕ) → ℕ
-until_fault zero calls = counted calls
+until_fault zero calls = counted_up calls
 until_fault (suc n) calls = calls
 
 -- what a disk counts: its faults, and its calls up to the first that failed
@@ -41,11 +41,11 @@ abbrev pub is_listed : Numbering → Bool
 is_listed calls = list_any (λ n. n == calls.next) calls.failing
 
 -- one call later; a call that failed is one fault more
-abbrev pub after_call : Numbering → Bool → Numbering
-after_call calls failed =
+abbrev pub numbered_call : Numbering → Bool → Numbering
+numbered_call calls failed =
     record {
       failing = calls.failing;
-      next = counted calls.next;
-      faults = if failed then counted calls.faults else calls.faults;
+      next = counted_up calls.next;
+      faults = if failed then counted_up calls.faults else calls.faults;
       sound = until_fault calls.faults calls.sound;
     }

@@ -49,37 +49,37 @@ pub record Rises (before now : ℕ) : Type 0 where
   pub rose : Rose before now
 
 -- a disk that was called once more
-abbrev pub asked : Drive → Drive
-asked d = record d { calls = until_fault d.faults d.calls }
+abbrev pub disk_called : Drive → Drive
+disk_called d = record d { calls = until_fault d.faults d.calls }
 
 -- what a call leaves that is done; the sector of one is among those that the disk has
-abbrev pub Does : Call → (old new : Outside) → Type 0
-Does (Printed told) old new =
+abbrev pub CallDone : Call → (old new : Outside) → Type 0
+CallDone (Printed told) old new =
     IfSome told (λ text. new.sink.text ≡ append_known old.sink.text text) × (new ≡ record old { sink = record old.sink { text = new.sink.text } })
-Does (Read sector) old new = (new ≡ record old { disk = asked old.disk }) × (sector < old.disk.size)
-Does (Wrote sector words) old new =
-    (new ≡ record old { disk = record (asked old.disk) { sectors = with_sector old.disk.sectors sector words } }) × (sector < old.disk.size)
-Does (Got name) old new =
+CallDone (Read sector) old new = (new ≡ record old { disk = disk_called old.disk }) × (sector < old.disk.size)
+CallDone (Wrote sector words) old new =
+    (new ≡ record old { disk = record (disk_called old.disk) { sectors = with_sector old.disk.sectors sector words } }) × (sector < old.disk.size)
+CallDone (Got name) old new =
     ((n : List ℕ) → new.shelf.file n ≡ old.shelf.file n) × IfSome (old.shelf.file name) (λ bytes. new.shelf.taken ≡ min (length bytes) TOO_LONG)
     × (new.shelf.faults ≡ old.shelf.faults) × (new ≡ record old { shelf = new.shelf })
-Does (Stored name bytes) old new =
+CallDone (Stored name bytes) old new =
     ((n : List ℕ) → n ≢ name → new.shelf.file n ≡ old.shelf.file n) × (new.shelf.file name ≡ retold (old.shelf.file name) bytes)
     × (new.shelf.faults ≡ old.shelf.faults) × (new ≡ record old { shelf = record old.shelf { file = new.shelf.file } })
 
 -- what one leaves that failed: a part of the text, a sector or a file that is torn; and its object counts a fault
-abbrev pub Fails : Call → (old new : Outside) → Type 0
-Fails (Printed told) old new =
+abbrev pub CallFailed : Call → (old new : Outside) → Type 0
+CallFailed (Printed told) old new =
     IfSome told (λ text. AppendsPart old.sink.text new.sink.text text) × Rises old.sink.faults new.sink.faults × (new ≡ record old { sink = new.sink })
-Fails (Read sector) old new =
-    Rises old.disk.faults new.disk.faults × (new ≡ record old { disk = record (asked old.disk) { faults = new.disk.faults } })
+CallFailed (Read sector) old new =
+    Rises old.disk.faults new.disk.faults × (new ≡ record old { disk = record (disk_called old.disk) { faults = new.disk.faults } })
     × (sector < old.disk.size)
-Fails (Wrote sector words) old new =
+CallFailed (Wrote sector words) old new =
     Rises old.disk.faults new.disk.faults
-    × ((torn : List ℕ) × (new ≡ record old { disk = record (asked old.disk) { faults = new.disk.faults; sectors = with_sector old.disk.sectors sector torn } }))
+    × ((torn : List ℕ) × (new ≡ record old { disk = record (disk_called old.disk) { faults = new.disk.faults; sectors = with_sector old.disk.sectors sector torn } }))
     × (sector < old.disk.size)
-Fails (Got name) old new =
+CallFailed (Got name) old new =
     ((n : List ℕ) → new.shelf.file n ≡ old.shelf.file n) × Rises old.shelf.faults new.shelf.faults × (new ≡ record old { shelf = new.shelf })
-Fails (Stored name bytes) old new =
+CallFailed (Stored name bytes) old new =
     ((n : List ℕ) → n ≢ name → new.shelf.file n ≡ old.shelf.file n) × IsCutOff (old.shelf.file name) bytes (new.shelf.file name)
     × Rises old.shelf.faults new.shelf.faults × (new ≡ record old { shelf = record new.shelf { taken = old.shelf.taken } })
 
@@ -87,8 +87,8 @@ Fails (Stored name bytes) old new =
 -- and no more is called
 pub data Performs : List Call → (old new : Outside) → Option Who → Type 0 where
   done : (at : Outside) → Performs [] at at None
-  breaks : (call : Call) (rest : List Call) (old new : Outside) → Fails call old new → Performs (call ∷ rest) old new (Some (who call))
-  goes_on : (call : Call) (rest : List Call) (old mid new : Outside) (blamed : Option Who) → Does call old mid → Performs rest mid new blamed
+  breaks : (call : Call) (rest : List Call) (old new : Outside) → CallFailed call old new → Performs (call ∷ rest) old new (Some (who call))
+  goes_on : (call : Call) (rest : List Call) (old mid new : Outside) (blamed : Option Who) → CallDone call old mid → Performs rest mid new blamed
       → Performs (call ∷ rest) old new blamed
 
 -- the scripts of the numbers below n, in order
@@ -104,17 +104,17 @@ spoken (Printed (Some text) ∷ rest) = option_map (λ more. text ++ more) (spok
 spoken (call ∷ rest) = spoken rest
 
 -- how often it calls the disk
-abbrev pub asks : List Call → ℕ
-asks [] = 0
-asks (Read sector ∷ rest) = suc (asks rest)
-asks (Wrote sector words ∷ rest) = suc (asks rest)
-asks (call ∷ rest) = asks rest
+abbrev pub disk_calls : List Call → ℕ
+disk_calls [] = 0
+disk_calls (Read sector ∷ rest) = suc (disk_calls rest)
+disk_calls (Wrote sector words ∷ rest) = suc (disk_calls rest)
+disk_calls (call ∷ rest) = disk_calls rest
 
 -- it writes no sector
-abbrev pub IsQuiet : List Call → Type 0
-IsQuiet [] = Unit {0}
-IsQuiet (Wrote sector words ∷ rest) = ⊥
-IsQuiet (call ∷ rest) = IsQuiet rest
+abbrev pub WritesNoSector : List Call → Type 0
+WritesNoSector [] = Unit {0}
+WritesNoSector (Wrote sector words ∷ rest) = ⊥
+WritesNoSector (call ∷ rest) = WritesNoSector rest
 
 -- what a sink comes to in which rows are put: they follow its text; or a part of them, where it failed
 abbrev pub PutBy : Option Who → (rows : List ℕ) → (old new : Output) → Type 0
@@ -144,10 +144,10 @@ Makes text told (o, d) (o', d') script of result = (shelf : Files) →
     (record { shelf = shelf; sink = output text o'; disk = drive told d' }) (blame of result)
 
 -- the sectors once all that a script writes is written
-abbrev pub stored : List Call → List (List ℕ) → List (List ℕ)
-stored [] ss = ss
-stored (Wrote sector words ∷ rest) ss = stored rest (slice_set ss sector words)
-stored (call ∷ rest) ss = stored rest ss
+abbrev pub sectors_after : List Call → List (List ℕ) → List (List ℕ)
+sectors_after [] ss = ss
+sectors_after (Wrote sector words ∷ rest) ss = sectors_after rest (slice_set ss sector words)
+sectors_after (call ∷ rest) ss = sectors_after rest ss
 
 -- an object's count of faults
 abbrev pub faults_of : Who → Outside → ℕ

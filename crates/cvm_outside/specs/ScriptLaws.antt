@@ -5,7 +5,7 @@ use Rattle.std.specs.Io.KnownBytes.{append_known}
 use Rattle.cvm_outside.specs.Told.{AppendsPart}
 use Rattle.cvm_outside.specs.Numbering.{called}
 use Rattle.cvm_outside.specs.Outside.{Outside, counts}
-use Rattle.cvm_outside.specs.Script.{Call, Who, TheDisk, who, Fails, Performs, Rises, spoken, asks, stored, faults_of}
+use Rattle.cvm_outside.specs.Script.{Call, Who, TheDisk, who, CallFailed, Performs, Rises, spoken, disk_calls, sectors_after, faults_of}
 
 -- two scripts one after another; and one that breaks off before another
 abbrev pub Follow : Type 0
@@ -36,7 +36,7 @@ MadeBy (Some whom) made all = made ≤ all
 pub record Counted (a : List Call) (old new : Outside) (blamed : Option Who) : Type 0 where
   pub made : ℕ
   pub calls : new.disk.calls ≡ called made (counts old.disk)
-  pub which : MadeBy blamed made (asks a)
+  pub which : MadeBy blamed made (disk_calls a)
   pub some : blamed ≡ Some TheDisk → 1 ≤ made
 
 abbrev pub ScriptsCount : Type 0
@@ -44,7 +44,7 @@ ScriptsCount = (a : List Call) (old new : Outside) (blamed : Option Who) → Per
 
 -- the sectors that a script leaves where nobody is blamed
 abbrev pub ScriptsStore : Type 0
-ScriptsStore = (a : List Call) (old new : Outside) → Performs a old new None → new.disk.sectors ≡ option_map (stored a) old.disk.sectors
+ScriptsStore = (a : List Call) (old new : Outside) → Performs a old new None → new.disk.sectors ≡ option_map (sectors_after a) old.disk.sectors
 
 -- the count of faults of whom an answer blames rose, and that of each other object is as before
 pub record Blamed (old new : Outside) (blamed : Option Who) (whom : Who) : Type 0 where
@@ -63,7 +63,7 @@ pub record BreaksAt (a : List Call) (old new : Outside) (whom : Who) : Type 0 wh
   pub is : who call ≡ whom
   pub mid : Outside
   pub before : Performs made old mid None
-  pub fails : Fails call mid new
+  pub fails : CallFailed call mid new
 
 abbrev pub ScriptsBreak : Type 0
 ScriptsBreak = (a : List Call) (old new : Outside) (whom : Who) → Performs a old new (Some whom) → BreaksAt a old new whom

@@ -1,6 +1,6 @@
 // The calls of an object in memory, numbered from 0, some of which fail.
 ghost use Rattle.std.specs.Prelude.{◌≡◌, ◌≤◌, false};
-ghost use Rattle.cvm_outside.specs.Numbering.{fresh, counted, is_listed, after_call};
+ghost use Rattle.cvm_outside.specs.Numbering.{fresh, counted_up, is_listed, numbered_call};
 
 use std::marker::Model;
 
@@ -37,7 +37,7 @@ impl Calls {
     // Numbers a call, and tells whether it is to fail.
     pub(crate) fn begin(&mut self) -> bool
         ensures listed { result ≡ is_listed self.old }
-        ensures numbered { self.new ≡ after_call self.old false }
+        ensures numbered { self.new ≡ numbered_call self.old false }
     {
         let listed = self.failing.contains(&self.next);
         self.next = self.next.saturating_add(1);
@@ -49,7 +49,7 @@ impl Calls {
 
     // Counts a fault.
     pub(crate) fn count_fault(&mut self)
-        ensures counted { self.new ≡ record self.old { faults = counted self.old.faults } }
+        ensures counted { self.new ≡ record self.old { faults = counted_up self.old.faults } }
         ensures later { self.old.faults ≤ self.new.faults }
     {
         self.faults = self.faults.saturating_add(1);

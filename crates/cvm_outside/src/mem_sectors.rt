@@ -1,8 +1,8 @@
 // A disk in memory.
 ghost use Rattle.std.specs.Prelude.{All, slice_set, slice_index_or, ◌≡◌, ◌<◌, ◌≤◌, ◌^◌, is_err, length, replicate, refl, Some, IfOk, OnOk, OnErr, List, ℕ, []};
 ghost use Rattle.cvm_outside.specs.Causes.{Counts};
-ghost use Rattle.cvm_outside.specs.Numbering.{fresh, is_listed, after_call};
-ghost use Rattle.cvm_outside.specs.Told.{IsSector, Tells, sector_of, with_sector};
+ghost use Rattle.cvm_outside.specs.Numbering.{fresh, is_listed, numbered_call};
+ghost use Rattle.cvm_outside.specs.Told.{IsSector, Tells, told_sector, with_sector};
 
 use crate::calls::Calls;
 use crate::{DiskFault, Sectors};
@@ -71,7 +71,7 @@ impl Sectors for MemSectors {
     fn read(&mut self, i: u32, into: &mut [u32; 1024]) -> Result<(), DiskFault>
         requires { i < length self.old.sectors }
         ensures fails { is_err result ≡ is_listed self.old.calls }
-        ensures calls { self.new.calls ≡ after_call self.old.calls (is_err result) }
+        ensures calls { self.new.calls ≡ numbered_call self.old.calls (is_err result) }
         ensures sectors { self.new.sectors ≡ self.old.sectors }
         ensures words { OnOk result (into.new ≡ slice_index_or self.old.sectors i []) }
         ensures whole { length into.new ≡ 1024 }
@@ -95,7 +95,7 @@ impl Sectors for MemSectors {
     fn write(&mut self, i: u32, from: &[u32; 1024]) -> Result<(), DiskFault>
         requires { i < length self.old.sectors }
         ensures fails { is_err result ≡ is_listed self.old.calls }
-        ensures calls { self.new.calls ≡ after_call self.old.calls (is_err result) }
+        ensures calls { self.new.calls ≡ numbered_call self.old.calls (is_err result) }
         ensures words { OnOk result (self.new.sectors ≡ slice_set self.old.sectors i from.now) }
         ensures kept { OnErr result (self.new.sectors ≡ self.old.sectors) }
         ensures size { length self.new.sectors ≡ length self.old.sectors }

@@ -3,7 +3,7 @@ ghost use Rattle.std.specs.Prelude.{◌≡◌, ◌≤◌, ◌<◌, ◌≢◌, �
 ghost use Rattle.std.specs.BTreeMap.{get_by_text};
 ghost use Rattle.cvm_outside.specs.Causes.{ShelfCounts};
 ghost use Rattle.cvm_outside.specs.Told.{TOO_LONG};
-ghost use Rattle.cvm_outside.specs.Numbering.{fresh, is_listed, after_call};
+ghost use Rattle.cvm_outside.specs.Numbering.{fresh, is_listed, numbered_call};
 ghost use Rattle.cvm_outside.specs.Memory.{Placed};
 ghost use Rattle.cvm_outside.specs.Shelves.{placed, calls_of, taken_of, bytes_of, found, lacks_room, replaced, is_failed};
 ghost use Rattle.cvm_outside.specs.declared.shelf.ShelfFault.TheVariants.{Failed, TooLong, Memory};
@@ -96,7 +96,7 @@ impl Shelf for MemShelf {
         ensures too_long { IsErrOf result TooLong ↔ IsSomeAnd (found self.old name.now) (λ f. TOO_LONG ≤ length f.bytes) }
         ensures nothing { IsErrOf result Failed → taken_of self.new ≡ 0 }
         ensures placed { (n : List ℕ) → placed self.new n ≡ placed self.old n }
-        ensures calls { calls_of self.new ≡ after_call (calls_of self.old) (is_failed result) }
+        ensures calls { calls_of self.new ≡ numbered_call (calls_of self.old) (is_failed result) }
         ensures all { IfOk result (λ v. length v.items ≡ taken_of self.new) }
         ensures most { taken_of self.new ≤ TOO_LONG }
         ensures long { IsErrOf result TooLong ↔ (taken_of self.new ≡ TOO_LONG) }
@@ -136,7 +136,7 @@ impl Shelf for MemShelf {
         ensures put { placed self.new name.now ≡ (if is_err result then placed self.old name.now else replaced (placed self.old name.now) bytes.now) }
         ensures others { (n : List ℕ) → n ≢ name.now → placed self.new n ≡ placed self.old n }
         ensures taken { taken_of self.new ≡ taken_of self.old }
-        ensures calls { calls_of self.new ≡ after_call (calls_of self.old) (is_failed result) }
+        ensures calls { calls_of self.new ≡ numbered_call (calls_of self.old) (is_failed result) }
         ensures count { ShelfCounts (calls_of self.old).faults (calls_of self.new).faults result }
     {
         if self.calls.begin() || !put_file(&mut self.files, name, bytes) {

@@ -1,7 +1,7 @@
 // A sink in memory, of fixed room.
 ghost use Rattle.std.specs.Prelude.{◌≡◌, ◌≤◌, ◌<◌, ◌+◌, ◌++◌, length, nat_le, is_err, if◌then◌else◌, vec_len, vec_capacity, Some, IfOk, OnErr, []};
 ghost use Rattle.cvm_outside.specs.Causes.{Counts};
-ghost use Rattle.cvm_outside.specs.Numbering.{fresh, after_call};
+ghost use Rattle.cvm_outside.specs.Numbering.{fresh, numbered_call};
 ghost use Rattle.cvm_outside.specs.Memory.{put_fails};
 ghost use Rattle.cvm_outside.specs.Told.{AppendsPart};
 
@@ -97,7 +97,7 @@ impl Sink for MemSink {
         ensures fails { is_err result ≡ put_fails self.old bytes.now }
         ensures text { self.new.text ≡ (if is_err result then self.old.text else self.old.text ++ bytes.now) }
         ensures room { self.new.room ≡ self.old.room }
-        ensures calls { self.new.calls ≡ after_call self.old.calls (is_err result) }
+        ensures calls { self.new.calls ≡ numbered_call self.old.calls (is_err result) }
         ensures part { OnErr result (AppendsPart (Some self.old.text) (Some self.new.text) bytes.now) }
         ensures count { Counts self.old.calls.faults self.new.calls.faults result }
     {

@@ -2,7 +2,7 @@
 ghost use Rattle.std.specs.Prelude.{All, IfSome, length, ◌≡◌, ◌<◌, ◌≢◌, ℕ, List, Option, OnOk, OnErr};
 ghost use Rattle.cvm_outside.specs.Causes.{Counts};
 ghost use Rattle.cvm_outside.specs.Numbering.{until_fault};
-ghost use Rattle.cvm_outside.specs.Told.{Tells, IsSector, sector_of, with_sector};
+ghost use Rattle.cvm_outside.specs.Told.{Tells, IsSector, told_sector, with_sector};
 
 use thiserror::Error;
 
@@ -44,7 +44,7 @@ pub trait Sectors {
         ensures size { size self.new ≡ size self.old }
         ensures sectors { sectors self.new ≡ sectors self.old }
         ensures whole { length into.new ≡ 1024 }
-        ensures words { OnOk result (Tells (sector_of (sectors self.old) i) into.new) }
+        ensures words { OnOk result (Tells (told_sector (sectors self.old) i) into.new) }
         ensures count { Counts (faults self.old) (faults self.new) result }
         ensures called { calls self.new ≡ until_fault (faults self.old) (calls self.old) };
 

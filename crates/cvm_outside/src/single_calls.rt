@@ -1,6 +1,6 @@
 // Single calls of the outside, each by its script.
 ghost use Rattle.std.specs.Prelude.{◌≡◌, ◌∷◌, ◌<◌, [], length, OnOk};
-ghost use Rattle.cvm_outside.specs.Told.{Tells, sector_of};
+ghost use Rattle.cvm_outside.specs.Told.{Tells, told_sector};
 ghost use Rattle.cvm_outside.specs.Script.{Read, Wrote, Prints, Asks};
 
 use crate::sectors::{DiskFault, Sectors};
@@ -25,7 +25,7 @@ pub fn put<O: Sink>(text: &[u8], out: &mut O) -> Result<(), SinkFault>
 pub fn read<D: Sectors>(sector: u32, into: &mut [u32; 1024], disk: &mut D) -> Result<(), DiskFault>
     requires { sector < D.size disk.old }
     ensures asks { Asks D.Sectors disk.old disk.new (Read sector ∷ []) result }
-    ensures words { OnOk result (Tells (sector_of (D.sectors disk.old) sector) into.new) }
+    ensures words { OnOk result (Tells (told_sector (D.sectors disk.old) sector) into.new) }
     ensures whole { length into.new ≡ 1024 }
 {
     disk.read(sector, into)

@@ -4,30 +4,30 @@ use Rattle.std.proofs.lemmas.Bool.{cases_eq, cond-true, cond-false}
 use Rattle.mips_table.specs.declared.inst.Inst.{Inst}
 use Rattle.mips_table.specs.declared.inst.Inst.TheVariants.{Srl, Addiu, Subu, Sltiu}
 use Rattle.mips_table.specs.Arith.{flag}
-use Rattle.page_model.specs.Paging.{Layout, IsUserFrame, Names, Paged, Pages, PagesStand, Passes, counted}
+use Rattle.page_model.specs.Paging.{PageLayout, IsUserFrame, MapsTo, Paged, Pages, PagingInvariant, IsAccessible, counted_entries}
 use Rattle.page_model.specs.Faults.{InPlace, Brought}
 use Rattle.mips_table.specs.Code.{Contents, Behind, World}
 use Rattle.cvm_primitives.specs.Routines.{RoutineLaws}
 use Rattle.masm.specs.Says.{Gives}
 use Rattle.masm.specs.Laws.{From}
 use Rattle.cvm_primitives.proofs.Forms.{from_straight, from_then, from_later}
-use Rattle.page_model.specs.Places.{Places, view}
+use Rattle.page_model.specs.Places.{Places, paged_view}
 use Rattle.frame_table.specs.View.{Sited}
 use Rattle.page_fault.specs.Asked.{PageAsked, PageDone, PageBlock, swap_steps, fault_steps, idle_steps}
-use Rattle.cvm_primitives.specs.View.{Held, FourOthers, Start}
-use Rattle.cvm_primitives.proofs.Between.{Keeps, Came, BothIn}
+use Rattle.cvm_primitives.specs.View.{PagesHeld, FourOthers, EntryState}
+use Rattle.cvm_primitives.proofs.PartStates.{Keeps, Came, BothIn}
 use Rattle.cvm_primitives.specs.Code.{page_in_both_code}
 use Rattle.cvm_primitives.proofs.Basics.{flag_of}
 
 -- two pages: q can be read, r is brought in to store, and q again: to store where it is r
-pub both_pass : (w : World) (f : RoutineLaws w) (l : Layout) (q r : ℕ) (s : Bool) (b c d : Paged) → 2 ≤ l.frames → q < l.pages → r < l.pages → IsUserFrame l b.hand → Passes b q false → Brought l r true b c → (q ≡ r → s ≡ true) → (q ≢ r → s ≡ false) → Brought l q s c d → Passes d q false × Passes d r true
+pub both_pass : (w : World) (f : RoutineLaws w) (l : PageLayout) (q r : ℕ) (s : Bool) (b c d : Paged) → 2 ≤ l.frames → q < l.pages → r < l.pages → IsUserFrame l b.hand → IsAccessible b q false → Brought l r true b c → (q ≡ r → s ≡ true) → (q ≢ r → s ≡ false) → Brought l q s c d → IsAccessible d q false × IsAccessible d r true
 both_pass w f l q r s b c d two lq lr u x y same other z = ⊎_elim
-    (λ e. let k : Passes d q true = subst (λ t. Passes d q t) (same e) (f.handled.passes l q s c d z.handled) in
-    (record { valid = k.valid; unprotected = λ t. absurd (cc) }, subst (λ y. Passes d y true) e k))
+    (λ e. let k : IsAccessible d q true = subst (λ t. IsAccessible d q t) (same e) (f.handled.passes l q s c d z.handled) in
+    (record { valid = k.valid; unprotected = λ t. absurd (cc) }, subst (λ y. IsAccessible d y true) e k))
     (λ ne. let k = f.handled.passes l q s c d z.handled in (
       record { valid = k.valid; unprotected = λ t. absurd (cc) },
       ⊎_elim
-          (λ i. let pc : Passes c q false = f.handled.stays b c q false (i.entries q lq ne) x in
+          (λ i. let pc : IsAccessible c q false = f.handled.stays b c q false (i.entries q lq ne) x in
           let z' : Brought l q false c d = subst (λ t. Brought l q t c d) (other ne) z in
           f.handled.stays c d r true ((z'.idle pc).entries r lr (λ e. ne (sym e))) i.passes)
           (λ fi. f.handled.kept l r q s c d lr (λ e. ne (sym e)) (f.handled.last l r b c two u fi) z.handled true)
@@ -55,33 +55,33 @@ any_looks w f p b page X Y = record {
 
 -- both pages pass
 abbrev pub Resident : Places → (X Y : ℕ) → Contents → Behind → Type 0
-Resident p X Y c d = Passes (view p c.memory d.sectors) X false × Passes (view p c.memory d.sectors) Y true
+Resident p X Y c d = IsAccessible (paged_view p c.memory d.sectors) X false × IsAccessible (paged_view p c.memory d.sectors) Y true
 
 -- then each is looked at, and no more
 pub resident_looks : (w : World) (f : RoutineLaws w) (p : Places) (b : ℕ) (page : PageBlock w p b) (X Y : ℕ) → X < p.layout.pages → Y < p.layout.pages → Looks w p page.code idle_steps X Y (Resident p X Y)
 resident_looks w f p b page X Y lx ly = record {
   does = λ u q store c d r is asked. (page.does u q store c d asked).idle (passes c d q store r is);
   kept = λ u q store c d c' d' r is k.
-      let i : InPlace p.layout q store (view p c.memory d.sectors) (view p c'.memory d'.sectors) = k.brought.idle (passes c d q store r is) in
+      let i : InPlace p.layout q store (paged_view p c.memory d.sectors) (paged_view p c'.memory d'.sectors) = k.brought.idle (passes c d q store r is) in
       let entry : (z : ℕ) → z < p.layout.pages → c'.memory (p.tables + z) ≡ c.memory (p.tables + z) = λ z lz.
       ⊎_elim (λ e. ap (λ z. c'.memory (p.tables + z)) e ∙ k.stays (passes c d q store r is) ∙ ap (λ z. c.memory (p.tables + z)) (sym e)) (λ ne. i.entries z lz ne) (cases_eq z q) in (
-        f.handled.stays (view p c.memory d.sectors) (view p c'.memory d'.sectors) X false (entry X lx) r.0,
-        f.handled.stays (view p c.memory d.sectors) (view p c'.memory d'.sectors) Y true (entry Y ly) r.1,
+        f.handled.stays (paged_view p c.memory d.sectors) (paged_view p c'.memory d'.sectors) X false (entry X lx) r.0,
+        f.handled.stays (paged_view p c.memory d.sectors) (paged_view p c'.memory d'.sectors) Y true (entry Y ly) r.1,
       );
   same = λ c c' d d' m e r. (
-    f.handled.stays (view p c.memory d.sectors) (view p c'.memory d'.sectors) X false (ap (λ m. m (p.tables + X)) m) r.0,
-    f.handled.stays (view p c.memory d.sectors) (view p c'.memory d'.sectors) Y true (ap (λ m. m (p.tables + Y)) m) r.1,
+    f.handled.stays (paged_view p c.memory d.sectors) (paged_view p c'.memory d'.sectors) X false (ap (λ m. m (p.tables + X)) m) r.0,
+    f.handled.stays (paged_view p c.memory d.sectors) (paged_view p c'.memory d'.sectors) Y true (ap (λ m. m (p.tables + Y)) m) r.1,
   );
 }
   where
-    passes : (c : Contents) (d : Behind) (q : ℕ) (store : Bool) → Resident p X Y c d → IsAsked X Y q store → Passes (view p c.memory d.sectors) q store
+    passes : (c : Contents) (d : Behind) (q : ℕ) (store : Bool) → Resident p X Y c d → IsAsked X Y q store → IsAccessible (paged_view p c.memory d.sectors) q store
     passes c d q store r is = ⊎_elim
-        (λ a. subst (λ q. Passes (view p c.memory d.sectors) q store) (sym a.0) (subst (λ s. Passes (view p c.memory d.sectors) X s) (sym a.1) r.0))
-        (λ a. subst (λ q. Passes (view p c.memory d.sectors) q store) (sym a.0) (subst (λ s. Passes (view p c.memory d.sectors) Y s) (sym a.1) r.1))
+        (λ a. subst (λ q. IsAccessible (paged_view p c.memory d.sectors) q store) (sym a.0) (subst (λ s. IsAccessible (paged_view p c.memory d.sectors) X s) (sym a.1) r.0))
+        (λ a. subst (λ q. IsAccessible (paged_view p c.memory d.sectors) q store) (sym a.0) (subst (λ s. IsAccessible (paged_view p c.memory d.sectors) Y s) (sym a.1) r.1))
         is
 
-module _ (w : World) (f : RoutineLaws w) (p : Places) (b : ℕ) (si : Sited p w) (page : PageBlock w p b) (n X Y : ℕ) (R : Contents → Behind → Type 0) (looks : Looks w p page.code n X Y R) (g : Start) where
-  pub brings : (u : Pages) (q : ℕ) (store : Bool) (c : Contents) (d : Behind) → Held p u g c d → R c d → IsAsked X Y q store → c.regs 16 ≡ q → q < p.layout.pages → u.live q ≡ true → (store ≡ false → c.regs 15 ≡ 0) → (store ≡ true → c.regs 15 ≢ 0)
+module _ (w : World) (f : RoutineLaws w) (p : Places) (b : ℕ) (si : Sited p w) (page : PageBlock w p b) (n X Y : ℕ) (R : Contents → Behind → Type 0) (looks : Looks w p page.code n X Y R) (g : EntryState) where
+  pub brings : (u : Pages) (q : ℕ) (store : Bool) (c : Contents) (d : Behind) → PagesHeld p u g c d → R c d → IsAsked X Y q store → c.regs 16 ≡ q → q < p.layout.pages → u.live q ≡ true → (store ≡ false → c.regs 15 ≡ 0) → (store ≡ true → c.regs 15 ≢ 0)
       → From w page.code n c d (λ c' d'. Came p u g q store c d c' d' × R c' d')
   brings u q store c d h r is at lt live load save =
       from_later w f page.code n n c d _ _ (omega arith)
@@ -109,9 +109,9 @@ module _ (w : World) (f : RoutineLaws w) (p : Places) (b : ℕ) (si : Sited p w)
       (looks.does u q store c d r is (record { page = at; inside = lt; live = live; stands = h.stands; small = h.small; idle = h.idle; load = load; save = save }))
 
   -- a core that differs in registers that aren't in hand
-  pub held_regs : (u : Pages) (c c' : Contents) (d : Behind) → c'.memory ≡ c.memory → Keeps c c' → Held p u g c d → Held p u g c' d
+  pub held_regs : (u : Pages) (c c' : Contents) (d : Behind) → c'.memory ≡ c.memory → Keeps c c' → PagesHeld p u g c d → PagesHeld p u g c' d
   held_regs u c c' d m k h = record {
-    stands = subst (λ m. PagesStand p.layout u (view p m d.sectors)) (sym m) h.stands;
+    stands = subst (λ m. PagingInvariant p.layout u (paged_view p m d.sectors)) (sym m) h.stands;
     small = λ x lx. subst (λ m. m (p.tables + x) < 2 ^ 32) (sym m) (h.small x lx);
     low = λ x lx ne. ap (λ m. m x) m ∙ h.low x lx ne;
     above = λ x le lx. ap (λ m. m x) m ∙ h.above x le lx;
@@ -126,7 +126,7 @@ module _ (w : World) (f : RoutineLaws w) (p : Places) (b : ℕ) (si : Sited p w)
 
   -- the state before the first page is asked for, and before the second
   record Asks1 (u : Pages) (y : ℕ) (c0 : Contents) (d0 : Behind) (c : Contents) (d : Behind) : Type 0 where
-    held : Held p u g c d
+    held : PagesHeld p u g c d
     number : c.regs 16 ≡ y / 1024
     store : c.regs 15 ≡ 1
     same : c.memory ≡ c0.memory
@@ -138,18 +138,18 @@ module _ (w : World) (f : RoutineLaws w) (p : Places) (b : ℕ) (si : Sited p w)
     ready : R c d
 
   record Asks2 (u : Pages) (x y : ℕ) (c0 : Contents) (d0 : Behind) (c : Contents) (d : Behind) : Type 0 where
-    held : Held p u g c d
+    held : PagesHeld p u g c d
     number : c.regs 16 ≡ x / 1024
     store : c.regs 15 ≡ flag (nat_lt ((x / 1024 + (2 ^ 32 - y / 1024)) % 2 ^ 32) 1)
-    brought : Brought p.layout (y / 1024) true (view p c0.memory d0.sectors) (view p c.memory d.sectors)
+    brought : Brought p.layout (y / 1024) true (paged_view p c0.memory d0.sectors) (paged_view p c.memory d.sectors)
     r13 : c.regs 13 ≡ c0.regs 13
     r26 : c.regs 26 ≡ c0.regs 26
     r27 : c.regs 27 ≡ c0.regs 27
     r14 : c.regs 14 ≡ c0.regs 14
     ready : R c d
 
-  pub both_from : (u : Pages) (x y : ℕ) (c : Contents) (d : Behind) → Held p u g c d → c.regs 26 ≡ x → c.regs 27 ≡ y → x < 1024 * p.layout.pages → y < 1024 * p.layout.pages → u.live (x / 1024) ≡ true → u.live (y / 1024) ≡ true
-      → Passes (view p c.memory d.sectors) (x / 1024) false
+  pub both_from : (u : Pages) (x y : ℕ) (c : Contents) (d : Behind) → PagesHeld p u g c d → c.regs 26 ≡ x → c.regs 27 ≡ y → x < 1024 * p.layout.pages → y < 1024 * p.layout.pages → u.live (x / 1024) ≡ true → u.live (y / 1024) ≡ true
+      → IsAccessible (paged_view p c.memory d.sectors) (x / 1024) false
       → x / 1024 ≡ X → y / 1024 ≡ Y → R c d → From w (page_in_both_code page.code) (2 + (n + (4 + n))) c d (BothIn p u g x y c)
   both_from u x y c d h from to lx ly ax ay pass ex ey r =
       let pages = si.pages in
@@ -167,7 +167,7 @@ module _ (w : World) (f : RoutineLaws w) (p : Places) (b : ℕ) (si : Sited p w)
           held = record { stands = k.held.stands; small = k.held.small; low = k.held.low; above = k.held.above; special = k.held.special; r28 = k.held.r28; r29 = k.held.r29; r30 = k.held.r30; r31 = k.held.r31; behind = k.held.behind; idle = k.held.idle };
           number = refl;
           store = refl;
-          brought = subst (λ m. Brought p.layout (y / 1024) true (view p m d.sectors) (view p c2.memory d2.sectors)) a.same (subst (λ t. Brought p.layout (y / 1024) true (view p c1.memory t.sectors) (view p c2.memory d2.sectors)) a.disk k.brought);
+          brought = subst (λ m. Brought p.layout (y / 1024) true (paged_view p m d.sectors) (paged_view p c2.memory d2.sectors)) a.same (subst (λ t. Brought p.layout (y / 1024) true (paged_view p c1.memory t.sectors) (paged_view p c2.memory d2.sectors)) a.disk k.brought);
           r13 = k.keeps.r13 ∙ a.r13;
           r26 = k.keeps.r26 ∙ a.r26;
           r27 = k.keeps.r27 ∙ a.r27;
@@ -177,13 +177,13 @@ module _ (w : World) (f : RoutineLaws w) (p : Places) (b : ℕ) (si : Sited p w)
       )))
       (λ c3 d3 t. last u x y c d c3 d3 h lx ly ax ay pass ex ey t)))
     where
-      end : (u : Pages) (x y : ℕ) (c : Contents) (d : Behind) (c3 : Contents) (d3 : Behind) (s : Bool) → Held p u g c d → x < 1024 * p.layout.pages → y < 1024 * p.layout.pages → Passes (view p c.memory d.sectors) (x / 1024) false → Asks2 u x y c d c3 d3 → (x / 1024 ≡ y / 1024 → s ≡ true) → (x / 1024 ≢ y / 1024 → s ≡ false)
+      end : (u : Pages) (x y : ℕ) (c : Contents) (d : Behind) (c3 : Contents) (d3 : Behind) (s : Bool) → PagesHeld p u g c d → x < 1024 * p.layout.pages → y < 1024 * p.layout.pages → IsAccessible (paged_view p c.memory d.sectors) (x / 1024) false → Asks2 u x y c d c3 d3 → (x / 1024 ≡ y / 1024 → s ≡ true) → (x / 1024 ≢ y / 1024 → s ≡ false)
           → (c4 : Contents) (d4 : Behind) → Came p u g (x / 1024) s c3 d3 c4 d4 → BothIn p u g x y c c4 d4
       end u x y c d c3 d3 s h lx ly pass t same other c4 d4 k =
-          let b = both_pass w f p.layout (x / 1024) (y / 1024) s (view p c.memory d.sectors) (view p c3.memory d3.sectors) (view p c4.memory d4.sectors) si.frames (omega arith) (omega arith) h.stands.hand pass t.brought same other k.brought in
+          let b = both_pass w f p.layout (x / 1024) (y / 1024) s (paged_view p c.memory d.sectors) (paged_view p c3.memory d3.sectors) (paged_view p c4.memory d4.sectors) si.frames (omega arith) (omega arith) h.stands.hand pass t.brought same other k.brought in
           record { held = k.held; source = b.0; target = b.1; r13 = k.keeps.r13 ∙ t.r13; r26 = k.keeps.r26 ∙ t.r26; r27 = k.keeps.r27 ∙ t.r27; r14 = k.keeps.r14 ∙ t.r14 }
 
-      last : (u : Pages) (x y : ℕ) (c : Contents) (d : Behind) (c3 : Contents) (d3 : Behind) → Held p u g c d → x < 1024 * p.layout.pages → y < 1024 * p.layout.pages → u.live (x / 1024) ≡ true → u.live (y / 1024) ≡ true → Passes (view p c.memory d.sectors) (x / 1024) false → x / 1024 ≡ X → y / 1024 ≡ Y → Asks2 u x y c d c3 d3 → From w page.code n c3 d3 (BothIn p u g x y c)
+      last : (u : Pages) (x y : ℕ) (c : Contents) (d : Behind) (c3 : Contents) (d3 : Behind) → PagesHeld p u g c d → x < 1024 * p.layout.pages → y < 1024 * p.layout.pages → u.live (x / 1024) ≡ true → u.live (y / 1024) ≡ true → IsAccessible (paged_view p c.memory d.sectors) (x / 1024) false → x / 1024 ≡ X → y / 1024 ≡ Y → Asks2 u x y c d c3 d3 → From w page.code n c3 d3 (BothIn p u g x y c)
       last u x y c d c3 d3 h lx ly ax ay pass ex ey t =
           let pages = si.pages in let store = t.store in
           ⊎_elim
@@ -196,7 +196,7 @@ module _ (w : World) (f : RoutineLaws w) (p : Places) (b : ℕ) (si : Sited p w)
           (flag_of ((x / 1024 + (2 ^ 32 - y / 1024)) % 2 ^ 32) 1)
 
 -- one page, from any state
-pub brings_one : (w : World) (f : RoutineLaws w) (p : Places) (b : ℕ) (si : Sited p w) (page : PageBlock w p b) (g : Start) (u : Pages) (q : ℕ) (store : Bool) (c : Contents) (d : Behind) → Held p u g c d → c.regs 16 ≡ q → q < p.layout.pages → u.live q ≡ true → (store ≡ false → c.regs 15 ≡ 0) → (store ≡ true → c.regs 15 ≢ 0)
+pub brings_one : (w : World) (f : RoutineLaws w) (p : Places) (b : ℕ) (si : Sited p w) (page : PageBlock w p b) (g : EntryState) (u : Pages) (q : ℕ) (store : Bool) (c : Contents) (d : Behind) → PagesHeld p u g c d → c.regs 16 ≡ q → q < p.layout.pages → u.live q ≡ true → (store ≡ false → c.regs 15 ≡ 0) → (store ≡ true → c.regs 15 ≢ 0)
     → From w page.code (fault_steps b) c d (Came p u g q store c d)
 brings_one w f p b si page g u q store c d h at lt live load save =
     from_later w f page.code (fault_steps b) (fault_steps b) c d _ _ (omega arith) (λ c' d' k. k.0)
@@ -207,21 +207,21 @@ brings_one w f p b si page g u q store c d h at lt live load save =
     either false = inl (refl, refl)
 
 -- where four others name the frame after the source was brought in to be read, they did so before
-pub others_back : (w : World) (f : RoutineLaws w) (p : Places) (u : Pages) (g : Start) (q y : ℕ) (c0 : Contents) (d0 : Behind) (c : Contents) (d : Behind) → q < p.layout.pages → Came p u g q false c0 d0 c d → FourOthers p q y c.memory → FourOthers p q y c0.memory
+pub others_back : (w : World) (f : RoutineLaws w) (p : Places) (u : Pages) (g : EntryState) (q y : ℕ) (c0 : Contents) (d0 : Behind) (c : Contents) (d : Behind) → q < p.layout.pages → Came p u g q false c0 d0 c d → FourOthers p q y c.memory → FourOthers p q y c0.memory
 others_back w f p u g q y c0 d0 c d lq k h = ⊎_elim
     (λ i. let same : c.memory (p.tables + q) ≡ c0.memory (p.tables + q) = k.stays (record { valid = i.was; unprotected = λ s. absurd (cc) }) in
     let all : (z : ℕ) → z < p.layout.pages → c.memory (p.tables + z) ≡ c0.memory (p.tables + z) = λ z lz. ⊎_elim (λ e. ap (λ z. c.memory (p.tables + z)) e ∙ same ∙ ap (λ z. c0.memory (p.tables + z)) (sym e)) (λ ne. i.entries z lz ne) (cases_eq z q) in
     let fr : c.memory (p.tables + q) / 4096 ≡ c0.memory (p.tables + q) / 4096 = ap (λ e. e / 4096) same in
     record {
-      names = subst (λ e. Names e (e / 4096)) same h.names;
+      names = subst (λ e. MapsTo e (e / 4096)) same h.names;
       user = subst (IsUserFrame p.layout) fr h.user;
-      four = subst (λ a. 4 ≤ counted (λ z. cond (nat_eq z y) 0 (c0.memory (p.tables + z))) a p.layout.pages) fr (subst (λ n. 4 ≤ n) (f.counts.same (λ z. cond (nat_eq z y) 0 (c0.memory (p.tables + z))) (λ z. cond (nat_eq z y) 0 (c.memory (p.tables + z))) (c.memory (p.tables + q) / 4096) p.layout.pages (λ z lz. ap (λ e. cond (nat_eq z y) 0 e) (all z lz))) h.four);
+      four = subst (λ a. 4 ≤ counted_entries (λ z. cond (nat_eq z y) 0 (c0.memory (p.tables + z))) a p.layout.pages) fr (subst (λ n. 4 ≤ n) (f.counts.same (λ z. cond (nat_eq z y) 0 (c0.memory (p.tables + z))) (λ z. cond (nat_eq z y) 0 (c.memory (p.tables + z))) (c.memory (p.tables + q) / 4096) p.layout.pages (λ z lz. ap (λ e. cond (nat_eq z y) 0 e) (all z lz))) h.four);
     })
     (λ b. let entry = b.entry in let fr : ℕ = c.memory (p.tables + q) / 4096 in
-    let hand : c.memory (p.tables + q) / 4096 ≡ (view p c0.memory d0.sectors).hand = omega arith in
-    let away : (z : ℕ) → z < p.layout.pages → z ≢ q → Names (c.memory (p.tables + z)) (c.memory (p.tables + q) / 4096) → ⊥ = λ z lz ne n.
-    let nh : Names (c.memory (p.tables + z)) (view p c0.memory d0.sectors).hand = n ∙ ap (λ f. 2 * f + 1) hand in
-    ⊎_elim (λ old. let gone = b.evicted z lz ne old in absurd (omega arith)) (λ no. no (ap (λ e. e / 2048) (sym (b.entries z lz ne no)) ∙ nh)) (f.shows.either (c0.memory (p.tables + z)) (view p c0.memory d0.sectors).hand) in
+    let hand : c.memory (p.tables + q) / 4096 ≡ (paged_view p c0.memory d0.sectors).hand = omega arith in
+    let away : (z : ℕ) → z < p.layout.pages → z ≢ q → MapsTo (c.memory (p.tables + z)) (c.memory (p.tables + q) / 4096) → ⊥ = λ z lz ne n.
+    let nh : MapsTo (c.memory (p.tables + z)) (paged_view p c0.memory d0.sectors).hand = n ∙ ap (λ f. 2 * f + 1) hand in
+    ⊎_elim (λ old. let gone = b.evicted z lz ne old in absurd (omega arith)) (λ no. no (ap (λ e. e / 2048) (sym (b.entries z lz ne no)) ∙ nh)) (f.shows.either (c0.memory (p.tables + z)) (paged_view p c0.memory d0.sectors).hand) in
     let one = few (λ z. cond (nat_eq z y) 0 (c.memory (p.tables + z))) q (c.memory (p.tables + q) / 4096) p.layout.pages lq (λ z lz ne n. ⊎_elim
     (λ e. let zero_ : cond (nat_eq z y) 0 (c.memory (p.tables + z)) ≡ 0 = cond-true _ 0 (c.memory (p.tables + z)) (eq-eqb z y e) in absurd (omega arith))
     (λ nz. away z lz ne (ap (λ e. e / 2048) (sym (cond-false _ 0 (c.memory (p.tables + z)) (ne_eqb z y nz))) ∙ n))
@@ -230,7 +230,7 @@ others_back w f p u g q y c0 d0 c d lq k h = ⊎_elim
     k.brought.handled
   where
     -- a frame that one page alone may name has a count of one at most
-    few : (e : ℕ → ℕ) (q h n : ℕ) → q < n → ((z : ℕ) → z < n → z ≢ q → Names (e z) h → ⊥) → counted e h n ≤ 1
+    few : (e : ℕ → ℕ) (q h n : ℕ) → q < n → ((z : ℕ) → z < n → z ≢ q → MapsTo (e z) h → ⊥) → counted_entries e h n ≤ 1
     few e q h n lq nay =
         let c = f.counts.edit (λ z. cond (nat_eq z q) 0 (e z)) e h q n lq (λ z lz ne. sym (cond-false _ 0 (e z) (ne_eqb z q ne))) in
         let none = f.counts.none (λ z. cond (nat_eq z q) 0 (e z)) h n (λ z lz m. ⊎_elim

@@ -8,33 +8,33 @@ use Rattle.mips_table.specs.Flat.{Flat}
 use Rattle.mips_table.specs.Code.{put, Contents, Behind, World, Sound}
 use Rattle.masm.specs.Laws.{From}
 use Rattle.layer_map.specs.Map.{block_at, hand_at}
-use Rattle.page_model.specs.Paging.{Layout, Pages}
-use Rattle.page_model.specs.Places.{Places, view}
+use Rattle.page_model.specs.Paging.{PageLayout, Pages}
+use Rattle.page_model.specs.Places.{Places, paged_view}
 use Rattle.cvm_model.specs.Kernel.{flat}
-use Rattle.cvm_model.specs.Primitives.{Call, Given, user_of, with_user, pages_of, is_good, granted, refused, unchanged}
+use Rattle.cvm_model.specs.Primitives.{KernelCall, Given, user_of, with_user, pages_of, is_good, granted, refused, unchanged}
 use Rattle.cvm_model.specs.Paged.{pages_by}
 use Rattle.cvm_primitives.specs.Blocks.{word_of, IsOneOf, BlocksHold, console_of}
 use Rattle.cvm_primitives.proofs.Flats.{flat_of, replaced, sized, put_words, Same, InLists}
-use Rattle.cvm_primitives.specs.View.{start, Held, WordGood, CopyArgs, ResizeGood, number, size_at, page_steps}
+use Rattle.cvm_primitives.specs.View.{entry_state, PagesHeld, WordGood, CopyArgs, ResizeGood, number, size_at, page_steps}
 use Rattle.std.proofs.lemmas.List.Elements.{All-get_or}
 use Rattle.mips_table.specs.declared.inst.Inst.{Inst}
 use Rattle.mips_table.specs.Fits.{IsWord}
 use Rattle.page_fault.specs.Code.{handle_page_code}
 use Rattle.cvm_model.specs.Kernel.{Put, Size}
-use Rattle.cvm_model.specs.Primitives.{VmCopy as MakeCopy, changed, is_place, is_within, pieces as pieces_at, with_word as with_byte, with_words, resized as resized_flat, puts, overlap}
-use Rattle.cvm_primitives.specs.Copy.{Apart, pieces, with_word, copied, resized}
+use Rattle.cvm_model.specs.Primitives.{VmCopy as MakeCopy, changed, is_address, is_within, pieces as pieces_at, with_word as with_byte, with_words, resized as resized_flat, puts, ranges_overlap}
+use Rattle.cvm_primitives.specs.Copy.{Apart, pieces, with_page_word, copied, resized}
 use Rattle.cvm_primitives.specs.Code.{vm_word_code, vm_put_code, vm_copy_code, vm_resize_code}
 use Rattle.cvm_primitives.specs.Routines.{RoutineLaws}
-use Rattle.cvm_primitives.specs.Laws.{Entered, VmWord, VmPut, VmCopy, VmResize}
-use Rattle.cvm_primitives.specs.Calls.{CallEntered, CallLeft, call_steps, Answers, word_call, put_call, copy_call, resize_call, given, Grown}
+use Rattle.cvm_primitives.specs.Laws.{EnteredOnPages, VmWord, VmPut, VmCopy, VmResize}
+use Rattle.cvm_primitives.specs.Calls.{CallEntered, CallLeft, call_steps, AnswersOnPages, word_call, put_call, copy_call, resize_call, given, Grown}
 use Rattle.cvm_primitives.proofs.Forms.{from_later}
 use Rattle.cvm_primitives.proofs.Numbers.{within_is, place_is, overlap_is, signed_pos, signed_neg, as_word, and_false}
 use Rattle.cvm_primitives.proofs.Users.{in_lists, stands_same}
 
-same_all : (l : Layout) (v : Pages) → Same l v v
+same_all : (l : PageLayout) (v : Pages) → Same l v v
 same_all l v = record { live = λ q lq. refl; word = λ q i lq a li. refl }
 
-same_on : (l : Layout) (a b c : Pages) → Same l a b → Same l b c → Same l a c
+same_on : (l : PageLayout) (a b c : Pages) → Same l a b → Same l b c → Same l a c
 same_on l a b c x y = record { live = λ q lq. y.live q lq ∙ x.live q lq; word = λ q i lq al li. y.word q i lq al li ∙ x.word q i lq (sym (y.live q lq) ∙ al) li }
 
 -- the user of a page
@@ -58,7 +58,7 @@ changed_other : (users : List Flat) (u v : ℕ) (g : Flat) → 1 ≤ u → 1 ≤
 changed_other users u v g a b ne = get_or-set_other users (u - 1) (v - 1) g _ (omega arith)
 
 -- the users' lists, with one changed, by page
-users_same : (l : Layout) (users : List Flat) (per u : ℕ) (g : Flat) (size : ℕ → ℕ) (memory : ℕ → List ℕ) → 0 < per → l.pages ≡ length users * per → IsOneOf users u → size u ≡ pages_of g → memory u ≡ g.words
+users_same : (l : PageLayout) (users : List Flat) (per u : ℕ) (g : Flat) (size : ℕ → ℕ) (memory : ℕ → List ℕ) → 0 < per → l.pages ≡ length users * per → IsOneOf users u → size u ≡ pages_of g → memory u ≡ g.words
     → ((v : ℕ) → v ≢ u → size v ≡ pages_of (user_of users v)) → ((v : ℕ) → v ≢ u → memory v ≡ (user_of users v).words) → Same l (flat_of per size memory) (pages_by per (with_user users u g))
 users_same l users per u g size memory some shape o su mu sv mv =
     let o0 = o.0 in
@@ -164,7 +164,7 @@ module _ (w : World) (f : Sound w) (r : RoutineLaws w) (p : Places) (b most : �
   lists : InLists p.layout (length users) most sizes_of words_of
   lists = in_lists p.layout (length users) most sizes_of words_of (record { some = e.some; lengths = λ u u0 u1. (e.each u (u0, u1)).whole; fit = λ u u0 u1. (e.each u (u0, u1)).pages })
 
-  entered : Entered w p b (length users) most sizes_of (pages_by most users) c d
+  entered : EnteredOnPages w p b (length users) most sizes_of (pages_by most users) c d
   entered = record {
     sound = f;
     sited = e.sited;
@@ -188,10 +188,10 @@ module _ (w : World) (f : Sound w) (r : RoutineLaws w) (p : Places) (b most : �
       (λ k. let q : x ≡ 31 = omega arith in subst (λ x. c1.regs x ≡ c.regs x) (sym q) e31) (cases_eq x 30)) (cases_eq x 29)) (cases_eq x 28)
 
   -- where no control block was written
-  left_of : (g : Given) (v : Pages) (c1 : Contents) (d1 : Behind) → Held p v (start c d) c1 d1 → Same p.layout v (pages_by most g.users) → BlocksHold g.users c1.memory → g.console ≡ console_of d → flat (λ _. 0) g.answer ≡ c1.regs 2 ∷ [] → CallLeft p most users g c d c1 d1
+  left_of : (g : Given) (v : Pages) (c1 : Contents) (d1 : Behind) → PagesHeld p v (entry_state c d) c1 d1 → Same p.layout v (pages_by most g.users) → BlocksHold g.users c1.memory → g.console ≡ console_of d → flat (λ _. 0) g.answer ≡ c1.regs 2 ∷ [] → CallLeft p most users g c d c1 d1
   left_of g v c1 d1 h same blocks console answer = record {
     answer = answer;
-    stands = stands_same p.layout v (pages_by most g.users) (view p c1.memory d1.sectors) same h.stands;
+    stands = stands_same p.layout v (pages_by most g.users) (paged_view p c1.memory d1.sectors) same h.stands;
     blocks = blocks;
     log = h.behind.log ∙ ap (λ o. o.log) (sym console);
     input = h.behind.input ∙ ap (λ o. o.input) (sym console);
@@ -205,16 +205,16 @@ module _ (w : World) (f : Sound w) (r : RoutineLaws w) (p : Places) (b most : �
   }
 
   -- the blocks are as before
-  kept : (v : Pages) (c1 : Contents) (d1 : Behind) → Held p v (start c d) c1 d1 → (x : ℕ) → block_at 1 ≤ x → x < 16384 → c1.memory x ≡ c.memory x
+  kept : (v : Pages) (c1 : Contents) (d1 : Behind) → PagesHeld p v (entry_state c d) c1 d1 → (x : ℕ) → block_at 1 ≤ x → x < 16384 → c1.memory x ≡ c.memory x
   kept v c1 d1 h x lo hi = let low = e.sited.low in h.low x (omega arith) (omega arith)
 
-  refused_left : (call : Call) (c1 : Contents) (d1 : Behind) → Held p (pages_by most users) (start c d) c1 d1 → flat (λ _. 0) (refused call) ≡ c1.regs 2 ∷ [] → CallLeft p most users (unchanged users (console_of d) (refused call) 0 0) c d c1 d1
+  refused_left : (call : KernelCall) (c1 : Contents) (d1 : Behind) → PagesHeld p (pages_by most users) (entry_state c d) c1 d1 → flat (λ _. 0) (refused call) ≡ c1.regs 2 ∷ [] → CallLeft p most users (unchanged users (console_of d) (refused call) 0 0) c d c1 d1
   refused_left call c1 d1 h a = left_of (unchanged users (console_of d) (refused call) 0 0) (pages_by most users) c1 d1 h (same_all p.layout (pages_by most users)) (blocks_kept users c.memory c1.memory (kept (pages_by most users) c1 d1 h) e.few e.blocks) refl a
 
-  granting : (code : List Inst) (call : Call) → is_good most users call ≡ true → From w code (call_steps p b (granted users (console_of d) call)) c d (CallLeft p most users (granted users (console_of d) call) c d) → Answers w code call p b most users c d
+  granting : (code : List Inst) (call : KernelCall) → is_good most users call ≡ true → From w code (call_steps p b (granted users (console_of d) call)) c d (CallLeft p most users (granted users (console_of d) call) c d) → AnswersOnPages w code call p b most users c d
   granting code call good h = subst (λ g. From w code (call_steps p b g) c d (CallLeft p most users g c d)) (sym (cond-true (is_good most users call) (granted users (console_of d) call) (unchanged users (console_of d) (refused call) 0 0) good)) h
 
-  refusing : (code : List Inst) (call : Call) (v : ℕ) → is_good most users call ≡ false → flat (λ _. 0) (refused call) ≡ v ∷ [] → From w code 598 c d (λ c' d'. Held p (pages_by most users) (start c d) c' d' × (c'.regs 2 ≡ v)) → Answers w code call p b most users c d
+  refusing : (code : List Inst) (call : KernelCall) (v : ℕ) → is_good most users call ≡ false → flat (λ _. 0) (refused call) ≡ v ∷ [] → From w code 598 c d (λ c' d'. PagesHeld p (pages_by most users) (entry_state c d) c' d' × (c'.regs 2 ≡ v)) → AnswersOnPages w code call p b most users c d
   refusing code call v bad a h = subst (λ g. From w code (call_steps p b g) c d (CallLeft p most users g c d)) (sym (cond-false (is_good most users call) (granted users (console_of d) call) (unchanged users (console_of d) (refused call) 0 0) bad))
       (from_later w r code 598 _ c d _ _ (omega arith) (λ c1 d1 k. refused_left call c1 d1 k.0 (a ∙ ap (λ z. z ∷ []) (sym k.1))) h)
 
@@ -222,11 +222,11 @@ module _ (w : World) (f : Sound w) (r : RoutineLaws w) (p : Places) (b most : �
   small_user : (u : ℕ) → IsOneOf users u → pages_of (user_of users u) ≤ 1024
   small_user u o = let fit = (e.each u o).pages in let limit = e.limit in omega arith
 
-  word_good : (n : ℕ) (z : ℤ) (u : ℕ) → nat_abs z ≡ u → (y : ℤ) → is_place (user_of users (nat_abs z)) y n ≡ is_place (user_of users u) y n
-  word_good n z u eu y = ap (λ u. is_place (user_of users u) y n) eu
+  word_good : (n : ℕ) (z : ℤ) (u : ℕ) → nat_abs z ≡ u → (y : ℤ) → is_address (user_of users (nat_abs z)) y n ≡ is_address (user_of users u) y n
+  word_good n z u eu y = ap (λ u. is_address (user_of users u) y n) eu
 
   -- VM_WORD
-  pub words : VmWord → Answers w (vm_word_code p (length users) most (handle_page_code p)) (word_call c) p b most users c d
+  pub words : VmWord → AnswersOnPages w (vm_word_code p (length users) most (handle_page_code p)) (word_call c) p b most users c d
   words law =
       let few = e.few in let k = law w p b (length users) most sizes_of (pages_by most users) c d entered in
       ⊎_elim
@@ -242,21 +242,21 @@ module _ (w : World) (f : Sound w) (r : RoutineLaws w) (p : Places) (b most : �
       (k.good good)))
       (λ a. refusing _ (word_call c) (2 ^ 32 - 1) (ap₂ (λ x y. x && y) u.2 (word_good 1 (signed (c.regs 20)) (c.regs 20) u.3 (signed (c.regs 21)) ∙ a.1)) refl (k.bad (λ g. let g3 = g.3 in a.0 g.2 (omega arith))))
       (place_is (user_of users (c.regs 20)) (c.regs 21) 1 (small_user (c.regs 20) (u.0, u.1)) (e.regs 21)))
-      (λ u. refusing _ (word_call c) (2 ^ 32 - 1) (ap (λ x. x && is_place (user_of users (nat_abs (signed (c.regs 20)))) (signed (c.regs 21)) 1) u.1) refl (k.bad (λ g. u.0 g.0 g.1)))
+      (λ u. refusing _ (word_call c) (2 ^ 32 - 1) (ap (λ x. x && is_address (user_of users (nat_abs (signed (c.regs 20)))) (signed (c.regs 21)) 1) u.1) refl (k.bad (λ g. u.0 g.0 g.1)))
       (within_is 1 (length users) (c.regs 20) (omega arith) (e.regs 20))
 
   -- what a store gives
   abbrev put_given : ℕ → ℕ → ℕ → Given
   put_given u a x = changed users (console_of d) u (with_byte (user_of users u) a x) (Put a x ∷ []) 1 1
 
-  put_left : (u a x : ℕ) → WordGood (length users) sizes_of u a → (c1 : Contents) (d1 : Behind) → Held p (with_word (pages_by most users) (number most u a) x) (start c d) c1 d1 → c1.regs 2 ≡ 1 → CallLeft p most users (put_given u a x) c d c1 d1
+  put_left : (u a x : ℕ) → WordGood (length users) sizes_of u a → (c1 : Contents) (d1 : Behind) → PagesHeld p (with_page_word (pages_by most users) (number most u a) x) (entry_state c d) c1 d1 → c1.regs 2 ≡ 1 → CallLeft p most users (put_given u a x) c d c1 d1
   put_left u a x good c1 d1 h r2 =
       let o : IsOneOf users u = (good.0, good.1) in
       let g : Flat = with_byte (user_of users u) a x in
       let n : pages_of (with_byte (user_of users u) a x) ≡ pages_of (user_of users u) = ap (λ n. n / 1024) (length-set (user_of users u).words (a / 4) x) in
-      let same = kept (with_word (pages_by most users) (number most u a) x) c1 d1 h in
+      let same = kept (with_page_word (pages_by most users) (number most u a) x) c1 d1 h in
       let at = e.few in let o0 = good.0 in let o1 = good.1 in
-      left_of (put_given u a x) (with_word (pages_by most users) (number most u a) x) c1 d1 h
+      left_of (put_given u a x) (with_page_word (pages_by most users) (number most u a) x) c1 d1 h
       (same_on p.layout _ (flat_of most sizes_of (replaced words_of u (slice_set (words_of u) (a / 4) x))) (pages_by most (with_user users u (with_byte (user_of users u) a x)))
       (lists.put u a x good)
       (users_same p.layout users most u (with_byte (user_of users u) a x) sizes_of (replaced words_of u (slice_set (words_of u) (a / 4) x)) e.some e.shape o (sym n) (cond-true (nat_eq u u) _ (words_of u) (eq-eqb u u refl)) (λ v ne. refl) (λ v ne. cond-false (nat_eq v u) _ (words_of v) (ne_eqb v u ne))))
@@ -264,7 +264,7 @@ module _ (w : World) (f : Sound w) (r : RoutineLaws w) (p : Places) (b most : �
       refl (ap (λ z. z ∷ []) (sym r2))
 
   -- VM_PUT
-  pub stores : VmPut → Answers w (vm_put_code p (length users) most (handle_page_code p)) (put_call c) p b most users c d
+  pub stores : VmPut → AnswersOnPages w (vm_put_code p (length users) most (handle_page_code p)) (put_call c) p b most users c d
   stores law =
       let few = e.few in let k = law w p b (length users) most sizes_of (pages_by most users) c d entered in
       ⊎_elim
@@ -278,7 +278,7 @@ module _ (w : World) (f : Sound w) (r : RoutineLaws w) (p : Places) (b most : �
       (from_later w r _ (600 * 2 + page_steps p.layout.pages b) _ c d _ _ (omega arith) (λ c1 d1 h. put_left (c.regs 20) (c.regs 21) (c.regs 22) good c1 d1 h.0 h.1) (k.good good))))))
       (λ a. refusing _ (put_call c) 0 (ap₂ (λ x y. x && y) u.2 (word_good 1 (signed (c.regs 20)) (c.regs 20) u.3 (signed (c.regs 21)) ∙ a.1)) refl (k.bad (λ g. let g3 = g.3 in a.0 g.2 (omega arith))))
       (place_is (user_of users (c.regs 20)) (c.regs 21) 1 (small_user (c.regs 20) (u.0, u.1)) (e.regs 21)))
-      (λ u. refusing _ (put_call c) 0 (ap (λ x. x && is_place (user_of users (nat_abs (signed (c.regs 20)))) (signed (c.regs 21)) 1) u.1) refl (k.bad (λ g. u.0 g.0 g.1)))
+      (λ u. refusing _ (put_call c) 0 (ap (λ x. x && is_address (user_of users (nat_abs (signed (c.regs 20)))) (signed (c.regs 21)) 1) u.1) refl (k.bad (λ g. u.0 g.0 g.1)))
       (within_is 1 (length users) (c.regs 20) (omega arith) (e.regs 20))
 
   -- what a resize gives
@@ -288,7 +288,7 @@ module _ (w : World) (f : Sound w) (r : RoutineLaws w) (p : Places) (b most : �
   resized_pages : (u n : ℕ) → pages_of (resized_flat (user_of users u) n) ≡ n
   resized_pages u n = ap (λ n. n / 1024) (sized_length (words_of u) n) ∙ omega arith
 
-  size_left : (u n : ℕ) → ResizeGood (length users) most u n → (c1 : Contents) (d1 : Behind) → Held p (resized (pages_by most users) ((u - 1) * most) (pages_of (user_of users u)) n) (start (record c { memory = put c.memory (size_at u) n }) d) c1 d1 → c1.regs 2 ≡ 1 → CallLeft p most users (size_given u n) c d c1 d1
+  size_left : (u n : ℕ) → ResizeGood (length users) most u n → (c1 : Contents) (d1 : Behind) → PagesHeld p (resized (pages_by most users) ((u - 1) * most) (pages_of (user_of users u)) n) (entry_state (record c { memory = put c.memory (size_at u) n }) d) c1 d1 → c1.regs 2 ≡ 1 → CallLeft p most users (size_given u n) c d c1 d1
   size_left u n good c1 d1 h r2 =
       let o : IsOneOf users u = (good.0, good.1) in
       let o0 = good.0 in let o1 = good.1 in let few = e.few in let low = e.sited.low in
@@ -296,7 +296,7 @@ module _ (w : World) (f : Sound w) (r : RoutineLaws w) (p : Places) (b most : �
       let wrote : (x : ℕ) → x < p.tables → x ≢ hand_at → x ≢ block_at u + 32 → c1.memory x ≡ c.memory x = λ x lx nx ne. h.low x lx nx ∙ cond-false (nat_eq x (size_at u)) n (c.memory x) (ne_eqb x (size_at u) (omega arith)) in
       record {
         answer = ap (λ z. z ∷ []) (sym r2);
-        stands = stands_same p.layout (resized (pages_by most users) ((u - 1) * most) (pages_of (user_of users u)) n) (pages_by most (with_user users u (resized_flat (user_of users u) n))) (view p c1.memory d1.sectors)
+        stands = stands_same p.layout (resized (pages_by most users) ((u - 1) * most) (pages_of (user_of users u)) n) (pages_by most (with_user users u (resized_flat (user_of users u) n))) (paged_view p c1.memory d1.sectors)
             (same_on p.layout _ (flat_of most (replaced sizes_of u n) (replaced words_of u (sized (words_of u) n))) (pages_by most (with_user users u (resized_flat (user_of users u) n)))
             (lists.resize u n good)
             (users_same p.layout users most u (resized_flat (user_of users u) n) (replaced sizes_of u n) (replaced words_of u (sized (words_of u) n)) e.some e.shape o (cond-true (nat_eq u u) n (sizes_of u) (eq-eqb u u refl) ∙ sym pages) (cond-true (nat_eq u u) _ (words_of u) (eq-eqb u u refl))
@@ -316,7 +316,7 @@ module _ (w : World) (f : Sound w) (r : RoutineLaws w) (p : Places) (b most : �
       }
 
   -- a resize that is refused
-  keeps : is_good most users (resize_call c) ≡ false → From w (vm_resize_code p (length users) most) 598 c d (λ c' d'. Held p (pages_by most users) (start c d) c' d' × (c'.regs 2 ≡ 0))
+  keeps : is_good most users (resize_call c) ≡ false → From w (vm_resize_code p (length users) most) 598 c d (λ c' d'. PagesHeld p (pages_by most users) (entry_state c d) c' d' × (c'.regs 2 ≡ 0))
       → From w (vm_resize_code p (length users) most) (call_steps p b (given most users d (resize_call c))) c d (λ c' d'. CallLeft p most users (given most users d (resize_call c)) c d c' d' × Grown p most users c c')
   keeps bad h = from_later w r (vm_resize_code p (length users) most) (call_steps p b (given most users d (resize_call c))) (call_steps p b (given most users d (resize_call c))) c d _ _ (omega arith)
       (λ c' d' k. (k, λ g. absurd (true≢false (sym g ∙ bad)))) (refusing (vm_resize_code p (length users) most) (resize_call c) 0 bad refl h)
@@ -350,7 +350,7 @@ module _ (w : World) (f : Sound w) (r : RoutineLaws w) (p : Places) (b most : �
       let l : length (drop (a / 4) (words_of u)) ≡ length (words_of u) - a / 4 = length-drop (a / 4) (words_of u) in
       ap (λ k. take (s / 4) (words_of t) ++ (take n (drop (a / 4) (words_of u)) ++ drop (s / 4 + k) (words_of t))) (sym (length-take-le n (drop (a / 4) (words_of u)) (omega arith)))
 
-  copy_left : (u a t s n : ℕ) → CopyArgs (length users) sizes_of u a t s n → (c1 : Contents) (d1 : Behind) → Held p (copied (pages_by most users) (number most u a) (number most t s) n) (start c d) c1 d1 → c1.regs 2 ≡ 1 → CallLeft p most users (copy_given u a t s n) c d c1 d1
+  copy_left : (u a t s n : ℕ) → CopyArgs (length users) sizes_of u a t s n → (c1 : Contents) (d1 : Behind) → PagesHeld p (copied (pages_by most users) (number most u a) (number most t s) n) (entry_state c d) c1 d1 → c1.regs 2 ≡ 1 → CallLeft p most users (copy_given u a t s n) c d c1 d1
   copy_left u a t s n good c1 d1 h r2 =
       let ou : IsOneOf users u = (good.source.0, good.source.1) in
       let o : IsOneOf users t = (good.target.0, good.target.1) in
@@ -374,16 +374,16 @@ module _ (w : World) (f : Sound w) (r : RoutineLaws w) (p : Places) (b most : �
 
   -- the call's good conditions, one after the other
   abbrev good_copy : (u a t s : ℤ) → ℕ → Bool
-  good_copy u a t s n = is_within 1 (length users) u && is_within 1 (length users) t && is_place (user_of users (nat_abs u)) a n && is_place (user_of users (nat_abs t)) s n && not (nat_eq (nat_abs u) (nat_abs t) && overlap (nat_abs a) (nat_abs s) n)
+  good_copy u a t s n = is_within 1 (length users) u && is_within 1 (length users) t && is_address (user_of users (nat_abs u)) a n && is_address (user_of users (nat_abs t)) s n && not (nat_eq (nat_abs u) (nat_abs t) && ranges_overlap (nat_abs a) (nat_abs s) n)
 
   abbrev user_bit : ℕ → Bool
   user_bit u = is_within 1 (length users) (signed u)
 
   abbrev place_bit : (u a n : ℕ) → Bool
-  place_bit u a n = is_place (user_of users (nat_abs (signed u))) (signed a) n
+  place_bit u a n = is_address (user_of users (nat_abs (signed u))) (signed a) n
 
   abbrev apart_bit : (u a t s n : ℕ) → Bool
-  apart_bit u a t s n = not (nat_eq (nat_abs (signed u)) (nat_abs (signed t)) && overlap (nat_abs (signed a)) (nat_abs (signed s)) n)
+  apart_bit u a t s n = not (nat_eq (nat_abs (signed u)) (nat_abs (signed t)) && ranges_overlap (nat_abs (signed a)) (nat_abs (signed s)) n)
 
   -- whether the arguments are good is decided
   decided : (u a t s n : ℕ) → u < 2 ^ 32 → a < 2 ^ 32 → t < 2 ^ 32 → s < 2 ^ 32 → n < 2 ^ 31
@@ -396,7 +396,7 @@ module _ (w : World) (f : Sound w) (r : RoutineLaws w) (p : Places) (b most : �
       ⊎_elim
       (λ z. ⊎_elim
       (λ v. ⊎_elim
-      (λ q. inl (record { source = (x.0, x.1, z.0, z.1); target = (y.0, y.1, v.0, v.1); apart = λ same. ⊎_elim (λ h. absurd (h.0 same)) (λ h. h.0) q }, chain_true (user_bit u) (user_bit t) (place_bit u a n) (place_bit t s n) (apart_bit u a t s n) x.2 y.2 (pu ∙ z.2) (pt ∙ v.2) (shared x.3 z.3 y.3 v.3 ∙ ⊎_elim (λ h. ap (λ b. not (b && overlap a s n)) (ne_eqb u t h.0)) (λ h. ap (λ b. not (nat_eq u t && b)) h.1 ∙ ap not (and_false (nat_eq u t))) q), (x.3, z.3, y.3, v.3)))
+      (λ q. inl (record { source = (x.0, x.1, z.0, z.1); target = (y.0, y.1, v.0, v.1); apart = λ same. ⊎_elim (λ h. absurd (h.0 same)) (λ h. h.0) q }, chain_true (user_bit u) (user_bit t) (place_bit u a n) (place_bit t s n) (apart_bit u a t s n) x.2 y.2 (pu ∙ z.2) (pt ∙ v.2) (shared x.3 z.3 y.3 v.3 ∙ ⊎_elim (λ h. ap (λ b. not (b && ranges_overlap a s n)) (ne_eqb u t h.0)) (λ h. ap (λ b. not (nat_eq u t && b)) h.1 ∙ ap not (and_false (nat_eq u t))) q), (x.3, z.3, y.3, v.3)))
       (λ q. inr (λ g. q.1 (g.apart q.0), chain_5 (user_bit u) (user_bit t) (place_bit u a n) (place_bit t s n) (apart_bit u a t s n) (shared x.3 z.3 y.3 v.3 ∙ ap₂ (λ b k. not (b && k)) (eq-eqb u t q.0) q.2)))
       (overlapping u a t s n z.0 v.0))
       (λ v. inr (λ g. v.0 g.target.2 g.target.3, chain_4 (user_bit u) (user_bit t) (place_bit u a n) (place_bit t s n) (apart_bit u a t s n) (pt ∙ v.1)))
@@ -408,10 +408,10 @@ module _ (w : World) (f : Sound w) (r : RoutineLaws w) (p : Places) (b most : �
       (λ x. inr (λ g. x.0 g.source.0 g.source.1, chain_1 (user_bit u) (user_bit t) (place_bit u a n) (place_bit t s n) (apart_bit u a t s n) x.1))
       (within_is 1 (length users) u (omega arith) su)
     where
-      shared : nat_abs (signed u) ≡ u → nat_abs (signed a) ≡ a → nat_abs (signed t) ≡ t → nat_abs (signed s) ≡ s → not (nat_eq (nat_abs (signed u)) (nat_abs (signed t)) && overlap (nat_abs (signed a)) (nat_abs (signed s)) n) ≡ not (nat_eq u t && overlap a s n)
-      shared eu ea et es = ap₂ (λ u t. not (nat_eq u t && overlap (nat_abs (signed a)) (nat_abs (signed s)) n)) eu et ∙ ap₂ (λ a s. not (nat_eq u t && overlap a s n)) ea es
+      shared : nat_abs (signed u) ≡ u → nat_abs (signed a) ≡ a → nat_abs (signed t) ≡ t → nat_abs (signed s) ≡ s → not (nat_eq (nat_abs (signed u)) (nat_abs (signed t)) && ranges_overlap (nat_abs (signed a)) (nat_abs (signed s)) n) ≡ not (nat_eq u t && ranges_overlap a s n)
+      shared eu ea et es = ap₂ (λ u t. not (nat_eq u t && ranges_overlap (nat_abs (signed a)) (nat_abs (signed s)) n)) eu et ∙ ap₂ (λ a s. not (nat_eq u t && ranges_overlap a s n)) ea es
 
-      overlapping : (u a t s n : ℕ) → a % 4 ≡ 0 → s % 4 ≡ 0 → ((u ≢ t × Unit {0}) ⊎ (Apart (a / 4) (s / 4) n × (overlap a s n ≡ false))) ⊎ ((u ≡ t) × (Apart (a / 4) (s / 4) n → ⊥) × (overlap a s n ≡ true))
+      overlapping : (u a t s n : ℕ) → a % 4 ≡ 0 → s % 4 ≡ 0 → ((u ≢ t × Unit {0}) ⊎ (Apart (a / 4) (s / 4) n × (ranges_overlap a s n ≡ false))) ⊎ ((u ≡ t) × (Apart (a / 4) (s / 4) n → ⊥) × (ranges_overlap a s n ≡ true))
       overlapping u a t s n za zs = ⊎_elim (λ same. ⊎_elim (λ h. inl (inr h)) (λ h. inr (same, h.0, h.1)) (overlap_is a s n za zs)) (λ ne. inl (inl (ne, tt))) (cases_eq u t)
 
   -- vm_copy's code comes to this
@@ -419,7 +419,7 @@ module _ (w : World) (f : Sound w) (r : RoutineLaws w) (p : Places) (b most : �
   Is g = From w (vm_copy_code p (length users) most (handle_page_code p)) (call_steps p b g) c d (CallLeft p most users g c d)
 
   -- VM_COPY
-  pub copies : VmCopy → Answers w (vm_copy_code p (length users) most (handle_page_code p)) (copy_call c) p b most users c d
+  pub copies : VmCopy → AnswersOnPages w (vm_copy_code p (length users) most (handle_page_code p)) (copy_call c) p b most users c d
   copies law =
       let k = law w p b (length users) most sizes_of (pages_by most users) c d entered in
       ⊎_elim

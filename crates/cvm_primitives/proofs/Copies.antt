@@ -16,13 +16,13 @@ use Rattle.cvm_primitives.specs.Copy.{Apart, copied, pieces}
 use Rattle.page_model.specs.Places.{Places}
 use Rattle.frame_table.specs.View.{Sited}
 use Rattle.page_fault.specs.Asked.{PageBlock}
-use Rattle.cvm_primitives.specs.View.{page_steps, Held, Marks, CopyGood, UsersIn, RangeGood, CopyArgs, number, size_at, start}
-use Rattle.cvm_primitives.proofs.Between.{Tests}
+use Rattle.cvm_primitives.specs.View.{page_steps, PagesHeld, Marks, CopyGood, UsersIn, RangeGood, CopyArgs, number, size_at, entry_state}
+use Rattle.cvm_primitives.proofs.PartStates.{Tests}
 use Rattle.cvm_primitives.specs.Code.{base_code, size_code, check_range_code, apart_code, check_copy_arguments_code, copies_code, vm_copy_code}
 use Rattle.cvm_primitives.proofs.Basics.{flag_of, small_is, held_to}
 use Rattle.cvm_primitives.proofs.Piece.{copy_law, run_short}
-use Rattle.cvm_primitives.proofs.Asks.{product_below, Based, base_from}
-use Rattle.cvm_primitives.proofs.Access.{number_good}
+use Rattle.cvm_primitives.proofs.ArgumentTests.{product_below, Based, base_from}
+use Rattle.cvm_primitives.proofs.WordAccess.{number_good}
 
 not_flag : (a b : ℕ) → ((flag (nat_lt (flag (nat_lt a b)) 1) ≡ 1) × (b ≤ a)) ⊎ ((flag (nat_lt (flag (nat_lt a b)) 1) ≡ 0) × (a < b))
 not_flag a b = ⊎_elim (λ o. inr (ap (λ z. flag (nat_lt z 1)) o.0, o.1)) (λ o. inl (ap (λ z. flag (nat_lt z 1)) o.0, o.1)) (flag_of a b)
@@ -144,29 +144,29 @@ range_below p users per size v c u a n us g =
     let g0 = g.0 in let g1 = g.1 in let g3 = g.3 in let fit = us.fit u g0 g1 in let shape = us.shape in
     let bound = product_below (u - 1) users per (omega arith) in omega arith
 
-module _ (w : World) (f : RoutineLaws w) (p : Places) (b : ℕ) (si : Sited p w) (page : PageBlock w p b) (users per : ℕ) (size : ℕ → ℕ) (v : Pages) (c : Contents) (d : Behind) (held : Held p v (start c d) c d) (us : UsersIn p users per size v c) (u a v' b' n : ℕ)
+module _ (w : World) (f : RoutineLaws w) (p : Places) (b : ℕ) (si : Sited p w) (page : PageBlock w p b) (users per : ℕ) (size : ℕ → ℕ) (v : Pages) (c : Contents) (d : Behind) (held : PagesHeld p v (entry_state c d) c d) (us : UsersIn p users per size v c) (u a v' b' n : ℕ)
     (ru : c.regs 20 ≡ u) (ra : c.regs 21 ≡ a) (rv : c.regs 22 ≡ v') (rb : c.regs 23 ≡ b') (rn : c.regs 24 ≡ n) (su : u < 2 ^ 32) (sa : a < 2 ^ 32) (sv : v' < 2 ^ 32) (sb : b' < 2 ^ 32) (sn : n < 2 ^ 32) where
   inside_short : length (copies_code p page.code ++ (Addiu 2 0 1 ∷ [])) ≤ 10000
   inside_short = run_short w p b page
 
   -- VM_COPY: true (1), with the words copied, within a unit for the call and for each word, and three pages for each piece
-  pub vm_copy_good : CopyArgs users size u a v' b' n → From w (vm_copy_code p users per page.code) (598 + 600 * n + page_steps p.layout.pages b * (3 * pieces (number per u a) (number per v' b') n)) c d (λ c' d'. Held p (copied v (number per u a) (number per v' b') n) (start c d) c' d' × (c'.regs 2 ≡ 1))
+  pub vm_copy_good : CopyArgs users size u a v' b' n → From w (vm_copy_code p users per page.code) (598 + 600 * n + page_steps p.layout.pages b * (3 * pieces (number per u a) (number per v' b') n)) c d (λ c' d'. PagesHeld p (copied v (number per u a) (number per v' b') n) (entry_state c d) c' d' × (c'.regs 2 ≡ 1))
   vm_copy_good good =
       let x : ℕ = number per u a in let y : ℕ = number per v' b' in
       from_later w f _ (2 + (24 + (3 + (24 + (7 + (3 * page_steps p.layout.pages b * pieces (number per u a) (number per v' b') n + 600 * n + 1 + 1 + 1)))))) _ c d _ _ (omega arith) (λ c' d' k. k)
-      (copy_asked_from w f p b si users per size v (3 * page_steps p.layout.pages b * pieces (number per u a) (number per v' b') n + 600 * n + 1 + 1) (copies_code p page.code ++ (Addiu 2 0 1 ∷ [])) (λ c' d'. Held p (copied v (number per u a) (number per v' b') n) (start c d) c' d' × (c'.regs 2 ≡ 1)) c d u a v' b' n held.idle us ru ra rv rb rn su sa sv sb sn inside_short
+      (copy_asked_from w f p b si users per size v (3 * page_steps p.layout.pages b * pieces (number per u a) (number per v' b') n + 600 * n + 1 + 1) (copies_code p page.code ++ (Addiu 2 0 1 ∷ [])) (λ c' d'. PagesHeld p (copied v (number per u a) (number per v' b') n) (entry_state c d) c' d' × (c'.regs 2 ≡ 1)) c d u a v' b' n held.idle us ru ra rv rb rn su sa sv sb sn inside_short
       (λ g c1 d1 k y27.
       let cg : CopyGood p.layout v (number per u a) (number per v' b') n = record { source = range_below p users per size v c u a n us g.source; target = range_below p users per size v c v' b' n us g.target; from = live_range p users per size v c u a n us g.source; to = live_range p users per size v c v' b' n us g.target; apart = (numbers_apart w f p b si users per size v c u a v' b' n us g.source g.target).1 g.apart } in
-      let h1 : Held p v (start c d) c1 d1 = held_to p v (start c d) c d c1 d1 held k.memory k.special k.r28 k.r29 k.r30 k.r31 k.disk in
-      from_then w f (copies_code p page.code) (Addiu 2 0 1 ∷ []) (3 * page_steps p.layout.pages b * pieces (number per u a) (number per v' b') n + 600 * n + 1) 1 c1 d1 (Held p (copied v (number per u a) (number per v' b') n) (start c d)) _
-      (from_does w f (copies_code p page.code) _ c1 d1 (λ c' d'. Held p v (start c d) c' d' × Marks (number per u a) (number per v' b') n c') _ (h1, record { from = k.r26; to = y27; left = k.r14 }) (copy_law w f p b si page (start c d) v (number per u a) (number per v' b') n cg))
+      let h1 : PagesHeld p v (entry_state c d) c1 d1 = held_to p v (entry_state c d) c d c1 d1 held k.memory k.special k.r28 k.r29 k.r30 k.r31 k.disk in
+      from_then w f (copies_code p page.code) (Addiu 2 0 1 ∷ []) (3 * page_steps p.layout.pages b * pieces (number per u a) (number per v' b') n + 600 * n + 1) 1 c1 d1 (PagesHeld p (copied v (number per u a) (number per v' b') n) (entry_state c d)) _
+      (from_does w f (copies_code p page.code) _ c1 d1 (λ c' d'. PagesHeld p v (entry_state c d) c' d' × Marks (number per u a) (number per v' b') n c') _ (h1, record { from = k.r26; to = y27; left = k.r14 }) (copy_law w f p b si page (entry_state c d) v (number per u a) (number per v' b') n cg))
       (λ c2 d2 h2. from_straight w f (Addiu 2 0 1 ∷ []) (Gives 1 ∷ []) c2 d2 _ refl h2.idle (λ n'. ((refl, tt), (record { stands = h2.stands; small = h2.small; low = h2.low; above = h2.above; special = h2.special; r28 = h2.r28; r29 = h2.r29; r30 = h2.r30; r31 = h2.r31; behind = h2.behind; idle = h2.idle }, refl)))))
       (λ nay c1 d1 m s r28 r29 r30 r31 r2 e. absurd (nay good)))
 
   -- or false (0), and nothing has changed, within a unit
-  pub vm_copy_bad : (CopyArgs users size u a v' b' n → ⊥) → From w (vm_copy_code p users per page.code) 598 c d (λ c' d'. Held p v (start c d) c' d' × (c'.regs 2 ≡ 0))
+  pub vm_copy_bad : (CopyArgs users size u a v' b' n → ⊥) → From w (vm_copy_code p users per page.code) 598 c d (λ c' d'. PagesHeld p v (entry_state c d) c' d' × (c'.regs 2 ≡ 0))
   vm_copy_bad bad =
       from_later w f _ (2 + (24 + (3 + (24 + (7 + (0 + 1)))))) _ c d _ _ (omega arith) (λ c' d' k. k)
-      (copy_asked_from w f p b si users per size v 0 (copies_code p page.code ++ (Addiu 2 0 1 ∷ [])) (λ c' d'. Held p v (start c d) c' d' × (c'.regs 2 ≡ 0)) c d u a v' b' n held.idle us ru ra rv rb rn su sa sv sb sn inside_short
+      (copy_asked_from w f p b si users per size v 0 (copies_code p page.code ++ (Addiu 2 0 1 ∷ [])) (λ c' d'. PagesHeld p v (entry_state c d) c' d' × (c'.regs 2 ≡ 0)) c d u a v' b' n held.idle us ru ra rv rb rn su sa sv sb sn inside_short
       (λ g. absurd (bad g))
-      (λ nay c1 d1 m s r28 r29 r30 r31 r2 e. (held_to p v (start c d) c d c1 d1 held m s r28 r29 r30 r31 e, r2)))
+      (λ nay c1 d1 m s r28 r29 r30 r31 r2 e. (held_to p v (entry_state c d) c d c1 d1 held m s r28 r29 r30 r31 e, r2)))

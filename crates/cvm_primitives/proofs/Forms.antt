@@ -8,13 +8,13 @@ use Rattle.mips_table.specs.Code.{Contents, reg, Behind, World, at_with, Reaches
 use Rattle.masm.specs.Says.{Says, straight, AllSaid, sayings, tellings}
 use Rattle.masm.specs.Blocks.{when_code, loop_code}
 use Rattle.masm.specs.Laws.{LoopRuns, From}
-use Rattle.page_model.specs.Paging.{Layout, IsUserFrame, IsFrame, Valid, Names}
+use Rattle.page_model.specs.Paging.{PageLayout, IsUserFrame, IsFrame, Valid, MapsTo}
 use Rattle.cvm_primitives.specs.Routines.{RoutineLaws}
 
-pub names_own : (e : ℕ) → Valid e → Names e (e / 4096)
+pub names_own : (e : ℕ) → Valid e → MapsTo e (e / 4096)
 names_own e h = omega arith
 
-pub user_or_zero : (l : Layout) (f : ℕ) → IsFrame l f → (f ≡ l.zeros) ⊎ (IsUserFrame l f)
+pub user_or_zero : (l : PageLayout) (f : ℕ) → IsFrame l f → (f ≡ l.zeros) ⊎ (IsUserFrame l f)
 user_or_zero l f h = ⊎_elim (λ e. inl e) (λ ne. let h0 = h.0 in inr (omega arith, h.1)) (cases_eq f l.zeros)
 
 -- the run from the state that is meant, put in the place of the one that is given

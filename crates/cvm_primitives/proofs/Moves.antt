@@ -8,7 +8,7 @@ use Rattle.masm.specs.Laws.{From}
 use Rattle.cvm_primitives.proofs.Forms.{from_straight, from_later}
 use Rattle.page_model.specs.Places.{Places}
 use Rattle.frame_table.specs.View.{Sited}
-use Rattle.cvm_primitives.proofs.Between.{Keeps, Moved, Located}
+use Rattle.cvm_primitives.proofs.PartStates.{Keeps, Moved, Located}
 use Rattle.masm.specs.Copy.{copy_code, MayCopy, IsCopied}
 use Rattle.cvm_primitives.specs.Code.{locate_code}
 use Rattle.cvm_primitives.proofs.Basics.{const_is}

@@ -6,7 +6,7 @@ use Rattle.std.proofs.Math.Facts.{to_z-neg}
 use Rattle.std.specs.Int.{cast_unsigned, w32}
 use Rattle.mips_table.specs.Arith.{signed}
 use Rattle.mips_table.specs.Flat.{Flat}
-use Rattle.cvm_model.specs.Primitives.{pages_of, is_within, is_place, overlap}
+use Rattle.cvm_model.specs.Primitives.{pages_of, is_within, is_address, ranges_overlap}
 use Rattle.cvm_primitives.specs.Copy.{Apart}
 
 -- a word below 2 ^ 31 is itself as an int, and another is negative
@@ -37,20 +37,20 @@ within_is l high x sh sx = ⊎_elim
     (cases_lt x (2 ^ 31))
 
 -- an int is the address of n words in a memory, or not
-pub place_is : (f : Flat) (a n : ℕ) → pages_of f ≤ 1024 → a < 2 ^ 32 → ((a % 4 ≡ 0) × (a + 4 * n ≤ 4096 * pages_of f) × (is_place f (signed a) n ≡ true) × (nat_abs (signed a) ≡ a)) ⊎ ((a % 4 ≡ 0 → a + 4 * n ≤ 4096 * pages_of f → ⊥) × (is_place f (signed a) n ≡ false))
+pub place_is : (f : Flat) (a n : ℕ) → pages_of f ≤ 1024 → a < 2 ^ 32 → ((a % 4 ≡ 0) × (a + 4 * n ≤ 4096 * pages_of f) × (is_address f (signed a) n ≡ true) × (nat_abs (signed a) ≡ a)) ⊎ ((a % 4 ≡ 0 → a + 4 * n ≤ 4096 * pages_of f → ⊥) × (is_address f (signed a) n ≡ false))
 place_is f a n most sa = ⊎_elim
     (λ lt. let e = signed_pos a lt in ⊎_elim
     (λ z. ⊎_elim
-    (λ b. inr (λ c k. absurd (omega arith), ap (λ z. is_place f z n) e ∙ ap (λ c. nat_eq (a % 4) 0 && c) (lt-leb (a + 4 * n) (4096 * pages_of f) b) ∙ and_false (nat_eq (a % 4) 0)))
-    (λ b. inl (z, b, ap (λ z. is_place f z n) e ∙ ap₂ (λ c k. c && k) (eq-eqb (a % 4) 0 z) (le-leb (a + 4 * n) (4096 * pages_of f) b), ap nat_abs e))
+    (λ b. inr (λ c k. absurd (omega arith), ap (λ z. is_address f z n) e ∙ ap (λ c. nat_eq (a % 4) 0 && c) (lt-leb (a + 4 * n) (4096 * pages_of f) b) ∙ and_false (nat_eq (a % 4) 0)))
+    (λ b. inl (z, b, ap (λ z. is_address f z n) e ∙ ap₂ (λ c k. c && k) (eq-eqb (a % 4) 0 z) (le-leb (a + 4 * n) (4096 * pages_of f) b), ap nat_abs e))
     (cases_lt (4096 * pages_of f) (a + 4 * n)))
-    (λ z. inr (λ c k. absurd (z c), ap (λ z. is_place f z n) e ∙ ap (λ c. c && nat_le (a + 4 * n) (4096 * pages_of f)) (ne_eqb (a % 4) 0 z)))
+    (λ z. inr (λ c k. absurd (z c), ap (λ z. is_address f z n) e ∙ ap (λ c. c && nat_le (a + 4 * n) (4096 * pages_of f)) (ne_eqb (a % 4) 0 z)))
     (cases_eq (a % 4) 0))
-    (λ ge. inr (λ c k. absurd (omega arith), ap (λ z. is_place f z n) (signed_neg a ge sa)))
+    (λ ge. inr (λ c k. absurd (omega arith), ap (λ z. is_address f z n) (signed_neg a ge sa)))
     (cases_lt a (2 ^ 31))
 
 -- two ranges share a word, or not
-pub overlap_is : (a b n : ℕ) → a % 4 ≡ 0 → b % 4 ≡ 0 → ((Apart (a / 4) (b / 4) n) × (overlap a b n ≡ false)) ⊎ ((Apart (a / 4) (b / 4) n → ⊥) × (overlap a b n ≡ true))
+pub overlap_is : (a b n : ℕ) → a % 4 ≡ 0 → b % 4 ≡ 0 → ((Apart (a / 4) (b / 4) n) × (ranges_overlap a b n ≡ false)) ⊎ ((Apart (a / 4) (b / 4) n → ⊥) × (ranges_overlap a b n ≡ true))
 overlap_is a b n za zb = ⊎_elim
     (λ x. ⊎_elim
     (λ y. inr (λ o. ⊎_elim (λ h. absurd (omega arith)) (λ h. absurd (omega arith)) o, ap₂ (λ c k. c && k) (lt-ltb a (b + 4 * n) x) (lt-ltb b (a + 4 * n) y)))

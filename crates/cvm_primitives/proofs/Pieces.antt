@@ -1,7 +1,7 @@
 -- Pieces: their number, and how a copy goes on by one of them.
 use Rattle.std.proofs.Common.{◌≡◌, ◌≢◌, ℕ, zero, suc, ◌+◌, ◌-◌, ◌%◌, ◌<◌, ◌≤◌, ◌⊎◌, Bool, true, false, cond, nat_eq, nat_lt, refl, sym, ap, ap₂, ◌∙◌, ⊎_elim, inl, inr, arith, lt-ltb, le-ltb, eq-eqb, ne_eqb}
 use Rattle.std.proofs.lemmas.Bool.{cases_eq, cases_lt, cond-true, cond-false}
-use Rattle.cvm_primitives.specs.Copy.{begins, pieces, least, piece}
+use Rattle.cvm_primitives.specs.Copy.{begins_piece, pieces, least, piece}
 
 pub least_either : (a b : ℕ) → ((least a b ≡ a) × (a < b)) ⊎ ((least a b ≡ b) × (b ≤ a))
 least_either a b = ⊎_elim (λ lt. inl (cond-true (nat_lt a b) a b (lt-ltb a b lt), lt)) (λ le. inr (cond-false (nat_lt a b) a b (le-ltb a b le), le)) (cases_lt a b)
@@ -33,10 +33,10 @@ fits x y n pos = ⊎_elim
     by4 m l a b = let a0 = a.0 in let a1 = a.1 in let b0 = b.0 in let b1 = b.1 in record { some = omega arith; most = omega arith; source = omega arith; target = omega arith; end = λ lt. absurd (omega arith) }
 
 -- where no page begins, no piece does
-inner : (x y j : ℕ) → 0 < j → (x + j) % 1024 ≢ 0 → (y + j) % 1024 ≢ 0 → begins x y j ≡ 0
+inner : (x y j : ℕ) → 0 < j → (x + j) % 1024 ≢ 0 → (y + j) % 1024 ≢ 0 → begins_piece x y j ≡ 0
 inner x y j pos a b = cond-false (nat_eq j 0) 1 _ (ne_eqb j 0 (omega arith)) ∙ cond-false _ 1 _ (ne_eqb _ 0 a) ∙ cond-false _ 1 0 (ne_eqb _ 0 b)
 
-at_page : (x y j : ℕ) → ((x + j) % 1024 ≡ 0) ⊎ ((y + j) % 1024 ≡ 0) → begins x y j ≡ 1
+at_page : (x y j : ℕ) → ((x + j) % 1024 ≡ 0) ⊎ ((y + j) % 1024 ≡ 0) → begins_piece x y j ≡ 1
 at_page x y j o = ⊎_elim
     (λ a. same (nat_eq j 0) _ 1 refl (cond-true _ 1 _ (eq-eqb _ 0 a)))
     (λ b. same (nat_eq j 0) _ 1 refl (same (nat_eq ((x + j) % 1024) 0) _ 1 refl (cond-true _ 1 0 (eq-eqb _ 0 b))))
@@ -50,13 +50,13 @@ at_page x y j o = ⊎_elim
 one_piece : (x y l j : ℕ) → x % 1024 + l ≤ 1024 → y % 1024 + l ≤ 1024 → 0 < j → j ≤ l → pieces x y j ≡ 1
 one_piece x y l zero s t pos le = absurd (omega arith)
 one_piece x y l (suc j) s t pos le = ⊎_elim
-    (λ e. ap (λ k. pieces x y k + begins x y k) e)
+    (λ e. ap (λ k. pieces x y k + begins_piece x y k) e)
     (λ ne. let r = one_piece x y l j s t (omega arith) (omega arith) in let b = inner x y j (omega arith) (omega arith) (omega arith) in omega arith)
     (cases_eq j 0)
 
 -- and the others are those of the rest
-shifted : (x y l j : ℕ) → ((x + l) % 1024 ≡ 0) ⊎ ((y + l) % 1024 ≡ 0) → 0 < l → begins x y (l + j) ≡ begins (x + l) (y + l) j
-shifted x y l zero o pos = let e : l + 0 ≡ l = omega arith in ap (begins x y) e ∙ at_page x y l o
+shifted : (x y l j : ℕ) → ((x + l) % 1024 ≡ 0) ⊎ ((y + l) % 1024 ≡ 0) → 0 < l → begins_piece x y (l + j) ≡ begins_piece (x + l) (y + l) j
+shifted x y l zero o pos = let e : l + 0 ≡ l = omega arith in ap (begins_piece x y) e ∙ at_page x y l o
 shifted x y l (suc j) o pos =
     let e : x + (l + suc j) ≡ x + l + suc j = omega arith in
     let g : y + (l + suc j) ≡ y + l + suc j = omega arith in
@@ -69,7 +69,7 @@ rest_pieces x y l (suc m) o pos h =
     let e : l + suc m ≡ suc (l + m) = omega arith in
     let r = rest_pieces x y l m (λ lt. o (omega arith)) pos h in
     let b = shifted x y l m (o (omega arith)) pos in
-    let k : pieces x y (l + suc m) ≡ pieces x y (l + m) + begins x y (l + m) = ap (pieces x y) e in
+    let k : pieces x y (l + suc m) ≡ pieces x y (l + m) + begins_piece x y (l + m) = ap (pieces x y) e in
     omega arith
 
 -- THE NUMBER OF PIECES goes down by one

@@ -16,9 +16,9 @@ use Rattle.masm.specs.Laws.{From}
 use Rattle.layer_map.specs.Map.{block_at}
 use Rattle.c0_meaning.specs.Value.{bool}
 use Rattle.cvm_model.specs.Kernel.{Set, flat}
-use Rattle.cvm_model.specs.Primitives.{no_flat, Call, ConGet, ConLeft, Given, user_of, with_user, pages_of, register_of, with_register, is_within, is_good, unchanged, changed, refused, granted, prim}
+use Rattle.cvm_model.specs.Primitives.{no_flat, KernelCall, ConGet, ConLeft, Given, user_of, with_user, pages_of, register_of, with_register, is_within, is_good, unchanged, changed, refused, granted, prim}
 use Rattle.cvm_primitives.specs.RegisterCode.{check_user_code, register_code, place_code, check_arguments_code, vm_get_code, vm_set_code, vm_size_code, con_put_code, con_get_code, con_left_code}
-use Rattle.cvm_primitives.specs.Blocks.{word_of, IsOneOf, BlocksHold, console_of, Entered, Left}
+use Rattle.cvm_primitives.specs.Blocks.{word_of, IsOneOf, BlocksHold, console_of, EnteredOnBlocks, LeftByCall}
 use Rattle.cvm_primitives.specs.RegisterLaws.{get_call, set_call, size_call, put_call}
 use Rattle.cvm_primitives.proofs.RegisterForms.{CodeLaws, within, straightly, straightly_then, conditionally}
 use Rattle.cvm_primitives.proofs.RegisterNumbers.{small_is, put_same, put_other, flag_of, word_in, word_out, as_word}
@@ -119,9 +119,9 @@ low r = nat_lt r 12
 is_low : (r : ℕ) → 12 ≤ r → nat_lt r 12 ≡ false
 is_low r le = le-ltb r 12 le
 
-module _ (w : World) (f : CodeLaws w) (users : List Flat) (c : Contents) (d : Behind) (e : Entered w users c d) where
+module _ (w : World) (f : CodeLaws w) (users : List Flat) (c : Contents) (d : Behind) (e : EnteredOnBlocks w users c d) where
   -- nothing changes but the answer
-  stayed : (g : Given) (c1 : Contents) → Quiet c c1 → flat (λ _. 0) g.answer ≡ c1.regs 2 ∷ [] → g.users ≡ users → g.console ≡ console_of d → Left users g c d c1 d
+  stayed : (g : Given) (c1 : Contents) → Quiet c c1 → flat (λ _. 0) g.answer ≡ c1.regs 2 ∷ [] → g.users ≡ users → g.console ≡ console_of d → LeftByCall users g c d c1 d
   stayed g c1 q a us o = record {
     answer = a;
     blocks = subst (λ us. BlocksHold us c1.memory) (sym us) (subst (λ m. BlocksHold users m) (sym q.memory) e.blocks);
@@ -140,13 +140,13 @@ module _ (w : World) (f : CodeLaws w) (users : List Flat) (c : Contents) (d : Be
   }
 
   -- a call that is refused
-  refuses : (most : ℕ) (call : Call) (c1 : Contents) → is_good most users call ≡ false → Quiet c c1 → flat (λ _. 0) (refused call) ≡ c1.regs 2 ∷ [] → Left users (prim most call users (console_of d)) c d c1 d
+  refuses : (most : ℕ) (call : KernelCall) (c1 : Contents) → is_good most users call ≡ false → Quiet c c1 → flat (λ _. 0) (refused call) ≡ c1.regs 2 ∷ [] → LeftByCall users (prim most call users (console_of d)) c d c1 d
   refuses most call c1 bad q a =
-      subst (λ g. Left users g c d c1 d) (sym (cond-false (is_good most users call) (granted users (console_of d) call) (unchanged users (console_of d) (refused call) 0 0) bad)) (stayed (unchanged users (console_of d) (refused call) 0 0) c1 q a refl refl)
+      subst (λ g. LeftByCall users g c d c1 d) (sym (cond-false (is_good most users call) (granted users (console_of d) call) (unchanged users (console_of d) (refused call) 0 0) bad)) (stayed (unchanged users (console_of d) (refused call) 0 0) c1 q a refl refl)
 
   -- one that is granted
-  grants : (most : ℕ) (call : Call) (c1 : Contents) (d1 : Behind) → is_good most users call ≡ true → Left users (granted users (console_of d) call) c d c1 d1 → Left users (prim most call users (console_of d)) c d c1 d1
-  grants most call c1 d1 good l = subst (λ g. Left users g c d c1 d1) (sym (cond-true (is_good most users call) (granted users (console_of d) call) (unchanged users (console_of d) (refused call) 0 0) good)) l
+  grants : (most : ℕ) (call : KernelCall) (c1 : Contents) (d1 : Behind) → is_good most users call ≡ true → LeftByCall users (granted users (console_of d) call) c d c1 d1 → LeftByCall users (prim most call users (console_of d)) c d c1 d1
+  grants most call c1 d1 good l = subst (λ g. LeftByCall users g c d c1 d1) (sym (cond-true (is_good most users call) (granted users (console_of d) call) (unchanged users (console_of d) (refused call) 0 0) good)) l
 
   module _ (Q : Contents → Behind → Type 0) (bad : ℕ) where
     -- the user is tested
@@ -197,10 +197,10 @@ module _ (w : World) (f : CodeLaws w) (users : List Flat) (c : Contents) (d : Be
   block_in one le = let o0 = one.0 in let o1 = one.1 in let few = e.few in omega arith
 
   -- VM_GET
-  pub gets : (most : ℕ) → From w (vm_get_code (length users)) 14 c d (Left users (prim most (get_call c) users (console_of d)) c d)
+  pub gets : (most : ℕ) → From w (vm_get_code (length users)) 14 c d (LeftByCall users (prim most (get_call c) users (console_of d)) c d)
   gets most =
       within w f (vm_get_code (length users)) (3 + (2 + (6 + 1 + 1) + 1)) 14 c d _ (omega arith)
-      (asked_from (Left users (prim most (get_call c) users (console_of d)) c d) 65535 1 (Lw 2 11 0 ∷ []) (omega arith)
+      (asked_from (LeftByCall users (prim most (get_call c) users (console_of d)) c d) 65535 1 (Lw 2 11 0 ∷ []) (omega arith)
       (λ good eu er one r1 r32 c1 q at. let inside = e.inside in let small = f.small in let top = block_in one r32 in
       let held = e.blocks.registers (c.regs 20) (c.regs 21) one r1 r32 in
       straightly w f (Lw 2 11 0 ∷ []) (Reads (word_of (c.regs 20) (c.regs 21)) (register_of (user_of users (c.regs 20)) (c.regs 21)) ∷ []) c1 d _ refl e.idle
@@ -212,10 +212,10 @@ module _ (w : World) (f : CodeLaws w) (users : List Flat) (c : Contents) (d : Be
       (λ nay c1 q r2. refuses most (get_call c) c1 nay q (ap (λ z. z ∷ []) (sym r2))))
 
   -- VM_SIZE
-  pub sizes : (most : ℕ) → From w (vm_size_code (length users)) 8 c d (Left users (prim most (size_call c) users (console_of d)) c d)
+  pub sizes : (most : ℕ) → From w (vm_size_code (length users)) 8 c d (LeftByCall users (prim most (size_call c) users (console_of d)) c d)
   sizes most =
       within w f (vm_size_code (length users)) (3 + (4 + 1)) 8 c d _ (omega arith)
-      (user_from (Left users (prim most (size_call c) users (console_of d)) c d) 65535 4 (Ori 11 0 49280 ∷ Sll 9 8 8 ∷ Addu 11 11 9 ∷ Lw 2 11 0 ∷ []) (omega arith)
+      (user_from (LeftByCall users (prim most (size_call c) users (console_of d)) c d) 65535 4 (Ori 11 0 49280 ∷ Sll 9 8 8 ∷ Addu 11 11 9 ∷ Lw 2 11 0 ∷ []) (omega arith)
       (λ good eu one c1 q r20 r2 r8. let inside = e.inside in let small = f.small in let few = e.few in let o0 = one.0 in let o1 = one.1 in
       let held = e.blocks.sizes (c.regs 20) one in
       straightly w f (Ori 11 0 49280 ∷ Sll 9 8 8 ∷ Addu 11 11 9 ∷ Lw 2 11 0 ∷ []) (size_says (c.regs 20) (pages_of (user_of users (c.regs 20)))) c1 d _ refl e.idle
@@ -228,10 +228,10 @@ module _ (w : World) (f : CodeLaws w) (users : List Flat) (c : Contents) (d : Be
       (λ nay c1 q r2. refuses most (size_call c) c1 nay q (ap (λ z. z ∷ []) (sym r2))))
 
   -- VM_SET
-  pub sets : (most : ℕ) → From w (vm_set_code (length users)) 15 c d (Left users (prim most (set_call c) users (console_of d)) c d)
+  pub sets : (most : ℕ) → From w (vm_set_code (length users)) 15 c d (LeftByCall users (prim most (set_call c) users (console_of d)) c d)
   sets most =
       within w f (vm_set_code (length users)) (3 + (2 + (6 + 2 + 1) + 1)) 15 c d _ (omega arith)
-      (asked_from (Left users (prim most (set_call c) users (console_of d)) c d) 0 2 (Sw 22 11 0 ∷ Addiu 2 0 1 ∷ []) (omega arith)
+      (asked_from (LeftByCall users (prim most (set_call c) users (console_of d)) c d) 0 2 (Sw 22 11 0 ∷ Addiu 2 0 1 ∷ []) (omega arith)
       (λ good eu er one r1 r32 c1 q at. let inside = e.inside in let small = f.small in let top = block_in one r32 in
       let r22 = q.regs 22 (omega arith) in let o0 = one.0 in
       let x = as_word (c.regs 22) (e.regs 22) in
@@ -246,10 +246,10 @@ module _ (w : World) (f : CodeLaws w) (users : List Flat) (c : Contents) (d : Be
       given_set : ℕ → ℕ → ℕ → Given
       given_set u r x = changed users (console_of d) u (with_register (user_of users u) r x) (Set r x ∷ []) 0 0
 
-      renamed : (u r x : ℕ) → u ≡ c.regs 20 → r ≡ c.regs 21 → x ≡ c.regs 22 → (c2 : Contents) → Left users (given_set (c.regs 20) (c.regs 21) (c.regs 22)) c d c2 d → Left users (given_set u r x) c d c2 d
-      renamed u r x eu er ex c2 l = subst (λ u. Left users (given_set u r x) c d c2 d) (sym eu) (subst (λ r. Left users (given_set (c.regs 20) r x) c d c2 d) (sym er) (subst (λ x. Left users (given_set (c.regs 20) (c.regs 21) x) c d c2 d) (sym ex) l))
+      renamed : (u r x : ℕ) → u ≡ c.regs 20 → r ≡ c.regs 21 → x ≡ c.regs 22 → (c2 : Contents) → LeftByCall users (given_set (c.regs 20) (c.regs 21) (c.regs 22)) c d c2 d → LeftByCall users (given_set u r x) c d c2 d
+      renamed u r x eu er ex c2 l = subst (λ u. LeftByCall users (given_set u r x) c d c2 d) (sym eu) (subst (λ r. LeftByCall users (given_set (c.regs 20) r x) c d c2 d) (sym er) (subst (λ x. LeftByCall users (given_set (c.regs 20) (c.regs 21) x) c d c2 d) (sym ex) l))
 
-      set_left : (x : ℕ) → IsOneOf users (c.regs 20) → 1 ≤ c.regs 21 → c.regs 21 ≤ 32 → (c1 : Contents) → Quiet c c1 → Left users (given_set (c.regs 20) (c.regs 21) x) c d (with_reg (record c1 { memory = put c1.memory (word_of (c.regs 20) (c.regs 21)) x }) 2 1) d
+      set_left : (x : ℕ) → IsOneOf users (c.regs 20) → 1 ≤ c.regs 21 → c.regs 21 ≤ 32 → (c1 : Contents) → Quiet c c1 → LeftByCall users (given_set (c.regs 20) (c.regs 21) x) c d (with_reg (record c1 { memory = put c1.memory (word_of (c.regs 20) (c.regs 21)) x }) 2 1) d
       set_left x one r1 r32 c1 q =
           let o0 = one.0 in let o1 = one.1 in record {
             answer = refl;
@@ -269,20 +269,20 @@ module _ (w : World) (f : CodeLaws w) (users : List Flat) (c : Contents) (d : Be
           }
 
   -- what a call of the console leaves
-  told : (g : Given) (c1 : Contents) (d1 : Behind) → Quiet c c1 → flat (λ _. 0) g.answer ≡ c1.regs 2 ∷ [] → g.users ≡ users → d1.log ≡ g.console.log → d1.input ≡ g.console.input → d1.sectors ≡ d.sectors → d1.commands ≡ d.commands → d1.pending ≡ d.pending → Left users g c d c1 d1
+  told : (g : Given) (c1 : Contents) (d1 : Behind) → Quiet c c1 → flat (λ _. 0) g.answer ≡ c1.regs 2 ∷ [] → g.users ≡ users → d1.log ≡ g.console.log → d1.input ≡ g.console.input → d1.sectors ≡ d.sectors → d1.commands ≡ d.commands → d1.pending ≡ d.pending → LeftByCall users g c d c1 d1
   told g c1 d1 q a us l i s k p =
       let h = stayed (unchanged users (console_of d) g.answer 0 0) c1 q a refl refl in
       record { answer = a; blocks = subst (λ us. BlocksHold us c1.memory) (sym us) h.blocks; count = ap length us; flats = λ v. ap (λ us. (user_of us v).words) us; log = l; input = i; words = h.words; regs = h.regs; hi = h.hi; lo = h.lo; special = h.special; sectors = s; commands = k; idle = p ∙ e.idle }
 
   -- CON_LEFT
-  pub lefts : (most : ℕ) → From w con_left_code 1 c d (Left users (prim most ConLeft users (console_of d)) c d)
+  pub lefts : (most : ℕ) → From w con_left_code 1 c d (LeftByCall users (prim most ConLeft users (console_of d)) c d)
   lefts most =
       let small = f.small in
       straightly w f con_left_code (Hears LEFT (length d.input) ∷ []) c d _ refl e.idle
       (λ n. (((refl, omega arith, e.system, (λ z. absurd (omega arith)), refl), tt), told (granted users (console_of d) ConLeft) _ d (record { memory = refl; regs = λ r le. put_other c.regs 2 _ r (omega arith); hi = refl; lo = refl; special = refl }) refl refl refl refl refl refl refl))
 
   -- CON_GET
-  pub takes : (most : ℕ) → From w con_get_code 1 c d (Left users (prim most ConGet users (console_of d)) c d)
+  pub takes : (most : ℕ) → From w con_get_code 1 c d (LeftByCall users (prim most ConGet users (console_of d)) c d)
   takes most =
       straightly w f con_get_code (Takes (slice_index d.input 0) ∷ []) c d _ refl e.idle
       (λ n. (
@@ -292,7 +292,7 @@ module _ (w : World) (f : CodeLaws w) (users : List Flat) (c : Contents) (d : Be
       ))
 
   -- CON_PUT
-  pub puts : (most : ℕ) → From w con_put_code 3 c d (Left users (prim most (put_call c) users (console_of d)) c d)
+  pub puts : (most : ℕ) → From w con_put_code 3 c d (LeftByCall users (prim most (put_call c) users (console_of d)) c d)
   puts most =
       let small = f.small in
       straightly w f con_put_code (put_says (length d.log) (c.regs 20)) c d _ refl e.idle
@@ -303,6 +303,6 @@ module _ (w : World) (f : CodeLaws w) (users : List Flat) (c : Contents) (d : Be
       ))
     where
       put_left : (room : Bool) (y x : ℕ) → y ≡ x → (c1 : Contents) → Quiet c c1 → c1.regs 2 ≡ flag room
-          → Left users (unchanged users (if room then record (console_of d) { log = d.log ++ y ∷ [] } else console_of d) (bool room) 0 0) c d c1 (if room then record d { log = d.log ++ x ∷ [] } else d)
+          → LeftByCall users (unchanged users (if room then record (console_of d) { log = d.log ++ y ∷ [] } else console_of d) (bool room) 0 0) c d c1 (if room then record d { log = d.log ++ x ∷ [] } else d)
       put_left true y x ey c1 q r2 = told (unchanged users (record (console_of d) { log = d.log ++ y ∷ [] }) (bool true) 0 0) c1 _ q (ap (λ z. z ∷ []) (sym r2)) refl (ap (λ z. d.log ++ z ∷ []) (sym ey)) refl refl refl refl
       put_left false y x ey c1 q r2 = told (unchanged users (console_of d) (bool false) 0 0) c1 _ q (ap (λ z. z ∷ []) (sym r2)) refl refl refl refl refl refl

@@ -3,7 +3,7 @@ use Rattle.std.proofs.Common.{◌≡◌, ◌≢◌, ℕ, ◌+◌, ◌^◌, ◌<�
 use Rattle.std.proofs.lemmas.Bool.{cases_eq}
 use Rattle.mips_table.specs.declared.inst.Inst.{Inst}
 use Rattle.mips_table.specs.Device.{Idle}
-use Rattle.mips_table.specs.Code.{Contents, reg, Behind, World, Configuration, at_with, Reaches}
+use Rattle.mips_table.specs.Code.{Contents, reg, Behind, World, CodeState, at_with, Reaches}
 use Rattle.masm.specs.Says.{Says, straight, AllSaid, sayings, tellings}
 use Rattle.masm.specs.Blocks.{when_code}
 use Rattle.masm.specs.Stays.{RegistersStay}
@@ -19,7 +19,7 @@ pub record CodeLaws (w : World) : Type 0 where
 
 module _ (w : World) (f : CodeLaws w) where
   -- the state that is meant
-  from : (n m : ℕ) (c0 c : Contents) (d0 d : Behind) (t : Configuration) → (c ≡ c0) × (d ≡ d0) → Reaches w m (at_with n c0 d0) t → Reaches w m (at_with n c d) t
+  from : (n m : ℕ) (c0 c : Contents) (d0 d : Behind) (t : CodeState) → (c ≡ c0) × (d ≡ d0) → Reaches w m (at_with n c0 d0) t → Reaches w m (at_with n c d) t
   from n m c0 c d0 d t e run = subst (λ c. Reaches w m (at_with n c d) t) (sym e.0) (subst (λ d. Reaches w m (at_with n c0 d) t) (sym e.1) run)
 
   pub within : (is : List Inst) (n m : ℕ) (c0 : Contents) (d0 : Behind) (Q : Contents → Behind → Type 0) → n ≤ m → From w is n c0 d0 Q → From w is m c0 d0 Q

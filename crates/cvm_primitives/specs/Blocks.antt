@@ -32,7 +32,7 @@ console_of d = record { log = d.log; input = d.input }
 
 -- What a call is entered with: at most 64 users, whose control blocks may be written and hold them, and ports; words are below 2 ^ 32, and no
 -- command is under way.
-pub record Entered (w : World) (users : List Flat) (c : Contents) (d : Behind) : Type 0 where
+pub record EnteredOnBlocks (w : World) (users : List Flat) (c : Contents) (d : Behind) : Type 0 where
   pub few : length users ≤ 64
   pub blocks : BlocksHold users c.memory
   pub whole : (u : ℕ) → IsOneOf users u → length (user_of users u).cpu.regs ≡ 32
@@ -47,7 +47,7 @@ pub record Entered (w : World) (users : List Flat) (c : Contents) (d : Behind) :
 
 -- What it leaves: its answer, the users, whose memories are as before, and the console after it. All words but those of the control blocks,
 -- the registers behind T3, hi and lo, the special registers and the sectors stay, and no command is under way.
-pub record Left (users : List Flat) (g : Given) (c0 : Contents) (d0 : Behind) (c : Contents) (d : Behind) : Type 0 where
+pub record LeftByCall (users : List Flat) (g : Given) (c0 : Contents) (d0 : Behind) (c : Contents) (d : Behind) : Type 0 where
   pub answer : flat (λ _. 0) g.answer ≡ c.regs ANSWER ∷ []
   pub blocks : BlocksHold g.users c.memory
   pub count : length g.users ≡ length users

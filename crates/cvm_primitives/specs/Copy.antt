@@ -2,15 +2,15 @@
 use Rattle.std.specs.Prelude.{ℕ, zero, suc, ◌+◌, ◌-◌, ◌*◌, ◌/◌, ◌%◌, ◌≤◌, ◌⊎◌, true, false, nat_eq, nat_lt, if◌then◌else◌}
 use Rattle.page_model.specs.Paging.{Pages}
 
-abbrev pub word_at : Pages → ℕ → ℕ
-word_at v z = v.word (z / 1024) (z % 1024)
+abbrev pub page_word : Pages → ℕ → ℕ
+page_word v z = v.word (z / 1024) (z % 1024)
 
 -- k words from y on become those from x on
 abbrev pub copied : Pages → ℕ → ℕ → ℕ → Pages
 copied v x y k = record {
   live = v.live;
   word = λ q i. if nat_lt (1024 * q + i) y then v.word q i else
-      if nat_lt (1024 * q + i) (y + k) then word_at v (x + (1024 * q + i - y)) else
+      if nat_lt (1024 * q + i) (y + k) then page_word v (x + (1024 * q + i - y)) else
       v.word q i;
 }
 
@@ -19,13 +19,13 @@ abbrev pub Apart : ℕ → ℕ → ℕ → Type 0
 Apart x y n = (x + n ≤ y) ⊎ (y + n ≤ x)
 
 -- 1 where a piece begins at word j of a copy from x to y: a longest run of words with one source page and one target page
-abbrev pub begins : ℕ → ℕ → ℕ → ℕ
-begins x y j = if nat_eq j 0 then 1 else if nat_eq ((x + j) % 1024) 0 then 1 else if nat_eq ((y + j) % 1024) 0 then 1 else 0
+abbrev pub begins_piece : ℕ → ℕ → ℕ → ℕ
+begins_piece x y j = if nat_eq j 0 then 1 else if nat_eq ((x + j) % 1024) 0 then 1 else if nat_eq ((y + j) % 1024) 0 then 1 else 0
 
 -- the number of pieces
 abbrev pub pieces : ℕ → ℕ → ℕ → ℕ
 pieces x y zero = 0
-pieces x y (suc n) = pieces x y n + begins x y n
+pieces x y (suc n) = pieces x y n + begins_piece x y n
 
 abbrev pub least : ℕ → ℕ → ℕ
 least a b = if nat_lt a b then a else b
@@ -39,12 +39,12 @@ abbrev pub copy_cost : ℕ → ℕ → ℕ → ℕ → ℕ → ℕ
 copy_cost u x y n m = 3 * u * pieces (x + m) (y + m) (n - m) + 600 * (n - m)
 
 -- word z becomes x
-abbrev pub with_word : Pages → ℕ → ℕ → Pages
-with_word v z x = record { live = v.live; word = λ q i. if nat_eq (1024 * q + i) z then x else v.word q i }
+abbrev pub with_page_word : Pages → ℕ → ℕ → Pages
+with_page_word v z x = record { live = v.live; word = λ q i. if nat_eq (1024 * q + i) z then x else v.word q i }
 
 -- k pages from page q on are cut off
-abbrev pub cut : Pages → ℕ → ℕ → Pages
-cut v q k = record { live = λ x. if nat_lt x q then v.live x else if nat_lt x (q + k) then false else v.live x; word = v.word }
+abbrev pub pages_cut : Pages → ℕ → ℕ → Pages
+pages_cut v q k = record { live = λ x. if nat_lt x q then v.live x else if nat_lt x (q + k) then false else v.live x; word = v.word }
 
 -- k pages of zeros from page q on are added
 abbrev pub grown : Pages → ℕ → ℕ → Pages
@@ -55,4 +55,4 @@ grown v q k = record {
 
 -- the pages of a user, from page base on, become new in place of old
 abbrev pub resized : Pages → ℕ → ℕ → ℕ → Pages
-resized v base old new = if nat_lt new old then cut v (base + new) (old - new) else grown v (base + old) (new - old)
+resized v base old new = if nat_lt new old then pages_cut v (base + new) (old - new) else grown v (base + old) (new - old)

@@ -8,9 +8,9 @@ use Rattle.page_model.specs.Places.{Places}
 use Rattle.page_fault.specs.Code.{handle_page_code}
 use Rattle.cvm_primitives.specs.declared.roles.TheConstants.{LENGTH}
 use Rattle.cvm_primitives.specs.Copy.{copied}
-use Rattle.cvm_primitives.specs.View.{start, Held, Marks, SharesFrame, FourOthers}
+use Rattle.cvm_primitives.specs.View.{entry_state, PagesHeld, Marks, SharesFrame, FourOthers}
 use Rattle.cvm_primitives.specs.Code.{vm_copy_code, pieces_code}
-use Rattle.cvm_primitives.specs.Laws.{Entered, GoodCopy, Answered, first_word, second_word, copy_steps}
+use Rattle.cvm_primitives.specs.Laws.{EnteredOnPages, GoodCopy, PrimitiveAnswered, first_word, second_word, copy_steps}
 
 -- the last of n words end a page on both sides and fill it: the last piece is a whole page
 abbrev pub EndsWhole : (x y n : ℕ) → Type 0
@@ -35,7 +35,7 @@ pub record LastPieceShares (w : World) (p : Places) (page : List Inst) (v : Page
   pub marks : Marks x y n entry
   pub last : Contents
   pub disk : Behind
-  pub held : Held p (copied v x y (n - 1024)) (start c d) last disk
+  pub held : PagesHeld p (copied v x y (n - 1024)) (entry_state c d) last disk
   pub left : Marks (x + (n - 1024)) (y + (n - 1024)) 1024 last
   pub comes : Reaches w steps (at_with place entry d) (at_with place last disk)
   pub ends : Reaches w steps (at_with place last disk) (at_with (place + length (pieces_code p page)) c' d')
@@ -43,11 +43,11 @@ pub record LastPieceShares (w : World) (p : Places) (page : List Inst) (v : Page
 
 -- what such a copy answers, and its last piece
 abbrev pub LastAnswered : (w : World) → Places → (b per : ℕ) → Pages → Contents → Behind → Contents → Behind → Type 0
-LastAnswered w p b per v c d c' d' = Answered p (copied v (first_word per c) (second_word per c) (c.regs LENGTH)) (start c d) 1 c' d' ×
+LastAnswered w p b per v c d c' d' = PrimitiveAnswered p (copied v (first_word per c) (second_word per c) (c.regs LENGTH)) (entry_state c d) 1 c' d' ×
     LastPieceShares w p (handle_page_code p) v (first_word per c) (second_word per c) (c.regs LENGTH) (copy_steps p b per c) c d c' d'
 
 -- vm_copy with good arguments, whose last piece is a whole page
 abbrev pub CopyShares : World → Type 0
 CopyShares w = (p : Places) (b users per : ℕ) (size : ℕ → ℕ) (v : Pages) (c : Contents) (d : Behind) →
-    Entered w p b users per size v c d → GoodCopy users size c → EndsWhole (first_word per c) (second_word per c) (c.regs LENGTH) →
+    EnteredOnPages w p b users per size v c d → GoodCopy users size c → EndsWhole (first_word per c) (second_word per c) (c.regs LENGTH) →
     From w (vm_copy_code p users per (handle_page_code p)) (copy_steps p b per c) c d (LastAnswered w p b per v c d)

@@ -5,8 +5,8 @@ use Rattle.mips_table.specs.Code.{Contents, Behind}
 use Rattle.layer_map.specs.Map.{block_at, hand_at}
 use Rattle.layer_map.specs.declared.places.TheConstants.{BLOCK_SIZE}
 use Rattle.masm.specs.declared.registers.TheConstants.{GLOBALS, FRAME_END, STACK_END, RETURN}
-use Rattle.page_model.specs.Paging.{Layout, IsUserFrame, Names, Pages, PagesStand, counted}
-use Rattle.page_model.specs.Places.{Places, frames_end, view}
+use Rattle.page_model.specs.Paging.{PageLayout, IsUserFrame, MapsTo, Pages, PagingInvariant, counted_entries}
+use Rattle.page_model.specs.Places.{Places, frames_end, paged_view}
 use Rattle.cvm_primitives.specs.declared.roles.TheConstants.{SOURCE_WORD, TARGET_WORD, LEFT_WORDS}
 use Rattle.cvm_primitives.specs.Copy.{Apart}
 
@@ -15,7 +15,7 @@ abbrev pub page_steps : ℕ → ℕ → ℕ
 page_steps pages b = 200000 + 32 * pages + 6 * b
 
 -- what a primitive is entered with and must leave: registers, special registers, words, the log, the input and the sectors past the pages
-pub record Start : Type 0 where
+pub record EntryState : Type 0 where
   pub regs : ℕ → ℕ
   pub special : ℕ → ℕ
   pub memory : ℕ → ℕ
@@ -24,19 +24,19 @@ pub record Start : Type 0 where
   pub sectors : ℕ → ℕ → ℕ
 
 -- this state as the start
-abbrev pub start : Contents → Behind → Start
-start c d = record { regs = c.regs; special = c.special; memory = c.memory; log = d.log; input = d.input; sectors = d.sectors }
+abbrev pub entry_state : Contents → Behind → EntryState
+entry_state c d = record { regs = c.regs; special = c.special; memory = c.memory; log = d.log; input = d.input; sectors = d.sectors }
 
 -- the log, the input and the sectors past the pages are as at the start
-pub record BehindStays (p : Places) (g : Start) (d : Behind) : Type 0 where
+pub record BehindStays (p : Places) (g : EntryState) (d : Behind) : Type 0 where
   pub log : d.log ≡ g.log
   pub input : d.input ≡ g.input
   pub past : (q i : ℕ) → p.layout.pages ≤ q → d.sectors q i ≡ g.sectors q i
 
 -- What a part of a primitive has in hand, and keeps: the machine stands for u; the words below the tables but the hand, those behind the last frame,
 -- the special registers, registers 28 to 31 and what is behind the ports are as at the start; and no command is under way.
-pub record Held (p : Places) (u : Pages) (g : Start) (c : Contents) (d : Behind) : Type 0 where
-  pub stands : PagesStand p.layout u (view p c.memory d.sectors)
+pub record PagesHeld (p : Places) (u : Pages) (g : EntryState) (c : Contents) (d : Behind) : Type 0 where
+  pub stands : PagingInvariant p.layout u (paged_view p c.memory d.sectors)
   pub small : (x : ℕ) → x < p.layout.pages → c.memory (p.tables + x) < 2 ^ 32
   pub low : (x : ℕ) → x < p.tables → x ≢ hand_at → c.memory x ≡ g.memory x
   pub above : (x : ℕ) → frames_end p ≤ x → x < BUFFER → c.memory x ≡ g.memory x
@@ -55,7 +55,7 @@ pub record Marks (x y n : ℕ) (c : Contents) : Type 0 where
   pub left : c.regs LEFT_WORDS ≡ n
 
 -- what a copy of n words from x to y asks of the flat memories
-pub record CopyGood (l : Layout) (u : Pages) (x y n : ℕ) : Type 0 where
+pub record CopyGood (l : PageLayout) (u : Pages) (x y n : ℕ) : Type 0 where
   pub source : x + n ≤ 1024 * l.pages
   pub target : y + n ≤ 1024 * l.pages
   pub from : (j : ℕ) → j < n → u.live ((x + j) / 1024) ≡ true
@@ -99,15 +99,15 @@ ResizeGood users per u new = (0 < u) × (u ≤ users) × (new ≤ per)
 
 -- n pages from page q on name the zero frame
 abbrev pub Fresh : Places → ℕ → ℕ → Contents → Type 0
-Fresh p q n c = (x : ℕ) → q ≤ x → x < q + n → Names (c.memory (p.tables + x)) p.layout.zeros
+Fresh p q n c = (x : ℕ) → q ≤ x → x < q + n → MapsTo (c.memory (p.tables + x)) p.layout.zeros
 
 -- page y names the frame that page x names, both by valid entries
 pub record SharesFrame (p : Places) (x y : ℕ) (m : ℕ → ℕ) : Type 0 where
-  pub source : Names (m (p.tables + x)) (m (p.tables + x) / 4096)
-  pub target : Names (m (p.tables + y)) (m (p.tables + x) / 4096)
+  pub source : MapsTo (m (p.tables + x)) (m (p.tables + x) / 4096)
+  pub target : MapsTo (m (p.tables + y)) (m (p.tables + x) / 4096)
 
 -- page x names a user frame that four pages other than y name
 pub record FourOthers (p : Places) (x y : ℕ) (m : ℕ → ℕ) : Type 0 where
-  pub names : Names (m (p.tables + x)) (m (p.tables + x) / 4096)
+  pub names : MapsTo (m (p.tables + x)) (m (p.tables + x) / 4096)
   pub user : IsUserFrame p.layout (m (p.tables + x) / 4096)
-  pub four : 4 ≤ counted (λ z. if nat_eq z y then 0 else m (p.tables + z)) (m (p.tables + x) / 4096) p.layout.pages
+  pub four : 4 ≤ counted_entries (λ z. if nat_eq z y then 0 else m (p.tables + z)) (m (p.tables + x) / 4096) p.layout.pages

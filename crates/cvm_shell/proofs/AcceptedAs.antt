@@ -4,8 +4,8 @@ use Rattle.std.specs.Prelude.{Result, IfOk}
 use Rattle.layer_map.specs.Map.{Map}
 use Rattle.layer_map.specs.declared.params.Params.{Params}
 use Rattle.c0_tree.specs.Tree.{CUnit}
-use Rattle.c0_types.specs.Front.{IsAnswer, IsUnitOf}
-use Rattle.boot_image.specs.Parts.{Parts as Image}
+use Rattle.c0_types.specs.Front.{IsFrontAnswer, IsUnitOf}
+use Rattle.boot_image.specs.Parts.{ImageParts as Image}
 use Rattle.boot_image.specs.Reading.{answer as image_of}
 use Rattle.boot_image.specs.declared.fault.ImageFault.{ImageFault}
 use Rattle.kernel_linker.specs.Linked.{linked, sizes_of}
@@ -27,7 +27,7 @@ accepted_as layer source p us u i bytes is same so e = record {
   unit = u;
   typed = is;
   accepted = subst (λ (x : Result Image ImageFault). Accepts layer x (Ok (linked_system layer u p us))) (sym e)
-      (Ok u, subst (λ (s : List ℕ). IsAnswer s (Ok u)) (sym same) is, sym so);
+      (Ok u, subst (λ (s : List ℕ). IsFrontAnswer s (Ok u)) (sym same) is, sym so);
 }
 
 -- what is so of a value is so of what was answered

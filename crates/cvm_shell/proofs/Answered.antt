@@ -4,9 +4,9 @@ use Rattle.std.proofs.Common.{◌≡◌, ◌≢◌, ◌⊎◌, inl, inr, refl, s
 use Rattle.std.specs.Prelude.{Result}
 use Rattle.c0_tree.specs.Tree.{CUnit}
 use Rattle.c0_types.specs.declared.source_fault.SourceFault.{SourceFault}
-use Rattle.boot_image.specs.Parts.{Parts as Image}
+use Rattle.boot_image.specs.Parts.{ImageParts as Image}
 use Rattle.boot_image.specs.declared.fault.ImageFault.{ImageFault}
-use Rattle.kernel_linker.specs.Answers.{Comes}
+use Rattle.kernel_linker.specs.Answers.{FrontGives}
 use Rattle.kernel_linker.specs.Accept.{AnswersBy}
 use Rattle.kernel_linker.specs.Fault.{accept_source_fault, accept_file_fault}
 use Rattle.kernel_linker.specs.declared.fault.AcceptFault.{AcceptFault}
@@ -38,7 +38,7 @@ memory_of f (inl e) = ap accept_source_fault e
 memory_of f (inr e) = ap accept_source_fault e
 
 -- A GOOD IMAGE
-good_front : {A : Type 0} (due : Due A) → Faulty due → (i : Image) (x : A) (front : Result CUnit SourceFault) → Comes i.source front → due i front ≡ Ok x → Answered due (Ok i) (Ok x)
+good_front : {A : Type 0} (due : Due A) → Faulty due → (i : Image) (x : A) (front : Result CUnit SourceFault) → FrontGives i.source front → due i front ≡ Ok x → Answered due (Ok i) (Ok x)
 good_front due faulty i x (Ok u) comes e = (Ok u, comes, sym e)
 good_front due faulty i x (Err f) comes e = absurd (not_both (due i (Err f)) x (accept_source_fault f) e (faulty i f))
 
@@ -47,7 +47,7 @@ image_answered due faulty view (Err f) x h = absurd cc
 image_answered due faulty view (Ok i) x (front, comes, e) = good_front due faulty i (view x) front comes e
 
 -- ONE THAT ISN'T
-refused_front : {A : Type 0} (due : Due A) → Faulty due → (i : Image) (f : AcceptFault) (front : Result CUnit SourceFault) → f ≢ accepting.Memory → Comes i.source front → due i front ≡ Err f → Answered due (Ok i) (Err f)
+refused_front : {A : Type 0} (due : Due A) → Faulty due → (i : Image) (f : AcceptFault) (front : Result CUnit SourceFault) → f ≢ accepting.Memory → FrontGives i.source front → due i front ≡ Err f → Answered due (Ok i) (Err f)
 refused_front due faulty i f (Ok u) named comes e = (Ok u, comes, sym e)
 refused_front due faulty i f (Err g) named comes e = elim (first_or_memory i.source g comes) [
   | inl m ↦ absurd (named (one_fault (due i (Err g)) f (accept_source_fault g) e (faulty i g) ∙ memory_of g m))

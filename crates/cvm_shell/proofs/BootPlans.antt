@@ -9,7 +9,7 @@ use Rattle.schedule_file.specs.Rows.{Rows}
 use Rattle.schedule_file.specs.Schedule.{schedule_of, Gives}
 use Rattle.schedule_file.specs.declared.fault.ScheduleFault.{ScheduleFault}
 use Rattle.schedule_file.specs.declared.fault.ScheduleFault.TheVariants as scheduling
-use Rattle.kernel_linker.specs.Accept.{ImageSystem, Answers, accept_answer}
+use Rattle.kernel_linker.specs.Accept.{ImageSystem, AcceptAnswers, accept_answer}
 use Rattle.kernel_linker.specs.declared.fault.AcceptFault.{AcceptFault}
 use Rattle.cvm_shell.specs.declared.boot.Stop.{Stop}
 use Rattle.cvm_shell.specs.declared.boot.Stop.TheVariants as Stops
@@ -41,7 +41,7 @@ no_unit layer i f = refl
 
 -- THE FAULT of an image
 pub accept_fault : {X : Type 0} → OneAnswer → (layer : Layers) (view : X → ImageSystem) (session : Session) (image schedule : List ℕ) (r : Result X AcceptFault) (f : AcceptFault) → r ≡ Err f
-    → Answers layer view (image_of image) r → IfRefused (IsPlan ⊤ (AfterFiles layer session image schedule)) (accept_stop f)
+    → AcceptAnswers layer view (image_of image) r → IfRefused (IsPlan ⊤ (AfterFiles layer session image schedule)) (accept_stop f)
 accept_fault one layer view session image schedule r f e answers = elim (accept_stops f) [
   | inl m ↦ subst (λ (x : AcceptFault). IfRefused (IsPlan ⊤ (AfterFiles layer session image schedule)) (accept_stop x)) (sym m) tt
   | inr h ↦ subst (IfRefused (IsPlan ⊤ (AfterFiles layer session image schedule))) (sym h.1)
@@ -64,7 +64,7 @@ scheduled one layer session image schedule s read is e =
     subst (λ (x : Result Rows ScheduleFault). IsPlan ⊤ (AfterFiles layer session image schedule) (scheduled_plan session s x)) e (plan_accepted one layer session image schedule (Ok s) is)
 
 -- THE FAULT of a schedule
-pub schedule_fault : {X : Type 0} → OneAnswer → (layer : Layers) (view : X → ImageSystem) (session : Session) (image schedule : List ℕ) (x : X) (f : ScheduleFault) → Answers layer view (image_of image) (Ok x)
+pub schedule_fault : {X : Type 0} → OneAnswer → (layer : Layers) (view : X → ImageSystem) (session : Session) (image schedule : List ℕ) (x : X) (f : ScheduleFault) → AcceptAnswers layer view (image_of image) (Ok x)
     → Gives (Err f) (schedule_of schedule) → IfRefused (IsPlan ⊤ (AfterFiles layer session image schedule)) (schedule_stop f)
 schedule_fault one layer view session image schedule x f answers given = elim (schedule_stops f (schedule_of schedule) given) [
   | inl m ↦ subst (λ (g : ScheduleFault). IfRefused (IsPlan ⊤ (AfterFiles layer session image schedule)) (schedule_stop g)) (sym m) tt
@@ -73,7 +73,7 @@ schedule_fault one layer view session image schedule x f answers given = elim (s
 ]
 
 -- ALL IS READY
-pub ready_plan : {X : Type 0} → OneAnswer → (layer : Layers) (view : X → ImageSystem) (session : Session) (image schedule : List ℕ) (x : X) (rows : Rows) → Answers layer view (image_of image) (Ok x)
+pub ready_plan : {X : Type 0} → OneAnswer → (layer : Layers) (view : X → ImageSystem) (session : Session) (image schedule : List ℕ) (x : X) (rows : Rows) → AcceptAnswers layer view (image_of image) (Ok x)
     → schedule_of schedule ≡ Ok rows → IsPlan ⊤ (AfterFiles layer session image schedule) (boots session (view x) rows)
 ready_plan one layer view session image schedule x rows answers e = scheduled one layer session image schedule (view x) (Ok rows) (image_answered (accept_answer layer) (no_unit layer) view (image_of image) x answers) e
 

@@ -19,11 +19,11 @@ use Rattle.c0_types.specs.declared.source_fault.SourceFault.{SourceFault}
 use Rattle.user_c0.specs.Image.{image_words}
 use Rattle.user_c0.specs.Program.{MAX_IMAGE}
 use Rattle.user_c0.specs.declared.fault.UserFault.TheVariants as program
-use Rattle.object_file.specs.Parts.{Parts as Object}
+use Rattle.object_file.specs.Parts.{ObjectParts as Object}
 use Rattle.system_files.specs.Params.{params_of}
 use Rattle.system_files.specs.declared.fault.FileFault.{FileFault}
 use Rattle.boot_image.specs.Format.{spelling as image_bytes}
-use Rattle.boot_image.specs.Parts.{Parts as Image}
+use Rattle.boot_image.specs.Parts.{ImageParts as Image}
 use Rattle.boot_turns.specs.Headline as headline
 use Rattle.boot_turns.specs.Headline.{Ending}
 use Rattle.boot_run.specs.RunEnds.{ending_of_end}
@@ -36,7 +36,7 @@ use Rattle.kernel_linker.specs.Link.{link_answer}
 use Rattle.kernel_linker.specs.Object.{object_of}
 use Rattle.kernel_linker.specs.Open.{open_answer}
 use Rattle.machine_save.specs.Room.{FILE_ROOM}
-use Rattle.sample_maker.specs.Parts.{Parts as Sampled}
+use Rattle.sample_maker.specs.Parts.{SampleParts as Sampled}
 use Rattle.sample_maker.specs.Sample.{sample_of}
 use Rattle.cvm_shell.specs.declared.exit_status.Status.{Status}
 use Rattle.cvm_shell.specs.declared.exit_status.Status.TheVariants.{Done, Words, Refused, Disk, Shelf, Sink, Memory}

@@ -5,18 +5,18 @@ use Rattle.std.specs.Prelude.{Option, Result, ⊤}
 use Rattle.std.specs.Option.{IsSome}
 use Rattle.cvm_outside.specs.Told.{TOO_LONG, Tells}
 use Rattle.c0_tree.specs.Tree.{CUnit}
-use Rattle.c0_types.specs.Front.{IsAnswer}
+use Rattle.c0_types.specs.Front.{IsFrontAnswer}
 use Rattle.c0_types.specs.declared.source_fault.SourceFault.{SourceFault}
 use Rattle.bound_check.specs.Chains.{AnswersAreOne}
-use Rattle.bound_check.specs.Answer.{IsAnswer as IsBound}
+use Rattle.bound_check.specs.Answer.{IsBoundAnswer as IsBound}
 use Rattle.bound_check.specs.Text.{chain_text, loop_text, answer_text}
 use Rattle.bound_check.specs.declared.answer.Answer.{Answer}
 use Rattle.bound_check.specs.declared.answer.Answer.TheVariants.{Chain, Cycle}
-use Rattle.object_file.specs.Parts.{Parts as Object}
-use Rattle.object_file.specs.Answer.{IsAnswer as IsObject}
+use Rattle.object_file.specs.Parts.{ObjectParts as Object}
+use Rattle.object_file.specs.Answer.{IsObjectAnswer as IsObject}
 use Rattle.object_file.specs.declared.fault.ObjectFault.{ObjectFault}
 use Rattle.object_file.specs.declared.fault.ObjectFault.TheVariants as object
-use Rattle.kernel_linker.specs.Answers.{Comes}
+use Rattle.kernel_linker.specs.Answers.{FrontGives}
 use Rattle.kernel_linker.specs.Fault.{link_source_fault}
 use Rattle.kernel_linker.specs.Open.{open_answer, OpensTo}
 use Rattle.kernel_linker.specs.declared.fault.LinkFault.{LinkFault}
@@ -56,10 +56,10 @@ one_opened ones stack (Err f) (Err r) (Err s) h k = let same : r ≡ s = h ∙ s
 
 module _ (ones : AnswersAreOne) (one : OneAnswer) (read : OneObject) (stack : ℕ) (bytes : List ℕ) where
   -- of one object
-  same_opened : (o p : Object) (front other : Result CUnit SourceFault) (a b : Told) → o ≡ p → IsAnswer o.source front → IsAnswer p.source other → TellsOpened stack (open_answer o front) a
+  same_opened : (o p : Object) (front other : Result CUnit SourceFault) (a b : Told) → o ≡ p → IsFrontAnswer o.source front → IsFrontAnswer p.source other → TellsOpened stack (open_answer o front) a
       → TellsOpened stack (open_answer p other) b → a ≡ b
   same_opened o p front other a b e is also h k =
-      let here : IsAnswer o.source other = subst (λ (x : Object). IsAnswer x.source other) (sym e) also in
+      let here : IsFrontAnswer o.source other = subst (λ (x : Object). IsFrontAnswer x.source other) (sym e) also in
       let same : open_answer p other ≡ open_answer o front = ap (λ (x : Object). open_answer x other) (sym e) ∙ ap (open_answer o) (one o.source other front here is) in
       one_opened ones stack (open_answer o front) a b h (subst (λ (x : Result CUnit LinkFault). TellsOpened stack x b) same k)
 
@@ -82,7 +82,7 @@ module _ (ones : AnswersAreOne) (one : OneAnswer) (read : OneObject) (stack : �
   ]
 
   -- THE FAULT of the object: unless memory ran out, its source has an answer
-  refused_open : (o : Object) (f : LinkFault) (front : Result CUnit SourceFault) → IsObject bytes (Ok o) → f ≢ linking.Memory → Comes o.source front → open_answer o front ≡ Err f
+  refused_open : (o : Object) (f : LinkFault) (front : Result CUnit SourceFault) → IsObject bytes (Ok o) → f ≢ linking.Memory → FrontGives o.source front → open_answer o front ≡ Err f
       → IsPlan ⊤ (AfterChecked stack bytes) (refuses (unlinked f))
   refused_open o f front is named comes a = elim (answer_or_memory o.source front comes) [
     | inl h ↦ absurd (named (sym (one_fault (open_answer o front) (link_source_fault h.0) f (ap (open_answer o) h.1 ∙ unopened o h.0) a) ∙ memory_of h.0 h.2))
@@ -97,7 +97,7 @@ module _ (ones : AnswersAreOne) (one : OneAnswer) (read : OneObject) (stack : �
   ]
 
   -- ITS KERNEL
-  told_unit : (o : Object) (u : CUnit) (text : List ℕ) (front : Result CUnit SourceFault) → IsObject bytes (Ok o) → Comes o.source front → open_answer o front ≡ Ok u → TellsUnit stack u text
+  told_unit : (o : Object) (u : CUnit) (text : List ℕ) (front : Result CUnit SourceFault) → IsObject bytes (Ok o) → FrontGives o.source front → open_answer o front ≡ Ok u → TellsUnit stack u text
       → IsPlan ⊤ (AfterChecked stack bytes) (prints text)
   told_unit o u text (Err f) is comes a h = absurd (not_both (open_answer o (Err f)) u (link_source_fault f) a (unopened o f))
   told_unit o u text (Ok v) is comes a h = plan_told (Ok text) (has_object o (Ok v) (Ok text) is comes (subst (λ (x : Result CUnit LinkFault). TellsOpened stack x (Ok text)) (sym a) h))

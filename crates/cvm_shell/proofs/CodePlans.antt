@@ -5,7 +5,7 @@ use Rattle.std.specs.Option.{IsSome}
 use Rattle.cvm_outside.specs.Told.{TOO_LONG, Tells}
 use Rattle.c0_tree.specs.declared.primitive.Program.{Program}
 use Rattle.c0_tree.specs.Tree.{CUnit}
-use Rattle.c0_parser.specs.Faults.{Reads, FaultIs}
+use Rattle.c0_parser.specs.Faults.{ReadsAs, FaultIs}
 use Rattle.c0_parser.specs.declared.fault.ReadFault.{ReadFault}
 use Rattle.c0_parser.specs.declared.fault.ReadFault.TheVariants as read
 use Rattle.c0_meaning.specs.Fault.{LeastIsThere}
@@ -28,33 +28,33 @@ use Rattle.cvm_shell.proofs.FirstBad.{one_unread, never_unread, one_mistake, no_
 module _ (program : Program) (due : CUnit → Plan) where
   -- The source has no tree.
 
-  only_unread : (source : List ℕ) (f : ReadFault) → f ≢ read.Memory → FaultIs source f → ((u : CUnit) → length source ≤ 1048576 → Reads source u → f ≡ read.Memory)
+  only_unread : (source : List ℕ) (f : ReadFault) → f ≢ read.Memory → FaultIs source f → ((u : CUnit) → length source ≤ 1048576 → ReadsAs source u → f ≡ read.Memory)
       → (q : Plan) → AfterCode program due source q → q ≡ refuses (bad_source (Reading f))
   only_unread source f named is never q (unread g also other) = ap (λ (x : ReadFault). refuses (bad_source (Reading x))) (one_unread source g f also named other is)
   only_unread source f named is never q (mistyped g also short m) = absurd (named (never m.tree short m.reads))
   only_unread source f named is never q (compiles u short c) = absurd (named (never c.tree short c.reads))
 
-  plan_unread : (source : List ℕ) (f : ReadFault) → f ≢ read.Memory → FaultIs source f → ((u : CUnit) → length source ≤ 1048576 → Reads source u → f ≡ read.Memory)
+  plan_unread : (source : List ℕ) (f : ReadFault) → f ≢ read.Memory → FaultIs source f → ((u : CUnit) → length source ≤ 1048576 → ReadsAs source u → f ≡ read.Memory)
       → IsPlan ⊤ (AfterCode program due source) (refuses (bad_source (Reading f)))
   plan_unread source f named is never = record { comes = unread f named is; only = λ t q h. only_unread source f named is never q h }
 
   -- Its tree is not typed.
 
   only_mistyped : LeastIsThere → (source : List ℕ) (f : TypeFault) → f ≢ typing.Memory → length source ≤ 1048576 → IsMistypedAs program source f
-      → ((u : CUnit) → length source ≤ 1048576 → Reads source u → FaultAnswersAs program u f) → (q : Plan) → AfterCode program due source q → q ≡ refuses (bad_source (Typing f))
+      → ((u : CUnit) → length source ≤ 1048576 → ReadsAs source u → FaultAnswersAs program u f) → (q : Plan) → AfterCode program due source q → q ≡ refuses (bad_source (Typing f))
   only_mistyped law source f named short is each q (unread g also other) = absurd (never_unread source is.tree g short is.reads also other)
   only_mistyped law source f named short is each q (mistyped g also few m) =
       ap (λ (x : TypeFault). refuses (bad_source (Typing x))) (one_mistake program law m.tree g f also named m.answers (each m.tree few m.reads))
   only_mistyped law source f named short is each q (compiles u few c) = absurd (no_mistake program law c.tree f named c.faultless (each c.tree few c.reads))
 
   plan_mistyped : LeastIsThere → (source : List ℕ) (f : TypeFault) → f ≢ typing.Memory → length source ≤ 1048576 → IsMistypedAs program source f
-      → ((u : CUnit) → length source ≤ 1048576 → Reads source u → FaultAnswersAs program u f) → IsPlan ⊤ (AfterCode program due source) (refuses (bad_source (Typing f)))
+      → ((u : CUnit) → length source ≤ 1048576 → ReadsAs source u → FaultAnswersAs program u f) → IsPlan ⊤ (AfterCode program due source) (refuses (bad_source (Typing f)))
   plan_mistyped law source f named short is each = record { comes = mistyped f named short is; only = λ t q h. only_mistyped law source f named short is each q h }
 
   -- It has a unit.
 
   only_compiles : LeastIsThere → (source : List ℕ) (u : CUnit) → length source ≤ 1048576 → IsUnitAs program source u
-      → ((tree : CUnit) → length source ≤ 1048576 → Reads source tree → (source_faults_as program tree ≡ []) × (u ≡ checked_as program tree))
+      → ((tree : CUnit) → length source ≤ 1048576 → ReadsAs source tree → (source_faults_as program tree ≡ []) × (u ≡ checked_as program tree))
       → (q : Plan) → AfterCode program due source q → q ≡ due u
   only_compiles law source u short is each q (unread g also other) = absurd (never_unread source is.tree g short is.reads also other)
   only_compiles law source u short is each q (mistyped g also few m) = absurd (no_mistake program law m.tree g also ((each m.tree few m.reads).0) m.answers)
@@ -64,7 +64,7 @@ module _ (program : Program) (due : CUnit → Plan) where
 
   -- what is due of the unit is the plan
   pub plan_compiles : LeastIsThere → (source : List ℕ) (u : CUnit) → length source ≤ 1048576 → IsUnitAs program source u
-      → ((tree : CUnit) → length source ≤ 1048576 → Reads source tree → (source_faults_as program tree ≡ []) × (u ≡ checked_as program tree))
+      → ((tree : CUnit) → length source ≤ 1048576 → ReadsAs source tree → (source_faults_as program tree ≡ []) × (u ≡ checked_as program tree))
       → (p : Plan) → p ≡ due u → IsPlan ⊤ (AfterCode program due source) p
   plan_compiles law source u short is each p e =
       subst (IsPlan ⊤ (AfterCode program due source)) (sym e) (record { comes = compiles u short is; only = λ t q h. only_compiles law source u short is each q h })
@@ -91,7 +91,7 @@ one_fault f g e = cc
 
 -- a fault of a source is refused
 pub source_fault : (program : Program) (due : CUnit → Plan) → LeastIsThere → (source : List ℕ) (f : SourceFault) → (1048576 < length source → f ≡ Reading read.SourceTooLong) → IsFaultAs program source f
-    → ((u : CUnit) → length source ≤ 1048576 → Reads source u → IsFaultInAs program u f) → IfRefused (IsPlan ⊤ (AfterCode program due source)) (source_stop f)
+    → ((u : CUnit) → length source ≤ 1048576 → ReadsAs source u → IsFaultInAs program u f) → IfRefused (IsPlan ⊤ (AfterCode program due source)) (source_stop f)
 source_fault program due law source (Reading f) long is each = elim (unread_stops f) [
   | inl e ↦ subst (λ (x : ReadFault). IfRefused (IsPlan ⊤ (AfterCode program due source)) (source_stop (Reading x))) (sym e) tt
   | inr h ↦ subst (IfRefused (IsPlan ⊤ (AfterCode program due source))) (sym h.1) (plan_unread program due source f h.0 is each)

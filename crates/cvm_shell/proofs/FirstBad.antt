@@ -7,9 +7,9 @@ use Rattle.c0_tokens.specs.Nesting.{tokens_of}
 use Rattle.c0_tree.specs.declared.tree.Span.{Span}
 use Rattle.c0_tree.specs.declared.primitive.Program.{Program}
 use Rattle.c0_tree.specs.Tree.{CUnit}
-use Rattle.c0_parser.specs.Value.{Value}
+use Rattle.c0_parser.specs.Value.{SemanticValue}
 use Rattle.c0_parser.specs.Grammar.{UNIT, Derives}
-use Rattle.c0_parser.specs.Faults.{Reads, IsPrefix, IsFirstBad, FaultIs, fault_at}
+use Rattle.c0_parser.specs.Faults.{ReadsAs, IsPrefix, IsFirstBad, FaultIs, fault_at}
 use Rattle.c0_parser.specs.declared.fault.ReadFault.{ReadFault}
 use Rattle.c0_parser.specs.declared.fault.ReadFault.TheVariants as read
 use Rattle.c0_meaning.specs.Fault.{Fault, IsLeast, LeastIsThere}
@@ -51,7 +51,7 @@ first_bad_once ts t s one other =
     one_break IsPrefix begins one.before one.after other.before other.after t s (sym one.stands ∙ other.stands) one.good one.bad other.good other.bad
 
 -- tokens that are a unit have none
-none_bad : (ts : List CToken) (v : Value) (t : CToken) → Derives UNIT ts v → IsFirstBad ts t → ⊥
+none_bad : (ts : List CToken) (v : SemanticValue) (t : CToken) → Derives UNIT ts v → IsFirstBad ts t → ⊥
 none_bad ts v t derived one =
     let whole : ts ≡ (one.before ++ t ∷ []) ++ one.after = one.stands ∙ sym (append_assoc one.before (t ∷ []) one.after) in
     one.bad (one.after, v, subst (λ (xs : List CToken). Derives UNIT xs v) whole derived)
@@ -80,12 +80,12 @@ one_break_of source f g (inr (short, (t, one, e))) (inr (also, (s, other, d))) =
 pub one_unread : (source : List ℕ) (f g : ReadFault) → f ≢ read.Memory → g ≢ read.Memory → FaultIs source f → FaultIs source g → f ≡ g
 one_unread source f g named also is other = one_break_of source f g (breaks source f named is) (breaks source g also other)
 
-no_break : (source : List ℕ) (u : CUnit) (f : ReadFault) → length source ≤ 1048576 → Reads source u → Breaks source f → ⊥
+no_break : (source : List ℕ) (u : CUnit) (f : ReadFault) → length source ≤ 1048576 → ReadsAs source u → Breaks source f → ⊥
 no_break source u f short reads (inl h) = let long : 1048576 < length source = h.1 in omega arith
 no_break source u f short (items, stop, derived, e) (inr (also, (t, one, d))) = none_bad (tokens_of source) _ t derived one
 
 -- one that is read has none
-pub never_unread : (source : List ℕ) (u : CUnit) (f : ReadFault) → length source ≤ 1048576 → Reads source u → f ≢ read.Memory → FaultIs source f → ⊥
+pub never_unread : (source : List ℕ) (u : CUnit) (f : ReadFault) → length source ≤ 1048576 → ReadsAs source u → f ≢ read.Memory → FaultIs source f → ⊥
 never_unread source u f short reads named is = no_break source u f short reads (breaks source f named is)
 
 -- Faults of typing.

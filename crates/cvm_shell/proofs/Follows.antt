@@ -4,7 +4,7 @@ use Rattle.std.proofs.lemmas.List.{length-map}
 use Rattle.layer_map.specs.Map.{Map, ParamsInRange}
 use Rattle.layer_map.specs.declared.params.Params.{Params}
 use Rattle.boot_image.specs.Format.{AreWords, IsInRange}
-use Rattle.boot_image.specs.Parts.{Parts as Image}
+use Rattle.boot_image.specs.Parts.{ImageParts as Image}
 use Rattle.boot_image.specs.declared.fault.ImageFault.{ImageFault}
 use Rattle.c0_tree.specs.Tree.{CUnit}
 use Rattle.c0_tree.specs.View.{unit_view}
@@ -12,10 +12,10 @@ use Rattle.c0_meaning.specs.Unit.{IsChecked}
 use Rattle.c0_types.specs.declared.source_fault.SourceFault.{SourceFault}
 use Rattle.c0_unit.specs.Code.{unit_words}
 use Rattle.layer_contract.specs.declared.boot.Boot.{Boot as Booted}
-use Rattle.kernel_linker.specs.Accept.{ImageSystem, system_of, stored, Answers, ◌>>=◌, accept_answer}
+use Rattle.kernel_linker.specs.Accept.{ImageSystem, system_of, words_match, AcceptAnswers, ◌>>=◌, accept_answer}
 use Rattle.kernel_linker.specs.Linked.{linked, map_for, pages_for, sizes_of}
 use Rattle.kernel_linker.specs.declared.fault.AcceptFault.{AcceptFault}
-use Rattle.kernel_linker.specs.Laws.{Fits, SpelledImagesFit}
+use Rattle.kernel_linker.specs.Laws.{ImageFits, SpelledImagesFit}
 use Rattle.unit_runs.specs.Follows.{IsWhole, user_words}
 
 -- a system is that of an image: its parameters and users, and the words that they are linked to with its unit
@@ -35,11 +35,11 @@ accepted_of layer i (Err f) s e = absurd (cc)
 accepted_of layer i (Ok u) s e =
     let made : List ℕ = linked layer u i.params (sizes_of i.users) in
     let t : ImageSystem = record { params = i.params; unit = u; words = linked layer u i.params (sizes_of i.users); users = i.users } in
-    subst (λ (y : ImageSystem). IsOf layer i y) (behind (stored i made) t s e) (record { params = refl; users = refl; words = refl })
+    subst (λ (y : ImageSystem). IsOf layer i y) (behind (words_match i made) t s e) (record { params = refl; users = refl; words = refl })
 
 -- by what the bytes were read as
 answered : {X : Type 0} (layer : Map → List ℕ → List ℕ) (view : X → ImageSystem) (r : Result Image ImageFault) (a : X) → ((i : Image) → r ≡ Ok i → IsInRange i)
-    → Answers layer view r (Ok a) → (i : Image) × IsInRange i × IsOf layer i (view a)
+    → AcceptAnswers layer view r (Ok a) → (i : Image) × IsInRange i × IsOf layer i (view a)
 answered layer view (Ok i) a range h = (i, range i refl, accepted_of layer i h.0 (view a) h.2)
 answered layer view (Err f) a range h = absurd (cc)
 
@@ -53,18 +53,18 @@ unfolding linked
 joined layer u p users = ap (λ (n : ℕ). layer (map_for u p n) (sizes_of users) ++ unit_words u) (length-map users (λ (words : List ℕ). pages_for (length words)))
 
 -- the users of a system are as short as those of its image
-short_in : (layer : Map → List ℕ → List ℕ) (i : Image) (s : ImageSystem) → Fits i → IsOf layer i s → All (λ words. length words ≤ min 65536 (1024 * s.params.pages)) s.users
+short_in : (layer : Map → List ℕ → List ℕ) (i : Image) (s : ImageSystem) → ImageFits i → IsOf layer i s → All (λ words. length words ≤ min 65536 (1024 * s.params.pages)) s.users
 short_in layer i s fits of_image =
     subst (λ (p : Params). All (λ words. length words ≤ min 65536 (1024 * p.pages)) s.users) (sym of_image.params)
     (subst (λ (us : List (List ℕ)). All (λ words. length words ≤ min 65536 (1024 * i.params.pages)) us) (sym of_image.users) fits.short)
 
 pub whole : SpelledImagesFit → {X : Type 0} (layer : Map → List ℕ → List ℕ) (view : X → ImageSystem) (r : Result Image ImageFault) (a : X) (b : Booted) (image sizes : List ℕ) (m : Map)
-    → ((i : Image) → r ≡ Ok i → IsInRange i) → Answers layer view r (Ok a) → view a ≡ system_of b → IsChecked (unit_view b.unit)
+    → ((i : Image) → r ≡ Ok i → IsInRange i) → AcceptAnswers layer view r (Ok a) → view a ≡ system_of b → IsChecked (unit_view b.unit)
     → m ≡ map_for (unit_view b.unit) b.params (length b.users.items) → sizes ≡ sizes_of (user_words b) → image ≡ layer m sizes → IsWhole image sizes m b
 whole law layer view r a b image sizes m range h same checked map_is sizes_are image_is =
     let found = answered layer view r a range h in
     let of_image : IsOf layer found.0 (system_of b) = subst (λ (s : ImageSystem). IsOf layer found.0 s) same found.2 in
-    let fits : Fits found.0 = law found.0 found.1.spelled in
+    let fits : ImageFits found.0 = law found.0 found.1.spelled in
     let users : length found.0.users ≤ 64 = fits.few in
     let count : length (user_words b) ≡ length b.users.items = length-map b.users.items (λ u. u.items) in
     let made : layer m sizes ≡ layer (map_for (unit_view b.unit) b.params (length (user_words b))) (sizes_of (user_words b)) =

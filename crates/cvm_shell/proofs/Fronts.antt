@@ -4,22 +4,22 @@ use Rattle.std.proofs.Common.{◌≡◌, ◌⊎◌, inl, inr, ℕ, List, refl, s
 use Rattle.std.specs.Prelude.{Result}
 use Rattle.c0_tree.specs.Tree.{CUnit}
 use Rattle.c0_parser.specs.declared.fault.ReadFault.TheVariants as read
-use Rattle.c0_types.specs.Front.{IsAnswer, IsFaultOf, IsFirstFault}
+use Rattle.c0_types.specs.Front.{IsFrontAnswer, IsSourceFaultOf, IsFirstFault}
 use Rattle.c0_types.specs.declared.fault.TypeFault.TheVariants as typing
 use Rattle.c0_types.specs.declared.source_fault.SourceFault.{SourceFault}
 use Rattle.c0_types.specs.declared.source_fault.SourceFault.TheVariants.{Reading, Typing}
-use Rattle.kernel_linker.specs.Answers.{Comes}
+use Rattle.kernel_linker.specs.Answers.{FrontGives}
 
 -- that a source has one answer
 abbrev pub OneAnswer : Type 0
-OneAnswer = (source : List ℕ) (a b : Result CUnit SourceFault) → IsAnswer source a → IsAnswer source b → a ≡ b
+OneAnswer = (source : List ℕ) (a b : Result CUnit SourceFault) → IsFrontAnswer source a → IsFrontAnswer source b → a ≡ b
 
 -- a fault that is want of memory
 abbrev pub IsWant : SourceFault → Type 0
 IsWant f = (f ≡ Reading read.Memory) ⊎ (f ≡ Typing typing.Memory)
 
 -- a fault of a source is want of memory, or its first fault
-pub first_or_memory : (source : List ℕ) (f : SourceFault) → IsFaultOf source f → IsWant f ⊎ IsFirstFault source f
+pub first_or_memory : (source : List ℕ) (f : SourceFault) → IsSourceFaultOf source f → IsWant f ⊎ IsFirstFault source f
 first_or_memory source (Reading read.Memory) is = inl (inl refl)
 first_or_memory source (Reading (read.BadByte at)) is = inr (record { fault = is; read = λ e. cc; typed = λ e. cc })
 first_or_memory source (Reading (read.BadNumber at)) is = inr (record { fault = is; read = λ e. cc; typed = λ e. cc })
@@ -46,7 +46,7 @@ first_or_memory source (Typing (typing.EmptyArray s)) is = inr (record { fault =
 first_or_memory source (Typing (typing.NoMain s)) is = inr (record { fault = is; read = λ e. cc; typed = λ e. cc })
 
 -- what a source comes to is want of memory, or its answer
-pub answer_or_memory : (source : List ℕ) (front : Result CUnit SourceFault) → Comes source front → ((f : SourceFault) × (front ≡ Err f) × IsWant f) ⊎ IsAnswer source front
+pub answer_or_memory : (source : List ℕ) (front : Result CUnit SourceFault) → FrontGives source front → ((f : SourceFault) × (front ≡ Err f) × IsWant f) ⊎ IsFrontAnswer source front
 answer_or_memory source (Ok u) is = inr is
 answer_or_memory source (Err f) is = elim (first_or_memory source f is) [ inl e ↦ inl (f, refl, e) | inr h ↦ inr h ]
 

@@ -4,10 +4,10 @@ use Rattle.std.proofs.Common.{◌≡◌, ◌⊎◌, inl, inr, Bool, true, false,
 use Rattle.std.specs.Prelude.{if◌then◌else◌, ◌==◌, Option}
 use Rattle.std.specs.Option.{option_map}
 use Rattle.std.proofs.lemmas.Bool.Decides.{nat_tests}
-use Rattle.mips_table.specs.Device.{Outside as Surroundings}
+use Rattle.mips_table.specs.Device.{Environment}
 use Rattle.mips_table.specs.Machine.{State, run}
 use Rattle.mips_table.specs.Flat.{Flat}
-use Rattle.mips_table.specs.Turns.{rests, in_user, is_on, turn_of, complete, lines_of, is_end, IsEnd, end_within, TurnLaws}
+use Rattle.mips_table.specs.Turns.{rests, in_user, is_on, turn_of, complete, lines_of_turn, is_end, IsTurnEnd, end_within, TurnLaws}
 use Rattle.schedule_file.specs.Rows.{Rows}
 use Rattle.cvm_model.specs.Kernel.{JournalEntry}
 use Rattle.cvm_model.specs.Primitives.{user_of}
@@ -64,7 +64,7 @@ unfolding rests
 is_running s e = second_false (in_user s) (not (is_on s)) e
 
 -- one that doesn't rest has completed no turn in that step, so the end was there before
-not_first : (x : Surroundings) (s : State) (k t : ℕ) → IsEnd x s k (suc t) → rests (run x s (suc t)) ≡ false → ⊥
+not_first : (x : Environment) (s : State) (k t : ℕ) → IsTurnEnd x s k (suc t) → rests (run x s (suc t)) ≡ false → ⊥
 not_first x s k t h unrested =
     let same : complete x s (suc t) ≡ complete x s t = left_out (rests (run x s (suc t))) (turn_of x s (suc t)) (complete x s t) unrested in
     let reached : (complete x s (suc t) == k) ≡ true = first_true (complete x s (suc t) == k) (not (is_on (run x s (suc t)))) h.here (is_running (run x s (suc t)) unrested) in
@@ -76,7 +76,7 @@ either : (b : Bool) → (b ≡ true) ⊎ (b ≡ false)
 either true = inl refl
 either false = inr refl
 
-pub turn_over : (x : Surroundings) (s : State) (k t : ℕ) → IsEnd x s k t → turn_of x s t ≡ complete x s t
+pub turn_over : (x : Environment) (s : State) (k t : ℕ) → IsTurnEnd x s k t → turn_of x s t ≡ complete x s t
 turn_over x s k zero h = refl
 turn_over x s k (suc t) h = elim (either (rests (run x s (suc t)))) [
   | inl rested ↦ sym (chosen (rests (run x s (suc t))) (turn_of x s (suc t)) (complete x s t) rested)
@@ -94,9 +94,9 @@ not_less n k e = elim (either (nat_lt k n)) [
   | inr above ↦ above
 ]
 
-shown_journal : (x : Surroundings) (s : State) (y : System) (u k t : ℕ) (j : List JournalEntry) (h : Shown x s y u t j) → IsEnd x s k t → j ≡ journal y (lines_of x s) h.units u (complete x s t)
+shown_journal : (x : Environment) (s : State) (y : System) (u k t : ℕ) (j : List JournalEntry) (h : Shown x s y u t j) → IsTurnEnd x s k t → j ≡ journal y (lines_of_turn x s) h.units u (complete x s t)
 shown_journal x s y u k t j h over =
-    h.is ∙ without (nat_lt (complete x s t) (turn_of x s t)) (journal y (lines_of x s) h.units u (complete x s t)) (entries_so_far x s y h.units u t)
+    h.is ∙ without (nat_lt (complete x s t) (turn_of x s t)) (journal y (lines_of_turn x s) h.units u (complete x s t)) (entries_so_far x s y h.units u t)
     (not_less (turn_of x s t) (complete x s t) (turn_over x s k t over))
 
 -- THE TEXT of a run that is over.
@@ -108,7 +108,7 @@ not_late e false status is (inl finished) = let late = sym (ap ended_as is) ∙ 
 not_late e false status is (inr fault) = let late = sym (ap ended_as is) ∙ fault in absurd cc
 
 -- so it is printed whole
-whole_text : (x : Surroundings) (y : System) (s : State) (v : View) (t : ℕ) (e : Ending) (text : List ℕ) → (ended_as e ≡ Done) ⊎ (ended_as e ≡ KernelFault) → TextAt x y s v t e text → Whole x y s v t text
+whole_text : (x : Environment) (y : System) (s : State) (v : View) (t : ℕ) (e : Ending) (text : List ℕ) → (ended_as e ≡ Done) ⊎ (ended_as e ≡ KernelFault) → TextAt x y s v t e text → Whole x y s v t text
 whole_text x y s v t headline.Done text ends h = h
 whole_text x y s v t headline.KernelFaulted text ends h = h
 whole_text x y s v t headline.OutOfSteps text (inl finished) h = absurd cc
@@ -141,19 +141,19 @@ isolated laws law session u s rows before old new status h sees traced ends =
     let user : (1 ≤ u) × (u ≤ length s.users) = subst (λ (v : View). SeesUser v (length s.users)) traced sees in
     let so : Whole x y m session.view t h.text = whole_text x y m session.view t h.ending h.text by h.ran.text_is in
     let (c, j, is, shown, text) = subst (λ (v : View). Whole x y m v t h.text) traced so in
-    let mine = law s rows (lines_of x m) shown.units (complete x m t) u shown.past c user.0 user.1 shown.cvm is in
-    let theirs = law s rows (lines_of x m) shown.units (complete x m t) u shown.past h.ran.past user.0 user.1 shown.cvm h.ran.cvm in
+    let mine = law s rows (lines_of_turn x m) shown.units (complete x m t) u shown.past c user.0 user.1 shown.cvm is in
+    let theirs = law s rows (lines_of_turn x m) shown.units (complete x m t) u shown.past h.ran.past user.0 user.1 shown.cvm h.ran.cvm in
     record {
       units = shown.units;
       turns = complete x m t;
       last = shown.past;
-      entries = journal y (lines_of x m) shown.units u (complete x m t);
+      entries = journal y (lines_of_turn x m) shown.units u (complete x m t);
       text = h.text;
       turns_are = refl;
       run = shown.cvm;
       status_is = h.status_is ∙ ap ended_as (over.1 ∙ ap (λ (d : Cvm). ending_of d.status) (sym theirs.0));
       entries_are = refl;
-      text_is = replayed u (first_of y u) (journal y (lines_of x m) shown.units u (complete x m t)) j shown.past c h.text mine.1
+      text_is = replayed u (first_of y u) (journal y (lines_of_turn x m) shown.units u (complete x m t)) j shown.past c h.text mine.1
           (shown_journal x m y u session.turns t j shown (laws.found x m session.turns session.steps over.0)) mine.0 text;
       printed = h.printed;
     }

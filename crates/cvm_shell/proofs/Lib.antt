@@ -7,11 +7,11 @@ mod CheckPlans
 mod CheckWords
 mod Doing
 mod Endings
-mod Few
+mod ListsOfTwo
 mod FirstBad
-mod Five
+mod ListsOfFive
 pub mod Follows
-mod Four
+mod ListsOfFour
 mod FourBytes
 mod Fronts
 mod GotCalls

@@ -6,21 +6,21 @@ use Rattle.cvm_outside.specs.Told.{TOO_LONG, Tells}
 use Rattle.layer_map.specs.Map.{Map}
 use Rattle.layer_map.specs.declared.params.Params.{Params}
 use Rattle.c0_tree.specs.Tree.{CUnit}
-use Rattle.c0_types.specs.Front.{IsAnswer}
+use Rattle.c0_types.specs.Front.{IsFrontAnswer}
 use Rattle.c0_types.specs.declared.source_fault.SourceFault.{SourceFault}
 use Rattle.c0_types.specs.declared.source_fault.SourceFault.TheVariants.{Reading}
 use Rattle.c0_parser.specs.declared.fault.ReadFault.TheVariants as read
-use Rattle.boot_image.specs.Parts.{Parts as Image}
+use Rattle.boot_image.specs.Parts.{ImageParts as Image}
 use Rattle.boot_image.specs.Format.{spelling as image_bytes}
 use Rattle.boot_image.specs.Reading.{answer as image_of}
-use Rattle.object_file.specs.Parts.{Parts as Object}
-use Rattle.object_file.specs.Answer.{IsAnswer as IsObject, UnlessMemory}
+use Rattle.object_file.specs.Parts.{ObjectParts as Object}
+use Rattle.object_file.specs.Answer.{IsObjectAnswer as IsObject, UnlessMemory}
 use Rattle.object_file.specs.declared.fault.ObjectFault.{ObjectFault}
 use Rattle.object_file.specs.declared.fault.ObjectFault.TheVariants as object
 use Rattle.system_files.specs.Params.{params_of}
 use Rattle.system_files.specs.declared.fault.FileFault.{FileFault}
 use Rattle.system_files.specs.declared.fault.FileFault.TheVariants as system
-use Rattle.kernel_linker.specs.Answers.{Comes}
+use Rattle.kernel_linker.specs.Answers.{FrontGives}
 use Rattle.kernel_linker.specs.Open.{open_answer}
 use Rattle.kernel_linker.specs.Link.{fitting, link_answer}
 use Rattle.kernel_linker.specs.Accept.{accept_answer}
@@ -58,7 +58,7 @@ unfolding link_answer open_answer
 no_unit layer o p us f e = rw e refl
 
 -- the answer is one
-only_answered : OneAnswer → (layer : Layers) (name : List ℕ) (o : Object) (p : Params) (us : List (List ℕ)) (front : Result CUnit SourceFault) → IsAnswer o.source front
+only_answered : OneAnswer → (layer : Layers) (name : List ℕ) (o : Object) (p : Params) (us : List (List ℕ)) (front : Result CUnit SourceFault) → IsFrontAnswer o.source front
     → (q : Plan) → AfterParts layer name o p us q → q ≡ linked_plan name (link_answer layer o p us front)
 only_answered one layer name o p us front is q (unfit f e) = ap (linked_plan name) (sym (unfit_answers layer o p us front f e))
 only_answered one layer name o p us front is q (answered other also) = ap (λ (x : Result CUnit SourceFault). linked_plan name (link_answer layer o p us x)) (one o.source other front also is)
@@ -71,7 +71,7 @@ only_unfit layer name o p us f e q (answered front is) = ap (linked_plan name) (
 plan_unfit : (layer : Layers) (name : List ℕ) (o : Object) (p : Params) (us : List (List ℕ)) (f : LinkFault) → fitting p us ≡ Err f → IsPlan ⊤ (AfterParts layer name o p us) (refuses (unlinked f))
 plan_unfit layer name o p us f e = record { comes = unfit f e; only = λ t q h. only_unfit layer name o p us f e q h }
 
-plan_answered : OneAnswer → (layer : Layers) (name : List ℕ) (o : Object) (p : Params) (us : List (List ℕ)) (front : Result CUnit SourceFault) → IsAnswer o.source front
+plan_answered : OneAnswer → (layer : Layers) (name : List ℕ) (o : Object) (p : Params) (us : List (List ℕ)) (front : Result CUnit SourceFault) → IsFrontAnswer o.source front
     → IsPlan ⊤ (AfterParts layer name o p us) (linked_plan name (link_answer layer o p us front))
 plan_answered one layer name o p us front is = record { comes = answered front is; only = λ t q h. only_answered one layer name o p us front is q h }
 
@@ -93,7 +93,7 @@ link_stops linking.Memory = inl refl
 
 -- a fault is refused, by whether the parts fit and by what the front came to
 refused_link : OneAnswer → (layer : Layers) (name : List ℕ) (o : Object) (p : Params) (us : List (List ℕ)) (front : Result CUnit SourceFault) (f : LinkFault) (fit : Result (Unit {0}) LinkFault)
-    → fitting p us ≡ fit → f ≢ linking.Memory → Comes o.source front → link_answer layer o p us front ≡ Err f → IsPlan ⊤ (AfterParts layer name o p us) (refuses (unlinked f))
+    → fitting p us ≡ fit → f ≢ linking.Memory → FrontGives o.source front → link_answer layer o p us front ≡ Err f → IsPlan ⊤ (AfterParts layer name o p us) (refuses (unlinked f))
 refused_link one layer name o p us front f (Err g) e named comes a =
     let same : g ≡ f = one_fault (link_answer layer o p us front) g f (unfit_answers layer o p us front g e) a in
     subst (λ (x : LinkFault). IsPlan ⊤ (AfterParts layer name o p us) (refuses (unlinked x))) same (plan_unfit layer name o p us g e)
@@ -104,7 +104,7 @@ refused_link one layer name o p us front f (Ok u) e named comes a = elim (answer
 
 -- THE FAULT of linking
 pub linked_fault : OneAnswer → (layer : Layers) (name : List ℕ) (o : Object) (p : Params) (us : List (List ℕ)) (f : LinkFault) (front : Result CUnit SourceFault)
-    → Comes o.source front → (f ≡ linking.Memory) ⊎ (link_answer layer o p us front ≡ Err f) → IfRefused (IsPlan ⊤ (AfterParts layer name o p us)) (link_stop f)
+    → FrontGives o.source front → (f ≡ linking.Memory) ⊎ (link_answer layer o p us front ≡ Err f) → IfRefused (IsPlan ⊤ (AfterParts layer name o p us)) (link_stop f)
 linked_fault one layer name o p us f front comes (inl e) = subst (λ (x : LinkFault). IfRefused (IsPlan ⊤ (AfterParts layer name o p us)) (link_stop x)) (sym e) tt
 linked_fault one layer name o p us f front comes (inr a) = elim (link_stops f) [
   | inl e ↦ subst (λ (x : LinkFault). IfRefused (IsPlan ⊤ (AfterParts layer name o p us)) (link_stop x)) (sym e) tt
@@ -113,23 +113,23 @@ linked_fault one layer name o p us f front comes (inr a) = elim (link_stops f) [
 
 -- THE IMAGE that is linked
 image_linked : OneAnswer → (layer : Layers) (name : List ℕ) (o : Object) (p : Params) (us : List (List ℕ)) (i : Image) (front : Result CUnit SourceFault) (fit : Result (Unit {0}) LinkFault)
-    → fitting p us ≡ fit → Comes o.source front → link_answer layer o p us front ≡ Ok i → IsPlan ⊤ (AfterParts layer name o p us) (puts name (image_bytes i))
+    → fitting p us ≡ fit → FrontGives o.source front → link_answer layer o p us front ≡ Ok i → IsPlan ⊤ (AfterParts layer name o p us) (puts name (image_bytes i))
 image_linked one layer name o p us i front (Err g) e comes a = absurd (not_both (link_answer layer o p us front) i g a (unfit_answers layer o p us front g e))
 image_linked one layer name o p us i (Err f) (Ok u) e comes a = absurd (not_both (link_answer layer o p us (Err f)) i (link_source_fault f) a (no_unit layer o p us f e))
 image_linked one layer name o p us i (Ok v) (Ok u) e comes a =
     subst (λ (x : Result Image LinkFault). IsPlan ⊤ (AfterParts layer name o p us) (linked_plan name x)) a (plan_answered one layer name o p us (Ok v) comes)
 
 pub linked_whole : OneAnswer → (layer : Layers) (name bytes : List ℕ) (o : Object) (p : Params) (us : List (List ℕ)) (i : Image) (front : Result CUnit SourceFault)
-    → Comes o.source front → link_answer layer o p us front ≡ Ok i → bytes ≡ image_bytes i → IsPlan ⊤ (AfterParts layer name o p us) (puts name bytes)
+    → FrontGives o.source front → link_answer layer o p us front ≡ Ok i → bytes ≡ image_bytes i → IsPlan ⊤ (AfterParts layer name o p us) (puts name bytes)
 linked_whole one layer name bytes o p us i front comes a e =
     subst (λ (bs : List ℕ). IsPlan ⊤ (AfterParts layer name o p us) (puts name bs)) (sym e) (image_linked one layer name o p us i front (fitting p us) refl comes a)
 
 -- IT IS ACCEPTED
 pub linked_accepted : LinkedAreAccepted → (layer : Layers) (o : Object) (p : Params) (us : List (List ℕ)) (i : Image) (front : Result CUnit SourceFault) (bytes : List ℕ)
-    → Comes o.source front → link_answer layer o p us front ≡ Ok i → image_of bytes ≡ Ok i → IsAcceptedAs layer o.source p us bytes
+    → FrontGives o.source front → link_answer layer o p us front ≡ Ok i → image_of bytes ≡ Ok i → IsAcceptedAs layer o.source p us bytes
 linked_accepted law layer o p us i front bytes comes a e =
     let found = law layer o p us front i a in
-    accepted_as layer o.source p us found.unit i bytes (subst (Comes o.source) found.read comes) found.source
+    accepted_as layer o.source p us found.unit i bytes (subst (FrontGives o.source) found.read comes) found.source
     (subst (λ (x : Result CUnit SourceFault). accept_answer layer i x ≡ Ok (linked_system layer found.unit p us)) found.read found.accepted) e
 
 -- THE STAGES BEFORE: the object, the parameters, the users.

@@ -4,14 +4,14 @@ use Rattle.std.specs.List.{AllByRecursion}
 use Rattle.std.proofs.Common.{◌≡◌, ℕ, zero, suc, ◌^◌, ◌<◌, ◌≤◌, Bool, true, false, All, List, [], ◌∷◌, length, Ok, Err, Some, refl, sym, ap, ◌∙◌, arith}
 use Rattle.std.proofs.lemmas.Bool.{ltb-false}
 use Rattle.std.proofs.lemmas.List.Elements.{All-head, All-tail}
-use Rattle.cvm_words.specs.Bytes.{word, words_of}
+use Rattle.cvm_words.specs.Bytes.{word, words_of_bytes}
 use Rattle.cvm_words.proofs.BytesOfWords.{words_of-words}
 use Rattle.mips_table.specs.Fits.{IsWord}
 use Rattle.c0_tree.specs.declared.primitive.Program.TheVariants.{User}
 use Rattle.c0_tree.specs.Tree.{CUnit}
 use Rattle.c0_meaning.specs.Unit.{IsCheckedAs}
 use Rattle.c0_types.specs.Front.{IsUnitAs}
-use Rattle.boot_image.specs.Parts.{Parts as Image}
+use Rattle.boot_image.specs.Parts.{ImageParts as Image}
 use Rattle.boot_image.specs.Reading.{answer as image_of}
 use Rattle.boot_image.specs.declared.fault.ImageFault.{ImageFault}
 use Rattle.kernel_linker.specs.Accept.{ImageSystem}
@@ -52,26 +52,26 @@ bits : (ws : List ℕ) → All IsWord ws → AllByRecursion (λ w. w < 2 ^ 32) w
 bits [] h = tt
 bits (w ∷ ws) h = (All-head IsWord w ws h, bits ws (All-tail IsWord w ws h))
 
-read_back : (ws : List ℕ) → All IsWord ws → words_of (bytes_of ws) ≡ ws
+read_back : (ws : List ℕ) → All IsWord ws → words_of_bytes (bytes_of ws) ≡ ws
 unfolding word
 read_back ws h = words_of-words ws (bits ws h)
 
 -- a file's words are those of its user
-users_words : (first : ℕ) (files words : List (List ℕ)) (i : ℕ) (file : List ℕ) → words_from first files ≡ Ok words → slice_get files i ≡ Some file → slice_get words i ≡ Some (words_of file)
+users_words : (first : ℕ) (files words : List (List ℕ)) (i : ℕ) (file : List ℕ) → words_from first files ≡ Ok words → slice_get files i ≡ Some file → slice_get words i ≡ Some (words_of_bytes file)
 users_words first [] words i file e h = absurd (cc)
 users_words first (f ∷ files) words i file e h = by (nat_eq (length f % 4) 0) e (λ k rest. users_words (suc first) files rest k file)
   where
-    place : (i : ℕ) (rest : List (List ℕ)) → slice_get (f ∷ files) i ≡ Some file → ((k : ℕ) → slice_get files k ≡ Some file → slice_get rest k ≡ Some (words_of file)) → slice_get (words_of f ∷ rest) i ≡ Some (words_of file)
-    place zero rest h more = let same : f ≡ file = cc in ap (λ (b : List ℕ). Some (words_of b)) same
+    place : (i : ℕ) (rest : List (List ℕ)) → slice_get (f ∷ files) i ≡ Some file → ((k : ℕ) → slice_get files k ≡ Some file → slice_get rest k ≡ Some (words_of_bytes file)) → slice_get (words_of_bytes f ∷ rest) i ≡ Some (words_of_bytes file)
+    place zero rest h more = let same : f ≡ file = cc in ap (λ (b : List ℕ). Some (words_of_bytes b)) same
     place (suc i) rest h more = more i h
 
-    before : (r : Result (List (List ℕ)) FileFault) → words_from (suc first) files ≡ r → before_them (words_of f) r ≡ Ok words
-        → ((k : ℕ) (rest : List (List ℕ)) → words_from (suc first) files ≡ Ok rest → slice_get files k ≡ Some file → slice_get rest k ≡ Some (words_of file)) → slice_get words i ≡ Some (words_of file)
-    before (Ok rest) q k more = let same : words_of f ∷ rest ≡ words = cc in ap (λ (ws : List (List ℕ)). slice_get ws i) (sym same) ∙ place i rest h (λ k g. more k rest q g)
+    before : (r : Result (List (List ℕ)) FileFault) → words_from (suc first) files ≡ r → before_them (words_of_bytes f) r ≡ Ok words
+        → ((k : ℕ) (rest : List (List ℕ)) → words_from (suc first) files ≡ Ok rest → slice_get files k ≡ Some file → slice_get rest k ≡ Some (words_of_bytes file)) → slice_get words i ≡ Some (words_of_bytes file)
+    before (Ok rest) q k more = let same : words_of_bytes f ∷ rest ≡ words = cc in ap (λ (ws : List (List ℕ)). slice_get ws i) (sym same) ∙ place i rest h (λ k g. more k rest q g)
     before (Err x) q k more = absurd (cc)
 
-    by : (b : Bool) → (if b then before_them (words_of f) (words_from (suc first) files) else Err (UserTorn first (length f))) ≡ Ok words
-        → ((k : ℕ) (rest : List (List ℕ)) → words_from (suc first) files ≡ Ok rest → slice_get files k ≡ Some file → slice_get rest k ≡ Some (words_of file)) → slice_get words i ≡ Some (words_of file)
+    by : (b : Bool) → (if b then before_them (words_of_bytes f) (words_from (suc first) files) else Err (UserTorn first (length f))) ≡ Ok words
+        → ((k : ℕ) (rest : List (List ℕ)) → words_from (suc first) files ≡ Ok rest → slice_get files k ≡ Some file → slice_get rest k ≡ Some (words_of_bytes file)) → slice_get words i ≡ Some (words_of_bytes file)
     by true k more = before (words_from (suc first) files) refl k more
     by false k more = absurd (cc)
 
@@ -94,6 +94,6 @@ linked_programs checks whole words law = record {
         words =
             ap (λ (us : List (List ℕ)). slice_get us (u - 1)) (same_users law layer (image_of image) s _ accepts a.accepted.accepted)
             ∙ users_words 1 files a.words (u - 1) file a.words_are there
-            ∙ ap Some (ap words_of is.bytes_are ∙ read_back (image_words program) (words program checked small));
+            ∙ ap Some (ap words_of_bytes is.bytes_are ∙ read_back (image_words program) (words program checked small));
       };
 }

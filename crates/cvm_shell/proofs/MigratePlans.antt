@@ -5,9 +5,9 @@ use Rattle.std.specs.Option.{IsSome}
 use Rattle.cvm_outside.specs.Told.{TOO_LONG, Tells}
 use Rattle.layer_map.specs.Map.{Map}
 use Rattle.c0_tree.specs.Tree.{CUnit}
-use Rattle.c0_types.specs.Front.{IsAnswer}
+use Rattle.c0_types.specs.Front.{IsFrontAnswer}
 use Rattle.c0_types.specs.declared.source_fault.SourceFault.{SourceFault}
-use Rattle.boot_image.specs.Parts.{Parts as Image}
+use Rattle.boot_image.specs.Parts.{ImageParts as Image}
 use Rattle.boot_image.specs.Format.{spelling as image_bytes}
 use Rattle.boot_image.specs.Reading.{answer as image_of, old_answer as old_image_of}
 use Rattle.boot_image.specs.declared.fault.ImageFault.{ImageFault}
@@ -59,7 +59,7 @@ migrated_whole one layer name old bytes i answers e =
 accepted_anew : MigratedAreAccepted → (layer : Layers) (old : Image) (i : Image) (bytes : List ℕ) → Renews layer (Ok old) (Ok i) → image_of bytes ≡ Ok i → IsAcceptedAs layer old.source old.params old.users bytes
 accepted_anew law layer old i bytes (front, is, e) read =
     let anew = law layer old front i (sym e) in
-    accepted_as layer old.source old.params old.users anew.unit i bytes (subst (IsAnswer old.source) anew.read is) anew.source
+    accepted_as layer old.source old.params old.users anew.unit i bytes (subst (IsFrontAnswer old.source) anew.read is) anew.source
     (subst (λ (x : Result CUnit SourceFault). accept_answer layer i x ≡ Ok (linked_system layer anew.unit old.params old.users)) anew.read anew.accepted) read
 
 accepted_old : MigratedAreAccepted → (layer : Layers) (old bytes : List ℕ) (i : Image) (image : Result Image ImageFault) → old_image_of old ≡ image → Renews layer image (Ok i) → image_of bytes ≡ Ok i → IsAcceptedAsOld layer old bytes

@@ -3,10 +3,10 @@ use Rattle.std.specs.Prelude.{◌-◌, ◌++◌, length, slice_get, slice_index_
 use Rattle.std.specs.Option.{option_map}
 use Rattle.std.specs.Io.KnownBytes.{append_known}
 use Rattle.std.proofs.Common.{◌≡◌, ℕ, zero, suc, ◌≤◌, List, [], ◌∷◌, Some, None, refl, sym, ap, ◌∙◌, subst}
-use Rattle.mips_table.specs.Device.{Outside as Surroundings}
+use Rattle.mips_table.specs.Device.{Environment}
 use Rattle.mips_table.specs.Machine.{State}
 use Rattle.mips_table.specs.Flat.{Flat}
-use Rattle.mips_table.specs.Turns.{turn_of, complete, lines_of, end_within}
+use Rattle.mips_table.specs.Turns.{turn_of, complete, lines_of_turn, end_within}
 use Rattle.schedule_file.specs.Rows.{Rows}
 use Rattle.c0_tree.specs.Tree.{CUnit}
 use Rattle.cvm_model.specs.Kernel.{JournalEntry}
@@ -22,8 +22,8 @@ use Rattle.boot_turns.specs.declared.answers.View.{View}
 use Rattle.boot_run.specs.RunEnds.{SeesUser}
 use Rattle.kernel_linker.specs.Accept.{ImageSystem}
 use Rattle.user_c0.specs.Image.{image_words}
-use Rattle.user_c0.specs.Events.{IsAnswered}
-use Rattle.user_c0.specs.Program.{ImagesRun, Follows}
+use Rattle.user_c0.specs.Events.{IsAnsweredJournal}
+use Rattle.user_c0.specs.Program.{ImagesRun, FollowsMain}
 use Rattle.cvm_shell.specs.declared.exit_status.Status.TheVariants.{StepLimit}
 use Rattle.cvm_shell.specs.Boot.{booted, around, first_state, ended_as}
 use Rattle.cvm_shell.specs.Stages.{JournalsReplay}
@@ -45,7 +45,7 @@ there f (Some last) text e = (last, refl)
 
 -- each journal of such a user that can be replayed is that of the program
 runs : ImagesRun → (program : CUnit) (s : ImageSystem) (rows : Rows) (u : ℕ) (j : List JournalEntry) (last : Flat) → HasProgram program s u → replay (first_of (booted s rows) u) j ≡ Some last
-    → (answered : IsAnswered j) → Follows program (first_flat (image_words program)) answered.events
+    → (answered : IsAnsweredJournal j) → FollowsMain program (first_flat (image_words program)) answered.events
 runs law program s rows u j last has replayed answered = law program has.checked has.small j answered last (ap (λ f. replay f j) (sym (starts program s rows u has)) ∙ replayed)
 
 pub booted_programs : ImagesRun → BootedProgramsRun
@@ -57,7 +57,7 @@ pub spent_programs : ImagesRun → SpentProgramsRun
 spent_programs law session u s rows before old new a program has answered = runs law program s rows u a.entries _ has a.replayed answered
 
 -- THE TEXT of a trace whose steps are spent
-text_so_far : (x : Surroundings) (y : System) (s : State) (v : View) (t : ℕ) (e : Ending) (text : List ℕ) → ended_as e ≡ StepLimit → TextAt x y s v t e text → Printed x y s v t text
+text_so_far : (x : Environment) (y : System) (s : State) (v : View) (t : ℕ) (e : Ending) (text : List ℕ) → ended_as e ≡ StepLimit → TextAt x y s v t e text → Printed x y s v t text
 text_so_far x y s v t headline.Done text e h = absurd (cc)
 text_so_far x y s v t headline.KernelFaulted text e h = absurd (cc)
 text_so_far x y s v t headline.OutOfSteps text e h = h
@@ -74,12 +74,12 @@ spent_traces law session u s rows before old new h sees traced =
     let user : (1 ≤ u) × (u ≤ length s.users) = subst (λ (v : View). SeesUser v (length s.users)) traced sees in
     let so : Printed x y m session.view t h.text = text_so_far x y m session.view t h.ending h.text (sym h.status_is) h.ran.text_is in
     let (j, shown, text) = subst (λ (v : View). Printed x y m v t h.text) traced so in
-    let mine = law s rows (lines_of x m) shown.units (complete x m t) u shown.past h.ran.past user.0 user.1 shown.cvm h.ran.cvm in
+    let mine = law s rows (lines_of_turn x m) shown.units (complete x m t) u shown.past h.ran.past user.0 user.1 shown.cvm h.ran.cvm in
     record {
       units = shown.units;
       turns = complete x m t;
       last = shown.past;
-      entries = journal y (lines_of x m) shown.units u (complete x m t);
+      entries = journal y (lines_of_turn x m) shown.units u (complete x m t);
       more = if nat_lt (complete x m t) (turn_of x m t) then entries_so_far x m y shown.units u t else [];
       turns_are = refl;
       run = shown.cvm;

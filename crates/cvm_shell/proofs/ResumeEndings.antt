@@ -9,7 +9,7 @@ use Rattle.cvm_outside.specs.Causes.{Rose}
 use Rattle.cvm_outside.specs.Told.{AppendsPart, TOO_LONG}
 use Rattle.cvm_words.specs.Bytes.{word}
 use Rattle.schedule_file.specs.Rows.{Rows}
-use Rattle.mips_table.specs.Device.{Outside as Surroundings}
+use Rattle.mips_table.specs.Device.{Environment}
 use Rattle.mips_table.specs.Machine.{State, run}
 use Rattle.mips_table.specs.Turns.{TurnLaws}
 use Rattle.mips_machine.specs.Steps.{outside_of}
@@ -113,7 +113,7 @@ module _ (r : Resumable) (c : Save) (old new : Host) where
 
   -- THE RUN that goes on
   -- words of a saved run tell its turns
-  few_turns : (x : Surroundings) (y : Run) (before left : List (List ℕ)) (few spent : ℕ) (words shown : List ℕ) → SavedAt x y (loaded y before) few spent words left shown → slice_index words 5 ≡ few
+  few_turns : (x : Environment) (y : Run) (before left : List (List ℕ)) (few spent : ℕ) (words shown : List ℕ) → SavedAt x y (loaded y before) few spent words left shown → slice_index words 5 ≡ few
   few_turns x y before left few spent words shown a = ap (λ (ws : List ℕ). slice_index ws 5) a.words_are
 
   joined : (e : RunEnd) (left now : List (List ℕ)) (words : List ℕ) → old.disk.sectors ≡ Some left → new.disk.sectors ≡ Some now → r.bytes.items ≡ flat_map word words
@@ -191,7 +191,7 @@ resumes_hold words c s rows machine left status old new (undone d is (inr (e, ge
 -- THE LAW
 
 -- what a run that goes on with no failed call comes to
-went_clean : (x : Surroundings) (y : Run) (before now : List (List ℕ)) (turns steps : ℕ) (calls : ℕ → State → Type 0) (shown : List ℕ) (had has : Option (List ℕ)) (e : RunEnd) → e ≢ ends.DiskFault → e ≢ ends.SinkFault
+went_clean : (x : Environment) (y : Run) (before now : List (List ℕ)) (turns steps : ℕ) (calls : ℕ → State → Type 0) (shown : List ℕ) (had has : Option (List ℕ)) (e : RunEnd) → e ≢ ends.DiskFault → e ≢ ends.SinkFault
     → GoesOnAs x y before now turns steps calls shown had has (ending_of_end e) → (text : List ℕ) × (has ≡ append_known had text) × RanOf x y before now view.Boot turns steps (ending_of_end e) (shown ++ text)
 went_clean x y before now turns steps calls shown had has ends.Done disk sink h = h
 went_clean x y before now turns steps calls shown had has ends.KernelFaulted disk sink h = h

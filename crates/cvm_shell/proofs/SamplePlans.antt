@@ -5,25 +5,25 @@ use Rattle.std.specs.Prelude.{Result, ⊤}
 use Rattle.layer_map.specs.declared.params.Params.{Params}
 use Rattle.real_layer.specs.Image.{layer_image}
 use Rattle.c0_tree.specs.Tree.{CUnit}
-use Rattle.c0_types.specs.Front.{IsAnswer, IsUnitOf, IsFaultOf, IsFirstFault}
+use Rattle.c0_types.specs.Front.{IsFrontAnswer, IsUnitOf, IsSourceFaultOf, IsFirstFault}
 use Rattle.c0_types.specs.declared.source_fault.SourceFault.{SourceFault}
 use Rattle.c0_types.specs.declared.source_fault.SourceFault.TheVariants.{Reading, Typing}
 use Rattle.c0_parser.specs.declared.fault.ReadFault.{ReadFault}
 use Rattle.c0_parser.specs.declared.fault.ReadFault.TheVariants as read
 use Rattle.c0_types.specs.declared.fault.TypeFault.{TypeFault}
 use Rattle.c0_types.specs.declared.fault.TypeFault.TheVariants as typing
-use Rattle.boot_image.specs.Parts.{Parts as Image}
+use Rattle.boot_image.specs.Parts.{ImageParts as Image}
 use Rattle.boot_image.specs.Format.{spelling as image_bytes}
 use Rattle.boot_image.specs.Reading.{answer as image_of}
-use Rattle.object_file.specs.Parts.{Parts as Object}
+use Rattle.object_file.specs.Parts.{ObjectParts as Object}
 use Rattle.schedule_file.specs.Rows.{Rows}
-use Rattle.kernel_linker.specs.Answers.{Comes}
+use Rattle.kernel_linker.specs.Answers.{FrontGives}
 use Rattle.kernel_linker.specs.Accept.{ImageSystem}
 use Rattle.kernel_linker.specs.Link.{fitting, link_answer}
 use Rattle.kernel_linker.specs.Object.{object_of}
 use Rattle.kernel_linker.specs.declared.fault.LinkFault.{LinkFault}
 use Rattle.kernel_linker.specs.declared.fault.LinkFault.TheVariants as linking
-use Rattle.sample_maker.specs.Parts.{Parts as Sampled}
+use Rattle.sample_maker.specs.Parts.{SampleParts as Sampled}
 use Rattle.cvm_shell.specs.declared.boot.Session.{Session}
 use Rattle.cvm_shell.specs.declared.boot.Stop.{Stop}
 use Rattle.cvm_shell.specs.declared.boot.Stop.TheVariants as Stops
@@ -39,7 +39,7 @@ use Rattle.cvm_shell.proofs.Fronts.{OneAnswer, answer_or_memory, one_fault, not_
 use Rattle.cvm_shell.proofs.LinkPlans.{Layers, unfit_answers, no_unit, memory_of, link_stops}
 
 -- what comes of a source's one answer is the plan
-front_plan : OneAnswer → (layer : Layers) (session : Session) (parts : Sampled) (front : Result CUnit SourceFault) (p : Plan) → IsAnswer parts.source front
+front_plan : OneAnswer → (layer : Layers) (session : Session) (parts : Sampled) (front : Result CUnit SourceFault) (p : Plan) → IsFrontAnswer parts.source front
     → IsPlan ⊤ (AfterSource layer session parts front) p → IsPlan ⊤ (PartsPlan layer session parts) p
 front_plan one layer session parts front p is plan = record {
   comes = (front, is, plan.comes);
@@ -49,7 +49,7 @@ front_plan one layer session parts front p is plan = record {
 -- THE FAULT of the source
 
 -- a fault of a source is want of memory, or it is its first fault, which is refused
-source_stops : (source : List ℕ) (f : SourceFault) → IsFaultOf source f → (source_stop f ≡ Stops.Memory) ⊎ (IsFirstFault source f × (source_stop f ≡ Stops.Refused (by.BadSource f)))
+source_stops : (source : List ℕ) (f : SourceFault) → IsSourceFaultOf source f → (source_stop f ≡ Stops.Memory) ⊎ (IsFirstFault source f × (source_stop f ≡ Stops.Refused (by.BadSource f)))
 source_stops source (Reading f) is = elim (unread_stops f) [
   | inl e ↦ inl (ap (λ (x : ReadFault). source_stop (Reading x)) e)
   | inr h ↦ inr (record { fault = is; read = λ e. h.0 (one_reading f read.Memory e); typed = λ e. cc }, h.1)
@@ -65,9 +65,9 @@ source_stops source (Typing f) is = elim (mistyped_stops f) [
     one_typing : (f g : TypeFault) → Typing f ≡ Typing g → f ≡ g
     one_typing f g e = cc
 
-pub parts_source_fault : OneAnswer → (layer : Layers) (session : Session) (parts : Sampled) (source : List ℕ) (f : SourceFault) → IsFaultOf source f → source ≡ parts.source
+pub parts_source_fault : OneAnswer → (layer : Layers) (session : Session) (parts : Sampled) (source : List ℕ) (f : SourceFault) → IsSourceFaultOf source f → source ≡ parts.source
     → IfRefused (IsPlan ⊤ (PartsPlan layer session parts)) (source_stop f)
-parts_source_fault one layer session parts source f is same = elim (source_stops parts.source f (subst (λ (s : List ℕ). IsFaultOf s f) same is)) [
+parts_source_fault one layer session parts source f is same = elim (source_stops parts.source f (subst (λ (s : List ℕ). IsSourceFaultOf s f) same is)) [
   | inl e ↦ subst (IfRefused (IsPlan ⊤ (PartsPlan layer session parts))) (sym e) tt
   | inr h ↦ subst (IfRefused (IsPlan ⊤ (PartsPlan layer session parts))) (sym h.1)
       (front_plan one layer session parts (Err f) (refuses (bad_source f)) h.0 (record { comes = refl; only = λ told q e. e }))
@@ -81,7 +81,7 @@ own_source source u = refl
 
 -- whatever the front came to, where it isn't want of memory the answer is that of the source's unit
 settled : OneAnswer → (layer : Layers) (o : Object) (p : Params) (us : List (List ℕ)) (u : CUnit) (front : Result CUnit SourceFault) (r : Result Image LinkFault) (fit : Result (Unit {0}) LinkFault)
-    → fitting p us ≡ fit → IsUnitOf o.source u → Comes o.source front → r ≢ Err linking.Memory → link_answer layer o p us front ≡ r → link_answer layer o p us (Ok u) ≡ r
+    → fitting p us ≡ fit → IsUnitOf o.source u → FrontGives o.source front → r ≢ Err linking.Memory → link_answer layer o p us front ≡ r → link_answer layer o p us (Ok u) ≡ r
 settled one layer o p us u front r (Err g) e is comes named a = unfit_answers layer o p us (Ok u) g e ∙ sym (unfit_answers layer o p us front g e) ∙ a
 settled one layer o p us u front r (Ok x) e is comes named a = elim (answer_or_memory o.source front comes) [
   | inl h ↦ absurd (named (sym a ∙ ap (link_answer layer o p us) h.1 ∙ no_unit layer o p us h.0 e ∙ ap (λ (f : LinkFault). Err f) (memory_of h.0 h.2)))
@@ -95,7 +95,7 @@ pub record Lent (parts : Sampled) (source : List ℕ) (params : Params) (users :
   pub users_are : users ≡ parts.users
 
 settled_for : OneAnswer → (layer : Layers) (parts : Sampled) (source : List ℕ) (ps : Params) (us : List (List ℕ)) (u : CUnit) (o : Object) (front : Result CUnit SourceFault) (r : Result Image LinkFault)
-    → Lent parts source ps us → IsUnitOf source u → o ≡ object_of source u → Comes o.source front → r ≢ Err linking.Memory → link_answer layer o ps us front ≡ r
+    → Lent parts source ps us → IsUnitOf source u → o ≡ object_of source u → FrontGives o.source front → r ≢ Err linking.Memory → link_answer layer o ps us front ≡ r
     → link_answer layer (object_of parts.source u) parts.params parts.users (Ok u) ≡ r
 settled_for one layer parts source ps us u o front r lent is made comes named a =
     let own : IsUnitOf o.source u = subst (λ (s : List ℕ). IsUnitOf s u) (sym (ap (λ (x : Object). x.source) made ∙ own_source source u)) is in
@@ -110,7 +110,7 @@ own_unit parts source ps us u lent is = subst (λ (s : List ℕ). IsUnitOf s u) 
 
 -- THE FAULT of linking
 pub parts_link_fault : OneAnswer → (layer : Layers) (session : Session) (parts : Sampled) (source : List ℕ) (ps : Params) (us : List (List ℕ)) (u : CUnit) (o : Object) (front : Result CUnit SourceFault) (f : LinkFault)
-    → IsUnitOf source u → o ≡ object_of source u → Comes o.source front → (f ≡ linking.Memory) ⊎ (link_answer layer o ps us front ≡ Err f) → Lent parts source ps us
+    → IsUnitOf source u → o ≡ object_of source u → FrontGives o.source front → (f ≡ linking.Memory) ⊎ (link_answer layer o ps us front ≡ Err f) → Lent parts source ps us
     → IfRefused (IsPlan ⊤ (PartsPlan layer session parts)) (link_stop f)
 parts_link_fault one layer session parts source ps us u o front f is made comes (inl e) lent =
     subst (λ (x : LinkFault). IfRefused (IsPlan ⊤ (PartsPlan layer session parts)) (link_stop x)) (sym e) tt
@@ -124,7 +124,7 @@ parts_link_fault one layer session parts source ps us u o front f is made comes 
 
 -- THE IMAGE that is linked
 pub parts_linked : OneAnswer → (layer : Layers) (parts : Sampled) (source : List ℕ) (ps : Params) (us : List (List ℕ)) (u : CUnit) (o : Object) (front : Result CUnit SourceFault) (i : Image) (bytes : List ℕ)
-    → IsUnitOf source u → o ≡ object_of source u → Comes o.source front → link_answer layer o ps us front ≡ Ok i → bytes ≡ image_bytes i → Lent parts source ps us → IsLinkedTo layer parts bytes
+    → IsUnitOf source u → o ≡ object_of source u → FrontGives o.source front → link_answer layer o ps us front ≡ Ok i → bytes ≡ image_bytes i → Lent parts source ps us → IsLinkedTo layer parts bytes
 parts_linked one layer parts source ps us u o front i bytes is made comes a e lent = record {
   unit = u;
   typed = own_unit parts source ps us u lent is;

@@ -1,11 +1,11 @@
 -- A run of a system that is never out of stack doesn't stop for want of it, and `fault StackOut` isn't printed.
 use Rattle.std.proofs.Common.{◌≡◌, ◌≢◌, ℕ, List, ◌++◌, sym, ◌∙◌, subst}
 use Rattle.std.specs.Prelude.{codes}
-use Rattle.mips_table.specs.Device.{Outside as Surroundings}
+use Rattle.mips_table.specs.Device.{Environment}
 use Rattle.cvm_model.specs.declared.kernel_fault.KernelFault.TheVariants.{StackOut}
 use Rattle.cvm_model.specs.Primitives.{user_of}
 use Rattle.cvm_model.specs.Cvm.{System, Faulted, Cvm, IsCvm}
-use Rattle.mips_table.specs.Turns.{lines_of}
+use Rattle.mips_table.specs.Turns.{lines_of_turn}
 use Rattle.mips_table.specs.Machine.{State}
 use Rattle.boot_turns.specs.TurnEnds.{first_of, Printed, Whole}
 use Rattle.boot_turns.specs.Headline as headline
@@ -18,7 +18,7 @@ use Rattle.cvm_shell.specs.Suffices.{EndsWith, StackOutIsNotPrinted}
 use Rattle.cvm_shell.proofs.Sufficient.{one_text}
 use Rattle.cvm_shell.proofs.StackTexts.{IsClean, rows_clean, boot_clean, journal_clean, trace_clean, clean_end}
 
-module _ (x : Surroundings) (y : System) (s : State) (never : (k : ℕ) (c : Cvm) → IsCvm y (lines_of x s) k c → c.status ≢ Faulted StackOut) where
+module _ (x : Environment) (y : System) (s : State) (never : (k : ℕ) (c : Cvm) → IsCvm y (lines_of_turn x s) k c → c.status ≢ Faulted StackOut) where
   printed_clean : (v : View) (t : ℕ) (text : List ℕ) → Printed x y s v t text → IsClean text
   printed_clean view.Boot t text (c, is, e) = subst IsClean (sym e) (rows_clean y _ _ c is (never _ c is))
   printed_clean (view.Trace u) t text (j, shown, e) = subst IsClean (sym e) (journal_clean u (first_of y u) j)
@@ -40,10 +40,10 @@ not_met words status ended old new before after source stack session s rows sect
     let x = around rows before in
     let y = booted s rows in
     let first = first_state session s rows sectors in
-    let clean : IsClean h.text = text_clean x y first (λ k c is. enough source stack s says has rows (lines_of x first) k c is) session.view _ h.ending h.text h.ran.text_is in
+    let clean : IsClean h.text = text_clean x y first (λ k c is. enough source stack s says has rows (lines_of_turn x first) k c is) session.view _ h.ending h.text h.ran.text_is in
     let same : (ends : EndsWith (fault_row StackOut) before after) → h.text ≡ ends.front ++ codes "fault StackOut\n" =
     λ ends. one_text before.sink.text ends.before h.text (ends.front ++ codes "fault StackOut\n") ends.before_told (sym h.printed ∙ ends.printed) in
     record {
-      meant = enough source stack s says has rows (lines_of x first) _ h.ran.past h.ran.cvm;
+      meant = enough source stack s says has rows (lines_of_turn x first) _ h.ran.past h.ran.cvm;
       printed = λ ends. clean_end ends.front (subst IsClean (same ends) clean);
     }

@@ -6,7 +6,7 @@ use Rattle.std.specs.Fmt.{signed_decimal, digits, digits_onto, digit_glyph}
 use Rattle.cvm_text.specs.Hex.{hex_digit, hex8}
 use Rattle.mips_table.specs.Flat.{Flat}
 use Rattle.c0_meaning.specs.Value.{Value, Values, int, bool, null, at, group, empty, part}
-use Rattle.cvm_model.specs.Kernel.{Core, parts_of, JournalEntry, Stepped, Trapped, Set, Size, Put, End, Answers, Faults, NotYet, DispatchOutcome}
+use Rattle.cvm_model.specs.Kernel.{Core, parts_of, JournalEntry, Stepped, Trapped, Set, Size, Put, DispatchEnd, Answers, Faults, NotYet, DispatchOutcome}
 use Rattle.cvm_model.specs.Primitives.{pages_of}
 use Rattle.cvm_model.specs.declared.kernel_fault.KernelFault.{KernelFault}
 use Rattle.cvm_model.specs.declared.kernel_fault.KernelFault.TheVariants.{NullUse, Bounds, DivZero, StackOut, BadUser}
@@ -245,7 +245,7 @@ module _ (y : System) where
   dispatched_other d c k cause edata current pending o n h =
       moved (dispatched y d k cause edata current pending o n) c (λ other. all_more d.rows (record { turn = k; cause = cause; edata = edata; user = current; next = n }) h (λ out. other (status_out n out)))
 
-  after_other : (d c : Cvm) (k cause edata current pending : ℕ) (o : DispatchOutcome) (end : End) → AllOther d.rows → after_dispatch y d k cause edata current pending o end ≡ Some c → Other c
+  after_other : (d c : Cvm) (k cause edata current pending : ℕ) (o : DispatchOutcome) (end : DispatchEnd) → AllOther d.rows → after_dispatch y d k cause edata current pending o end ≡ Some c → Other c
   after_other d c k cause edata current pending o (Answers a) h = dispatched_other d c k cause edata current pending o (next_of (length y.boot.users) a) h
   after_other d c k cause edata current pending o (Faults f) h = dispatched_other d c k cause edata current pending o (Fault f) h
   after_other d c k cause edata current pending o NotYet h = λ e. absurd cc

@@ -6,7 +6,7 @@ use Rattle.std.specs.Option.{IsSome}
 use Rattle.std.proofs.lemmas.List.{length-map}
 use Rattle.cvm_outside.specs.Causes.{Rose}
 use Rattle.schedule_file.specs.Rows.{Rows}
-use Rattle.mips_table.specs.Device.{Outside as Surroundings}
+use Rattle.mips_table.specs.Device.{Environment}
 use Rattle.mips_table.specs.Machine.{State}
 use Rattle.cvm_model.specs.Cvm.{System as Run}
 use Rattle.layer_contract.specs.declared.boot.Boot.{Boot as Booted}
@@ -91,7 +91,7 @@ rom_answers r session answer old new start ends goes_on stopped called =
 one_disk : (a b : List (List ℕ)) → Some a ≡ Some b → b ≡ a
 one_disk a b e = cc
 
-unmade_ends : (x : Surroundings) (y : Run) (s : State) (held : ℕ) (old now : List (List ℕ)) (v : View) (turns steps : ℕ) (calls : ℕ → State → Type 0) (before after : Option (List ℕ)) (f : LoadFault) → f ≢ load.Disk
+unmade_ends : (x : Environment) (y : Run) (s : State) (held : ℕ) (old now : List (List ℕ)) (v : View) (turns steps : ℕ) (calls : ℕ → State → Type 0) (before after : Option (List ℕ)) (f : LoadFault) → f ≢ load.Disk
     → now ≡ old → after ≡ before → AnswerEnds x y s held old now v turns steps calls before after (Err f)
 unmade_ends x y s held old now v turns steps calls before after load.Memory other same text = (same, text)
 unmade_ends x y s held old now v turns steps calls before after load.Disk other same text = absurd (other refl)

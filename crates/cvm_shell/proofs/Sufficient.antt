@@ -7,19 +7,19 @@ use Rattle.std.specs.Io.KnownBytes.{append_known}
 use Rattle.cvm_outside.specs.Told.{Tells}
 use Rattle.layer_map.specs.Map.{Map}
 use Rattle.c0_tree.specs.Tree.{CUnit}
-use Rattle.c0_types.specs.Front.{IsAnswer}
+use Rattle.c0_types.specs.Front.{IsFrontAnswer}
 use Rattle.c0_types.specs.declared.source_fault.SourceFault.{SourceFault}
 use Rattle.c0_types.specs.declared.source_fault.SourceFault.TheVariants.{Reading, Typing}
 use Rattle.bound_check.specs.Chains.{IsLongest}
 use Rattle.bound_check.specs.Text.{names_text}
 use Rattle.bound_check.specs.Kept.{LongestIsKept}
-use Rattle.object_file.specs.Answer.{IsAnswer as IsObject}
-use Rattle.object_file.specs.Parts.{Parts as Object}
-use Rattle.boot_image.specs.Parts.{Parts as Image}
+use Rattle.object_file.specs.Answer.{IsObjectAnswer as IsObject}
+use Rattle.object_file.specs.Parts.{ObjectParts as Object}
+use Rattle.boot_image.specs.Parts.{ImageParts as Image}
 use Rattle.real_layer.specs.Image.{layer_image}
 use Rattle.cvm_model.specs.KernelMeaning.{kernel_meaning}
 use Rattle.kernel_linker.specs.Linked.{linked, sizes_of}
-use Rattle.kernel_linker.specs.Accept.{ImageSystem, ◌>>=◌, stored, accept_answer}
+use Rattle.kernel_linker.specs.Accept.{ImageSystem, ◌>>=◌, words_match, accept_answer}
 use Rattle.kernel_linker.specs.Open.{open_answer}
 use Rattle.kernel_linker.specs.Laws.{OpenedUnitsAreTheirSources}
 use Rattle.kernel_linker.specs.declared.fault.AcceptFault.{AcceptFault}
@@ -122,13 +122,13 @@ told_of stack (Err f) (Ok other) text e h = absurd h
 told_of stack (Err f) (Err r) text e h = absurd cc
 
 told_room : OneObject → OpenedUnitsAreTheirSources → (stack : ℕ) (bytes : List ℕ) (o : Object) (told : Told) (text rest : List ℕ) → IsObject bytes (Ok o) → told ≡ Ok text → text ≡ codes "yes " ++ rest → TellsObject stack bytes told
-    → (u : CUnit) × IsAnswer o.source (Ok u) × Roomy stack u
+    → (u : CUnit) × IsFrontAnswer o.source (Ok u) × Roomy stack u
 told_room read law stack bytes o told text rest is e yes_there (no_object f other) = absurd cc
 told_room read law stack bytes o told text rest is e yes_there (has_object p front tale other of h) =
     let (u, opened, tells) = told_of stack (open_answer p front) told text e h in
     let same : p ≡ o = let d = read bytes (Ok p) (Ok o) other is in cc in
     let found : front ≡ Ok u = law p front u opened in
-    (u, subst (λ (x : Object). IsAnswer x.source (Ok u)) same (subst (IsAnswer p.source) found of), says_room stack u text rest tells yes_there)
+    (u, subst (λ (x : Object). IsFrontAnswer x.source (Ok u)) same (subst (IsFrontAnswer p.source) found of), says_room stack u text rest tells yes_there)
 
 -- the file of the words
 told_bytes : (file : Option (List ℕ)) (bytes other : List ℕ) → file ≡ Some bytes → Tells file other → other ≡ bytes
@@ -136,7 +136,7 @@ told_bytes file bytes other e h = let P : Option (List ℕ) → Type 0 = λ o. T
 
 -- the plan of a check
 room_of : OneObject → OpenedUnitsAreTheirSources → (words : List (List ℕ)) (source : List ℕ) (stack : ℕ) (status : Status) (old new : Host) (y : SaysYes words source stack old new) (p : Plan)
-    → Got (old.shelf.file y.check.object) (AfterChecked y.check.stack) p → PlanEnds p status old new → (u : CUnit) × IsAnswer y.object.source (Ok u) × Roomy y.check.stack u
+    → Got (old.shelf.file y.check.object) (AfterChecked y.check.stack) p → PlanEnds p status old new → (u : CUnit) × IsFrontAnswer y.object.source (Ok u) × Roomy y.check.stack u
 room_of read law words source stack status old new y p (long bytes t many) ends =
     let (more, e) = said_yes (refusal_status refusal.too_long) status (refusal_text refusal.too_long) old new y.before y.rest y.before_told y.printed ends in absurd (not_refused refusal.too_long more e)
 room_of read law words source stack status old new y p (whole bytes r t short (told, tells, e)) ends =
@@ -154,13 +154,13 @@ accepted_unit : (layer : Map → List ℕ → List ℕ) (i : Image) (front : Res
 unfolding accept_answer
 accepted_unit layer i (Err f) s e = absurd cc
 accepted_unit layer i (Ok u) s e =
-    ap (λ (x : ImageSystem). Ok x.unit) (through (stored i (linked layer u i.params (sizes_of i.users))) (record { params = i.params; unit = u; words = linked layer u i.params (sizes_of i.users); users = i.users }) s e)
+    ap (λ (x : ImageSystem). Ok x.unit) (through (words_match i (linked layer u i.params (sizes_of i.users))) (record { params = i.params; unit = u; words = linked layer u i.params (sizes_of i.users); users = i.users }) s e)
 
-system_unit : OneAnswer → (source : List ℕ) (stack : ℕ) (s : ImageSystem) (u : CUnit) → IsAnswer source (Ok u) → HasStack source stack s → s.unit ≡ u
+system_unit : OneAnswer → (source : List ℕ) (stack : ℕ) (s : ImageSystem) (u : CUnit) → IsFrontAnswer source (Ok u) → HasStack source stack s → s.unit ≡ u
 system_unit one source stack s u is has =
     let (front, of, e) = has.accepted in
     let mine : front ≡ Ok s.unit = accepted_unit layer_image has.image front s e in
-    let theirs : front ≡ Ok u = one source front (Ok u) (subst (λ (x : List ℕ). IsAnswer x front) has.source_is of) is in
+    let theirs : front ≡ Ok u = one source front (Ok u) (subst (λ (x : List ℕ). IsFrontAnswer x front) has.source_is of) is in
     let same : Ok s.unit ≡ Ok u = sym mine ∙ theirs in
     cc
 
@@ -175,5 +175,5 @@ pub suffices : OneAnswer → OneObject → OpenedUnitsAreTheirSources → Longes
 suffices one read opened law words source stack s status old new (done p plan took ends) y has =
     let (u, is, room) = room_of read opened words source stack status old new y p (its_plan words old.shelf.file (check y.check) y.asked p plan.comes) ends in
     let enough : y.check.stack ≤ s.params.stack = subst (λ (n : ℕ). n ≤ s.params.stack) y.stack_is has.enough in
-    never_out law y.check.stack u s room (system_unit one source stack s u (subst (λ (x : List ℕ). IsAnswer x (Ok u)) (sym y.source_is) is) has) enough
+    never_out law y.check.stack u s room (system_unit one source stack s u (subst (λ (x : List ℕ). IsFrontAnswer x (Ok u)) (sym y.source_is) is) has) enough
 suffices one read opened law words source stack s status old new (undone c is why few same) y has = absurd (not_nothing old new y.before y.rest y.before_told y.printed same)

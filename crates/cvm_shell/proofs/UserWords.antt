@@ -2,7 +2,7 @@
 use Rattle.std.proofs.Common.{◌≡◌, ℕ, suc, ◌+◌, ◌*◌, ◌<◌, ◌%◌, List, [], ◌∷◌, ◌++◌, length, map, drop, get_or, Vec, Global, refl, sym, ap, ◌∙◌, arith, append_assoc, Ok, Err, eq-eqb}
 use Rattle.std.specs.Prelude.{Result, flat_map}
 use Rattle.std.proofs.lemmas.List.{length-append, drop_more}
-use Rattle.cvm_words.specs.Bytes.{word, words_of}
+use Rattle.cvm_words.specs.Bytes.{word, words_of_bytes}
 use Rattle.system_files.specs.declared.fault.FileFault.{FileFault}
 use Rattle.cvm_shell.specs.Plan.{words_from, before_them}
 
@@ -23,7 +23,7 @@ length_words (w ∷ words) = omega (arith, length-append (word w) (flat_map word
 whole_words : (words bytes : List ℕ) → flat_map word words ≡ bytes → length bytes % 4 ≡ 0
 whole_words words bytes e = omega (arith, length_words words, ap length e)
 
-read_next : (user : ℕ) (bytes : List ℕ) (rest : List (List ℕ)) → length bytes % 4 ≡ 0 → words_from user (bytes ∷ rest) ≡ before_them (words_of bytes) (words_from (suc user) rest)
+read_next : (user : ℕ) (bytes : List ℕ) (rest : List (List ℕ)) → length bytes % 4 ≡ 0 → words_from user (bytes ∷ rest) ≡ before_them (words_of_bytes bytes) (words_from (suc user) rest)
 read_next user bytes rest e = rw (eq-eqb (length bytes % 4) 0 e) refl
 
 behind_one : (users : List (List ℕ)) (words : List ℕ) (r : Result (List (List ℕ)) FileFault) → behind users (before_them words r) ≡ behind (users ++ words ∷ []) r
@@ -31,10 +31,10 @@ behind_one users words (Ok rest) = ap (λ (x : List (List ℕ)). Ok x) (sym (app
 behind_one users words (Err f) = refl
 
 -- a file more was read
-pub one_more : (all : Result (List (List ℕ)) FileFault) (users : List (List ℕ)) (user : ℕ) (words bytes : List ℕ) (rest : List (List ℕ)) → flat_map word words ≡ bytes → words ≡ words_of bytes
+pub one_more : (all : Result (List (List ℕ)) FileFault) (users : List (List ℕ)) (user : ℕ) (words bytes : List ℕ) (rest : List (List ℕ)) → flat_map word words ≡ bytes → words ≡ words_of_bytes bytes
     → all ≡ behind users (words_from user (bytes ∷ rest)) → all ≡ behind (users ++ words ∷ []) (words_from (suc user) rest)
 one_more all users user words bytes rest spelled is e =
-    e ∙ ap (behind users) (read_next user bytes rest (whole_words words bytes spelled)) ∙ behind_one users (words_of bytes) (words_from (suc user) rest)
+    e ∙ ap (behind users) (read_next user bytes rest (whole_words words bytes spelled)) ∙ behind_one users (words_of_bytes bytes) (words_from (suc user) rest)
     ∙ ap (λ (w : List ℕ). behind (users ++ w ∷ []) (words_from (suc user) rest)) (sym is)
 
 -- THE LOOP over the files of users.
@@ -51,7 +51,7 @@ files_left files i file bytes below is same =
     ap Texts (drop_more files i file below) ∙ ap (λ (f : Vec ℕ Global). f.items ∷ Texts (drop (i + 1) files)) (sym is) ∙ ap (λ (b : List ℕ). b ∷ Texts (drop (i + 1) files)) (sym same)
 
 pub next_words : (all : Result (List (List ℕ)) FileFault) (users more files : List (Vec ℕ Global)) (i user : ℕ) (file words : Vec ℕ Global) (bytes : List ℕ) → i < length files → file ≡ get_or files i file → bytes ≡ file.items
-    → flat_map word words.items ≡ bytes → words.items ≡ words_of bytes → more ≡ users ++ words ∷ []
+    → flat_map word words.items ≡ bytes → words.items ≡ words_of_bytes bytes → more ≡ users ++ words ∷ []
     → all ≡ behind (Texts users) (words_from user (Texts (drop i files))) → all ≡ behind (Texts more) (words_from (user + 1) (Texts (drop (i + 1) files)))
 next_words all users more files i user file words bytes below is same spelled read pushed e =
     let here : all ≡ behind (Texts users) (words_from user (bytes ∷ Texts (drop (i + 1) files))) =

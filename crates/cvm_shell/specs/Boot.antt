@@ -8,10 +8,10 @@ use Rattle.schedule_file.specs.Rows.{Rows, longest}
 use Rattle.schedule_file.specs.Schedule.{schedule_of}
 use Rattle.boot_image.specs.Reading.{answer as image_of}
 use Rattle.real_layer.specs.Image.{layer_image}
-use Rattle.mips_table.specs.Device.{Outside as Surroundings}
+use Rattle.mips_table.specs.Device.{Environment}
 use Rattle.mips_table.specs.Machine.{State}
 use Rattle.mips_machine.specs.Steps.{outside_of}
-use Rattle.mips_table.specs.Turns.{lines_of}
+use Rattle.mips_table.specs.Turns.{lines_of_turn}
 use Rattle.cvm_model.specs.Cvm.{System, Cvm, IsCvm}
 use Rattle.cvm_model.specs.KernelMeaning.{kernel_meaning}
 use Rattle.layer_contract.specs.Follows.{loaded}
@@ -28,7 +28,7 @@ use Rattle.cvm_shell.specs.declared.exit_status.Status.TheVariants.{Done, Refuse
 use Rattle.cvm_shell.specs.declared.boot.Session.{Session}
 use Rattle.cvm_shell.specs.declared.boot.StartPoint.{StartPoint}
 use Rattle.cvm_shell.specs.declared.boot.StartPoint.TheVariants.{Loaded, Rom}
-use Rattle.sample_maker.specs.Parts.{Parts as Sampled}
+use Rattle.sample_maker.specs.Parts.{SampleParts as Sampled}
 use Rattle.sample_maker.specs.Sample.{sample_of}
 use Rattle.cvm_shell.specs.Command.{Boot, Trace, Sample, IsBoot, IsTrace, IsSample, boot_session, trace_session, sample_session}
 use Rattle.cvm_shell.specs.Host.{Host, LeavesHost, Says, counts}
@@ -44,7 +44,7 @@ booted s rows = record {
 }
 
 -- what surrounds its machine: the schedule's lines and busy times, and the number of sectors
-abbrev pub around : Rows → Host → Surroundings
+abbrev pub around : Rows → Host → Environment
 around rows old = outside_of rows old.disk.size
 
 -- THE START of a run, over a disk with these sectors: the loaded machine; or the machine with the boot ROM that loads it
@@ -80,7 +80,7 @@ load_calls session s rows n before = tally_made (is_written session.start (boote
 
 -- so many turns of the abstract run lead to this, with the lines that the machine meets from there
 abbrev pub IsBooted : Session → Host → ImageSystem → Rows → (sectors : List (List ℕ)) → (turns : ℕ) → Cvm → Type 0
-IsBooted session old s rows sectors turns c = IsCvm (booted s rows) (lines_of (around rows old) (first_state session s rows sectors)) turns c
+IsBooted session old s rows sectors turns c = IsCvm (booted s rows) (lines_of_turn (around rows old) (first_state session s rows sectors)) turns c
 
 -- the machine comes to the end of every turn of the abstract run, within its bound and the steps before the layer's
 abbrev pub SessionGoesOn : Session → Host → ImageSystem → Rows → (sectors : List (List ℕ)) → Type 0

@@ -1,12 +1,12 @@
 -- A check: its words, and what it tells of the object that it gets: how much stack the object's kernel needs.
 use Rattle.std.specs.Prelude.{◌≡◌, ℕ, ◌≤◌, List, [], ◌∷◌, Result, Ok, Err, decimal, codes}
 use Rattle.c0_tree.specs.Tree.{CUnit as Unit}
-use Rattle.c0_types.specs.Front.{IsAnswer}
+use Rattle.c0_types.specs.Front.{IsFrontAnswer}
 use Rattle.c0_types.specs.declared.source_fault.SourceFault.{SourceFault}
 use Rattle.bound_check.specs.Chains.{IsLongest, IsLeastLoop}
 use Rattle.bound_check.specs.Text.{chain_text, loop_text}
-use Rattle.object_file.specs.Answer.{IsAnswer as IsObject}
-use Rattle.object_file.specs.Parts.{Parts as Object}
+use Rattle.object_file.specs.Answer.{IsObjectAnswer as IsObject}
+use Rattle.object_file.specs.Parts.{ObjectParts as Object}
 use Rattle.object_file.specs.declared.fault.ObjectFault.{ObjectFault}
 use Rattle.kernel_linker.specs.Open.{open_answer}
 use Rattle.kernel_linker.specs.declared.fault.LinkFault.{LinkFault}
@@ -41,5 +41,5 @@ TellsOpened stack opened told = ⊥
 -- OF THE BYTES of an object: it is read, then opened
 pub data TellsObject (stack : ℕ) (bytes : List ℕ) : Told → Type 0 where
   no_object : (f : ObjectFault) → IsObject bytes (Err f) → TellsObject stack bytes (Err (bad_object f))
-  has_object : (o : Object) (front : Result Unit SourceFault) (told : Told) → IsObject bytes (Ok o) → IsAnswer o.source front
+  has_object : (o : Object) (front : Result Unit SourceFault) (told : Told) → IsObject bytes (Ok o) → IsFrontAnswer o.source front
       → TellsOpened stack (open_answer o front) told → TellsObject stack bytes told

@@ -3,7 +3,7 @@ use Rattle.std.specs.Prelude.{◌≡◌, ◌≢◌, ◌⊎◌, ℕ, ◌-◌, ◌
 use Rattle.cvm_outside.specs.Told.{TOO_LONG}
 use Rattle.schedule_file.specs.Rows.{Rows}
 use Rattle.mips_table.specs.Machine.{State}
-use Rattle.mips_table.specs.Turns.{IsEnd}
+use Rattle.mips_table.specs.Turns.{IsTurnEnd}
 use Rattle.mips_table.specs.Fits.{IsPage}
 use Rattle.mips_machine.specs.Saved.{saved, CanBeSaved}
 use Rattle.cvm_model.specs.Cvm.{Running}
@@ -167,7 +167,7 @@ pub record SavedRun (session : Session) (s : ImageSystem) (rows : Rows) (words :
   pub disk : length sectors ≡ size
   pub pages : All IsPage sectors
   pub turns : ℕ
-  pub first : IsEnd r.around r.first turns made
+  pub first : IsTurnEnd r.around r.first turns made
   pub few : made ≤ session.steps
   pub on : (cvm_at r past made).status ≡ Running
   pub words_are : words ≡ saved rows.inputs (state_at r made) (turns_at r made) (cvm_at r past made).core.current

@@ -4,7 +4,7 @@ use Rattle.std.specs.Prelude.{◌≡◌, ℕ, List, Option, Some}
 use Rattle.std.specs.Option.{option_map}
 use Rattle.std.specs.Io.KnownBytes.{append_known}
 use Rattle.mips_table.specs.Flat.{Flat}
-use Rattle.mips_table.specs.Turns.{complete, lines_of, end_within}
+use Rattle.mips_table.specs.Turns.{complete, lines_of_turn, end_within}
 use Rattle.schedule_file.specs.Rows.{Rows}
 use Rattle.cvm_model.specs.Kernel.{JournalEntry}
 use Rattle.cvm_model.specs.Cvm.{Cvm, Status as CvmStatus, cvm}
@@ -30,7 +30,7 @@ turns_made session s rows old before =
 
 -- the lines of each of its turns
 abbrev pub lines_met : Session → ImageSystem → Rows → Host → (before : List (List ℕ)) → ℕ → ℕ
-lines_met session s rows old before = lines_of (around rows old) (first_state session s rows before)
+lines_met session s rows old before = lines_of_turn (around rows old) (first_state session s rows before)
 
 -- WHAT IS PRINTED of user u is that text, of its journal over the complete turns
 pub record IsolatedTrace (session : Session) (u : ℕ) (s : ImageSystem) (rows : Rows) (before : List (List ℕ)) (old new : Host) (status : Status) : Type 0 where

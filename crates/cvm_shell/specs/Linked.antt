@@ -6,10 +6,10 @@ use Rattle.c0_tree.specs.Tree.{CUnit as Unit}
 use Rattle.c0_types.specs.Front.{IsUnitOf}
 use Rattle.layer_map.specs.Map.{Map}
 use Rattle.layer_map.specs.declared.params.Params.{Params}
-use Rattle.object_file.specs.Answer.{IsAnswer as IsObject}
-use Rattle.object_file.specs.Parts.{Parts as Object}
+use Rattle.object_file.specs.Answer.{IsObjectAnswer as IsObject}
+use Rattle.object_file.specs.Parts.{ObjectParts as Object}
 use Rattle.system_files.specs.Params.{params_of}
-use Rattle.boot_image.specs.Parts.{Parts as Image}
+use Rattle.boot_image.specs.Parts.{ImageParts as Image}
 use Rattle.boot_image.specs.Reading.{answer as image_of, old_answer as old_image_of}
 use Rattle.kernel_linker.specs.Linked.{linked, sizes_of}
 use Rattle.cvm_shell.specs.Command.{Link, Migrate}

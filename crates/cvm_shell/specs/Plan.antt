@@ -13,7 +13,7 @@ use Rattle.c0_parser.specs.declared.fault.ReadFault.{ReadFault}
 use Rattle.c0_parser.specs.declared.fault.ReadFault.TheVariants as read
 use Rattle.c0_types.specs.declared.fault.TypeFault.{TypeFault}
 use Rattle.c0_types.specs.declared.fault.TypeFault.TheVariants as typing
-use Rattle.c0_types.specs.Front.{IsUnitOf, IsUnitAs, IsMistypedAs, IsAnswer}
+use Rattle.c0_types.specs.Front.{IsUnitOf, IsUnitAs, IsMistypedAs, IsFrontAnswer}
 use Rattle.c0_types.specs.declared.source_fault.SourceFault.TheVariants.{Reading as BadReading, Typing as BadTyping}
 use Rattle.object_file.specs.Format.{spelling}
 use Rattle.kernel_linker.specs.Object.{object_of}
@@ -30,7 +30,7 @@ use Rattle.saved_file.specs.declared.fault.SaveFault.{SaveFault}
 use Rattle.saved_file.specs.declared.fault.SaveFault.TheVariants.{SaveTooLarge as FileTooLarge}
 use Rattle.machine_save.specs.Room.{most_words, FILE_ROOM}
 use Rattle.boot_image.specs.Format.{spelling as image_bytes}
-use Rattle.boot_image.specs.Parts.{Parts as Image}
+use Rattle.boot_image.specs.Parts.{ImageParts as Image}
 use Rattle.boot_image.specs.Reading.{answer as image_of, old_answer as old_image_of}
 use Rattle.boot_image.specs.declared.fault.ImageFault.{ImageFault}
 use Rattle.kernel_linker.specs.Accept.{ImageSystem, accept_answer}
@@ -43,15 +43,15 @@ use Rattle.user_c0.specs.Program.{MAX_IMAGE}
 use Rattle.schedule_file.specs.Rows.{Rows}
 use Rattle.schedule_file.specs.Schedule.{schedule_of}
 use Rattle.schedule_file.specs.declared.fault.ScheduleFault.{ScheduleFault}
-use Rattle.object_file.specs.Answer.{IsAnswer as IsObject}
-use Rattle.object_file.specs.Parts.{Parts as Object}
+use Rattle.object_file.specs.Answer.{IsObjectAnswer as IsObject}
+use Rattle.object_file.specs.Parts.{ObjectParts as Object}
 use Rattle.object_file.specs.declared.fault.ObjectFault.{ObjectFault}
-use Rattle.cvm_words.specs.Bytes.{words_of}
+use Rattle.cvm_words.specs.Bytes.{words_of_bytes}
 use Rattle.system_files.specs.Params.{params_of}
 use Rattle.system_files.specs.declared.fault.FileFault.{FileFault}
 use Rattle.system_files.specs.declared.fault.FileFault.TheVariants.{UserTorn}
 use Rattle.c0_types.specs.declared.source_fault.SourceFault.{SourceFault}
-use Rattle.sample_maker.specs.Parts.{Parts as Sampled}
+use Rattle.sample_maker.specs.Parts.{SampleParts as Sampled}
 use Rattle.sample_maker.specs.Sample.{sample_of}
 use Rattle.cvm_shell.specs.declared.boot.Session.{Session}
 use Rattle.cvm_shell.specs.CompileProgram.{CompileProgram, IsCompileProgram}
@@ -85,7 +85,7 @@ pub data Got (told : Option (List ℕ)) (next : List ℕ → Plan → Type 0) : 
 -- WHAT IS ANSWERED of the image that bytes are: their fault, or what is due by what its own source is answered by
 abbrev pub Answered : {A : Type 0} → (due : Image → Result Unit SourceFault → Result A AcceptFault) → Result Image ImageFault → Result A AcceptFault → Type 0
 Answered due (Err f) answer = answer ≡ Err (accept_file_fault f)
-Answered due (Ok image) answer = (front : Result Unit SourceFault) × IsAnswer image.source front × (answer ≡ due image front)
+Answered due (Ok image) answer = (front : Result Unit SourceFault) × IsFrontAnswer image.source front × (answer ≡ due image front)
 
 -- WHAT IS ACCEPTED: what linking its own source, parameters and users answers
 abbrev pub Accepts : (layer : Map → List ℕ → List ℕ) → Result Image ImageFault → Result ImageSystem AcceptFault → Type 0
@@ -214,7 +214,7 @@ before_them words (Err f) = Err f
 abbrev pub words_from : (user : ℕ) → List (List ℕ) → Result (List (List ℕ)) FileFault
 words_from user [] = Ok []
 words_from user (bytes ∷ rest) =
-    if nat_eq (length bytes % 4) 0 then before_them (words_of bytes) (words_from (suc user) rest) else Err (UserTorn user (length bytes))
+    if nat_eq (length bytes % 4) 0 then before_them (words_of_bytes bytes) (words_from (suc user) rest) else Err (UserTorn user (length bytes))
 
 -- what is linked is put
 abbrev pub linked_plan : (name : List ℕ) → Result Image LinkFault → Plan
@@ -224,7 +224,7 @@ linked_plan name (Err f) = refuses (unlinked f)
 -- AFTER THE PARTS of a system they are linked: users or parameters that don't fit are refused, whatever the source is
 pub data AfterParts (layer : Map → List ℕ → List ℕ) (name : List ℕ) (o : Object) (params : Params) (users : List (List ℕ)) : Plan → Type 0 where
   unfit : (f : LinkFault) → fitting params users ≡ Err f → AfterParts layer name o params users (refuses (unlinked f))
-  answered : (front : Result Unit SourceFault) → IsAnswer o.source front →
+  answered : (front : Result Unit SourceFault) → IsFrontAnswer o.source front →
       AfterParts layer name o params users (linked_plan name (link_answer layer o params users front))
 
 -- AFTER THE PARAMETERS the users' words are read
@@ -272,7 +272,7 @@ AfterSource layer session parts (Err f) p = p ≡ refuses (bad_source f)
 
 -- the parts of a sample: their source is read and checked
 abbrev pub PartsPlan : (layer : Map → List ℕ → List ℕ) → Session → Sampled → Plan → Type 0
-PartsPlan layer session parts p = (front : Result Unit SourceFault) × IsAnswer parts.source front × AfterSource layer session parts front p
+PartsPlan layer session parts p = (front : Result Unit SourceFault) × IsFrontAnswer parts.source front × AfterSource layer session parts front p
 
 -- sample N gets no file
 abbrev pub SamplePlan : (layer : Map → List ℕ → List ℕ) → (number : ℕ) → Plan → Type 0

@@ -2,9 +2,9 @@
 use Rattle.std.specs.Prelude.{◌≡◌, ◌≢◌, ℕ, ◌≤◌, List, ◌++◌, codes, Some, Ok}
 use Rattle.schedule_file.specs.Rows.{Rows}
 use Rattle.bound_check.specs.Kept.{NeverOut as RunsNeverOut}
-use Rattle.object_file.specs.Answer.{IsAnswer as IsObject}
-use Rattle.object_file.specs.Parts.{Parts as Object}
-use Rattle.boot_image.specs.Parts.{Parts as Image}
+use Rattle.object_file.specs.Answer.{IsObjectAnswer as IsObject}
+use Rattle.object_file.specs.Parts.{ObjectParts as Object}
+use Rattle.boot_image.specs.Parts.{ImageParts as Image}
 use Rattle.real_layer.specs.Image.{layer_image}
 use Rattle.cvm_model.specs.declared.kernel_fault.KernelFault.TheVariants.{StackOut}
 use Rattle.cvm_model.specs.Cvm.{Faulted}

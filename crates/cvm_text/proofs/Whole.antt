@@ -4,7 +4,7 @@ use Rattle.std.specs.Prelude.{option_and_then, decimal}
 use Rattle.std.proofs.lemmas.Bool.Decides.{nat_tests}
 use Rattle.std.proofs.lemmas.List.{drop_all}
 use Rattle.cvm_text.specs.Number.{number_at}
-use Rattle.cvm_text.specs.Lines.{number_of}
+use Rattle.cvm_text.specs.Lines.{number_spelled}
 use Rattle.cvm_text.proofs.Converse.{spelled-number_at}
 use Rattle.cvm_text.proofs.Spelling.{number_at-decimal}
 
@@ -22,13 +22,13 @@ same_end : (m n : ℕ) → (m == n) ≡ true → m ≡ n
 same_end m n e = grind (arith, nat_tests)
 
 -- a number's text spells it
-pub whole_read : (n : ℕ) → n < 2 ^ 64 → number_of (decimal n) ≡ Some n
+pub whole_read : (n : ℕ) → n < 2 ^ 64 → number_spelled (decimal n) ≡ Some n
 whole_read n small =
     ap (λ found. option_and_then (λ (m : ℕ × ℕ). cond (m.1 == length (decimal n)) (Some m.0) None) found) (number_at-decimal (decimal n) 0 n [] small (sym (append-nil (decimal n))) refl)
     ∙ ap (λ b. cond b (Some n) None) (eq-eqb (0 + length (decimal n)) (length (decimal n)) (zero-add (length (decimal n))))
 
 -- a word that spells a number is that number's text
-pub whole_spelled : (word : List ℕ) (n : ℕ) → number_of word ≡ Some n → (n < 2 ^ 64) × (word ≡ decimal n)
+pub whole_spelled : (word : List ℕ) (n : ℕ) → number_spelled word ≡ Some n → (n < 2 ^ 64) × (word ≡ decimal n)
 whole_spelled word n e =
     let read = had (λ (m : ℕ × ℕ). cond (m.1 == length word) (Some m.0) None) (number_at word 0) n e in
     let value = taken (read.0.1 == length word) read.0.0 n read.2 in

@@ -14,5 +14,5 @@ abbrev pub lines_of : List ℕ → List (List ℕ)
 lines_of text = without_empty_end (slice_split (λ c. c == 10) text)
 
 -- the number below 2 ^ 64 that a whole word spells
-abbrev pub number_of : List ℕ → Option ℕ
-number_of word = option_and_then (λ n. if n.1 == length word then Some n.0 else None) (number_at word 0)
+abbrev pub number_spelled : List ℕ → Option ℕ
+number_spelled word = option_and_then (λ n. if n.1 == length word then Some n.0 else None) (number_at word 0)

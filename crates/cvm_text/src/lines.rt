@@ -1,7 +1,7 @@
 // Texts line by line.
 
 ghost use Rattle.std.specs.Prelude.{◌≡◌, ◌<◌, ◌^◌, ◌∷◌, ℕ, List, length, Some, decimal};
-ghost use Rattle.cvm_text.specs.Lines.{lines_of, number_of};
+ghost use Rattle.cvm_text.specs.Lines.{lines_of, number_spelled};
 
 use crate::cutting::cut;
 use crate::read::read_decimal;
@@ -22,7 +22,7 @@ pub fn first_line(text: &[u8]) -> (&[u8], &[u8])
 
 /// The number below 2^64 that a whole word spells.
 pub fn whole_number(word: &[u8]) -> Option<u64>
-    ensures { result ≡ number_of word.now }
+    ensures { result ≡ number_spelled word.now }
 {
     let (value, end) = read_decimal(word, 0)?;
     if end == word.len() { Some(value) } else { None }
@@ -30,6 +30,6 @@ pub fn whole_number(word: &[u8]) -> Option<u64>
 
 /// A law: each number below 2^64 is spelled by its text as a whole word, and by no other word.
 pub fn whole_numbers_are_spelled()
-    ensures read { (n : ℕ) → n < 2 ^ 64 → number_of (decimal n) ≡ Some n }
-    ensures spelled { (word : List ℕ) (n : ℕ) → number_of word ≡ Some n → (n < 2 ^ 64) × (word ≡ decimal n) }
+    ensures read { (n : ℕ) → n < 2 ^ 64 → number_spelled (decimal n) ≡ Some n }
+    ensures spelled { (word : List ℕ) (n : ℕ) → number_spelled word ≡ Some n → (n < 2 ^ 64) × (word ≡ decimal n) }
 {}

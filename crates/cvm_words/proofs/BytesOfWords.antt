@@ -7,7 +7,7 @@ use Rattle.std.proofs.lemmas.List.{take-append-drop, length-append, length-take,
 use Rattle.std.proofs.lemmas.Nat.{le_bytes_4}
 use Rattle.byteorder.specs.Endian.{little_number, IsRead}
 use Rattle.byteorder.specs.Numbers.{little_number-reads_back}
-use Rattle.cvm_words.specs.Bytes.{word, words_of}
+use Rattle.cvm_words.specs.Bytes.{word, words_of_bytes}
 
 -- a list of bytes
 abbrev pub IsBytes : List ℕ → Type 0
@@ -66,12 +66,12 @@ pub length-words : (words : List ℕ) → length (flat_map word words) ≡ 4 * l
 length-words [] = refl
 length-words (w ∷ words) = omega (arith, length-append (word w) (flat_map word words), length-word w, length-words words)
 
-words_of-word : (w : ℕ) (rest : List ℕ) → w < 2 ^ 32 → words_of (word w ++ rest) ≡ w ∷ words_of rest
-unfolding words_of word
-words_of-word w rest small = ap (λ (n : ℕ). n ∷ words_of rest) (little_number-reads_back 4 w [] small)
+words_of-word : (w : ℕ) (rest : List ℕ) → w < 2 ^ 32 → words_of_bytes (word w ++ rest) ≡ w ∷ words_of_bytes rest
+unfolding words_of_bytes word
+words_of-word w rest small = ap (λ (n : ℕ). n ∷ words_of_bytes rest) (little_number-reads_back 4 w [] small)
 
-pub words_of-words : (words : List ℕ) → AllByRecursion (λ w. w < 2 ^ 32) words → words_of (flat_map word words) ≡ words
-unfolding words_of
+pub words_of-words : (words : List ℕ) → AllByRecursion (λ w. w < 2 ^ 32) words → words_of_bytes (flat_map word words) ≡ words
+unfolding words_of_bytes
 words_of-words [] fits = refl
 words_of-words (w ∷ words) fits = words_of-word w (flat_map word words) fits.0 ∙ ap (λ (ws : List ℕ). w ∷ ws) (words_of-words words fits.1)
 
@@ -103,8 +103,8 @@ four_more : (k : ℕ) → 4 * suc k ≡ suc (suc (suc (suc (4 * k))))
 four_more k = omega arith
 
 -- numbers that were read place by place are the words
-pub read_words : (words bytes : List ℕ) → length bytes ≡ 4 * length words → IsRead little_number 4 bytes words → words ≡ words_of bytes
-unfolding words_of
+pub read_words : (words bytes : List ℕ) → length bytes ≡ 4 * length words → IsRead little_number 4 bytes words → words ≡ words_of_bytes bytes
+unfolding words_of_bytes
 read_words [] [] even is = refl
 read_words [] (a ∷ bytes) even is = absurd (omega arith)
 read_words (w ∷ words) [] even is = absurd (omega arith)
@@ -114,11 +114,11 @@ read_words (w ∷ words) (a ∷ b ∷ c ∷ []) even is = absurd (omega arith)
 read_words (w ∷ words) (a ∷ b ∷ c ∷ d ∷ bytes) even is =
     let first : w ≡ little_number 4 (a ∷ b ∷ c ∷ d ∷ []) = is 0 (omega arith) in
     let others : IsRead little_number 4 bytes words = λ k lt. is (suc k) (omega arith) ∙ ap (λ (n : ℕ). little_number 4 (drop n (a ∷ b ∷ c ∷ d ∷ bytes))) (four_more k) in
-    let rest : words ≡ words_of bytes = read_words words bytes (omega arith) others in
+    let rest : words ≡ words_of_bytes bytes = read_words words bytes (omega arith) others in
     cc
 
 -- the words of bytes have these bytes
-pub words_spelled : (bytes words : List ℕ) → IsBytes bytes → length bytes % 4 ≡ 0 → words ≡ words_of bytes → flat_map word words ≡ bytes
+pub words_spelled : (bytes words : List ℕ) → IsBytes bytes → length bytes % 4 ≡ 0 → words ≡ words_of_bytes bytes → flat_map word words ≡ bytes
 words_spelled bytes words fits even is =
     let m = made (length bytes / 4) bytes fits (omega arith) in
-    ap (λ (w : List ℕ). flat_map word w) (is ∙ ap words_of m.is ∙ words_of-words m.words m.small) ∙ sym m.is
+    ap (λ (w : List ℕ). flat_map word w) (is ∙ ap words_of_bytes m.is ∙ words_of-words m.words m.small) ∙ sym m.is

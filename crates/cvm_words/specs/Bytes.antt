@@ -9,6 +9,6 @@ unfoldable pub word : ℕ → List ℕ
 word n = to_le_bytes w32 n
 
 -- the words of which bytes are made, four bytes each
-unfoldable pub words_of : List ℕ → List ℕ
-words_of (a ∷ b ∷ c ∷ d ∷ bytes) = little_number 4 (a ∷ b ∷ c ∷ d ∷ []) ∷ words_of bytes
-words_of _ = []
+unfoldable pub words_of_bytes : List ℕ → List ℕ
+words_of_bytes (a ∷ b ∷ c ∷ d ∷ bytes) = little_number 4 (a ∷ b ∷ c ∷ d ∷ []) ∷ words_of_bytes bytes
+words_of_bytes _ = []

@@ -2,7 +2,7 @@
 
 ghost use Rattle.std.specs.Prelude.{◌≡◌, ◌≤◌, ◌<◌, ◌%◌, ◌^◌, ◌++◌, All, length, IfOk, OnOk};
 ghost use Rattle.std.specs.List.{flat_map};
-ghost use Rattle.cvm_words.specs.Bytes.{word, words_of};
+ghost use Rattle.cvm_words.specs.Bytes.{word, words_of_bytes};
 
 use byteorder::{ByteOrder, LittleEndian};
 use std::alloc::{AllocError, Global};
@@ -11,7 +11,7 @@ use std::vec::Vec;
 /// The words of which bytes are made.
 pub fn read_words(alloc: Global, bytes: &[u8]) -> Result<Vec<u32>, AllocError>
     requires { length bytes.now % 4 ≡ 0 }
-    ensures words { IfOk result (λ v. v.items ≡ words_of bytes.now) }
+    ensures words { IfOk result (λ v. v.items ≡ words_of_bytes bytes.now) }
     ensures spelled { IfOk result (λ v. flat_map word v.items ≡ bytes.now) }
 {
     let mut words = vec![in alloc; 0; bytes.len() / 4]?;

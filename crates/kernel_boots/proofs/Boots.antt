@@ -3,8 +3,8 @@
 use Rattle.std.proofs.Common.{◌≡◌, ◌≤◌, ℕ, List, length, Bool, true, false, Option, sym, ap, ◌∙◌, subst}
 use Rattle.std.specs.Prelude.{◌≢◌, if◌then◌else◌, Result, Ok}
 use Rattle.schedule_file.specs.Rows.{Rows}
-use Rattle.mips_table.specs.Device.{Outside as Surroundings, HasEightLines}
-use Rattle.mips_table.specs.Turns.{complete, end_within, lines_of}
+use Rattle.mips_table.specs.Device.{Environment, HasEightLines}
+use Rattle.mips_table.specs.Turns.{complete, end_within, lines_of_turn}
 use Rattle.mips_table.specs.Machine.{State}
 use Rattle.boot_turns.specs.declared.answers.View.TheVariants.{Boot}
 use Rattle.boot_turns.specs.Headline.{Ending, Done, KernelFaulted, OutOfSteps, DiskFault, SinkFault, NoMemory, ending_of, ending, TextAt, RanFrom}
@@ -13,7 +13,7 @@ use Rattle.cvm_model.specs.Invariant.{HasEight, IsSafe, RunsAreLawful}
 use Rattle.cvm_model.specs.Text.{rows_text, boot_text}
 use Rattle.c0_types.specs.Front.{IsUnitOf}
 use Rattle.real_layer.specs.Image.{layer_image}
-use Rattle.boot_image.specs.Parts.{Parts as Image}
+use Rattle.boot_image.specs.Parts.{ImageParts as Image}
 use Rattle.boot_image.specs.declared.fault.ImageFault.{ImageFault}
 use Rattle.boot_image.specs.Reading.{answer as image_of}
 use Rattle.kernel_linker.specs.Accept.{ImageSystem}
@@ -75,8 +75,8 @@ status_text y DiskFault c text h = h
 status_text y SinkFault c text h = h
 status_text y NoMemory c text h = h
 
-module _ (x : Surroundings) (y : System) (one : RunsAreOne y) (s : State) (held : ℕ) (old now : List (List ℕ)) (turns steps : ℕ) where
-  text_of : (t : ℕ) (e : Ending) (text : List ℕ) → TextAt x y s Boot t e text → (c : Cvm) × IsCvm y (lines_of x s) (complete x s t) c × IsTextOf y e c text
+module _ (x : Environment) (y : System) (one : RunsAreOne y) (s : State) (held : ℕ) (old now : List (List ℕ)) (turns steps : ℕ) where
+  text_of : (t : ℕ) (e : Ending) (text : List ℕ) → TextAt x y s Boot t e text → (c : Cvm) × IsCvm y (lines_of_turn x s) (complete x s t) c × IsTextOf y e c text
   text_of t OutOfSteps text h = h
   text_of t Done text h = h
   text_of t KernelFaulted text h = h
@@ -87,7 +87,7 @@ module _ (x : Surroundings) (y : System) (one : RunsAreOne y) (s : State) (held 
   pub stands : (e : Ending) (text : List ℕ) → RanFrom x y s held old now Boot turns steps e text → StandsAt x y s turns steps (ended_as e) text
   stands e text h =
       let t = text_of (end_within x s turns steps) e text h.text_is in
-      let same : t.0 ≡ h.past = one (lines_of x s) (complete x s (end_within x s turns steps)) t.0 h.past t.1 h.cvm in
+      let same : t.0 ≡ h.past = one (lines_of_turn x s) (complete x s (end_within x s turns steps)) t.0 h.past t.1 h.cvm in
       record {
         state = h.past;
         is = h.cvm;
@@ -132,8 +132,8 @@ boots_show laws P words status old new headlines session s rows before honest so
     let b : BootStands session s rows before status old new = boots_stand laws words status old new headlines session s rows before honest some view in
     let x = around rows old in
     let first = first_state session s rows before in
-    let eight : HasEight (lines_of x first) = turns_have_eight x first (asked_eight words old.shelf.file session s rows honest.asked old) in
-    let has : P (lines_of x first) (turns_made x first session.turns session.steps) b.stands.state = always (lines_of x first) eight _ b.stands.state b.stands.is in
+    let eight : HasEight (lines_of_turn x first) = turns_have_eight x first (asked_eight words old.shelf.file session s rows honest.asked old) in
+    let has : P (lines_of_turn x first) (turns_made x first session.turns session.steps) b.stands.state = always (lines_of_turn x first) eight _ b.stands.state b.stands.is in
     record {
       printed = (b.text, b.printed, record { stands = b.stands; has = has });
       no_fault = λ safe e. no_status (ending x first session.turns session.steps b.stands.state) (no_fault _ b.stands.state.status (safe _ _ b.stands.state has)) (sym b.stands.status_is ∙ e);

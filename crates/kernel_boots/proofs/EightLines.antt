@@ -9,9 +9,9 @@ use Rattle.std.proofs.lemmas.Nat.{or_of_8}
 use Rattle.std.proofs.lemmas.List.{append-nil, append_assoc, length-append}
 use Rattle.std.proofs.lemmas.List.Elements.{All-nil, All-cons, All-head, All-tail, All-append, All-filter}
 use Rattle.std.proofs.lemmas.List.Sums.{fold-append}
-use Rattle.mips_table.specs.Device.{Outside, HasEightLines}
+use Rattle.mips_table.specs.Device.{Environment, HasEightLines}
 use Rattle.mips_table.specs.Machine.{State}
-use Rattle.mips_table.specs.Turns.{turn_of, gathered, lines_of as lines_in}
+use Rattle.mips_table.specs.Turns.{turn_of, gathered, lines_of_turn as lines_in}
 use Rattle.cvm_text.specs.Lines.{lines_of}
 use Rattle.schedule_file.specs.declared.fault.ScheduleFault.{ScheduleFault}
 use Rattle.schedule_file.specs.declared.fault.ScheduleFault.TheVariants.{BadLine, Order, Range, TooManyInputs}
@@ -92,7 +92,7 @@ pub few_of : (text : List ℕ) (rows : Rows) → schedule_of text ≡ Ok rows �
 few_of text rows e = (right_of text rows e).few
 
 -- AND SO NO TURN of the machine has another
-module _ (x : Outside) (s : State) (eight : HasEightLines x) where
+module _ (x : Environment) (s : State) (eight : HasEightLines x) where
   gathered_eight : (k t : ℕ) → gathered x s k t < 2 ^ 8
   gathered_eight k zero = lit< tt
   gathered_eight k (suc t) = or_of_8 (gathered x s k t) (if turn_of x s t == k then x.lines (s.time + t) else 0) (gathered_eight k t) (by (turn_of x s t == k))

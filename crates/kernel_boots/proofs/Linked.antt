@@ -1,14 +1,14 @@
 -- From texts of users' programs to the system that is run: which users it has. This file may be cited from other crates.
 use Rattle.std.specs.Prelude.{Result, nat_eq, ◌%◌, if◌then◌else◌, slice_get}
 use Rattle.std.proofs.Common.{◌≡◌, ℕ, suc, List, [], ◌∷◌, length, Bool, true, false, Option, Some, Ok, Err, refl, sym, ap, ◌∙◌, arith}
-use Rattle.cvm_words.specs.Bytes.{words_of}
+use Rattle.cvm_words.specs.Bytes.{words_of_bytes}
 use Rattle.system_files.specs.declared.fault.FileFault.{FileFault}
 use Rattle.system_files.specs.declared.fault.FileFault.TheVariants.{UserTorn}
 use Rattle.layer_map.specs.Map.{Map}
 use Rattle.c0_tree.specs.declared.primitive.Program.TheVariants.{User}
 use Rattle.c0_tree.specs.Tree.{CUnit}
 use Rattle.c0_types.specs.Front.{IsUnitAs}
-use Rattle.boot_image.specs.Parts.{Parts as Image}
+use Rattle.boot_image.specs.Parts.{ImageParts as Image}
 use Rattle.boot_image.specs.Reading.{answer as image_of}
 use Rattle.boot_image.specs.declared.fault.ImageFault.{ImageFault}
 use Rattle.schedule_file.specs.Rows.{Rows}
@@ -30,12 +30,12 @@ words_length : (first : ℕ) (files words : List (List ℕ)) → words_from firs
 words_length first [] words e = let same : [] ≡ words = cc in sym (ap length same)
 words_length first (f ∷ files) words e = by (nat_eq (length f % 4) 0) e (λ rest. words_length (suc first) files rest)
   where
-    before : (r : Result (List (List ℕ)) FileFault) → words_from (suc first) files ≡ r → before_them (words_of f) r ≡ Ok words
+    before : (r : Result (List (List ℕ)) FileFault) → words_from (suc first) files ≡ r → before_them (words_of_bytes f) r ≡ Ok words
         → ((rest : List (List ℕ)) → words_from (suc first) files ≡ Ok rest → length rest ≡ length files) → length words ≡ suc (length files)
-    before (Ok rest) q k more = let same : words_of f ∷ rest ≡ words = cc in sym (ap length same) ∙ ap suc (more rest q)
+    before (Ok rest) q k more = let same : words_of_bytes f ∷ rest ≡ words = cc in sym (ap length same) ∙ ap suc (more rest q)
     before (Err x) q k more = absurd (cc)
 
-    by : (b : Bool) → (if b then before_them (words_of f) (words_from (suc first) files) else Err (UserTorn first (length f))) ≡ Ok words
+    by : (b : Bool) → (if b then before_them (words_of_bytes f) (words_from (suc first) files) else Err (UserTorn first (length f))) ≡ Ok words
         → ((rest : List (List ℕ)) → words_from (suc first) files ≡ Ok rest → length rest ≡ length files) → length words ≡ suc (length files)
     by true k more = before (words_from (suc first) files) refl k more
     by false k more = absurd (cc)

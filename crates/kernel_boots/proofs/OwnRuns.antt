@@ -5,8 +5,8 @@ use Rattle.std.specs.List.{list_all}
 use Rattle.std.proofs.lemmas.Bool.{and_parts, and_from, eqb-true}
 use Rattle.std.proofs.lemmas.List.{append-nil}
 use Rattle.std.proofs.lemmas.List.Folds.{list_all-append}
-use Rattle.mips_table.specs.Machine.{number_of}
-use Rattle.mips_table.specs.Flat.{Flat, VStep, Next as Goes, Trap, vstep}
+use Rattle.mips_table.specs.Machine.{cause_number}
+use Rattle.mips_table.specs.Flat.{Flat, VStep, Goes, Trap, vstep}
 use Rattle.cvm_model.specs.Kernel.{Core, JournalEntry, Stepped, Trapped, Set, Size, Put}
 use Rattle.cvm_model.specs.Primitives.{user_of}
 use Rattle.cvm_model.specs.Cvm.{System, Cvm, Status, Running, Halted, Faulted, Begin, Steps, Traps, Interrupts, begin, first_core, cvm}
@@ -49,14 +49,14 @@ own_step f g (Trap h cause edata) e r = absurd (none_some g r)
 
 own_trap : (f g : Flat) (c d : ℕ) (v : VStep) → vstep f ≡ v → replay_trap v c d ≡ Some g → OwnEntry f (Trapped c d) g
 own_trap f g c d (Goes h) e r = absurd (none_some g r)
-own_trap f g c d (Trap h cause edata) e r = by (number_of cause == c && edata == d) refl r
+own_trap f g c d (Trap h cause edata) e r = by (cause_number cause == c && edata == d) refl r
   where
-    by : (b : Bool) → (number_of cause == c && edata == d) ≡ b → (if b then Some h else None) ≡ Some g → OwnEntry f (Trapped c d) g
+    by : (b : Bool) → (cause_number cause == c && edata == d) ≡ b → (if b then Some h else None) ≡ Some g → OwnEntry f (Trapped c d) g
     by true t r =
-        let parts = and_parts (number_of cause == c) (edata == d) t in
+        let parts = and_parts (cause_number cause == c) (edata == d) t in
         record {
           machine = sym (ap machine_after e ∙ some_same h g r);
-          entry = sym (ap entry_of e ∙ ap₂ Trapped (eqb-true (number_of cause) c parts.0) (eqb-true edata d parts.1));
+          entry = sym (ap entry_of e ∙ ap₂ Trapped (eqb-true (cause_number cause) c parts.0) (eqb-true edata d parts.1));
         }
     by false t r = absurd (none_some g r)
 

@@ -6,9 +6,9 @@ use Rattle.std.proofs.lemmas.Bool.{ltb-false}
 use Rattle.std.proofs.lemmas.List.{length-take, length-append}
 use Rattle.std.proofs.lemmas.List.Elements.{All-nil, All-cons, All-append, All-head, All-tail}
 use Rattle.layer_map.specs.declared.params.Params.{Params}
-use Rattle.cvm_words.specs.Bytes.{words_of}
+use Rattle.cvm_words.specs.Bytes.{words_of_bytes}
 use Rattle.boot_image.specs.declared.fault.ImageFault.{ImageFault}
-use Rattle.boot_image.specs.Parts.{Parts as Image}
+use Rattle.boot_image.specs.Parts.{ImageParts as Image}
 use Rattle.boot_image.specs.Format.{most_words}
 use Rattle.boot_image.specs.Reading.{◌>>=◌, mark_at, number_at, form_at, params_at, counts_at, bare_at, system_at, header_of, parts_of, image_of, users_of, answer}
 use Rattle.kernel_linker.specs.Accept.{ImageSystem}
@@ -132,8 +132,8 @@ header_in bytes x h =
     by rest false e = system_in 3 64 1024 rest x (omega arith) (omega arith) e
 
 -- so many bytes give no more words
-words_few : (n : ℕ) (bytes : List ℕ) → length bytes ≤ 4 * n → length (words_of bytes) ≤ n
-unfolding words_of
+words_few : (n : ℕ) (bytes : List ℕ) → length bytes ≤ 4 * n → length (words_of_bytes bytes) ≤ n
+unfolding words_of_bytes
 words_few n [] few = omega arith
 words_few n (a ∷ []) few = omega arith
 words_few n (a ∷ b ∷ []) few = omega arith
@@ -147,7 +147,7 @@ users_in pages [] bytes all = All-nil (λ (u : List ℕ). length u ≤ 1024 * pa
 users_in pages (n ∷ counts) bytes all =
     let few = words_few n (take (4 * n) bytes) (omega (arith, length-take (4 * n) bytes)) in
     let head = All-head (λ n. n ≤ most_words pages) n counts all in
-    All-cons (λ (u : List ℕ). length u ≤ 1024 * pages) (words_of (take (4 * n) bytes)) (users_of counts (drop (4 * n) bytes)) (omega (arith, few, head))
+    All-cons (λ (u : List ℕ). length u ≤ 1024 * pages) (words_of_bytes (take (4 * n) bytes)) (users_of counts (drop (4 * n) bytes)) (omega (arith, few, head))
     (users_in pages counts (drop (4 * n) bytes) (All-tail (λ n. n ≤ most_words pages) n counts all))
 
 users_many : (counts bytes : List ℕ) → length (users_of counts bytes) ≡ length counts

@@ -3,9 +3,9 @@ use Rattle.std.proofs.Common.{◌≡◌, inl, inr, ℕ, zero, suc, ◌≤◌, Li
 use Rattle.std.specs.Prelude.{◌≢◌, ◌⊎◌, if◌then◌else◌, option_map}
 use Rattle.std.specs.Io.KnownBytes.{append_known}
 use Rattle.schedule_file.specs.Rows.{Rows}
-use Rattle.mips_table.specs.Device.{Outside as Surroundings}
+use Rattle.mips_table.specs.Device.{Environment}
 use Rattle.mips_table.specs.Machine.{State, run}
-use Rattle.mips_table.specs.Turns.{complete, end_within, lines_of, is_end}
+use Rattle.mips_table.specs.Turns.{complete, end_within, lines_of_turn, is_end}
 use Rattle.mips_table.specs.Flat.{Flat}
 use Rattle.cvm_model.specs.Kernel.{JournalEntry}
 use Rattle.cvm_model.specs.KernelMeaning.{UnitsReplay}
@@ -19,7 +19,7 @@ use Rattle.boot_turns.specs.declared.answers.View.{View}
 use Rattle.boot_turns.specs.declared.answers.View.TheVariants as view
 use Rattle.boot_turns.specs.Headline.{Ending, Done as IsDone, KernelFaulted, OutOfSteps, ending_of, ending, TextAt, RanFrom}
 use Rattle.boot_turns.specs.Headline as headline
-use Rattle.boot_turns.specs.TurnEnds.{first_of, Stood, Printed, IsOver}
+use Rattle.boot_turns.specs.TurnEnds.{first_of, Stood, Printed, TurnIsOver}
 use Rattle.boot_run.specs.RunEnds.{SeesUser, CallsFrom, ending_of_end}
 use Rattle.boot_run.specs.SavedRuns.{SavedAt, GoesOnAs}
 use Rattle.boot_run.specs.declared.whole.RunEnd.{RunEnd}
@@ -53,7 +53,7 @@ allowed true (Faulted f) = tt
 allowed false s = tt
 
 -- where the steps ran out the text is what was shown so far
-spent_text : (x : Surroundings) (y : System) (s : State) (v : View) (t : ℕ) (e : Ending) (text : List ℕ) → ended_as e ≡ statuses.StepLimit → TextAt x y s v t e text → Printed x y s v t text
+spent_text : (x : Environment) (y : System) (s : State) (v : View) (t : ℕ) (e : Ending) (text : List ℕ) → ended_as e ≡ statuses.StepLimit → TextAt x y s v t e text → Printed x y s v t text
 spent_text x y s v t OutOfSteps text e h = h
 spent_text x y s v t IsDone text e h = absurd (cc)
 spent_text x y s v t KernelFaulted text e h = absurd (cc)
@@ -75,7 +75,7 @@ some_same a b e = cc
 -- A TRACE
 module _ (laws : RunsAreLawful) (replays : UnitsReplay) (isolated : Isolated) (session : Session) (u : ℕ) (s : ImageSystem) (rows : Rows) (before : List (List ℕ)) (status : Status) (old new : Host)
     (user : (1 ≤ u) × (u ≤ length s.users)) (h : Headline session s rows before old new status) where
-  abbrev x : Surroundings
+  abbrev x : Environment
   x = around rows old
 
   abbrev y : System
@@ -90,18 +90,18 @@ module _ (laws : RunsAreLawful) (replays : UnitsReplay) (isolated : Isolated) (s
   abbrev Stands : List ℕ → Type 0
   Stands text = TraceStandsAt x y m session.turns session.steps u status text
 
-  made : (c : Cvm) (units : ℕ) → cvm y (lines_of x m) units (complete x m t) ≡ Some c → (text : List ℕ)
-      → TraceTextOf u (first_of y u) (journal y (lines_of x m) units u (complete x m t)) (under_way x y m units u t) status c text → Stands text
+  made : (c : Cvm) (units : ℕ) → cvm y (lines_of_turn x m) units (complete x m t) ≡ Some c → (text : List ℕ)
+      → TraceTextOf u (first_of y u) (journal y (lines_of_turn x m) units u (complete x m t)) (under_way x y m units u t) status c text → Stands text
   made c units is text text_is =
-      let same : h.ran.past ≡ c = ones laws s rows (lines_of x m) (complete x m t) h.ran.past c h.ran.cvm (record { units = units; is = is }) in
+      let same : h.ran.past ≡ c = ones laws s rows (lines_of_turn x m) (complete x m t) h.ran.past c h.ran.cvm (record { units = units; is = is }) in
       record {
         state = c;
         units = units;
         run = is;
         status_is = h.status_is ∙ ap ended_as (h.ran.status ∙ ap (ending x m session.turns session.steps) same);
-        replayed = isolated y (lines_of x m) units (complete x m t) u c (replays s.unit s.params) user.0 user.1 is;
+        replayed = isolated y (lines_of_turn x m) units (complete x m t) u c (replays s.unit s.params) user.0 user.1 is;
         text_is = text_is;
-        over = λ e. subst (IsOver x y m session.turns t) same (h.ran.over e);
+        over = λ e. subst (TurnIsOver x y m session.turns t) same (h.ran.over e);
       }
 
   spent : session.view ≡ view.Trace u → status ≡ statuses.StepLimit → Stands h.text
@@ -109,19 +109,19 @@ module _ (laws : RunsAreLawful) (replays : UnitsReplay) (isolated : Isolated) (s
       let so : Printed x y m session.view t h.text = spent_text x y m session.view t h.ending h.text (sym h.status_is ∙ e) h.ran.text_is in
       let (j, shown, text) = subst (λ (v : View). Printed x y m v t h.text) traced so in
       made shown.past shown.units shown.cvm h.text
-      (subst (λ (z : Status). TraceTextOf u (first_of y u) (journal y (lines_of x m) shown.units u (complete x m t)) (under_way x y m shown.units u t) z shown.past h.text) (sym e)
+      (subst (λ (z : Status). TraceTextOf u (first_of y u) (journal y (lines_of_turn x m) shown.units u (complete x m t)) (under_way x y m shown.units u t) z shown.past h.text) (sym e)
       (text ∙ ap (λ (k : List JournalEntry). start_row u (first_of y u) ++ open_journal_rows k) shown.is))
 
   whole : status ≢ statuses.StepLimit → (a : IsolatedTrace session u s rows before old new status) → Stands a.text
   whole isnt a =
-      let is : cvm y (lines_of x m) a.units (complete x m t) ≡ Some a.last = subst (λ k. cvm y (lines_of x m) a.units k ≡ Some a.last) a.turns_are a.run in
-      let entries : a.entries ≡ journal y (lines_of x m) a.units u (complete x m t) = a.entries_are ∙ ap (journal y (lines_of x m) a.units u) a.turns_are in
-      let last : replay (first_of y u) (journal y (lines_of x m) a.units u (complete x m t)) ≡ Some (user_of a.last.core.users u) = isolated y (lines_of x m) a.units (complete x m t) u a.last (replays s.unit s.params) user.0 user.1 is in
-      let told : option_map (λ last. trace_text u (first_of y u) (journal y (lines_of x m) a.units u (complete x m t)) last a.last.status) (replay (first_of y u) (journal y (lines_of x m) a.units u (complete x m t))) ≡ Some a.text =
+      let is : cvm y (lines_of_turn x m) a.units (complete x m t) ≡ Some a.last = subst (λ k. cvm y (lines_of_turn x m) a.units k ≡ Some a.last) a.turns_are a.run in
+      let entries : a.entries ≡ journal y (lines_of_turn x m) a.units u (complete x m t) = a.entries_are ∙ ap (journal y (lines_of_turn x m) a.units u) a.turns_are in
+      let last : replay (first_of y u) (journal y (lines_of_turn x m) a.units u (complete x m t)) ≡ Some (user_of a.last.core.users u) = isolated y (lines_of_turn x m) a.units (complete x m t) u a.last (replays s.unit s.params) user.0 user.1 is in
+      let told : option_map (λ last. trace_text u (first_of y u) (journal y (lines_of_turn x m) a.units u (complete x m t)) last a.last.status) (replay (first_of y u) (journal y (lines_of_turn x m) a.units u (complete x m t))) ≡ Some a.text =
       subst (λ j. option_map (λ last. trace_text u (first_of y u) j last a.last.status) (replay (first_of y u) j) ≡ Some a.text) entries a.text_is in
-      let text : trace_text u (first_of y u) (journal y (lines_of x m) a.units u (complete x m t)) (user_of a.last.core.users u) a.last.status ≡ a.text =
-      some_same _ _ (sym (ap (option_map (λ last. trace_text u (first_of y u) (journal y (lines_of x m) a.units u (complete x m t)) last a.last.status)) last) ∙ told) in
-      made a.last a.units is a.text (whole_text u (first_of y u) (journal y (lines_of x m) a.units u (complete x m t)) (under_way x y m a.units u t) status a.last a.text isnt (sym text))
+      let text : trace_text u (first_of y u) (journal y (lines_of_turn x m) a.units u (complete x m t)) (user_of a.last.core.users u) a.last.status ≡ a.text =
+      some_same _ _ (sym (ap (option_map (λ last. trace_text u (first_of y u) (journal y (lines_of_turn x m) a.units u (complete x m t)) last a.last.status)) last) ∙ told) in
+      made a.last a.units is a.text (whole_text u (first_of y u) (journal y (lines_of_turn x m) a.units u (complete x m t)) (under_way x y m a.units u t) status a.last a.text isnt (sym text))
 
   abbrev Shows : Type 0
   Shows = (text : List ℕ) × (new.sink.text ≡ append_known old.sink.text text) × Stands text
@@ -156,12 +156,12 @@ files_eight : (file : List ℕ → Option (List ℕ)) (c : Save) (s : ImageSyste
 files_eight file c s rows before old files = turns_have_eight (around rows old) (first_state (save_session c) s rows before) (eight_of files.schedule rows files.valid)
 
 -- a machine that is on rests in a running state
-on_runs : (x : Surroundings) (s : State) (t : ℕ) (z : CvmStatus) → (run x s t).off ≡ None → Rests z (run x s t) → z ≡ Running
+on_runs : (x : Environment) (s : State) (t : ℕ) (z : CvmStatus) → (run x s t).off ≡ None → Rests z (run x s t) → z ≡ Running
 on_runs x s t Running on h = refl
 on_runs x s t Halted on h = absurd (cc)
 on_runs x s t (Faulted f) on h = absurd (cc)
 
-stood_runs : (x : Surroundings) (y : System) (s : State) (k t : ℕ) (c : Cvm) → (run x s t).off ≡ None → Stood x y s k t c → c.status ≡ Running
+stood_runs : (x : Environment) (y : System) (s : State) (k t : ℕ) (c : Cvm) → (run x s t).off ≡ None → Stood x y s k t c → c.status ≡ Running
 stood_runs x y s zero t c on h = let is = h.cvm.is in let same : first_cvm y ≡ c = cc in sym (ap (λ (c : Cvm). c.status) same)
 stood_runs x y s (suc k) t c on h = on_runs x s t c.status on h.rests.0
 
@@ -209,7 +209,7 @@ saves_stand laws words status old new saves c s rows before honest some = save_s
 -- A RESUME
 module _ (laws : RunsAreLawful) (c : Save) (s : ImageSystem) (rows : Rows) (machine : List ℕ) (left before : List (List ℕ)) (shown : List ℕ) (status : Status) (old new : Host)
     (files : AreFilesOf old.shelf.file c.boot s rows) (w : IsSavedRun c s rows machine left before shown old) (h : ResumeHolds c s rows machine left old new status) where
-  abbrev around_it : Surroundings
+  abbrev around_it : Environment
   around_it = around rows old
 
   abbrev first : State

@@ -3,9 +3,9 @@
 use Rattle.std.proofs.Common.{◌≡◌, ◌⊎◌, ℕ, zero, suc, ◌+◌, ◌-◌, ◌≤◌, ◌*◌, List, [], ◌∷◌, ◌++◌, length, Bool, true, false, Some, refl, sym, ap, ◌∙◌, subst, ⊎_elim, arith}
 use Rattle.std.specs.Prelude.{◌≢◌, if◌then◌else◌, codes, Option, Ok}
 use Rattle.schedule_file.specs.Rows.{Rows}
-use Rattle.mips_table.specs.Device.{Outside as Surroundings}
+use Rattle.mips_table.specs.Device.{Environment}
 use Rattle.mips_table.specs.Machine.{State}
-use Rattle.mips_table.specs.Turns.{lines_of, is_end, end_within, TurnLaws}
+use Rattle.mips_table.specs.Turns.{lines_of_turn, is_end, end_within, TurnLaws}
 use Rattle.boot_turns.specs.Headline.{OutOfSteps, ending, ending_of}
 use Rattle.boot_turns.specs.GoesOn.{GoesOnWithin}
 use Rattle.c0_tree.specs.Tree.{CUnit}
@@ -30,7 +30,7 @@ use Rattle.real_layer.specs.Image.{layer_image}
 use Rattle.boot_image.specs.Reading.{answer as image_of}
 use Rattle.cvm_shell.specs.Boot.{booted, around, first_state, steps_before, ended_as, AskFor, by_boot, by_trace, by_sample}
 use Rattle.kernel_boots.specs.Boots.{TextOfState, StandsAt, turns_made, BootStands, AsksSource}
-use Rattle.kernel_boots.specs.Systems.{EndsWithin, HasHalted, SystemShown, HasSystem, AsksSystem, SystemsBoot, BootsAreChains}
+use Rattle.kernel_boots.specs.Systems.{SystemEndsWithin, HasHalted, SystemShown, HasSystem, AsksSystem, SystemsBoot, BootsAreChains}
 use Rattle.kernel_boots.proofs.Room.{Roomy}
 use Rattle.kernel_boots.proofs.EightLines.{turns_have_eight}
 use Rattle.kernel_boots.proofs.Boots.{RunsAreOne, ones, no_fault, no_status, boots_stand, of_image, asked_eight, asked_few, asked_read}
@@ -68,57 +68,57 @@ whole_text y status c text e h = subst (λ (z : Status). TextOfState y z c text)
 first_runs_of : (y : System) (c : Cvm) (lines : ℕ → ℕ) → IsCvm y lines 0 c → c.status ≡ Running
 first_runs_of y c lines is = let same : first_cvm y ≡ c = let e = is.is in cc in sym (ap (λ (c : Cvm). c.status) same)
 
-module _ (laws : RunsAreLawful) (counts : TurnLaws) (small : BoundsAreSmall) (takes : LinesTakenAreFew) (x : Surroundings) (y : System) (u : CUnit) (meaning_is : y.boot.meaning ≡ kernel_meaning u y.boot.params) (one : RunsAreOne y)
-    (n : ℕ) (Fit : Core → Type 0) (I : SystemProperty) (known : Known y Fit) (inv : IsSystemInvariant y n Fit I) (s : State) (eight : HasEight (lines_of x s))
-    (late raised turns steps : ℕ) (goes : GoesOnWithin x y s late) (rises : (k : ℕ) → turns_with_lines (lines_of x s) k ≤ raised) (status : Status) (text : List ℕ) (w : StandsAt x y s turns steps status text) where
+module _ (laws : RunsAreLawful) (counts : TurnLaws) (small : BoundsAreSmall) (takes : LinesTakenAreFew) (x : Environment) (y : System) (u : CUnit) (meaning_is : y.boot.meaning ≡ kernel_meaning u y.boot.params) (one : RunsAreOne y)
+    (n : ℕ) (Fit : Core → Type 0) (I : SystemProperty) (known : Known y Fit) (inv : IsSystemInvariant y n Fit I) (s : State) (eight : HasEight (lines_of_turn x s))
+    (late raised turns steps : ℕ) (goes : GoesOnWithin x y s late) (rises : (k : ℕ) → turns_with_lines (lines_of_turn x s) k ≤ raised) (status : Status) (text : List ℕ) (w : StandsAt x y s turns steps status text) where
   abbrev at : ℕ
   at = end_within x s turns steps
 
-  holds : (k : ℕ) → turns_made x s turns steps ≡ suc k → SystemHolds Fit I (suc k) (dispatches_of y (lines_of x s) n (suc k)) w.state
-  holds k e = (systems_hold laws y u n Fit I meaning_is known inv (lines_of x s) eight k).1 w.state (subst (λ j. IsCvm y (lines_of x s) j w.state) e w.is)
+  holds : (k : ℕ) → turns_made x s turns steps ≡ suc k → SystemHolds Fit I (suc k) (dispatches_of y (lines_of_turn x s) n (suc k)) w.state
+  holds k e = (systems_hold laws y u n Fit I meaning_is known inv (lines_of_turn x s) eight k).1 w.state (subst (λ j. IsCvm y (lines_of_turn x s) j w.state) e w.is)
 
-  first_runs : (c : Cvm) → IsCvm y (lines_of x s) 0 c → c.status ≡ Running
-  first_runs c is = first_runs_of y c (lines_of x s) is
+  first_runs : (c : Cvm) → IsCvm y (lines_of_turn x s) 0 c → c.status ≡ Running
+  first_runs c is = first_runs_of y c (lines_of_turn x s) is
 
   -- no dispatch faulted, where the invariant excludes faults
   safe_at : ((k : ℕ) (past : List Dispatch) (c : Core) → I k past c → IsSafe (status_after past)) → (k : ℕ) → turns_made x s turns steps ≡ k → IsSafe w.state.status
-  safe_at safe zero e = subst IsSafe (sym (first_runs w.state (subst (λ j. IsCvm y (lines_of x s) j w.state) e w.is))) tt
+  safe_at safe zero e = subst IsSafe (sym (first_runs w.state (subst (λ j. IsCvm y (lines_of_turn x s) j w.state) e w.is))) tt
   safe_at safe (suc k) e = let h = holds k e in subst IsSafe (sym h.status) (safe h.made _ _ h.kept)
 
   not_faulted : ((k : ℕ) (past : List Dispatch) (c : Core) → I k past c → IsSafe (status_after past)) → status ≢ KernelFault
   not_faulted safe e = no_status (ending x s turns steps w.state) (no_fault (is_end x s turns at) w.state.status (safe_at safe _ refl)) (sym w.status_is ∙ e)
 
   -- lines are taken in few dispatches
-  few_lines : (k : ℕ) → lines_taken (dispatches_of y (lines_of x s) n (suc k)) ≤ raised
+  few_lines : (k : ℕ) → lines_taken (dispatches_of y (lines_of_turn x s) n (suc k)) ≤ raised
   few_lines k =
-      let d = (systems_hold laws y u n Fit I meaning_is known inv (lines_of x s) eight (suc k)).0 in
-      let a = takes y (lines_of x s) n (suc k) d.0 d.1 in
+      let d = (systems_hold laws y u n Fit I meaning_is known inv (lines_of_turn x s) eight (suc k)).0 in
+      let a = takes y (lines_of_turn x s) n (suc k) d.0 d.1 in
       let b = rises (suc k) in
       omega (arith, a, b)
 
-  module _ (lines most dispatches pages : ℕ) (ends : EndsWithin y n I lines most dispatches pages) (under : raised ≤ lines) (enough : most ≤ turns) (long : steps_for y most dispatches n pages + late ≤ steps) where
-    under_lines : (k : ℕ) → lines_taken (dispatches_of y (lines_of x s) n (suc k)) ≤ lines
+  module _ (lines most dispatches pages : ℕ) (ends : SystemEndsWithin y n I lines most dispatches pages) (under : raised ≤ lines) (enough : most ≤ turns) (long : steps_for y most dispatches n pages + late ≤ steps) where
+    under_lines : (k : ℕ) → lines_taken (dispatches_of y (lines_of_turn x s) n (suc k)) ≤ lines
     under_lines k = let few = few_lines k in omega (arith, few, under)
 
     -- where the system is over at the latest
     record Last : Type 0 where
       last : Cvm
-      is : cvm y (lines_of x s) n most ≡ Some last
+      is : cvm y (lines_of_turn x s) n most ≡ Some last
       off : last.status ≢ Running
       short : last.bound ≤ steps_for y most dispatches n pages
 
     last_at : (k : ℕ) → most ≡ suc k → Last
     last_at k e =
-        let d = (systems_hold laws y u n Fit I meaning_is known inv (lines_of x s) eight (suc k)).0 in
-        let h : SystemHolds Fit I (suc k) (dispatches_of y (lines_of x s) n (suc k)) d.0 =
-        (systems_hold laws y u n Fit I meaning_is known inv (lines_of x s) eight k).1 d.0 (record { units = n; is = d.1 }) in
-        let b = small y u (lines_of x s) n (suc k) d.0 meaning_is d.1 in
-        let few : length d.0.rows ≤ dispatches = let f = ends.few h.made _ _ h.kept (under_lines k) in let l = ap length h.rows in let r = rows_length (dispatches_of y (lines_of x s) n (suc k)) in omega (arith, f, l, r) in
+        let d = (systems_hold laws y u n Fit I meaning_is known inv (lines_of_turn x s) eight (suc k)).0 in
+        let h : SystemHolds Fit I (suc k) (dispatches_of y (lines_of_turn x s) n (suc k)) d.0 =
+        (systems_hold laws y u n Fit I meaning_is known inv (lines_of_turn x s) eight k).1 d.0 (record { units = n; is = d.1 }) in
+        let b = small y u (lines_of_turn x s) n (suc k) d.0 meaning_is d.1 in
+        let few : length d.0.rows ≤ dispatches = let f = ends.few h.made _ _ h.kept (under_lines k) in let l = ap length h.rows in let r = rows_length (dispatches_of y (lines_of_turn x s) n (suc k)) in omega (arith, f, l, r) in
         let short : d.0.bound ≤ steps_for y (suc k) (length d.0.rows) n pages = b.by_pages pages (ends.touch h.made _ _ h.kept) in
         record {
           last = d.0;
-          is = subst (λ j. cvm y (lines_of x s) n j ≡ Some d.0) (sym e) d.1;
-          off = ends_below Fit I lines most (suc k) (dispatches_of y (lines_of x s) n (suc k)) d.0 ends.below (under_lines k) (omega (arith, e)) h;
+          is = subst (λ j. cvm y (lines_of_turn x s) n j ≡ Some d.0) (sym e) d.1;
+          off = ends_below Fit I lines most (suc k) (dispatches_of y (lines_of_turn x s) n (suc k)) d.0 ends.below (under_lines k) (omega (arith, e)) h;
           short = subst (λ j. d.0.bound ≤ steps_for y j dispatches n pages) (sym e) (more_dispatches (suc k) (length d.0.rows) d.0.bound few short);
         }
       where
@@ -142,7 +142,7 @@ module _ (laws : RunsAreLawful) (counts : TurnLaws) (small : BoundsAreSmall) (ta
     ended =
         let l = last in
         let z : turns - most + most ≡ turns = omega (arith, enough) in
-        let there : cvm y (lines_of x s) n turns ≡ Some l.last = subst (λ j. cvm y (lines_of x s) n j ≡ Some l.last) z (stays_over y (lines_of x s) n most (turns - most) l.last l.is l.off) in
+        let there : cvm y (lines_of_turn x s) n turns ≡ Some l.last = subst (λ j. cvm y (lines_of_turn x s) n j ≡ Some l.last) z (stays_over y (lines_of_turn x s) n most (turns - most) l.last l.is l.off) in
         let (t, first, within) = goes turns l.last (record { units = n; is = there }) in
         let short : l.last.bound ≤ steps_for y most dispatches n pages = l.short in
         let e : end_within x s turns steps ≡ t = counts.ends x s turns steps t first (omega (arith, within, short, long)) in
@@ -152,10 +152,10 @@ module _ (laws : RunsAreLawful) (counts : TurnLaws) (small : BoundsAreSmall) (ta
     over : (k : ℕ) → turns_made x s turns steps ≡ k → w.state.status ≢ Running
     over zero e on = ⊎_elim
         (λ (all : turns_made x s turns steps ≡ turns). let some = ends.some in absurd (omega (arith, all, e, some, enough)))
-        (λ (off : w.state.status ≢ Running). off (first_runs w.state (subst (λ j. IsCvm y (lines_of x s) j w.state) e w.is)))
+        (λ (off : w.state.status ≢ Running). off (first_runs w.state (subst (λ j. IsCvm y (lines_of_turn x s) j w.state) e w.is)))
         (w.over ended).over
     over (suc k) e on = ⊎_elim
-        (λ (all : turns_made x s turns steps ≡ turns). ends_below Fit I lines most (suc k) (dispatches_of y (lines_of x s) n (suc k)) w.state ends.below (under_lines k) (omega (arith, e, all, enough)) (holds k e) on)
+        (λ (all : turns_made x s turns steps ≡ turns). ends_below Fit I lines most (suc k) (dispatches_of y (lines_of_turn x s) n (suc k)) w.state ends.below (under_lines k) (omega (arith, e, all, enough)) (holds k e) on)
         (λ (off : w.state.status ≢ Running). off on)
         (w.over ended).over
 
@@ -182,22 +182,22 @@ pub record Stopped (I : SystemProperty) (raised : ℕ) (c : Cvm) : Type 0 where
   pub rows : length c.rows ≡ length past
   pub few : lines_taken past ≤ raised
 
-pub stopped : {x : Surroundings} {y : System} {s : State} {late raised turns steps n : ℕ} {Fit : Core → Type 0} {I : SystemProperty} {status : Status} {text : List ℕ}
+pub stopped : {x : Environment} {y : System} {s : State} {late raised turns steps n : ℕ} {Fit : Core → Type 0} {I : SystemProperty} {status : Status} {text : List ℕ}
     → (h : SystemShown x y s late raised turns steps n Fit I status text) → HasHalted x y s turns steps status text h.stands → Stopped I raised h.stands.state
 stopped {x} {y} {s} {late} {raised} {turns} {steps} {n} {Fit} {I} {status} {text} h halted = by (turns_made x s turns steps) refl
   where
     by : (k : ℕ) → turns_made x s turns steps ≡ k → Stopped I raised h.stands.state
     by zero e =
-        let first : IsCvm y (lines_of x s) 0 h.stands.state = subst (λ j. IsCvm y (lines_of x s) j h.stands.state) e h.stands.is in
-        absurd (let z : Running ≡ Halted = sym (first_runs_of y h.stands.state (lines_of x s) first) ∙ halted.halted in cc)
+        let first : IsCvm y (lines_of_turn x s) 0 h.stands.state = subst (λ j. IsCvm y (lines_of_turn x s) j h.stands.state) e h.stands.is in
+        absurd (let z : Running ≡ Halted = sym (first_runs_of y h.stands.state (lines_of_turn x s) first) ∙ halted.halted in cc)
     by (suc k) e =
-        let held : SystemHolds Fit I (suc k) (dispatches_of y (lines_of x s) n (suc k)) h.stands.state = h.holds k e in
+        let held : SystemHolds Fit I (suc k) (dispatches_of y (lines_of_turn x s) n (suc k)) h.stands.state = h.holds k e in
         record {
           turns = held.made;
-          past = dispatches_of y (lines_of x s) n (suc k);
+          past = dispatches_of y (lines_of_turn x s) n (suc k);
           kept = held.kept;
           over = sym held.status ∙ halted.halted;
-          rows = ap length held.rows ∙ rows_length (dispatches_of y (lines_of x s) n (suc k));
+          rows = ap length held.rows ∙ rows_length (dispatches_of y (lines_of_turn x s) n (suc k));
           few = h.few_lines k;
         }
 
@@ -228,7 +228,7 @@ systems_boot law laws counts small takes rise source Is n Fit I inv words status
     let x = around rows old in
     let y = booted s rows in
     let first = first_state session s rows before in
-    let eight : HasEight (lines_of x first) = turns_have_eight x first (asked_eight words old.shelf.file session s rows h.asked old) in
+    let eight : HasEight (lines_of_turn x first) = turns_have_eight x first (asked_eight words old.shelf.file session s rows h.asked old) in
     let i = inv s rows read.unit read.room is few in (
       b.text,
       b.printed,
@@ -242,12 +242,12 @@ boots_are_chains laws chains words status old new headlines session s rows befor
     let x = around rows old in
     let y = booted s rows in
     let first = first_state session s rows before in
-    let eight : HasEight (lines_of x first) = turns_have_eight x first (asked_eight words old.shelf.file session s rows h.asked old) in
+    let eight : HasEight (lines_of_turn x first) = turns_have_eight x first (asked_eight words old.shelf.file session s rows h.asked old) in
     record {
       shows = b;
       units = b.stands.is.units;
-      chain = λ k e. chains y s.unit (lines_of x first) b.stands.is.units k b.stands.state refl eight
-          (subst (λ j. cvm y (lines_of x first) b.stands.is.units j ≡ Some b.stands.state) e b.stands.is.is);
+      chain = λ k e. chains y s.unit (lines_of_turn x first) b.stands.is.units k b.stands.state refl eight
+          (subst (λ j. cvm y (lines_of_turn x first) b.stands.is.units j ≡ Some b.stands.state) e b.stands.is.is);
     }
 
 -- MORE TURNS want more steps: for users whose steps are only bounded. This may be cited from other crates.

@@ -2,14 +2,14 @@
 use Rattle.std.specs.Prelude.{◌≡◌, ◌≢◌, true, ℕ, List, Option, Ok}
 use Rattle.std.specs.Io.KnownBytes.{append_known}
 use Rattle.schedule_file.specs.Rows.{Rows}
-use Rattle.boot_image.specs.Parts.{Parts as Image}
+use Rattle.boot_image.specs.Parts.{ImageParts as Image}
 use Rattle.boot_image.specs.Reading.{answer as image_of}
-use Rattle.mips_table.specs.Device.{Outside}
+use Rattle.mips_table.specs.Device.{Environment}
 use Rattle.mips_table.specs.Machine.{State}
-use Rattle.mips_table.specs.Turns.{complete, lines_of, is_end, end_within}
+use Rattle.mips_table.specs.Turns.{complete, lines_of_turn, is_end, end_within}
 use Rattle.boot_turns.specs.declared.answers.View.TheVariants.{Boot}
 use Rattle.boot_turns.specs.Headline.{ending}
-use Rattle.boot_turns.specs.TurnEnds.{IsOver}
+use Rattle.boot_turns.specs.TurnEnds.{TurnIsOver}
 use Rattle.c0_types.specs.Front.{IsUnitOf}
 use Rattle.cvm_model.specs.Cvm.{System, Cvm, IsCvm}
 use Rattle.cvm_model.specs.Invariant.{HasEight, IsSafe}
@@ -36,22 +36,22 @@ TextOfState y StepLimit c text = text ≡ rows_text c.rows
 TextOfState y other c text = text ≡ boot_text y c
 
 -- how many turns of a run from a state are complete at the headline's step
-abbrev pub turns_made : Outside → State → (turns steps : ℕ) → ℕ
+abbrev pub turns_made : Environment → State → (turns steps : ℕ) → ℕ
 turns_made x s turns steps = complete x s (end_within x s turns steps)
 
 -- WHERE A RUN STANDS at the headline's step: at the state of its own turns, with the lines that its machine met. Status and text are by that state; and
 -- where the run ended, its turns are complete or it has halted or faulted, and the machine rests as the status says and stands for that state.
-pub record StandsAt (x : Outside) (y : System) (s : State) (turns steps : ℕ) (status : Status) (text : List ℕ) : Type 0 where
+pub record StandsAt (x : Environment) (y : System) (s : State) (turns steps : ℕ) (status : Status) (text : List ℕ) : Type 0 where
   pub state : Cvm
-  pub is : IsCvm y (lines_of x s) (turns_made x s turns steps) state
+  pub is : IsCvm y (lines_of_turn x s) (turns_made x s turns steps) state
   pub status_is : status ≡ ended_as (ending x s turns steps state)
   pub text_is : TextOfState y status state text
-  pub over : is_end x s turns (end_within x s turns steps) ≡ true → IsOver x y s turns (end_within x s turns steps) state
+  pub over : is_end x s turns (end_within x s turns steps) ≡ true → TurnIsOver x y s turns (end_within x s turns steps) state
 
 -- a text is that of the state where a run stands, which has the property
-pub record Shows (x : Outside) (y : System) (s : State) (turns steps : ℕ) (P : OfStates) (status : Status) (text : List ℕ) : Type 0 where
+pub record Shows (x : Environment) (y : System) (s : State) (turns steps : ℕ) (P : OfStates) (status : Status) (text : List ℕ) : Type 0 where
   pub stands : StandsAt x y s turns steps status text
-  pub has : P (lines_of x s) (turns_made x s turns steps) stands.state
+  pub has : P (lines_of_turn x s) (turns_made x s turns steps) stands.state
 
 -- the run of a session
 abbrev pub SessionStands : Session → ImageSystem → Rows → (before : List (List ℕ)) → Host → Status → List ℕ → Type 0

@@ -1,7 +1,7 @@
 -- Runs of a user that its kernel leaves alone: its machine and its journal are those of its own steps.
 use Rattle.std.specs.Prelude.{◌≡◌, ℕ, zero, suc, ◌≤◌, List, [], ◌∷◌, length, Some}
-use Rattle.mips_table.specs.Machine.{number_of}
-use Rattle.mips_table.specs.Flat.{Flat, VStep, Next as Goes, Trap, vstep}
+use Rattle.mips_table.specs.Machine.{cause_number}
+use Rattle.mips_table.specs.Flat.{Flat, VStep, Goes, Trap, vstep}
 use Rattle.cvm_model.specs.Kernel.{JournalEntry, Stepped, Trapped}
 use Rattle.cvm_model.specs.Primitives.{user_of}
 use Rattle.cvm_model.specs.Cvm.{System, Cvm, first_core, cvm}
@@ -20,7 +20,7 @@ own_steps (other ∷ rest) = own_steps rest
 -- the entry of a step
 abbrev pub entry_of : VStep → JournalEntry
 entry_of (Goes f) = Stepped
-entry_of (Trap f cause edata) = Trapped (number_of cause) edata
+entry_of (Trap f cause edata) = Trapped (cause_number cause) edata
 
 -- the journal of so many steps of a machine by itself
 abbrev pub own_journal : ℕ → Flat → List JournalEntry

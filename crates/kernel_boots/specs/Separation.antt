@@ -2,8 +2,8 @@
 use Rattle.std.specs.Prelude.{◌≡◌, IsTrue, ℕ, ◌+◌, ◌-◌, ◌≤◌, List, ◌++◌, take, drop, Option, Ok, Some, slice_get}
 use Rattle.std.specs.Io.KnownBytes.{append_known}
 use Rattle.schedule_file.specs.Rows.{Rows}
-use Rattle.mips_table.specs.Turns.{lines_of}
-use Rattle.boot_image.specs.Parts.{Parts as Image}
+use Rattle.mips_table.specs.Turns.{lines_of_turn}
+use Rattle.boot_image.specs.Parts.{ImageParts as Image}
 use Rattle.boot_image.specs.Reading.{answer as image_of}
 use Rattle.boot_turns.specs.declared.answers.View.TheVariants.{Boot}
 use Rattle.layer_map.specs.declared.params.Params.{Params}
@@ -52,7 +52,7 @@ abbrev pub system_of : DoneBoot → System
 system_of b = booted b.system b.rows
 
 abbrev pub met : DoneBoot → ℕ → ℕ
-met b = lines_of (around b.rows b.old) (first_state b.session b.system b.rows b.before)
+met b = lines_of_turn (around b.rows b.old) (first_state b.session b.system b.rows b.before)
 
 abbrev pub made : DoneBoot → ℕ
 made b = turns_made (around b.rows b.old) (first_state b.session b.system b.rows b.before) b.session.turns b.session.steps

@@ -3,9 +3,9 @@
 use Rattle.std.specs.Prelude.{◌≡◌, ◌≢◌, ◌⊎◌, ◌≤◌, ℕ, true, None, nat_lt, if◌then◌else◌, List, [], ◌++◌, Some}
 use Rattle.std.specs.Io.KnownBytes.{append_known}
 use Rattle.schedule_file.specs.Rows.{Rows}
-use Rattle.mips_table.specs.Device.{Outside}
+use Rattle.mips_table.specs.Device.{Environment}
 use Rattle.mips_table.specs.Machine.{State, run}
-use Rattle.mips_table.specs.Turns.{turn_of, complete, lines_of, is_end, IsEnd, end_within}
+use Rattle.mips_table.specs.Turns.{turn_of, complete, lines_of_turn, is_end, IsTurnEnd, end_within}
 use Rattle.mips_table.specs.Flat.{Flat}
 use Rattle.cvm_model.specs.Kernel.{JournalEntry}
 use Rattle.cvm_model.specs.Primitives.{user_of}
@@ -16,7 +16,7 @@ use Rattle.cvm_model.specs.Text.{rows_text, start_row, open_journal_rows, trace_
 use Rattle.boot_turns.specs.declared.answers.View.TheVariants as view
 use Rattle.boot_turns.specs.Headline.{ending}
 use Rattle.boot_turns.specs.Trace.{entries_so_far}
-use Rattle.boot_turns.specs.TurnEnds.{first_of, IsOver, Stood}
+use Rattle.boot_turns.specs.TurnEnds.{first_of, TurnIsOver, Stood}
 use Rattle.kernel_linker.specs.Accept.{ImageSystem}
 use Rattle.cvm_shell.specs.declared.exit_status.Status.{Status}
 use Rattle.cvm_shell.specs.declared.exit_status.Status.TheVariants.{Done, StepLimit, Memory}
@@ -31,10 +31,10 @@ use Rattle.kernel_boots.specs.Boots.{turns_made, SessionStands, BootStands}
 
 -- the lines that the machine of a session's run met
 abbrev pub lines_met : Session → ImageSystem → Rows → (before : List (List ℕ)) → Host → ℕ → ℕ
-lines_met session s rows before old = lines_of (around rows old) (first_state session s rows before)
+lines_met session s rows before old = lines_of_turn (around rows old) (first_state session s rows before)
 
 -- what the turn that goes on at step t has done to user u so far: nothing where all turns that began are complete
-abbrev pub under_way : Outside → System → State → (units u t : ℕ) → List JournalEntry
+abbrev pub under_way : Environment → System → State → (units u t : ℕ) → List JournalEntry
 under_way x y s units u t = if nat_lt (complete x s t) (turn_of x s t) then entries_so_far x s y units u t else []
 
 -- THE TEXT OF A TRACE, by the status: where the steps ran out the rows of its journal over the complete turns and of what the turn under way has done, else
@@ -45,15 +45,15 @@ TraceTextOf u first entries more other c text = text ≡ trace_text u first entr
 
 -- WHERE A RUN STANDS whose user u is traced, with the lines that its machine met, at the headline's step: as `StandsAt` says of a boot, and the journal is
 -- that of the user over the complete turns, whose replay over its first machine is its machine there
-pub record TraceStandsAt (x : Outside) (y : System) (s : State) (turns steps u : ℕ) (status : Status) (text : List ℕ) : Type 0 where
+pub record TraceStandsAt (x : Environment) (y : System) (s : State) (turns steps u : ℕ) (status : Status) (text : List ℕ) : Type 0 where
   pub state : Cvm
   pub units : ℕ
-  pub run : cvm y (lines_of x s) units (turns_made x s turns steps) ≡ Some state
+  pub run : cvm y (lines_of_turn x s) units (turns_made x s turns steps) ≡ Some state
   pub status_is : status ≡ ended_as (ending x s turns steps state)
-  pub replayed : replay (first_of y u) (journal y (lines_of x s) units u (turns_made x s turns steps)) ≡ Some (user_of state.core.users u)
-  pub text_is : TraceTextOf u (first_of y u) (journal y (lines_of x s) units u (turns_made x s turns steps))
+  pub replayed : replay (first_of y u) (journal y (lines_of_turn x s) units u (turns_made x s turns steps)) ≡ Some (user_of state.core.users u)
+  pub text_is : TraceTextOf u (first_of y u) (journal y (lines_of_turn x s) units u (turns_made x s turns steps))
       (under_way x y s units u (end_within x s turns steps)) status state text
-  pub over : is_end x s turns (end_within x s turns steps) ≡ true → IsOver x y s turns (end_within x s turns steps) state
+  pub over : is_end x s turns (end_within x s turns steps) ≡ true → TurnIsOver x y s turns (end_within x s turns steps) state
 
 -- A TRACE STANDS SO: what it printed is the text of the state where its run stands
 pub record TraceStands (session : Session) (u : ℕ) (s : ImageSystem) (rows : Rows) (before : List (List ℕ)) (status : Status) (old new : Host) :
@@ -78,7 +78,7 @@ pub record SavedStands (c : Save) (s : ImageSystem) (rows : Rows) (before : List
   pub running : state.status ≡ Running
   pub at : ℕ
   pub within : at ≤ c.boot.steps
-  pub first : IsEnd (around rows old) (first_state (save_session c) s rows before) c.boot.turns at
+  pub first : IsTurnEnd (around rows old) (first_state (save_session c) s rows before) c.boot.turns at
   pub stood : Stood (around rows old) (booted s rows) (first_state (save_session c) s rows before) c.boot.turns at state
   pub on : (run (around rows old) (first_state (save_session c) s rows before) at).off ≡ None
   pub printed : new.sink.text ≡ append_known old.sink.text (rows_text state.rows ++ saved_row)

@@ -2,10 +2,10 @@
 use Rattle.std.specs.Prelude.{◌≡◌, ◌≢◌, ℕ, suc, ◌+◌, ◌≤◌, List, ◌++◌, length, codes, Option, Ok}
 use Rattle.std.specs.Io.KnownBytes.{append_known}
 use Rattle.schedule_file.specs.Rows.{Rows}
-use Rattle.mips_table.specs.Device.{Outside}
+use Rattle.mips_table.specs.Device.{Environment}
 use Rattle.mips_table.specs.Machine.{State}
-use Rattle.mips_table.specs.Turns.{lines_of}
-use Rattle.boot_image.specs.Parts.{Parts as Image}
+use Rattle.mips_table.specs.Turns.{lines_of_turn}
+use Rattle.boot_image.specs.Parts.{ImageParts as Image}
 use Rattle.boot_image.specs.Reading.{answer as image_of}
 use Rattle.boot_turns.specs.declared.answers.View.TheVariants.{Boot}
 use Rattle.cvm_model.specs.Kernel.{Core}
@@ -25,7 +25,7 @@ use Rattle.kernel_boots.specs.Boots.{StandsAt, turns_made, BootStands, AsksSourc
 
 -- so long a system runs, by its invariant, where lines are taken in so many dispatches at most: it is running before N turns alone, N at least 1, with at most d
 -- dispatches, of which each touches p pages at most; and no dispatch faults
-pub record EndsWithin (y : System) (n : ℕ) (I : SystemProperty) (lines turns dispatches pages : ℕ) : Type 0 where
+pub record SystemEndsWithin (y : System) (n : ℕ) (I : SystemProperty) (lines turns dispatches pages : ℕ) : Type 0 where
   pub some : 1 ≤ turns
   pub below : EndsBelow I lines turns
   pub few : (k : ℕ) (past : List Dispatch) (c : Core) → I k past c → lines_taken past ≤ lines → length past ≤ dispatches
@@ -33,20 +33,20 @@ pub record EndsWithin (y : System) (n : ℕ) (I : SystemProperty) (lines turns d
   pub safe : (k : ℕ) (past : List Dispatch) (c : Core) → I k past c → IsSafe (status_after past)
 
 -- IT HALTED: what it printed ends with `halted` and the report of a halted state
-pub record HasHalted (x : Outside) (y : System) (s : State) (turns steps : ℕ) (status : Status) (text : List ℕ) (stands : StandsAt x y s turns steps status text) : Type 0 where
+pub record HasHalted (x : Environment) (y : System) (s : State) (turns steps : ℕ) (status : Status) (text : List ℕ) (stands : StandsAt x y s turns steps status text) : Type 0 where
   pub status_is : status ≡ Done
   pub halted : stands.state.status ≡ Halted
   pub text_is : text ≡ rows_text stands.state.rows ++ (codes "halted\n" ++ report_text y.boot.meaning.names stands.state.core)
 
 -- WHAT A RUN SHOWS: the state where it stands has the invariant, as soon as a turn is complete; no more dispatches took lines than the schedule has `line`
 -- rows; its status is no kernel's fault, where the invariant excludes faults; and it halted, where the turns that are asked for are as many as the system may take under so many rows, and the steps are enough for them
-pub record SystemShown (x : Outside) (y : System) (s : State) (late raised turns steps : ℕ) (n : ℕ) (Fit : Core → Type 0) (I : SystemProperty) (status : Status) (text : List ℕ) :
+pub record SystemShown (x : Environment) (y : System) (s : State) (late raised turns steps : ℕ) (n : ℕ) (Fit : Core → Type 0) (I : SystemProperty) (status : Status) (text : List ℕ) :
     Type 0 where
   pub stands : StandsAt x y s turns steps status text
-  pub holds : (k : ℕ) → turns_made x s turns steps ≡ suc k → SystemHolds Fit I (suc k) (dispatches_of y (lines_of x s) n (suc k)) stands.state
-  pub few_lines : (k : ℕ) → lines_taken (dispatches_of y (lines_of x s) n (suc k)) ≤ raised
+  pub holds : (k : ℕ) → turns_made x s turns steps ≡ suc k → SystemHolds Fit I (suc k) (dispatches_of y (lines_of_turn x s) n (suc k)) stands.state
+  pub few_lines : (k : ℕ) → lines_taken (dispatches_of y (lines_of_turn x s) n (suc k)) ≤ raised
   pub no_fault : ((k : ℕ) (past : List Dispatch) (c : Core) → I k past c → IsSafe (status_after past)) → status ≢ KernelFault
-  pub halts : (lines most dispatches pages : ℕ) → EndsWithin y n I lines most dispatches pages → raised ≤ lines → most ≤ turns
+  pub halts : (lines most dispatches pages : ℕ) → SystemEndsWithin y n I lines most dispatches pages → raised ≤ lines → most ≤ turns
       → steps_for y most dispatches n pages + late ≤ steps → HasHalted x y s turns steps status text stands
 
 -- the bytes of an image that has this source and these users' words
@@ -76,7 +76,7 @@ pub record BootIsChain (session : Session) (s : ImageSystem) (rows : Rows) (befo
   pub units : ℕ
   pub chain : (k : ℕ) → turns_made (around rows old) (first_state session s rows before) session.turns session.steps ≡ suc k →
       let y = booted s rows in
-      let lines = lines_of (around rows old) (first_state session s rows before) in
+      let lines = lines_of_turn (around rows old) (first_state session s rows before) in
       SystemHolds (HasUsers y) (λ k past c. Chain y units 0 (first_core y) past k c) (suc k) (dispatches_of y lines units (suc k)) shows.stands.state
 
 -- a law: so it is of each boot with no failed call

@@ -4,17 +4,17 @@ use Rattle.std.specs.List.{All}
 use Rattle.layer_map.specs.Map.{Map, ParamsInRange}
 use Rattle.layer_map.specs.declared.params.Params.{Params}
 use Rattle.boot_image.specs.Format.{HasSpelling, IsBare, IsSystem, bare_params, most_words}
-use Rattle.boot_image.specs.Parts.{Parts as Image}
+use Rattle.boot_image.specs.Parts.{ImageParts as Image}
 use Rattle.boot_image.specs.Reading.{Gives}
 use Rattle.boot_image.specs.declared.fault.ImageFault.{ImageFault}
 use Rattle.c0_tree.specs.Tree.{CUnit}
 use Rattle.c0_parser.specs.declared.fault.ReadFault.TheVariants.{Memory as NoMemory}
-use Rattle.c0_types.specs.Front.{IsUnitOf, IsFaultOf}
+use Rattle.c0_types.specs.Front.{IsUnitOf, IsSourceFaultOf}
 use Rattle.c0_types.specs.declared.source_fault.SourceFault.{SourceFault}
 use Rattle.c0_types.specs.declared.source_fault.SourceFault.TheVariants.{Reading}
 use Rattle.kernel_linker.specs.Linked.{linked, sizes_of}
 use Rattle.kernel_linker.specs.Fault.{accept_source_fault, accept_file_fault}
-use Rattle.kernel_linker.specs.Accept.{ImageSystem, AnswersBy, Answers, ◌>>=◌, stored, accept_answer}
+use Rattle.kernel_linker.specs.Accept.{ImageSystem, AnswersBy, AcceptAnswers, ◌>>=◌, words_match, accept_answer}
 use Rattle.kernel_linker.specs.declared.fault.AcceptFault.{AcceptFault}
 use Rattle.kernel_linker.specs.declared.fault.AcceptFault.TheVariants.{Memory}
 
@@ -38,9 +38,9 @@ wanting due view r i result e given h k = of_image due view r i result given (su
 
 -- the source has no checked unit
 pub unread_source : {X Y : Type 0} (due : Image → Result CUnit SourceFault → Result Y AcceptFault) (view : X → Y) (r : Result Image ImageFault) (i : Image) (result : Result X AcceptFault) (e : AcceptFault) (f : SourceFault) (source : List ℕ) →
-    due i (Err f) ≡ Err (accept_source_fault f) → Gives (Ok i) r → result ≡ Err e → e ≡ accept_source_fault f → IsFaultOf source f → source ≡ i.source → AnswersBy due view r result
+    due i (Err f) ≡ Err (accept_source_fault f) → Gives (Ok i) r → result ≡ Err e → e ≡ accept_source_fault f → IsSourceFaultOf source f → source ≡ i.source → AnswersBy due view r result
 unread_source due view r i result e f source stops given h k fault same =
-    of_image due view r i result given (subst (AnswersBy due view (Ok i)) (sym (h ∙ ap Err k)) (Err f, subst (λ (s : List ℕ). IsFaultOf s f) same fault, inr stops))
+    of_image due view r i result given (subst (AnswersBy due view (Ok i)) (sym (h ∙ ap Err k)) (Err f, subst (λ (s : List ℕ). IsSourceFaultOf s f) same fault, inr stops))
 
 -- a fault of the source is what is answered
 pub source_stops : (layer : Map → List ℕ → List ℕ) (i : Image) (f : SourceFault) → accept_answer layer i (Err f) ≡ Err (accept_source_fault f)
@@ -49,19 +49,19 @@ source_stops layer i f = refl
 
 -- the words are others than are made
 pub forged_image : {X : Type 0} (layer : Map → List ℕ → List ℕ) (view : X → ImageSystem) (r : Result Image ImageFault) (i : Image) (result : Result X AcceptFault) (e f : AcceptFault) (u : CUnit) (source words : List ℕ) →
-    Gives (Ok i) r → result ≡ Err e → e ≡ f → IsUnitOf source u → source ≡ i.source → Err f ≡ stored i words → words ≡ linked layer u i.params (sizes_of i.users) → Answers layer view r result
+    Gives (Ok i) r → result ≡ Err e → e ≡ f → IsUnitOf source u → source ≡ i.source → Err f ≡ words_match i words → words ≡ linked layer u i.params (sizes_of i.users) → AcceptAnswers layer view r result
 unfolding accept_answer
 forged_image layer view r i result e f u source words given h k found same differ made =
-    let other : Err f ≡ stored i (linked layer u i.params (sizes_of i.users)) = differ ∙ ap (stored i) made in
-    of_image (accept_answer layer) view r i result given (subst (Answers layer view (Ok i)) (sym (h ∙ ap Err k)) (Ok u, subst (λ (s : List ℕ). IsUnitOf s u) same found, inr (rw (← other) refl)))
+    let other : Err f ≡ words_match i (linked layer u i.params (sizes_of i.users)) = differ ∙ ap (words_match i) made in
+    of_image (accept_answer layer) view r i result given (subst (AcceptAnswers layer view (Ok i)) (sym (h ∙ ap Err k)) (Ok u, subst (λ (s : List ℕ). IsUnitOf s u) same found, inr (rw (← other) refl)))
 
 -- all is well
 pub accepted_image : {X : Type 0} (layer : Map → List ℕ → List ℕ) (view : X → ImageSystem) (r : Result Image ImageFault) (i : Image) (a : X) (u : CUnit) (source words : List ℕ) (users : List (List ℕ)) (x : Unit {0}) →
-    Gives (Ok i) r → IsUnitOf source u → source ≡ i.source → Ok x ≡ stored i words → words ≡ linked layer u i.params (sizes_of i.users) →
-    users ≡ i.users → view a ≡ record { params = i.params; unit = u; words = words; users = users } → Answers layer view r (Ok a)
+    Gives (Ok i) r → IsUnitOf source u → source ≡ i.source → Ok x ≡ words_match i words → words ≡ linked layer u i.params (sizes_of i.users) →
+    users ≡ i.users → view a ≡ record { params = i.params; unit = u; words = words; users = users } → AcceptAnswers layer view r (Ok a)
 unfolding accept_answer
 accepted_image layer view r i a u source words users x given found same equal made kept seen =
-    let other : Ok x ≡ stored i (linked layer u i.params (sizes_of i.users)) = equal ∙ ap (stored i) made in
+    let other : Ok x ≡ words_match i (linked layer u i.params (sizes_of i.users)) = equal ∙ ap (words_match i) made in
     of_image (accept_answer layer) view r i (Ok a) given (Ok u, subst (λ (s : List ℕ). IsUnitOf s u) same found, rw (seen, ← other, made, kept) refl)
 
 -- what an image's users and parameters are

@@ -2,10 +2,10 @@
 use Rattle.std.proofs.Common.{◌≡◌, ℕ, List, refl, sym, ap, subst}
 use Rattle.std.specs.Prelude.{Result, Ok, Err}
 use Rattle.layer_map.specs.Map.{Map}
-use Rattle.boot_image.specs.Parts.{Parts as Image}
+use Rattle.boot_image.specs.Parts.{ImageParts as Image}
 use Rattle.c0_tree.specs.Tree.{CUnit}
 use Rattle.c0_types.specs.declared.source_fault.SourceFault.{SourceFault}
-use Rattle.c0_types.specs.Front.{IsUnitOf, IsAnswer}
+use Rattle.c0_types.specs.Front.{IsUnitOf, IsFrontAnswer}
 use Rattle.kernel_linker.specs.declared.fault.AcceptFault.{AcceptFault}
 use Rattle.kernel_linker.specs.Accept.{ImageSystem, accept_answer, ◌>>=◌}
 use Rattle.kernel_linker.specs.Sources.{IsOfImage, AcceptedAreOfImages}

@@ -7,9 +7,9 @@ use Rattle.layer_map.specs.Map.{Map, ParamsInRange}
 use Rattle.boot_image.specs.Format.{HasSpelling, most_words}
 use Rattle.c0_parser.specs.declared.fault.ReadFault.TheVariants.{Memory as NoMemory}
 use Rattle.c0_types.specs.declared.source_fault.SourceFault.TheVariants.{Reading}
-use Rattle.kernel_linker.specs.Answers.{Comes, GivesUnless}
-use Rattle.boot_image.specs.Parts.{Parts as Image}
-use Rattle.object_file.specs.Parts.{Parts as Object}
+use Rattle.kernel_linker.specs.Answers.{FrontGives, GivesUnless}
+use Rattle.boot_image.specs.Parts.{ImageParts as Image}
+use Rattle.object_file.specs.Parts.{ObjectParts as Object}
 use Rattle.c0_tree.specs.Tree.{CUnit}
 use Rattle.c0_types.specs.declared.source_fault.SourceFault.{SourceFault}
 use Rattle.kernel_linker.specs.Linked.{linked, sizes_of}
@@ -20,7 +20,7 @@ use Rattle.kernel_linker.specs.declared.fault.LinkFault.TheVariants.{UserTooLong
 
 -- what is due of a result
 abbrev pub Due : (layer : Map → List ℕ → List ℕ) → Object → Params → List (List ℕ) → Result Image LinkFault → Type 0
-Due layer o p users r = (front : Result CUnit SourceFault) × Comes o.source front × GivesUnless Memory (λ i. i) r (link_answer layer o p users front)
+Due layer o p users r = (front : Result CUnit SourceFault) × FrontGives o.source front × GivesUnless Memory (λ i. i) r (link_answer layer o p users front)
 
 -- users or parameters don't fit
 pub unfit : (layer : Map → List ℕ → List ℕ) (o : Object) (p : Params) (users : List (List ℕ)) (r : Result Image LinkFault) (e f : LinkFault) →

@@ -2,8 +2,8 @@
 use Rattle.std.proofs.Common.{ℕ, ◌≡◌, List, Result, Ok, Err, refl, sym, ap, subst}
 use Rattle.layer_map.specs.declared.params.Params.{Params}
 use Rattle.layer_map.specs.Map.{Map}
-use Rattle.boot_image.specs.Parts.{Parts as Image}
-use Rattle.object_file.specs.Parts.{Parts as Object}
+use Rattle.boot_image.specs.Parts.{ImageParts as Image}
+use Rattle.object_file.specs.Parts.{ObjectParts as Object}
 use Rattle.c0_tree.specs.Tree.{CUnit}
 use Rattle.c0_unit.specs.Code.{unit_words}
 use Rattle.c0_types.specs.declared.source_fault.SourceFault.{SourceFault}

@@ -4,7 +4,7 @@ use Rattle.std.specs.List.{All}
 use Rattle.layer_map.specs.Map.{Map, ParamsInRange}
 use Rattle.layer_map.specs.declared.params.Params.{Params}
 use Rattle.boot_image.specs.Format.{HasSpelling, IsOldInRange, most_words}
-use Rattle.boot_image.specs.Parts.{Parts as Image}
+use Rattle.boot_image.specs.Parts.{ImageParts as Image}
 use Rattle.boot_image.specs.Reading.{Gives}
 use Rattle.boot_image.specs.declared.fault.ImageFault.{ImageFault}
 use Rattle.c0_tree.specs.Tree.{CUnit}

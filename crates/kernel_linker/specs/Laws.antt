@@ -3,8 +3,8 @@ use Rattle.std.specs.Prelude.{◌≡◌, ◌≤◌, ℕ, All, List, Result, Ok, 
 use Rattle.layer_map.specs.declared.params.Params.{Params}
 use Rattle.layer_map.specs.Map.{Map, ParamsInRange}
 use Rattle.boot_image.specs.Format.{HasSpelling, most_words}
-use Rattle.boot_image.specs.Parts.{Parts as Image}
-use Rattle.object_file.specs.Parts.{Parts as Object}
+use Rattle.boot_image.specs.Parts.{ImageParts as Image}
+use Rattle.object_file.specs.Parts.{ObjectParts as Object}
 use Rattle.c0_tree.specs.Tree.{CUnit}
 use Rattle.c0_types.specs.declared.source_fault.SourceFault.{SourceFault}
 use Rattle.kernel_linker.specs.Linked.{linked, sizes_of}
@@ -26,14 +26,14 @@ LinkedAreAccepted = (layer : Map → List ℕ → List ℕ) (o : Object) (p : Pa
     link_answer layer o p users front ≡ Ok i → IsAccepted layer o p users front i
 
 -- parameters in range, and users that are few and short enough
-pub record Fits (i : Image) : Type 0 where
+pub record ImageFits (i : Image) : Type 0 where
   pub params : ParamsInRange i.params
   pub few : length i.users ≤ 64
   pub short : All (λ words. length words ≤ most_words i.params.pages) i.users
 
 -- a law: an image that has a spelling is of such
 abbrev pub SpelledImagesFit : Type 0
-SpelledImagesFit = (i : Image) → HasSpelling i → Fits i
+SpelledImagesFit = (i : Image) → HasSpelling i → ImageFits i
 
 -- a law: what is opened is the unit that the front came to on the object's source
 abbrev pub OpenedUnitsAreTheirSources : Type 0

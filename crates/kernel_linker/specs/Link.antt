@@ -5,19 +5,19 @@ use Rattle.std.specs.Prelude.{ℕ, suc, ◌||◌, nat_lt, List, [], ◌∷◌, l
 use Rattle.layer_map.specs.declared.params.Params.{Params}
 use Rattle.layer_map.specs.Map.{Map}
 use Rattle.boot_image.specs.Format.{most_words}
-use Rattle.boot_image.specs.Parts.{Parts as Image}
-use Rattle.object_file.specs.Parts.{Parts as Object}
+use Rattle.boot_image.specs.Parts.{ImageParts as Image}
+use Rattle.object_file.specs.Parts.{ObjectParts as Object}
 use Rattle.c0_tree.specs.Tree.{CUnit}
 use Rattle.c0_types.specs.declared.source_fault.SourceFault.{SourceFault}
-use Rattle.kernel_linker.specs.Answers.{Comes, GivesUnless}
+use Rattle.kernel_linker.specs.Answers.{FrontGives, GivesUnless}
 use Rattle.kernel_linker.specs.Linked.{linked, sizes_of}
 use Rattle.kernel_linker.specs.Open.{◌>>=◌, open_answer}
 use Rattle.kernel_linker.specs.declared.fault.LinkFault.{LinkFault}
 use Rattle.kernel_linker.specs.declared.fault.LinkFault.TheVariants.{UserCount, UserTooLong, Parameter, Memory}
 
 -- at most 64 users
-unfoldable pub counted : List (List ℕ) → Result (Unit {0}) LinkFault
-counted users = if nat_lt 64 (length users) then Err (UserCount (length users)) else Ok tt
+unfoldable pub users_counted : List (List ℕ) → Result (Unit {0}) LinkFault
+users_counted users = if nat_lt 64 (length users) then Err (UserCount (length users)) else Ok tt
 
 -- no user has more than so many words; the first of them has this number
 abbrev pub measured : (most user : ℕ) → List (List ℕ) → Result (Unit {0}) LinkFault
@@ -39,7 +39,7 @@ in_range p = do
 -- there can be a system of these parameters and users
 unfoldable pub fitting : Params → List (List ℕ) → Result (Unit {0}) LinkFault
 fitting p users = do
-  few ← counted users
+  few ← users_counted users
   short ← measured (most_words p.pages) 1 users
   in_range p
 
@@ -52,4 +52,4 @@ link_answer layer o p users front = do
 
 -- a result is the answer that is due, by what the front comes to on the object's source, or want of memory
 abbrev pub LinksBy : (layer : Map → List ℕ → List ℕ) → Object → Params → (users : List (List ℕ)) → Result Image LinkFault → Type 0
-LinksBy layer o p users result = (front : Result CUnit SourceFault) × Comes o.source front × GivesUnless Memory (λ i. i) result (link_answer layer o p users front)
+LinksBy layer o p users result = (front : Result CUnit SourceFault) × FrontGives o.source front × GivesUnless Memory (λ i. i) result (link_answer layer o p users front)

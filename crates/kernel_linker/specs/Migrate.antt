@@ -2,7 +2,7 @@
 -- users, whose linked words are made anew.
 use Rattle.std.specs.Prelude.{◌≡◌, ℕ, List, Result, Ok}
 use Rattle.layer_map.specs.Map.{Map}
-use Rattle.boot_image.specs.Parts.{Parts as Image}
+use Rattle.boot_image.specs.Parts.{ImageParts as Image}
 use Rattle.boot_image.specs.declared.fault.ImageFault.{ImageFault}
 use Rattle.c0_tree.specs.Tree.{CUnit}
 use Rattle.c0_types.specs.declared.source_fault.SourceFault.{SourceFault}

@@ -1,10 +1,10 @@
 -- Of what source the unit of an accepted system is.
 use Rattle.std.specs.Prelude.{◌≡◌, ℕ, List, Result, Ok}
 use Rattle.layer_map.specs.Map.{Map}
-use Rattle.boot_image.specs.Parts.{Parts as Image}
+use Rattle.boot_image.specs.Parts.{ImageParts as Image}
 use Rattle.c0_tree.specs.Tree.{CUnit}
 use Rattle.c0_types.specs.declared.source_fault.SourceFault.{SourceFault}
-use Rattle.c0_types.specs.Front.{IsUnitOf, IsAnswer}
+use Rattle.c0_types.specs.Front.{IsUnitOf, IsFrontAnswer}
 use Rattle.kernel_linker.specs.declared.fault.AcceptFault.{AcceptFault}
 use Rattle.kernel_linker.specs.Accept.{ImageSystem, accept_answer}
 
@@ -15,5 +15,5 @@ pub record IsOfImage (i : Image) (s : ImageSystem) : Type 0 where
   pub users : s.users ≡ i.users
 
 abbrev pub AcceptedAreOfImages : Type 0
-AcceptedAreOfImages = (layer : Map → List ℕ → List ℕ) (i : Image) (front : Result CUnit SourceFault) (s : ImageSystem) → IsAnswer i.source front
+AcceptedAreOfImages = (layer : Map → List ℕ → List ℕ) (i : Image) (front : Result CUnit SourceFault) (s : ImageSystem) → IsFrontAnswer i.source front
     → ◌≡◌ {A = Result ImageSystem AcceptFault} (Ok s) (accept_answer layer i front) → IsOfImage i s

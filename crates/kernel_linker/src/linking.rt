@@ -3,7 +3,7 @@
 ghost use Rattle.std.specs.Prelude.{◌≡◌, ◌+◌, ◌≤◌, All, length, map, Err, IfOk};
 ghost use Rattle.layer_map.specs.Map.{ParamsInRange};
 ghost use Rattle.boot_image.specs.Format.{HasSpelling, most_words};
-ghost use Rattle.kernel_linker.specs.Link.{LinksBy, counted, fitting, in_range, measured, ranged};
+ghost use Rattle.kernel_linker.specs.Link.{LinksBy, users_counted, fitting, in_range, measured, ranged};
 ghost use Rattle.kernel_linker.specs.declared.fault.LinkFault.{LinkFault};
 
 use crate::fault::LinkFault;
@@ -16,9 +16,9 @@ use object_file::Object;
 use std::alloc::{AllocError, Global};
 
 // Looks whether there are at most 64 users.
-#[tactic(auto, unfolding(crate::specs::Link::counted))]
+#[tactic(auto, unfolding(crate::specs::Link::users_counted))]
 fn count(users: &[Vec<u32>]) -> Result<(), LinkFault>
-    ensures is { result ≡ counted (map (λ u. u.items) users.now) }
+    ensures is { result ≡ users_counted (map (λ u. u.items) users.now) }
     ensures few { IfOk result (λ x. length users.now ≤ 64) }
 {
     if users.len() > 64 {

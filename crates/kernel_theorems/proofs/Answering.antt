@@ -6,11 +6,11 @@ use Rattle.std.proofs.lemmas.Bool.{lt-ltb}
 use Rattle.std.proofs.lemmas.List.{append_assoc, append-nil}
 use Rattle.mips_table.specs.Arith.{signed}
 use Rattle.c0_tree.specs.Tree.{CUnit}
-use Rattle.c0_meaning.specs.State.{State as C0}
+use Rattle.c0_meaning.specs.State.{C0State}
 use Rattle.c0_meaning.specs.Value.{int}
 use Rattle.c0_meaning.specs.World.{Configuration}
 use Rattle.c0_meaning.specs.Execution as c0_run
-use Rattle.c0_meaning.specs.Reasoning.{Comes}
+use Rattle.c0_meaning.specs.Reasoning.{DoneWith}
 use Rattle.cvm_model.specs.Kernel.{Core, Changes}
 use Rattle.cvm_model.specs.KernelMeaning.{Machines, core_at, setting_of, machines_of, kernel_meaning}
 use Rattle.cvm_model.specs.Cvm.{System, next_of}
@@ -18,7 +18,7 @@ use Rattle.cvm_model.specs.declared.kernel_fault.KernelFault.TheVariants.{BadUse
 use Rattle.cvm_model.specs.declared.row.Next.{Next}
 use Rattle.cvm_model.specs.declared.row.Next.TheVariants.{User, Halt, Fault}
 use Rattle.cvm_model.specs.Invariant.{Property, Dispatch, row_of, rows_of, IsProper, current_after, Keeps, KeptAt}
-use Rattle.cvm_model.proofs.Kept.{keeps_by}
+use Rattle.cvm_model.proofs.KeepsDispatch.{keeps_by}
 use Rattle.kernel_theorems.specs.History.{OfDispatch, EachHas}
 
 -- the rows of a history with one dispatch more: for a property that speaks of rows
@@ -34,12 +34,12 @@ each_more P a (e ∷ past) d h is = (h.0, each_more P (a ++ e ∷ []) past d h.1
 module _ (y : System) (u : CUnit) (is : y.boot.meaning ≡ kernel_meaning u y.boot.params) (n : ℕ) (I : Property) (k cause edata : ℕ) (past : List Dispatch) (at : Core) where
   -- KEPT, where the kernel's data is known, and what a dispatch of it comes to was computed: for a kernel whose dispatches are laws of their own, as
   -- equations; where they are not, `keeps_by`
-  pub keeps_as : (s : C0) (o : c0_run.Outcome Machines Changes) → at.c0 ≡ s
-      → c0_run.dispatch (setting_of u y.boot.params) n (pos cause) (signed edata) (pos at.current) s (machines_of y.boot.params at) ≡ o → Comes o (KeptAt y I k cause edata past at)
+  pub keeps_as : (s : C0State) (o : c0_run.Outcome Machines Changes) → at.c0 ≡ s
+      → c0_run.dispatch (setting_of u y.boot.params) n (pos cause) (signed edata) (pos at.current) s (machines_of y.boot.params at) ≡ o → DoneWith o (KeptAt y I k cause edata past at)
       → Keeps y n I k cause edata past at
   keeps_as s o data_is e h =
-      keeps_by y u is n I k cause edata past at (subst (λ d. Comes (c0_run.dispatch (setting_of u y.boot.params) n (pos cause) (signed edata) (pos at.current) d (machines_of y.boot.params at)) (KeptAt y I k cause edata past at)) (sym data_is)
-      (subst (λ x. Comes x (KeptAt y I k cause edata past at)) (sym e) h))
+      keeps_by y u is n I k cause edata past at (subst (λ d. DoneWith (c0_run.dispatch (setting_of u y.boot.params) n (pos cause) (signed edata) (pos at.current) d (machines_of y.boot.params at)) (KeptAt y I k cause edata past at)) (sym data_is)
+      (subst (λ x. DoneWith x (KeptAt y I k cause edata past at)) (sym e) h))
 
 -- an answer from 1 to the number of users names a user: what `answers_user` rests on
 pub names_user : (users a : ℕ) → 1 ≤ a → a ≤ users → next_of users (pos a) ≡ User a

@@ -10,7 +10,7 @@ use Rattle.cvm_model.specs.Primitives.{user_of, no_flat}
 use Rattle.cvm_model.specs.Stands.{IsUser}
 use Rattle.cvm_model.specs.Cvm.{System}
 use Rattle.cvm_model.specs.Invariant.{Dispatch, Shaped, UserShaped}
-use Rattle.kernel_theorems.specs.Registers.{holds, calls, set_in, SetsAreFound}
+use Rattle.kernel_theorems.specs.Registers.{int_held, calls, set_in, SetsAreFound}
 use Rattle.kernel_theorems.proofs.Tests.{not_both}
 
 -- THE CALLER FITS: the tests on the current user's number, which its primitives make, and its registers
@@ -40,7 +40,7 @@ the_caller d v e = by (d.cause == 6) e
 
 -- A CALL THAT IS ANSWERED in a register: its caller finds the answer there, and all others keep their machines
 pub record AnsweredCall (d : Dispatch) (register : ℕ) (a : ℤ) : Type 0 where
-  pub found : (v : ℕ) → calls v d ≡ true → holds d.after v register ≡ a
+  pub found : (v : ℕ) → calls v d ≡ true → int_held d.after v register ≡ a
   pub others : (v : ℕ) → 1 ≤ v → calls v d ≡ false → user_of d.after.users v ≡ user_of d.before.users v
 
 pub answered_call : SetsAreFound → (y : System) (d : Dispatch) (register : ℕ) (a : ℤ) → (d.cause == 6) ≡ true → Caller y d.before → IsUser d.before d.before.current → register < 32 → FitsSigned w32 a
@@ -48,7 +48,7 @@ pub answered_call : SetsAreFound → (y : System) (d : Dispatch) (register : ℕ
 answered_call sets y d register a cause c user room fits users =
     let set = sets d.before.users d.after d.before.current register a users user.0 user.1 room c.long fits in
     record {
-      found = λ v e. subst (λ x. holds d.after x register ≡ a) (the_caller d v e) set.found;
+      found = λ v e. subst (λ x. int_held d.after x register ≡ a) (the_caller d v e) set.found;
       others = λ v some e. set.others v some (λ same. not_both (calls v d) (ap₂ (λ b w. b && (d.before.current == w)) cause same ∙ eq-eqb d.before.current d.before.current refl) e);
     }
 

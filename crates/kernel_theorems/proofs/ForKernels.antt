@@ -2,7 +2,7 @@
 -- other crates.
 pub use Rattle.mips_table.specs.Arith.{signed}
 pub use Rattle.mips_table.specs.declared.cause.Cause.{Cause}
-pub use Rattle.mips_table.specs.Machine.{number_of}
+pub use Rattle.mips_table.specs.Machine.{cause_number}
 pub use Rattle.c0_meaning.specs.Value.{int}
 pub use Rattle.cvm_model.specs.Kernel.{Core, KernelMeaning}
 pub use Rattle.cvm_model.specs.Primitives.{user_of}
@@ -11,7 +11,7 @@ pub use Rattle.cvm_model.specs.Cvm.{System, first_core}
 pub use Rattle.cvm_model.specs.declared.row.Next.{Next}
 pub use Rattle.cvm_model.specs.Invariant.{Dispatch, IsTrap, IsTrapOf, IsInvariant, HasUsers, Shaped, RunsAreLawful}
 pub use Rattle.cvm_model.proofs.Invariants.{invariants_hold}
-pub use Rattle.kernel_theorems.specs.Registers.{holds, calls, set_in, SetsAreFound}
+pub use Rattle.kernel_theorems.specs.Registers.{int_held, calls, set_in, SetsAreFound}
 pub use Rattle.kernel_theorems.specs.History.{EachHas, told_by}
 pub use Rattle.kernel_theorems.proofs.Answering.{rows_join, each_more, answers_user, answers_halt}
 pub use Rattle.kernel_theorems.proofs.Histories.{told_more, one_more, rows_length}

@@ -9,7 +9,7 @@ use Rattle.std.proofs.Math.Nat.{div-add-mod'}
 use Rattle.mips_table.specs.Arith.{signed}
 use Rattle.mips_table.specs.declared.cause.Cause.{Cause}
 use Rattle.mips_table.specs.declared.cause.Cause.TheVariants as causes
-use Rattle.mips_table.specs.Machine.{number_of}
+use Rattle.mips_table.specs.Machine.{cause_number}
 use Rattle.mips_table.specs.Processor.{is_aligned}
 use Rattle.mips_table.specs.Flat.{Flat}
 use Rattle.layer_map.specs.declared.params.Params.{Params}
@@ -18,12 +18,12 @@ use Rattle.c0_tree.specs.declared.tree.Kind.TheVariants.{Function}
 use Rattle.c0_tree.specs.Tree.{call, choice, done, next}
 use Rattle.worked_rows.specs.Kernels.{z, name, local}
 use Rattle.c0_meaning.specs.Value.{int, group, empty, part}
-use Rattle.c0_meaning.specs.State.{State, Frame}
+use Rattle.c0_meaning.specs.State.{C0State, Frame}
 use Rattle.c0_meaning.specs.Operators.{divided}
 use Rattle.c0_meaning.specs.World.{Setting, Configuration, beginning}
 use Rattle.c0_meaning.specs.Running.{Work, begin, act_on, leave, into, outward, push}
 use Rattle.c0_meaning.specs.Execution.{dispatch}
-use Rattle.c0_meaning.specs.Reasoning.{Comes, Ends}
+use Rattle.c0_meaning.specs.Reasoning.{DoneWith, Ends}
 use Rattle.c0_meaning.proofs.Rules as rules
 use Rattle.cvm_model.specs.Kernel.{Core, Changes, KernelMeaning as Kernel}
 use Rattle.cvm_model.specs.KernelMeaning.{Machines, setting_of, machines_of}
@@ -31,10 +31,10 @@ use Rattle.cvm_model.specs.Primitives.{user_of}
 use Rattle.cvm_model.specs.Cvm.{System, first_core}
 use Rattle.cvm_model.specs.Invariant.{Dispatch, Keeps, KeptAt, IsInvariant, HasUsers, RunsAreLawful}
 use Rattle.cvm_model.proofs.Invariants.{invariants_hold}
-use Rattle.cvm_model.proofs.Kept.{keeps_by}
+use Rattle.cvm_model.proofs.KeepsDispatch.{keeps_by}
 use Rattle.kernel_theorems.proofs.Answering.{answers_user}
 use Rattle.kernel_theorems.proofs.Weaker.{weaker, from_state}
-use Rattle.kernel_theorems.specs.Traps.{Tells, StepsTell}
+use Rattle.kernel_theorems.specs.Traps.{TrapTells, StepsTell}
 use Rattle.kernel_theorems.specs.GuardedTree.{guarded, bump_locals, bump_body, bump_answer, bump_code, dispatch_answer, dispatch_test4, dispatch_yes4, dispatch_test5, dispatch_yes5, dispatch_rest3}
 use Rattle.kernel_theorems.specs.Guarded.{Data, globals_of, heap_of, used_of, data_of, IsData, RunsGuarded, GuardedNeverFaults}
 
@@ -76,7 +76,7 @@ module _ (p : Params) (room : 13 ≤ p.stack) where
   s = setting_of guarded p
 
   -- the state in `dispatch`
-  abbrev inside : Data → (cause edata user who seen : ℤ) → State
+  abbrev inside : Data → (cause edata user who seen : ℤ) → C0State
   inside x cause edata user who seen = record {
     global_values = globals_of x;
     heap_values = group (heap_of x.cell);
@@ -103,7 +103,7 @@ module _ (p : Params) (room : 13 ≤ p.stack) where
       refl (λ e. rated x cause edata user who seen d e) (λ e. record { values = x; answer = refl; state = refl }))
 
   -- THE INDEX, behind its test: a place that is none of the four leaves the counts
-  abbrev in_bump : Data → (at seen : ℤ) → List Frame → State
+  abbrev in_bump : Data → (at seen : ℤ) → List Frame → C0State
   in_bump x at seen behind = record {
     global_values = globals_of x;
     heap_values = group (heap_of x.cell);
@@ -209,9 +209,9 @@ module _ (tell : StepsTell) (y : System) (r : RunsGuarded y) where
       → Keeps y 300 IsData k cause edata past at
   keeps k cause edata past at x u data_is some few h =
       keeps_by y guarded r.meaning_is 300 IsData k cause edata past at
-      (subst (λ (t : State). Comes (dispatch (setting_of guarded y.boot.params) 300 (pos cause) (signed edata) (pos at.current) t (machines_of y.boot.params at)) (KeptAt y IsData k cause edata past at)) (sym data_is)
+      (subst (λ (t : C0State). DoneWith (dispatch (setting_of guarded y.boot.params) 300 (pos cause) (signed edata) (pos at.current) t (machines_of y.boot.params at)) (KeptAt y IsData k cause edata past at)) (sym data_is)
       (weaker Machines Changes _ (Answers y.boot.params r.room (pos u)) (KeptAt y IsData k cause edata past at)
-      (λ d a. answers_user y IsData k cause edata past at d u a.answer some few (record { values = a.values; data_is = ap (λ (t : State). record t { frames = [] }) a.state })) h))
+      (λ d a. answers_user y IsData k cause edata past at d u a.answer some few (record { values = a.values; data_is = ap (λ (t : C0State). record t { frames = [] }) a.state })) h))
 
   invariant : IsInvariant y 300 (HasUsers y) IsData
   invariant = record {
@@ -220,15 +220,15 @@ module _ (tell : StepsTell) (y : System) (r : RunsGuarded y) where
         keeps (suc k) 1 mask past at h.values at.current h.data_is user.0 (subst (λ n. at.current ≤ n) fit user.1) (lined y.boot.params r.room h.values (signed mask) (pos at.current) _);
     trap = λ k cause edata past before at came fit user h.
         let tells = tell (user_of before.users before.current) came.after cause edata came.stepped in
-        keeps (suc k) (number_of cause) edata past at h.values at.current h.data_is user.0 (subst (λ n. at.current ≤ n) fit user.1) (trap (user_of before.users before.current) cause edata tells h.values (pos at.current) _);
+        keeps (suc k) (cause_number cause) edata past at h.values at.current h.data_is user.0 (subst (λ n. at.current ≤ n) fit user.1) (trap (user_of before.users before.current) cause edata tells h.values (pos at.current) _);
   }
     where
-      trap : (f : Flat) (cause : Cause) (edata : ℕ) → Tells f cause edata → (x : Data) (user : ℤ) (world : Machines)
-          → Ends (setting_of guarded y.boot.params) 300 (begin 1 (part (int (pos (number_of cause))) (part (int (signed edata)) (part (int user) empty))) ∷ []) (beginning (data_of x) world) (Answers y.boot.params r.room user)
+      trap : (f : Flat) (cause : Cause) (edata : ℕ) → TrapTells f cause edata → (x : Data) (user : ℤ) (world : Machines)
+          → Ends (setting_of guarded y.boot.params) 300 (begin 1 (part (int (pos (cause_number cause))) (part (int (signed edata)) (part (int user) empty))) ∷ []) (beginning (data_of x) world) (Answers y.boot.params r.room user)
       trap f causes.Reset edata tells x user world = absurd tells
       trap f causes.External edata tells x user world = absurd tells
       trap f causes.DataAlign edata tells x user world = misaligned y.boot.params r.room x (signed edata) user world (leaves_more edata tells)
-      trap f other edata tells x user world = trapped y.boot.params r.room (number_of other) refl refl refl x (signed edata) user world
+      trap f other edata tells x user world = trapped y.boot.params r.room (cause_number other) refl refl refl x (signed edata) user world
 
 pub guarded_never_faults : StepsTell → RunsAreLawful → GuardedNeverFaults
 guarded_never_faults tell laws y r lines eight k =

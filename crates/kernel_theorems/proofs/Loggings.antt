@@ -7,7 +7,7 @@ use Rattle.std.proofs.lemmas.Bool.{le-ltb, ltb-true, ltb-false}
 use Rattle.std.proofs.lemmas.Int.{int_wrap_fits}
 use Rattle.std.proofs.lemmas.List.{append_assoc, append-nil, length-append, length-take, take_all, take-append-le}
 use Rattle.mips_table.specs.Arith.{signed}
-use Rattle.mips_table.specs.Machine.{LOG_ROOM, number_of, Console, log_has_room}
+use Rattle.mips_table.specs.Machine.{LOG_ROOM, cause_number, Console, log_has_room}
 use Rattle.mips_table.specs.declared.cause.Cause.{Cause}
 use Rattle.mips_table.specs.declared.cause.Cause.TheVariants as causes
 use Rattle.layer_map.specs.declared.params.Params.{Params}
@@ -18,11 +18,11 @@ use Rattle.c0_tree.specs.declared.tree.Kind.TheVariants.{Primitive}
 use Rattle.worked_rows.specs.Kernels.{z, name, global, local, number, block}
 use Rattle.c0_meaning.specs.Value as value
 use Rattle.c0_meaning.specs.Value.{heap, Value, int, bool, null, count, followed_by, group, empty, part}
-use Rattle.c0_meaning.specs.State.{State}
+use Rattle.c0_meaning.specs.State.{C0State}
 use Rattle.c0_meaning.specs.World.{Called, Setting, Configuration, beginning}
 use Rattle.c0_meaning.specs.Running.{Work, begin, finish, leave, outward, push}
 use Rattle.c0_meaning.specs.Execution.{dispatch}
-use Rattle.c0_meaning.specs.Reasoning.{Comes, Ends}
+use Rattle.c0_meaning.specs.Reasoning.{DoneWith, Ends}
 use Rattle.c0_meaning.proofs.Rules as rules
 use Rattle.cvm_model.specs.Kernel.{Core, Changes, KernelMeaning}
 use Rattle.cvm_model.specs.KernelMeaning.{Machines, kernel_primitive, setting_of, machines_of}
@@ -30,7 +30,7 @@ use Rattle.cvm_model.specs.Stands.{IsUser}
 use Rattle.cvm_model.specs.Cvm.{System, first_core}
 use Rattle.cvm_model.specs.Invariant.{Dispatch, IsTrap, Keeps, KeptAt, IsInvariant, Shaped, RunsAreLawful}
 use Rattle.cvm_model.proofs.Invariants.{invariants_hold}
-use Rattle.cvm_model.proofs.Kept.{keeps_by}
+use Rattle.cvm_model.proofs.KeepsDispatch.{keeps_by}
 use Rattle.kernel_theorems.specs.History.{EachHas}
 use Rattle.kernel_theorems.proofs.Answering.{each_more, answers_user}
 use Rattle.kernel_theorems.proofs.Weaker.{weaker, from_place}
@@ -78,7 +78,7 @@ module _ (p : Params) (x : Data) (cause edata : ℤ) (u : ℕ) (who : ℤ) (m : 
   s = setting_of logging p
 
   -- the state in the loop
-  abbrev in_loop : Value → ℤ → State
+  abbrev in_loop : Value → ℤ → C0State
   in_loop ok v = record {
     global_values = group (part x.mark empty);
     heap_values = group x.heap;
@@ -149,7 +149,7 @@ module _ (y : System) (r : RunsLogging y) where
   keeps : (k cause edata : ℕ) (past : List Dispatch) (at : Core) (x : Data) → at.c0 ≡ data_of x → Does k cause edata past at x → Keeps y 400 IsLogging k cause edata past at
   keeps k cause edata past at x data_is h =
       keeps_by y logging r.meaning_is 400 IsLogging k cause edata past at
-      (subst (λ (t : State). Comes (dispatch (setting_of logging y.boot.params) 400 (pos cause) (signed edata) (pos at.current) t (machines_of y.boot.params at)) (KeptAt y IsLogging k cause edata past at)) (sym data_is) h)
+      (subst (λ (t : C0State). DoneWith (dispatch (setting_of logging y.boot.params) 400 (pos cause) (signed edata) (pos at.current) t (machines_of y.boot.params at)) (KeptAt y IsLogging k cause edata past at)) (sym data_is) h)
 
   module _ (k cause edata : ℕ) (past : List Dispatch) (at : Core) (few : at.current ≤ 3) (room : length at.console.log ≤ LOG_ROOM) (logs : EachHas Logs [] past) where
     abbrev st : Setting Machines Changes
@@ -159,7 +159,7 @@ module _ (y : System) (r : RunsLogging y) where
     m = machines_of y.boot.params at
 
     -- the loop's state, from data and who is next
-    abbrev at_loop : Data → ℤ → State
+    abbrev at_loop : Data → ℤ → C0State
     at_loop x who = in_loop y.boot.params x (pos cause) (signed edata) at.current who m few room (bool false) (pos 0)
 
     -- from the answer to the property
@@ -168,7 +168,7 @@ module _ (y : System) (r : RunsLogging y) where
     kept x who a is some most d h =
         answers_user y IsLogging k cause edata past at d a (h.answer ∙ ap (λ v. Some (int v)) is) some (let three = r.three in omega (arith, three)) (record {
           values = x;
-          data_is = ap (λ (t : State). record t { frames = [] }) h.state;
+          data_is = ap (λ (t : C0State). record t { frames = [] }) h.state;
           logs = each_more Logs [] past _ logs (ap (λ (m : Machines). m.console.log) h.world);
         })
 
@@ -223,20 +223,20 @@ module _ (y : System) (r : RunsLogging y) where
       (rw has_room (omega arith, then_kept (suc k) 1 mask past at (few_of at fit user) fit.log h.logs h.values (int_wrap w32 (pos next)) next small (omega arith) (omega (arith, less)) c)))
 
   trapped : (k : ℕ) (cause : Cause) (edata : ℕ) (past : List Dispatch) (at : Core) → IsTrap cause → Shaped y at → IsUser at at.current → (h : IsLogging past at.c0 at.current)
-      → Does (suc k) (number_of cause) edata past at h.values
+      → Does (suc k) (cause_number cause) edata past at h.values
   trapped k causes.Reset edata past at is fit user h = absurd is
   trapped k causes.External edata past at is fit user h = absurd is
   trapped k other edata past at is fit user h =
       let c : Configuration Machines Changes = from at h.values in
-      rules.more Machines Changes (setting_of logging y.boot.params) (60 + 202) 400 (called (number_of other) edata at) c (KeptAt y IsLogging (suc k) (number_of other) edata past at) (omega arith)
-      (rules.straight Machines Changes (setting_of logging y.boot.params) 5 60 202 (called (number_of other) edata at) c (KeptAt y IsLogging (suc k) (number_of other) edata past at)
-      (rw has_room (omega arith, made (suc k) (number_of other) edata past at (few_of at fit user) fit.log h.logs h.values user.0 c)))
+      rules.more Machines Changes (setting_of logging y.boot.params) (60 + 202) 400 (called (cause_number other) edata at) c (KeptAt y IsLogging (suc k) (cause_number other) edata past at) (omega arith)
+      (rules.straight Machines Changes (setting_of logging y.boot.params) 5 60 202 (called (cause_number other) edata at) c (KeptAt y IsLogging (suc k) (cause_number other) edata past at)
+      (rw has_room (omega arith, made (suc k) (cause_number other) edata past at (few_of at fit user) fit.log h.logs h.values user.0 c)))
 
   invariant : IsInvariant y 400 (Shaped y) IsLogging
   invariant = record {
     start = λ fit. keeps 0 0 0 [] (first_core y) first (ap (λ (m : KernelMeaning). m.first) r.meaning_is) started;
     line = λ k mask past at some eight fit user h. keeps (suc k) 1 mask past at h.values h.data_is (lined k mask past at fit user h);
-    trap = λ k cause edata past before at came fit user h. keeps (suc k) (number_of cause) edata past at h.values h.data_is (trapped k cause edata past at came.is fit user h);
+    trap = λ k cause edata past before at came fit user h. keeps (suc k) (cause_number cause) edata past at h.values h.data_is (trapped k cause edata past at came.is fit user h);
   }
 
 pub logging_is_kept : RunsAreLawful → LoggingIsKept

@@ -11,13 +11,13 @@ use Rattle.std.proofs.lemmas.List.Elements.{All-get_or}
 use Rattle.mips_table.specs.Arith.{signed}
 use Rattle.mips_table.specs.declared.cause.Cause.{Cause}
 use Rattle.mips_table.specs.declared.cause.Cause.TheVariants as causes
-use Rattle.mips_table.specs.Machine.{number_of}
+use Rattle.mips_table.specs.Machine.{cause_number}
 use Rattle.c0_meaning.specs.Value.{Value, int, empty, part}
-use Rattle.c0_meaning.specs.State.{State}
+use Rattle.c0_meaning.specs.State.{C0State}
 use Rattle.c0_meaning.specs.World.{beginning}
 use Rattle.c0_meaning.specs.Running.{begin}
 use Rattle.c0_meaning.specs.Execution.{dispatch}
-use Rattle.c0_meaning.specs.Reasoning.{Comes, Ends}
+use Rattle.c0_meaning.specs.Reasoning.{DoneWith, Ends}
 use Rattle.cvm_model.specs.Kernel.{Core, KernelMeaning}
 use Rattle.cvm_model.specs.KernelMeaning.{setting_of, machines_of}
 use Rattle.cvm_model.specs.Primitives.{user_of, with_register, no_flat}
@@ -25,11 +25,11 @@ use Rattle.cvm_model.specs.Stands.{IsUser}
 use Rattle.cvm_model.specs.Cvm.{System, Cvm, IsCvm, first_core, first_cvm}
 use Rattle.cvm_model.specs.Invariant.{Dispatch, dispatches_of, IsTrap, Keeps, KeptAt, IsInvariant, Shaped, UserShaped, RunsAreLawful}
 use Rattle.cvm_model.proofs.Invariants.{invariants_hold}
-use Rattle.cvm_model.proofs.Kept.{keeps_by}
+use Rattle.cvm_model.proofs.KeepsDispatch.{keeps_by}
 use Rattle.kernel_theorems.proofs.Answering.{each_more, answers_user, answers_halt}
 use Rattle.kernel_theorems.proofs.Callers.{quiet_dispatch}
 use Rattle.kernel_theorems.proofs.Tests.{not_both}
-use Rattle.kernel_theorems.specs.Registers.{holds, calls, set_in, IsSet, SetsAreFound}
+use Rattle.kernel_theorems.specs.Registers.{int_held, calls, set_in, IsSet, SetsAreFound}
 use Rattle.kernel_theorems.specs.History.{EachHas}
 use Rattle.kernel_theorems.specs.MailboxTree.{mailbox}
 use Rattle.kernel_theorems.specs.Mailbox.{succeeds, put_by, got_by, puts, gots, waits, IsAnswered, under_way, data_of, IsIntOr, Carries, RunsMailbox, IsDelivered, MessagesAreDelivered}
@@ -76,16 +76,16 @@ no_call_of user other d cause is same = ap₂ (λ c u. (c == 6) && (u == user)) 
 
 -- what a dispatch puts and gets, by who called and what it was told
 failed : (user : ℕ) (d : Dispatch) → calls user d ≡ false → succeeds user d ≡ false
-failed user d e = ap (λ b. b && int_eq (holds d.after user 2) (pos 1)) e
+failed user d e = ap (λ b. b && int_eq (int_held d.after user 2) (pos 1)) e
 
-told : (user : ℕ) (d : Dispatch) (a : ℤ) → calls user d ≡ true → holds d.after user 2 ≡ a → succeeds user d ≡ int_eq a (pos 1)
+told : (user : ℕ) (d : Dispatch) (a : ℤ) → calls user d ≡ true → int_held d.after user 2 ≡ a → succeeds user d ≡ int_eq a (pos 1)
 told user d a e is = ap₂ (λ b z. b && int_eq z (pos 1)) e is
 
 no_put : (d : Dispatch) → succeeds 1 d ≡ false → put_by d ≡ []
-no_put d e = ap (λ b. if b then holds d.before 1 4 ∷ [] else []) e
+no_put d e = ap (λ b. if b then int_held d.before 1 4 ∷ [] else []) e
 
 no_get : (d : Dispatch) → succeeds 2 d ≡ false → got_by d ≡ []
-no_get d e = ap (λ b. if b then holds d.after 2 3 ∷ [] else []) e
+no_get d e = ap (λ b. if b then int_held d.after 2 3 ∷ [] else []) e
 
 -- nothing is put or got
 idle : (past : List Dispatch) (d : Dispatch) (w : Option ℤ) (now : ℤ) (u : ℕ) → puts past ≡ gots past ++ under_way w → EachHas IsAnswered [] past → IsIntOr w
@@ -123,7 +123,7 @@ module _ (past : List Dispatch) (d : Dispatch) (at : Core) (w : Option ℤ) (cau
   others_of user c h v some e =
       h v some (λ same. not_both (calls v d) (subst (λ x. calls x d ≡ true) (sym same) c) e) ∙ ap (λ (x : Core). user_of x.users v) (sym before)
 
-  by_one : (a : ℤ) → at.current ≡ 1 → (if is_some w then pos 0 else pos 1) ≡ a → holds d.after 1 2 ≡ a → Others 1 → (calls 1 d ≡ true) × (calls 2 d ≡ false) × IsAnswered past d
+  by_one : (a : ℤ) → at.current ≡ 1 → (if is_some w then pos 0 else pos 1) ≡ a → int_held d.after 1 2 ≡ a → Others 1 → (calls 1 d ≡ true) × (calls 2 d ≡ false) × IsAnswered past d
   by_one a current answer found others =
       let is : d.before.current ≡ 1 = ap (λ (x : Core). x.current) before ∙ current in
       let c : calls 1 d ≡ true = call_of 1 d cause is refl in
@@ -137,7 +137,7 @@ module _ (past : List Dispatch) (d : Dispatch) (at : Core) (w : Option ℤ) (cau
         },
       )
 
-  by_two : (a : ℤ) → at.current ≡ 2 → (if is_some w then pos 1 else pos 0) ≡ a → holds d.after 2 2 ≡ a → Others 2 → (calls 2 d ≡ true) × (calls 1 d ≡ false) × IsAnswered past d
+  by_two : (a : ℤ) → at.current ≡ 2 → (if is_some w then pos 1 else pos 0) ≡ a → int_held d.after 2 2 ≡ a → Others 2 → (calls 2 d ≡ true) × (calls 1 d ≡ false) × IsAnswered past d
   by_two a current answer found others =
       let is : d.before.current ≡ 2 = ap (λ (x : Core). x.current) before ∙ current in
       let c : calls 2 d ≡ true = call_of 2 d cause is refl in
@@ -160,12 +160,12 @@ module _ (sets : SetsAreFound) (past : List Dispatch) (d : Dispatch) (at : Core)
 
   -- A PUT that is taken
   put : (now : ℤ) (u : ℕ) → at.current ≡ 1 → d.after.users ≡ set_in at.users at.current 2 (pos 1) → puts past ≡ gots past ++ under_way None
-      → Carries (past ++ d ∷ []) (data_of (Some (holds at 1 4)) now) u
+      → Carries (past ++ d ∷ []) (data_of (Some (int_held at 1 4)) now) u
   put now u current users order =
       let s = set 1 (pos 1) current (omega arith) (omega arith) one_fits users in
       let c = by_one past d at None cause before order (pos 1) current refl s.found s.others in
-      let puts_it : put_by d ≡ holds at 1 4 ∷ [] = ap₂ (λ b v. if b then v ∷ [] else []) (told 1 d (pos 1) c.0 s.found) (ap (λ (x : Core). holds x 1 4) before) in
-      carried past d None (Some (holds at 1 4)) now u order answered (puts_it ∙ sym (ap (λ xs. xs ++ holds at 1 4 ∷ []) (no_get d (failed 2 d c.1))))
+      let puts_it : put_by d ≡ int_held at 1 4 ∷ [] = ap₂ (λ b v. if b then v ∷ [] else []) (told 1 d (pos 1) c.0 s.found) (ap (λ (x : Core). int_held x 1 4) before) in
+      carried past d None (Some (int_held at 1 4)) now u order answered (puts_it ∙ sym (ap (λ xs. xs ++ int_held at 1 4 ∷ []) (no_get d (failed 2 d c.1))))
       (signed_fits (slice_index (user_of at.users 1).cpu.regs 4)) c.2
 
   -- a put that is not, and a get where there is no message
@@ -191,7 +191,7 @@ module _ (sets : SetsAreFound) (past : List Dispatch) (d : Dispatch) (at : Core)
       let few : 2 ≤ length mid.users = let count : length mid.users ≡ length at.users = m.count in omega (arith, count, two) in
       let s = sets mid.users d.after 2 2 (pos 1) (users ∙ ap (λ x. set_in mid.users x 2 (pos 1)) current) (omega arith) few (omega arith) m.long one_fits in
       let apart : 3 ≢ 2 = λ e. omega (arith, e) in
-      let holds_it : holds d.after 2 3 ≡ v = ap signed (s.same 3 apart) ∙ m.found in
+      let holds_it : int_held d.after 2 3 ≡ v = ap signed (s.same 3 apart) ∙ m.found in
       let c = by_two past d at (Some v) cause before order (pos 1) current refl s.found (λ x some other. s.others x some other ∙ m.others x some other) in
       let gets_it : got_by d ≡ v ∷ [] = ap₂ (λ b x. if b then x ∷ [] else []) (told 2 d (pos 1) c.0 s.found) holds_it in
       carried past d (Some v) None now u order answered (ap (λ xs. v ∷ xs) (no_put d (failed 1 d c.1)) ∙ sym (append-nil (got_by d) ∙ gets_it)) tt c.2
@@ -206,14 +206,14 @@ module _ (sets : SetsAreFound) (y : System) (r : RunsMailbox y) where
   has_room = le-ltb y.boot.params.stack 9 r.room
 
   -- the code of a dispatch, from data that is known
-  abbrev Does : (k cause edata : ℕ) → List Dispatch → Core → State → Type 0
+  abbrev Does : (k cause edata : ℕ) → List Dispatch → Core → C0State → Type 0
   Does k cause edata past at s = Ends (setting_of mailbox y.boot.params) 400
       (begin 0 (part (int (pos cause)) (part (int (signed edata)) (part (int (pos at.current)) empty))) ∷ []) (beginning (record s { frames = [] }) (machines_of y.boot.params at)) (KeptAt y Carries k cause edata past at)
 
-  keeps : (k cause edata : ℕ) (past : List Dispatch) (at : Core) (s : State) → at.c0 ≡ s → Does k cause edata past at s → Keeps y 400 Carries k cause edata past at
+  keeps : (k cause edata : ℕ) (past : List Dispatch) (at : Core) (s : C0State) → at.c0 ≡ s → Does k cause edata past at s → Keeps y 400 Carries k cause edata past at
   keeps k cause edata past at s data_is h =
       keeps_by y mailbox r.meaning_is 400 Carries k cause edata past at
-      (subst (λ (t : State). Comes (dispatch (setting_of mailbox y.boot.params) 400 (pos cause) (signed edata) (pos at.current) t (machines_of y.boot.params at)) (KeptAt y Carries k cause edata past at)) (sym data_is) h)
+      (subst (λ (t : C0State). DoneWith (dispatch (setting_of mailbox y.boot.params) 400 (pos cause) (signed edata) (pos at.current) t (machines_of y.boot.params at)) (KeptAt y Carries k cause edata past at)) (sym data_is) h)
 
   started : Does 0 0 0 [] (first_core y) (data_of None (pos 0))
   started = rw has_room (answers_user y Carries 0 0 0 [] (first_core y) _ 1 refl (omega arith) (let two = r.two in omega (arith, two)) (quiet [] _ None (pos 0) 1 refl tt tt refl refl))
@@ -289,21 +289,21 @@ module _ (sets : SetsAreFound) (y : System) (r : RunsMailbox y) where
 
   -- A TRAP
   trapped : (k : ℕ) (cause : Cause) (edata : ℕ) (past : List Dispatch) (at : Core) → IsTrap cause → Shaped y at → IsUser at at.current → (w : Option ℤ) (old : ℤ)
-      → puts past ≡ gots past ++ under_way w → EachHas IsAnswered [] past → IsIntOr w → Does (suc k) (number_of cause) edata past at (data_of w old)
+      → puts past ≡ gots past ++ under_way w → EachHas IsAnswered [] past → IsIntOr w → Does (suc k) (cause_number cause) edata past at (data_of w old)
   trapped k causes.Reset edata past at trap fit user w old order answered fits = absurd trap
   trapped k causes.External edata past at trap fit user w old order answered fits = absurd trap
   trapped k causes.Syscall edata past at trap fit user w old order answered fits = called k edata past at fit user answered w old order fits
   trapped k cause edata past at trap fit user None old order answered fits =
-      rw has_room (answers_halt y Carries (suc k) (number_of cause) edata past at _ refl (quiet past _ None old at.current order answered fits refl refl))
+      rw has_room (answers_halt y Carries (suc k) (cause_number cause) edata past at _ refl (quiet past _ None old at.current order answered fits refl refl))
   trapped k cause edata past at trap fit user (Some v) old order answered fits =
-      rw has_room (answers_halt y Carries (suc k) (number_of cause) edata past at _ refl (quiet past _ (Some v) old at.current order answered fits refl refl))
+      rw has_room (answers_halt y Carries (suc k) (cause_number cause) edata past at _ refl (quiet past _ (Some v) old at.current order answered fits refl refl))
 
   invariant : IsInvariant y 400 (Shaped y) Carries
   invariant = record {
     start = λ fit. keeps 0 0 0 [] (first_core y) (data_of None (pos 0)) (ap (λ (m : KernelMeaning). m.first) r.meaning_is) started;
     line = λ k mask past at some eight fit user h. keeps (suc k) 1 mask past at _ h.data_is (lined k mask past at h.delivers.way h.old h.delivers.in_order h.delivers.answered h.fits);
     trap = λ k cause edata past before at came fit user h.
-        keeps (suc k) (number_of cause) edata past at _ h.data_is (trapped k cause edata past at came.is fit user h.delivers.way h.old h.delivers.in_order h.delivers.answered h.fits);
+        keeps (suc k) (cause_number cause) edata past at _ h.data_is (trapped k cause edata past at came.is fit user h.delivers.way h.old h.delivers.in_order h.delivers.answered h.fits);
   }
 
 -- before the first turn nothing is put

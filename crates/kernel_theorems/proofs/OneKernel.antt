@@ -4,35 +4,35 @@ use Rattle.std.proofs.Common.{◌≡◌, ℕ, ◌≤◌, List, [], ◌∷◌, �
 use Rattle.std.specs.Prelude.{pos}
 use Rattle.mips_table.specs.Arith.{signed}
 use Rattle.c0_tree.specs.Tree.{CUnit}
-use Rattle.c0_meaning.specs.State.{State}
+use Rattle.c0_meaning.specs.State.{C0State}
 use Rattle.c0_meaning.specs.Value.{int}
 use Rattle.c0_meaning.specs.World.{Configuration}
 use Rattle.c0_meaning.specs.Execution.{dispatch}
-use Rattle.c0_meaning.specs.Reasoning.{Comes}
+use Rattle.c0_meaning.specs.Reasoning.{DoneWith}
 use Rattle.cvm_model.specs.Kernel.{Core, Changes}
 use Rattle.cvm_model.specs.KernelMeaning.{Machines, core_at, setting_of, machines_of, kernel_meaning}
 use Rattle.cvm_model.specs.Cvm.{System}
 use Rattle.cvm_model.specs.declared.row.Next.TheVariants.{User}
 use Rattle.cvm_model.specs.Invariant.{Property, Dispatch, Keeps, KeptAt}
 use Rattle.cvm_model.specs.Systems.{SystemProperty, KeepsAll, KeptAllAt, UsePages}
-use Rattle.cvm_model.proofs.Kept.{keeps_by}
-use Rattle.cvm_model.proofs.KeptAll.{ComesWithin, Within, keeps_within_by}
+use Rattle.cvm_model.proofs.KeepsDispatch.{keeps_by}
+use Rattle.cvm_model.proofs.KeepsSystem.{ComesWithin, Within, keeps_within_by}
 use Rattle.kernel_theorems.proofs.Answering.{answers_user}
 
 module _ (y : System) (u : CUnit) (is : y.boot.meaning ≡ kernel_meaning u y.boot.params) (n : ℕ) where
   -- A KERNEL: the code of a dispatch from these data is done, and the property holds then
-  abbrev pub Does : Property → (k cause edata : ℕ) → List Dispatch → Core → State → Type 0
-  Does I k cause edata past at s = Comes (dispatch (setting_of u y.boot.params) n (pos cause) (signed edata) (pos at.current) s (machines_of y.boot.params at)) (KeptAt y I k cause edata past at)
+  abbrev pub Does : Property → (k cause edata : ℕ) → List Dispatch → Core → C0State → Type 0
+  Does I k cause edata past at s = DoneWith (dispatch (setting_of u y.boot.params) n (pos cause) (signed edata) (pos at.current) s (machines_of y.boot.params at)) (KeptAt y I k cause edata past at)
 
-  pub keeps_from : (I : Property) (k cause edata : ℕ) (past : List Dispatch) (at : Core) (s : State) → at.c0 ≡ s → Does I k cause edata past at s → Keeps y n I k cause edata past at
+  pub keeps_from : (I : Property) (k cause edata : ℕ) (past : List Dispatch) (at : Core) (s : C0State) → at.c0 ≡ s → Does I k cause edata past at s → Keeps y n I k cause edata past at
   keeps_from I k cause edata past at s data_is h = keeps_by y u is n I k cause edata past at (subst (Does I k cause edata past at) (sym data_is) h)
 
   -- A WHOLE SYSTEM: and within so many pages
-  abbrev pub DoesWithin : (pages : ℕ) → SystemProperty → (k cause edata : ℕ) → List Dispatch → Core → State → Type 0
+  abbrev pub DoesWithin : (pages : ℕ) → SystemProperty → (k cause edata : ℕ) → List Dispatch → Core → C0State → Type 0
   DoesWithin pages I k cause edata past at s =
       ComesWithin pages (dispatch (setting_of u y.boot.params) n (pos cause) (signed edata) (pos at.current) s (machines_of y.boot.params at)) (KeptAllAt y I k cause edata past at)
 
-  pub keeps_within : (pages : ℕ) (I : SystemProperty) (k cause edata : ℕ) (past : List Dispatch) (at : Core) (s : State) → UsePages y n pages past → at.c0 ≡ s → DoesWithin pages I k cause edata past at s
+  pub keeps_within : (pages : ℕ) (I : SystemProperty) (k cause edata : ℕ) (past : List Dispatch) (at : Core) (s : C0State) → UsePages y n pages past → at.c0 ≡ s → DoesWithin pages I k cause edata past at s
       → KeepsAll y n (Within y n pages I) k cause edata past at
   keeps_within pages I k cause edata past at s touch data_is h = keeps_within_by y u is n pages I k cause edata past at touch (subst (DoesWithin pages I k cause edata past at) (sym data_is) h)
 

@@ -9,8 +9,8 @@ use Rattle.layer_map.specs.declared.params.Params.{Params}
 use Rattle.mips_table.specs.Arith.{signed}
 use Rattle.mips_table.specs.declared.cause.Cause.{Cause}
 use Rattle.mips_table.specs.declared.cause.Cause.TheVariants as causes
-use Rattle.mips_table.specs.Machine.{number_of}
-use Rattle.c0_meaning.specs.State.{State}
+use Rattle.mips_table.specs.Machine.{cause_number}
+use Rattle.c0_meaning.specs.State.{C0State}
 use Rattle.c0_meaning.specs.Value.{int}
 use Rattle.c0_meaning.specs.World.{units}
 use Rattle.c0_meaning.specs.Execution.{Outcome, Done, dispatch}
@@ -25,7 +25,7 @@ use Rattle.kernel_theorems.proofs.Answering.{rows_join, keeps_as, answers_user}
 use Rattle.kernel_theorems.specs.RoundRobin.{round_robin, data_of, lines_of, lines_in, turn_after, InOrder, Turns, RunsRoundRobin, IsFair, RoundRobinIsFair}
 
 -- where a dispatch ends: its answer and its data
-abbrev ends : ℕ → ℤ → State → Machines → Outcome Machines Changes
+abbrev ends : ℕ → ℤ → C0State → Machines → Outcome Machines Changes
 ends n answer s m = Done (units n) (record { state = s; world = m; calls = []; answer = Some (int answer) })
 
 -- WHAT THE CODE DOES: one line each for the start, a line and a trap
@@ -40,7 +40,7 @@ module _ (users : ℕ) (p : Params) (room : 7 ≤ p.stack) (edata : ℤ) (m : Ma
       ≡ ends 28 (int_wrap w32 (pos (before % suc users + 1))) (data_of (int_wrap w32 (pos (before % suc users + 1))) s) m
   line before s = rw has_room refl
 
-  trap : (cause : Cause) → IsTrap cause → (current : ℕ) (s : ℤ) → dispatch (setting_of (round_robin (suc users)) p) 100 (pos (number_of cause)) edata (pos current) (data_of (pos current) s) m
+  trap : (cause : Cause) → IsTrap cause → (current : ℕ) (s : ℤ) → dispatch (setting_of (round_robin (suc users)) p) 100 (pos (cause_number cause)) edata (pos current) (data_of (pos current) s) m
       ≡ ends 23 (pos current) (data_of (pos current) (int_wrap w32 (s +ℤ pos 1))) m
   trap causes.Reset h current s = absurd h
   trap causes.External h current s = absurd h
@@ -67,7 +67,7 @@ order_more users before (s ∷ rest) r h e =
 abbrev counts : ℕ → ℕ
 counts cause = if cause == 1 then 1 else 0
 
-no_line : (cause : Cause) → IsTrap cause → counts (number_of cause) ≡ 0
+no_line : (cause : Cause) → IsTrap cause → counts (cause_number cause) ≡ 0
 no_line causes.Reset h = absurd h
 no_line causes.External h = absurd h
 no_line other h = refl
@@ -75,7 +75,7 @@ no_line other h = refl
 -- THE INVARIANT is kept
 module _ (y : System) (u : ℕ) (r : RunsRoundRobin y (suc u)) where
   -- one dispatch that answers the user whose turn it is keeps the order
-  keeps : (k cause edata : ℕ) (past : List Dispatch) (at : Core) (n a : ℕ) (s : State) (services : ℤ) → at.c0 ≡ s
+  keeps : (k cause edata : ℕ) (past : List Dispatch) (at : Core) (n a : ℕ) (s : C0State) (services : ℤ) → at.c0 ≡ s
       → dispatch (setting_of (round_robin (suc u)) y.boot.params) 100 (pos cause) (signed edata) (pos at.current) s (machines_of y.boot.params at)
       ≡ ends n (pos (suc a)) (data_of (pos (suc a)) services) (machines_of y.boot.params at)
       → a ≡ (counts cause + lines_in (rows_of past)) % suc u → InOrder (suc u) 0 (rows_of past) → Keeps y 100 (Turns (suc u)) k cause edata past at
@@ -112,7 +112,7 @@ module _ (y : System) (u : ℕ) (r : RunsRoundRobin y (suc u)) where
     trap = λ k cause edata past before at came fit user h.
         let a : ℕ = lines_in (rows_of past) % suc u in
         let more : ℤ = int_wrap w32 (h.services +ℤ pos 1) in
-        keeps (suc k) (number_of cause) edata past at 23 a (data_of (pos at.current) h.services) more h.data_is
+        keeps (suc k) (cause_number cause) edata past at 23 a (data_of (pos at.current) h.services) more h.data_is
         (trap u y.boot.params r.room (signed edata) _ cause came.is at.current h.services ∙ ap (λ v. ends 23 (pos v) (data_of (pos v) more) (machines_of y.boot.params at)) h.current_is)
         (ap (λ n. n % suc u) (let none = no_line cause came.is in omega (arith, none))) h.order;
   }

@@ -7,7 +7,7 @@ use Rattle.std.specs.Ordering.{int_eq}
 use Rattle.std.proofs.lemmas.Bool.{le-ltb, eqb-true, eq-eqb, ne_eqb}
 use Rattle.std.proofs.lemmas.Int.{int_wrap_fits}
 use Rattle.mips_table.specs.declared.cause.Cause.TheVariants as causes
-use Rattle.kernel_theorems.proofs.ForKernels.{signed, Cause, number_of, int, Core, KernelMeaning, user_of, IsUser, System, first_core, Next, Dispatch, IsTrap, IsInvariant, Shaped, RunsAreLawful, invariants_hold}
+use Rattle.kernel_theorems.proofs.ForKernels.{signed, Cause, cause_number, int, Core, KernelMeaning, user_of, IsUser, System, first_core, Next, Dispatch, IsTrap, IsInvariant, Shaped, RunsAreLawful, invariants_hold}
 use Rattle.kernel_theorems.proofs.ForKernels.{calls, set_in, SetsAreFound, EachHas, each_more, told_more, not_both, left_of, and_false, by_test, by_same, by_equal, small_fits, Caller, caller, AnsweredCall, answered_call, quiet_dispatch, Does, keeps_from, to_user}
 use Rattle.kernel_theorems.specs.SemaphoreTree.{semaphore}
 use Rattle.kernel_theorems.specs.Semaphore.{data_of, asks, inside_after, inside, IsAnswered, Between, Runs, AtMostOneIsInside}
@@ -107,7 +107,7 @@ module _ (sets : SetsAreFound) (y : System) (r : Runs y) where
 
   -- a trap: a system call, or another cause, which changes nothing
   trapped : (k : ℕ) (cause : Cause) (edata : ℕ) (past : List Dispatch) (at : Core) → IsTrap cause → IsUser at at.current → Caller y at → (who : ℕ) → InsideIs past who → EachHas IsAnswered [] past
-      → Goes k (number_of cause) edata past at who
+      → Goes k (cause_number cause) edata past at who
   trapped k causes.Reset edata past at is user c who h answered = absurd is
   trapped k causes.External edata past at is user c who h answered = absurd is
   trapped k causes.Syscall edata past at is user c who h answered = called k edata past at user c who h answered
@@ -120,7 +120,7 @@ module _ (sets : SetsAreFound) (y : System) (r : Runs y) where
     line = λ k mask past at some eight fit user h. keeps_from y semaphore r.meaning_is 400 Between (suc k) 1 mask past at _ (h.data_is ∙ ap (λ o. data_of (record { owner = o })) h.held)
         (lined (suc k) mask past at h.who h.inside_is h.answered);
     trap = λ k cause edata past before at came fit user h.
-        keeps_from y semaphore r.meaning_is 400 Between (suc k) (number_of cause) edata past at _ (h.data_is ∙ ap (λ o. data_of (record { owner = o })) h.held)
+        keeps_from y semaphore r.meaning_is 400 Between (suc k) (cause_number cause) edata past at _ (h.data_is ∙ ap (λ o. data_of (record { owner = o })) h.held)
         (trapped (suc k) cause edata past at came.is user (caller y at user fit) h.who h.inside_is h.answered);
   }
 

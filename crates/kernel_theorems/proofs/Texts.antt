@@ -8,14 +8,14 @@ use Rattle.c0_meaning.specs.UserProgram.{prog}
 use Rattle.c0_meaning.specs.ProgramLaws.{ProgramsIgnorePlaces}
 use Rattle.c0_parser.specs.Walk.{tree_of, ReadByWalks}
 use Rattle.c0_types.specs.declared.source_fault.SourceFault.{SourceFault}
-use Rattle.c0_types.specs.Front.{IsAnswer, IsAnswerAs, IsUnitAs}
+use Rattle.c0_types.specs.Front.{IsFrontAnswer, IsAnswerAs, IsUnitAs}
 use Rattle.c0_types.specs.Source.{checked_unit, checked_as}
 use Rattle.cvm_model.specs.KernelMeaning.{kernel_meaning}
 use Rattle.cvm_model.specs.PlacesIgnored.{MeaningsIgnorePlaces}
 use Rattle.kernel_theorems.specs.Text.{TextsMeanTrees, ProgramTextsMeanTrees}
 
 abbrev pub OneAnswer : Type 0
-OneAnswer = (source : List ℕ) (a b : Result CUnit SourceFault) → IsAnswer source a → IsAnswer source b → a ≡ b
+OneAnswer = (source : List ℕ) (a b : Result CUnit SourceFault) → IsFrontAnswer source a → IsFrontAnswer source b → a ≡ b
 
 same_unit : (u w : CUnit) → ◌≡◌ {A = Result CUnit SourceFault} (Ok u) (Ok w) → u ≡ w
 same_unit u w e = cc

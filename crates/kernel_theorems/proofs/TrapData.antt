@@ -12,18 +12,18 @@ use Rattle.mips_table.specs.Arith.{sum_overflows, difference_overflows, extended
 use Rattle.mips_table.specs.Decoding.{decoding}
 use Rattle.mips_table.specs.Effect.{effect_of}
 use Rattle.mips_table.specs.Processor.{Move, Loaded, Stored, Trapped, is_aligned, accessed, advanced, performed, effect_on, executed}
-use Rattle.mips_table.specs.Flat.{Flat, VStep, Next as Goes, Trap, is_inside, flat_access, word_at, answered, vstep}
+use Rattle.mips_table.specs.Flat.{Flat, VStep, Goes, Trap, is_inside, flat_access, word_at, after_move, vstep}
 use Rattle.cvm_model.specs.Kernel.{Core}
 use Rattle.cvm_model.specs.Primitives.{user_of}
 use Rattle.cvm_model.specs.Cvm.{System, Cvm, Status, Running, Halted, Faulted, Interrupts, user_step, begin, cvm}
 use Rattle.cvm_model.specs.Invariant.{Dispatch, IsTrap, of_begin, of_status, of_turn, dispatches_of}
 use Rattle.kernel_theorems.specs.History.{EachHas}
-use Rattle.kernel_theorems.specs.Traps.{Tells, left_by, IsOfStep, StepsTell, StepsLeave, TrapsComeOfSteps}
+use Rattle.kernel_theorems.specs.Traps.{TrapTells, left_by, IsOfStep, StepsTell, StepsLeave, TrapsComeOfSteps}
 use Rattle.kernel_theorems.proofs.Answering.{each_more}
 
 -- what a step's data tell and what it leaves, where it traps
 record Told (f after : Flat) (cause : Cause) (edata : ℕ) : Type 0 where
-  tells : Tells f cause edata
+  tells : TrapTells f cause edata
   leaves : after ≡ left_by f cause
 
 abbrev ToldOf : Flat → VStep → Type 0
@@ -31,12 +31,12 @@ ToldOf f (Goes g) = Unit {0}
 ToldOf f (Trap g cause edata) = Told f g cause edata
 
 accessed_told : (f : Flat) (misaligned refused : Cause) (address : ℕ) (m : Move) → (is_aligned address ≡ false → Told f f misaligned address)
-    → (is_aligned address ≡ true → is_inside f.words address ≡ false → Told f f refused address) → ToldOf f (answered f m)
-    → ToldOf f (answered f (accessed (is_inside f.words address) misaligned refused address f.cpu.pc m))
+    → (is_aligned address ≡ true → is_inside f.words address ≡ false → Told f f refused address) → ToldOf f (after_move f m)
+    → ToldOf f (after_move f (accessed (is_inside f.words address) misaligned refused address f.cpu.pc m))
 accessed_told f a b address m ha hb h = by (is_aligned address) refl (is_inside f.words address) refl
   where
     by : (aligned : Bool) → is_aligned address ≡ aligned → (may : Bool) → is_inside f.words address ≡ may
-        → ToldOf f (answered f (if not aligned then Trapped a address f.cpu.pc else if not may then Trapped b address f.cpu.pc else m))
+        → ToldOf f (after_move f (if not aligned then Trapped a address f.cpu.pc else if not may then Trapped b address f.cpu.pc else m))
     by false e may g = ha e
     by true e false g = hb e g
     by true e true g = h
@@ -61,7 +61,7 @@ call_of other pc reg hi lo = tt
 
 -- where the word at the pc is this instruction
 performed_told : (f : Flat) (i : Inst) (e : Effect) → decoding (word_at f.words f.cpu.pc) ≡ Some i → IsCall i e
-    → ToldOf f (answered f (performed (flat_access f.words) f.cpu (word_at f.words f.cpu.pc) e))
+    → ToldOf f (after_move f (performed (flat_access f.words) f.cpu (word_at f.words f.cpu.pc) e))
 performed_told f i (effects.Set r v to) is call = tt
 performed_told f i (effects.Wide hi lo to) is call = tt
 performed_told f i (effects.Load r address) is call =
@@ -72,7 +72,7 @@ performed_told f i effects.Overflow is call = record { tells = refl; leaves = re
 performed_told f i effects.Call is call = record { tells = (refl, (call.0, is ∙ ap Some call.1)); leaves = refl }
 performed_told f i effects.System is call = record { tells = refl; leaves = refl }
 
-executed_told : (f : Flat) (o : Option Inst) → decoding (word_at f.words f.cpu.pc) ≡ o → ToldOf f (answered f (executed (flat_access f.words) f.cpu (word_at f.words f.cpu.pc) o))
+executed_told : (f : Flat) (o : Option Inst) → decoding (word_at f.words f.cpu.pc) ≡ o → ToldOf f (after_move f (executed (flat_access f.words) f.cpu (word_at f.words f.cpu.pc) o))
 executed_told f None is = record { tells = refl; leaves = refl }
 executed_told f (Some i) is = performed_told f i (effect_on i f.cpu) is (call_of i f.cpu.pc (slice_index f.cpu.regs) f.cpu.hi f.cpu.lo)
 
@@ -83,7 +83,7 @@ step_told f =
     (λ e. record { tells = (refl, e); leaves = refl }) (λ e g. record { tells = (refl, e, g); leaves = refl }) (executed_told f (decoding w) refl)
 
 -- the data of a reset or of a line tell nothing, so what tells is a trap
-is_trap : (f : Flat) (cause : Cause) (edata : ℕ) → Tells f cause edata → IsTrap cause
+is_trap : (f : Flat) (cause : Cause) (edata : ℕ) → TrapTells f cause edata → IsTrap cause
 is_trap f causes.Reset edata h = h
 is_trap f causes.External edata h = h
 is_trap f other edata h = tt
@@ -104,7 +104,7 @@ none past h = subst (EachHas Traps []) (sym (append-nil past)) h
 of_step : (y : System) (n k : ℕ) (past : List Dispatch) (c : Core) (v : VStep) → vstep (user_of c.users c.current) ≡ v → Each past (of_begin y n k (user_step c v))
 of_step y n k past c (Goes f) e = none past
 of_step y n k past c (Trap f cause edata) e =
-    let tells : Tells (user_of c.users c.current) cause edata = (told (user_of c.users c.current) f cause edata e).tells in
+    let tells : TrapTells (user_of c.users c.current) cause edata = (told (user_of c.users c.current) f cause edata e).tells in
     λ h. each_more Traps [] past _ h (λ trap. record {
       core = c;
       cause = cause;

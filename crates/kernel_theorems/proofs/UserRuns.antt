@@ -3,10 +3,10 @@
 use Rattle.std.proofs.Common.{◌≡◌, ℕ, zero, suc, ◌≤◌, ◌<◌, List, Bool, true, false, refl, sym, ap, ap₂, ◌∙◌, subst, ⊎_elim, arith}
 use Rattle.std.proofs.lemmas.Bool.{cases_lt}
 use Rattle.mips_table.specs.declared.cause.Cause.{Cause}
-use Rattle.mips_table.specs.Flat.{Flat, VStep, Next as Goes, Trap, vstep}
+use Rattle.mips_table.specs.Flat.{Flat, VStep, Goes, Trap, vstep}
 use Rattle.cvm_model.specs.Kernel.{Core}
-use Rattle.mips_table.specs.Machine.{number_of, Console}
-use Rattle.c0_meaning.specs.State.{State}
+use Rattle.mips_table.specs.Machine.{cause_number, Console}
+use Rattle.c0_meaning.specs.State.{C0State}
 use Rattle.cvm_model.specs.Primitives.{user_of, with_user}
 use Rattle.cvm_model.specs.Cvm.{System}
 use Rattle.cvm_model.specs.Invariant.{Dispatch, IsTrapOf, machine_after, with_machine}
@@ -62,13 +62,13 @@ pub put_in : (c : Core) (us : List Flat) (u : ℕ) (f g : Flat) → c.users ≡ 
 put_in c us u f g users current same = ap₂ (λ us u. with_user us u f) users current ∙ ap (with_user us u) same
 
 -- A CORE by its parts: dispatches that find known machines are best stated at one that is written out, since all tests on users compute then
-abbrev pub core_of_parts : State → List Flat → Console → ℕ → Core
+abbrev pub core_of_parts : C0State → List Flat → Console → ℕ → Core
 core_of_parts s us o u = record { c0 = s; users = us; console = o; current = u }
 
-core_is : (before : Core) (h g : Flat) (us : List Flat) (s : State) (o : Console) (u : ℕ) → before.users ≡ us → before.current ≡ u → before.c0 ≡ s → before.console ≡ o → h ≡ g
+core_is : (before : Core) (h g : Flat) (us : List Flat) (s : C0State) (o : Console) (u : ℕ) → before.users ≡ us → before.current ≡ u → before.c0 ≡ s → before.console ≡ o → h ≡ g
     → with_machine before h ≡ core_of_parts s (with_user us u g) o u
 core_is before h g us s o u users current word console same =
-    ap (λ (s : State). core_of_parts s (with_user before.users before.current h) before.console before.current) word
+    ap (λ (s : C0State). core_of_parts s (with_user before.users before.current h) before.console before.current) word
     ∙ ap (λ (o : Console). core_of_parts s (with_user before.users before.current h) o before.current) console
     ∙ ap₂ (λ (us : List Flat) (u : ℕ). core_of_parts s (with_user us u h) o u) users current
     ∙ ap (λ (g : Flat). core_of_parts s (with_user us u g) o u) same
@@ -95,7 +95,7 @@ pub record KnownTrap (at there : Core) (steps t : ℕ) (by : Cause) (word : ℕ)
   pub edata_is : edata ≡ word
   pub core_is : at ≡ there
 
-pub known_trap : (before at : Core) (us : List Flat) (u : ℕ) (g : Flat) (steps : ℕ) (by : Cause) (h : TrapsAfter g steps by) (word : ℕ) (t : ℕ) (cause : Cause) (edata : ℕ) (s : State) (o : Console)
+pub known_trap : (before at : Core) (us : List Flat) (u : ℕ) (g : Flat) (steps : ℕ) (by : Cause) (h : TrapsAfter g steps by) (word : ℕ) (t : ℕ) (cause : Cause) (edata : ℕ) (s : C0State) (o : Console)
     → h.edata ≡ word → t ≤ steps → before.users ≡ us → before.current ≡ u → user_of us u ≡ after t g → before.c0 ≡ s → before.console ≡ o → IsTrapOf before cause edata at
     → KnownTrap at (core_of_parts s (with_user us u (after (suc steps) g)) o u) steps t by word cause edata
 known_trap before at us u g steps by h word t cause edata s o same few users current is data_is console came =
@@ -111,11 +111,11 @@ known_trap before at us u g steps by h word t cause edata s o same few users cur
 
 -- the dispatch of such a trap is one at the state that is known
 pub arrives : {y : System} {n : ℕ} {I : SystemProperty} {k : ℕ} {past : List Dispatch} {at there : Core} {steps t word edata : ℕ} {by cause : Cause} → KnownTrap at there steps t by word cause edata
-    → KeepsAll y n I k (number_of by) word past there → KeepsAll y n I k (number_of cause) edata past at
+    → KeepsAll y n I k (cause_number by) word past there → KeepsAll y n I k (cause_number cause) edata past at
 arrives {y} {n} {I} {k} {past} {at} {there} {steps} {t} {word} {edata} {by} {cause} h is =
-    subst (λ (z : Cause). KeepsAll y n I k (number_of z) edata past at) (sym h.cause_is)
-    (subst (λ (e : ℕ). KeepsAll y n I k (number_of by) e past at) (sym h.edata_is)
-    (subst (λ (z : Core). KeepsAll y n I k (number_of by) word past z) (sym h.core_is) is))
+    subst (λ (z : Cause). KeepsAll y n I k (cause_number z) edata past at) (sym h.cause_is)
+    (subst (λ (e : ℕ). KeepsAll y n I k (cause_number by) e past at) (sym h.edata_is)
+    (subst (λ (z : Core). KeepsAll y n I k (cause_number by) word past z) (sym h.core_is) is))
 
 -- WHETHER so many steps are untrapped, one after another: it computes, for words and registers that are known
 abbrev pub goes_from : VStep → (Flat → Bool) → Bool

@@ -2,7 +2,7 @@
 -- test, since an address that is no multiple of 4 leaves more than 0. It never faults, whatever its users do.
 use Rattle.std.specs.Prelude.{◌≡◌, ◌≤◌, ℕ, suc, ℤ, Option, Some, None, List, [], ◌∷◌, length, codes}
 use Rattle.c0_meaning.specs.Value.{heap, Value, Values, int, null, at, group, empty, part}
-use Rattle.c0_meaning.specs.State.{State}
+use Rattle.c0_meaning.specs.State.{C0State}
 use Rattle.kernel_theorems.specs.Lines.{by_lines}
 use Rattle.cvm_model.specs.KernelMeaning.{kernel_meaning}
 use Rattle.cvm_model.specs.Cvm.{System, Cvm, IsCvm}
@@ -38,11 +38,11 @@ used_of None = 0
 used_of (Some v) = 1
 
 -- its data between dispatches
-abbrev pub data_of : Data → State
+abbrev pub data_of : Data → C0State
 data_of x = record { global_values = globals_of x; heap_values = group (heap_of x.cell); heap_words = used_of x.cell; frames = [] }
 
 -- what is so between dispatches: its data are ints, and `last` is null or points to one
-pub record IsData (past : List Dispatch) (s : State) (current : ℕ) : Type 0 where
+pub record IsData (past : List Dispatch) (s : C0State) (current : ℕ) : Type 0 where
   pub values : Data
   pub data_is : s ≡ data_of values
 

@@ -4,7 +4,7 @@ use Rattle.std.specs.Prelude.{◌≡◌, ◌≤◌, ℕ, zero, suc, pos, List, [
 use Rattle.std.specs.Int.{cast_unsigned, w32}
 use Rattle.mips_table.specs.Machine.{LOG_ROOM}
 use Rattle.c0_meaning.specs.Value.{Value, Values, null, group, empty, part}
-use Rattle.c0_meaning.specs.State.{State}
+use Rattle.c0_meaning.specs.State.{C0State}
 use Rattle.cvm_model.specs.KernelMeaning.{kernel_meaning}
 use Rattle.cvm_model.specs.Cvm.{System, Cvm, IsCvm}
 use Rattle.cvm_model.specs.Invariant.{Dispatch, dispatches_of, HasEight, HasRoom, Holds}
@@ -28,14 +28,14 @@ pub record Data : Type 0 where
   pub used : ℕ
 
 -- its data between dispatches, and at the start
-abbrev pub data_of : Data → State
+abbrev pub data_of : Data → C0State
 data_of x = record { global_values = group (part x.mark empty); heap_values = group x.heap; heap_words = x.used; frames = [] }
 
 abbrev pub first : Data
 first = record { mark = null; heap = empty; used = 0 }
 
 -- what is so between dispatches: each of them logged what it has to
-pub record IsLogging (past : List Dispatch) (s : State) (current : ℕ) : Type 0 where
+pub record IsLogging (past : List Dispatch) (s : C0State) (current : ℕ) : Type 0 where
   pub values : Data
   pub data_is : s ≡ data_of values
   pub logs : EachHas Logs [] past

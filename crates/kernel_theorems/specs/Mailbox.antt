@@ -5,9 +5,9 @@ use Rattle.std.specs.Prelude.{◌≡◌, ◌≤◌, ◌&&◌, ℕ, ℤ, pos, Boo
 use Rattle.std.specs.Int.{w32}
 use Rattle.std.specs.Ordering.{int_eq}
 use Rattle.c0_meaning.specs.Value.{Value, int, group, empty, part}
-use Rattle.c0_meaning.specs.State.{State}
+use Rattle.c0_meaning.specs.State.{C0State}
 use Rattle.kernel_theorems.specs.Lines.{by_lines}
-use Rattle.kernel_theorems.specs.Registers.{holds, calls}
+use Rattle.kernel_theorems.specs.Registers.{int_held, calls}
 use Rattle.kernel_theorems.specs.History.{EachHas}
 use Rattle.cvm_model.specs.KernelMeaning.{kernel_meaning}
 use Rattle.cvm_model.specs.Primitives.{user_of}
@@ -17,15 +17,15 @@ use Rattle.kernel_theorems.specs.MailboxTree.{mailbox}
 
 -- whether a user called, and finds 1 in its register 2: its put was taken, or it was given a message
 abbrev pub succeeds : ℕ → Dispatch → Bool
-succeeds user d = calls user d && int_eq (holds d.after user 2) (pos 1)
+succeeds user d = calls user d && int_eq (int_held d.after user 2) (pos 1)
 
 -- what user 1 puts by a dispatch: its register 4, where it is told that this was taken
 abbrev pub put_by : Dispatch → List ℤ
-put_by d = if succeeds 1 d then holds d.before 1 4 ∷ [] else []
+put_by d = if succeeds 1 d then int_held d.before 1 4 ∷ [] else []
 
 -- what user 2 gets by a dispatch: what it finds in register 3, where it is told that a message is there
 abbrev pub got_by : Dispatch → List ℤ
-got_by d = if succeeds 2 d then holds d.after 2 3 ∷ [] else []
+got_by d = if succeeds 2 d then int_held d.after 2 3 ∷ [] else []
 
 -- what all dispatches put, and got, in order
 abbrev pub puts : List Dispatch → List ℤ
@@ -43,8 +43,8 @@ waits past = nat_lt (length (gots past)) (length (puts past))
 -- A CALL IS ANSWERED: a put is taken where no message is under way, and a get is given one where one is. All other users keep their machines, so that
 -- what a user was answered stands in its registers until it goes on, whatever lines come between.
 pub record IsAnswered (past : List Dispatch) (d : Dispatch) : Type 0 where
-  pub put : calls 1 d ≡ true → holds d.after 1 2 ≡ (if waits past then pos 0 else pos 1)
-  pub get : calls 2 d ≡ true → holds d.after 2 2 ≡ (if waits past then pos 1 else pos 0)
+  pub put : calls 1 d ≡ true → int_held d.after 1 2 ≡ (if waits past then pos 0 else pos 1)
+  pub get : calls 2 d ≡ true → int_held d.after 2 2 ≡ (if waits past then pos 1 else pos 0)
   pub others : (u : ℕ) → 1 ≤ u → calls u d ≡ false → user_of d.after.users u ≡ user_of d.before.users u
 
 -- the message under way, as a list
@@ -70,7 +70,7 @@ message_of (Some v) old = v
 abbrev pub globals_of : Option ℤ → ℤ → Value
 globals_of w old = group (part (int (full_of w)) (part (int (message_of w old)) empty))
 
-abbrev pub data_of : Option ℤ → ℤ → State
+abbrev pub data_of : Option ℤ → ℤ → C0State
 data_of w old = record { global_values = globals_of w old; heap_values = group empty; heap_words = 0; frames = [] }
 
 -- a message that is under way is an int
@@ -79,7 +79,7 @@ IsIntOr None = Unit {0}
 IsIntOr (Some v) = FitsSigned w32 v
 
 -- WHAT IS SO between dispatches: it is delivered, and the kernel holds the message under way
-pub record Carries (past : List Dispatch) (s : State) (current : ℕ) : Type 0 where
+pub record Carries (past : List Dispatch) (s : C0State) (current : ℕ) : Type 0 where
   pub delivers : Delivers past
   pub old : ℤ
   pub data_is : s ≡ data_of delivers.way old

@@ -8,8 +8,8 @@ use Rattle.cvm_model.specs.Primitives.{user_of, with_user, with_register}
 use Rattle.cvm_model.specs.Invariant.{Dispatch}
 
 -- the int in a register of a user
-abbrev pub holds : Core → (user register : ℕ) → ℤ
-holds c user register = signed (slice_index (user_of c.users user).cpu.regs register)
+abbrev pub int_held : Core → (user register : ℕ) → ℤ
+int_held c user register = signed (slice_index (user_of c.users user).cpu.regs register)
 
 -- whether a dispatch is for a system call of a user
 abbrev pub calls : ℕ → Dispatch → Bool
@@ -21,7 +21,7 @@ set_in us user register a = with_user us user (with_register (user_of us user) r
 
 -- WHAT `vm_set` LEAVES of these machines: the user finds the int in that register, and all else is as it was
 pub record IsSet (us : List Flat) (o : Core) (user register : ℕ) (a : ℤ) : Type 0 where
-  pub found : holds o user register ≡ a
+  pub found : int_held o user register ≡ a
   pub same : (r : ℕ) → r ≢ register → slice_index (user_of o.users user).cpu.regs r ≡ slice_index (user_of us user).cpu.regs r
   pub others : (v : ℕ) → 1 ≤ v → v ≢ user → user_of o.users v ≡ user_of us v
   pub count : length o.users ≡ length us

@@ -8,7 +8,7 @@ use Rattle.c0_tree.specs.Tree as tree
 use Rattle.worked_rows.specs.Kernels.{z, decl, global, local, number, block}
 use Rattle.worked_rows.specs.SystemKernels.{kernel, next, cause_is}
 use Rattle.c0_meaning.specs.Value.{int, group, empty, part}
-use Rattle.c0_meaning.specs.State.{State}
+use Rattle.c0_meaning.specs.State.{C0State}
 use Rattle.cvm_model.specs.KernelMeaning.{kernel_meaning}
 use Rattle.cvm_model.specs.Cvm.{System, Cvm, IsCvm}
 use Rattle.cvm_model.specs.declared.row.Next.TheVariants.{User}
@@ -42,7 +42,7 @@ round_robin users = kernel (decl tree.int (codes "turn") Global 0 ∷ decl tree.
     ∷ []) (local (codes "next") 3)
 
 -- its data between dispatches
-abbrev pub data_of : ℤ → ℤ → State
+abbrev pub data_of : ℤ → ℤ → C0State
 data_of t s = record { global_values = group (part (int t) (part (int s) empty)); heap_values = group empty; heap_words = 0; frames = [] }
 
 -- how many of these rows are of lines that were taken
@@ -64,7 +64,7 @@ InOrder users lines (r ∷ rest) =
     (r.next ≡ User (turn_after users (lines_of r + lines))) × InOrder users (lines_of r + lines) rest
 
 -- what is so between dispatches: the kernel's own count of turns is the current user
-pub record Turns (users : ℕ) (past : List Dispatch) (s : State) (current : ℕ) : Type 0 where
+pub record Turns (users : ℕ) (past : List Dispatch) (s : C0State) (current : ℕ) : Type 0 where
   pub services : ℤ
   pub data_is : s ≡ data_of (pos current) services
   pub current_is : current ≡ turn_after users (lines_in (rows_of past))

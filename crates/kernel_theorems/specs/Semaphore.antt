@@ -4,12 +4,12 @@ use Rattle.std.specs.Prelude.{◌≡◌, ◌≤◌, ◌==◌, ◌&&◌, ◌||◌
 use Rattle.std.specs.Ordering.{int_eq}
 use Rattle.mips_table.specs.Arith.{signed}
 use Rattle.c0_meaning.specs.Value.{int, group, empty, part}
-use Rattle.c0_meaning.specs.State.{State}
+use Rattle.c0_meaning.specs.State.{C0State}
 use Rattle.cvm_model.specs.KernelMeaning.{kernel_meaning}
 use Rattle.cvm_model.specs.Primitives.{user_of}
 use Rattle.cvm_model.specs.Cvm.{System, Cvm, IsCvm}
 use Rattle.cvm_model.specs.Invariant.{Dispatch, dispatches_of, HasEight, HasRoom, Holds}
-use Rattle.kernel_theorems.specs.Registers.{holds, calls}
+use Rattle.kernel_theorems.specs.Registers.{int_held, calls}
 use Rattle.kernel_theorems.specs.History.{EachHas, told_by}
 use Rattle.kernel_theorems.specs.SemaphoreTree.{semaphore}
 
@@ -18,7 +18,7 @@ pub record Data : Type 0 where
   pub owner : ℤ
 
 -- its data between dispatches, and at the start
-abbrev pub data_of : Data → State
+abbrev pub data_of : Data → C0State
 data_of x = record { global_values = group (part (int x.owner) empty); heap_values = group empty; heap_words = 0; frames = [] }
 
 abbrev pub first : Data
@@ -33,7 +33,7 @@ leaves user d = calls user d && int_eq (signed d.edata) (pos 76)
 
 -- whether a user is inside after a dispatch, where it was so before: one that asked is let in where it finds 1 in its register 2
 abbrev pub inside_after : ℕ → Bool → Dispatch → Bool
-inside_after user was d = if asks user d then (int_eq (holds d.after user 2) (pos 1) || was) else (if leaves user d then false else was)
+inside_after user was d = if asks user d then (int_eq (int_held d.after user 2) (pos 1) || was) else (if leaves user d then false else was)
 
 -- WHETHER A USER IS INSIDE after these dispatches; nobody is at the start
 abbrev pub inside : ℕ → List Dispatch → Bool
@@ -45,12 +45,12 @@ AtMostOne past = (u v : ℕ) → 1 ≤ u → 1 ≤ v → inside u past ≡ true 
 
 -- A CALL IS ANSWERED: one that asks finds 1 where nobody is inside, and 0 where somebody is; all other users keep their machines
 pub record IsAnswered (past : List Dispatch) (d : Dispatch) : Type 0 where
-  pub free : (u : ℕ) → 1 ≤ u → asks u d ≡ true → ((v : ℕ) → 1 ≤ v → inside v past ≡ false) → holds d.after u 2 ≡ pos 1
-  pub taken : (u v : ℕ) → 1 ≤ u → 1 ≤ v → asks u d ≡ true → inside v past ≡ true → holds d.after u 2 ≡ pos 0
+  pub free : (u : ℕ) → 1 ≤ u → asks u d ≡ true → ((v : ℕ) → 1 ≤ v → inside v past ≡ false) → int_held d.after u 2 ≡ pos 1
+  pub taken : (u v : ℕ) → 1 ≤ u → 1 ≤ v → asks u d ≡ true → inside v past ≡ true → int_held d.after u 2 ≡ pos 0
   pub others : (u : ℕ) → 1 ≤ u → calls u d ≡ false → user_of d.after.users u ≡ user_of d.before.users u
 
 -- WHAT IS SO between dispatches: at most one user is inside, each call was answered, and the kernel's owner is who is inside
-pub record Between (past : List Dispatch) (s : State) (current : ℕ) : Type 0 where
+pub record Between (past : List Dispatch) (s : C0State) (current : ℕ) : Type 0 where
   pub values : Data
   pub data_is : s ≡ data_of values
   pub who : ℕ

@@ -4,7 +4,7 @@ use Rattle.std.specs.Int.{w32, cast_unsigned}
 use Rattle.mips_table.specs.Arith.{signed}
 use Rattle.mips_table.specs.declared.cause.Cause.{Cause}
 use Rattle.mips_table.specs.declared.cause.Cause.TheVariants.{Syscall}
-use Rattle.mips_table.specs.Flat.{Flat, VStep, Next as Goes, Trap, vstep}
+use Rattle.mips_table.specs.Flat.{Flat, VStep, Goes, Trap, vstep}
 use Rattle.cvm_model.specs.Primitives.{with_register}
 use Rattle.cvm_model.specs.Invariant.{machine_after}
 

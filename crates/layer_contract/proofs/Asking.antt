@@ -9,14 +9,14 @@ use Rattle.mips_table.specs.declared.cause.Cause.TheVariants as causes
 use Rattle.mips_table.specs.declared.effect.Effect.{Effect}
 use Rattle.mips_table.specs.declared.effect.Effect.TheVariants.{Set, Wide, Load, Store, Overflow, Call, System}
 use Rattle.mips_table.specs.Decoding.{decoding}
-use Rattle.mips_table.specs.Device.{Outside}
+use Rattle.mips_table.specs.Device.{Environment}
 use Rattle.mips_table.specs.declared.special.TheConstants.{SR, PTL}
-use Rattle.mips_table.specs.Machine.{number_of, in_system}
+use Rattle.mips_table.specs.Machine.{cause_number, in_system}
 use Rattle.mips_table.specs.Processor.{Cpu, Access, Move, Ran, Loaded, Stored, Trapped, Privileged, is_aligned, advanced, accessed, performed, executed, effect_on, move}
 use Rattle.mips_table.specs.Machine.{State, Coming, Interrupt, located, read_at, access, fetch, fetched, privileged, moved, latched, coming}
 use Rattle.mips_table.specs.Turns.{is_handled, handled}
-use Rattle.page_model.specs.Paging.{Passes}
-use Rattle.page_model.specs.Faults.{UserStep, Asks, ByFetch, ByData}
+use Rattle.page_model.specs.Paging.{IsAccessible}
+use Rattle.page_model.specs.Faults.{UserStep, AsksForPage, ByFetch, ByData}
 use Rattle.cvm_model.specs.Kernel.{Core}
 use Rattle.cvm_model.specs.Primitives.{user_of, pages_of}
 use Rattle.cvm_model.specs.Paged.{paged_of}
@@ -34,7 +34,7 @@ Faulted ptl (Trapped causes.DataFault edata epc) = nat_lt (edata / 4096) ptl ≡
 Faulted ptl other = ⊥
 
 -- so is one that comes to a handled fault
-faulted : (x : Outside) (s t : State) (m : Move) → is_handled s (moved x t m) ≡ true → Faulted (slice_index s.special PTL) m
+faulted : (x : Environment) (s t : State) (m : Move) → is_handled s (moved x t m) ≡ true → Faulted (slice_index s.special PTL) m
 faulted x s t (Ran c) e = absurd (cc)
 faulted x s t (Loaded c r address) e = absurd (cc)
 faulted x s t (Stored c address v) e = absurd (cc)
@@ -58,7 +58,7 @@ faulted x s t (Privileged word) e = absurd (true≢false (sym e ∙ cond_both (i
 reads : (s : State) (a : ℕ) → nat_lt (a / 4) (length s.memory) ≡ true → read_at s (Some a) ≡ slice_index s.memory (a / 4)
 reads s a e = rw e refl
 
-module _ (x : Outside) (y : Site) (s : State) (c : Core) (k : Known x y s c) where
+module _ (x : Environment) (y : Site) (s : State) (c : Core) (k : Known x y s c) where
   abbrev ptl : ℕ
   ptl = slice_index s.special PTL
 
@@ -73,10 +73,10 @@ module _ (x : Outside) (y : Site) (s : State) (c : Core) (k : Known x y s c) whe
     why : Cause
     edata : ℕ
     is : m ≡ Trapped why edata s.cpu.pc
-    number : (number_of why ≡ 3) ⊎ (number_of why ≡ 8)
+    number : (cause_number why ≡ 3) ⊎ (cause_number why ≡ 8)
     page : nat_lt (edata / 4096) ptl ≡ true
     store : Bool
-    asks : Asks u (paged_of y.map s) (page_at y.map c edata) store
+    asks : AsksForPage u (paged_of y.map s) (page_at y.map c edata) store
     code : nat_lt (s.cpu.pc / 4) (length (own c)) ≡ true
 
   to : (u u' : UserStep) (m m' : Move) → u' ≡ u → m' ≡ m → Asked u m → Asked u' m'
@@ -101,7 +101,7 @@ module _ (x : Outside) (y : Site) (s : State) (c : Core) (k : Known x y s c) whe
       absurd (omega arith)
 
   -- the page of a load or a store
-  module _ (word : ℕ) (inside : nat_lt (s.cpu.pc / 4) (length (own c)) ≡ true) (fetched_page : Passes (paged_of y.map s) (page_at y.map c s.cpu.pc) false) where
+  module _ (word : ℕ) (inside : nat_lt (s.cpu.pc / 4) (length (own c)) ≡ true) (fetched_page : IsAccessible (paged_of y.map s) (page_at y.map c s.cpu.pc) false) where
     data_asks : (address : ℕ) (store : Bool) (go : Move) → (Faulted ptl go → ⊥) → Faulted ptl (accessed (is_some (located s store address)) causes.DataAlign causes.DataFault address s.cpu.pc go)
         → Asked (and_word y.map c address store) (accessed (is_some (located s store address)) causes.DataAlign causes.DataFault address s.cpu.pc go)
     data_asks address store go none f = by (is_aligned address) refl
@@ -122,7 +122,7 @@ module _ (x : Outside) (y : Site) (s : State) (c : Core) (k : Known x y s c) whe
               number = inr refl;
               page = h;
               store = store;
-              asks = ByData refl refl refl (subst (λ p. Passes (paged_of y.map s) (page_at y.map c p) false) (sym same_pc) fetched_page) (refused_page x y s c k store address e is);
+              asks = ByData refl refl refl (subst (λ p. IsAccessible (paged_of y.map s) (page_at y.map c p) false) (sym same_pc) fetched_page) (refused_page x y s c k store address e is);
               code = inside;
             })
 
@@ -210,7 +210,7 @@ module _ (x : Outside) (y : Site) (s : State) (c : Core) (k : Known x y s c) whe
             store = false;
             asks =
                 let page : (step_pages y.map c).code_page ≡ page_at y.map c s.cpu.pc = ap (λ (u : UserStep). u.code_page) step_is ∙ code_page_of (decoding pc_word) ∙ ap (page_at y.map c) same_pc in
-                ByFetch (sym page) refl (λ p. refused_page x y s c k false s.cpu.pc e is (subst (λ q. Passes (paged_of y.map s) q false) page p));
+                ByFetch (sym page) refl (λ p. refused_page x y s c k false s.cpu.pc e is (subst (λ q. IsAccessible (paged_of y.map s) q false) page p));
             code = e;
           })
       at a (There e pa frame is names free there) =
@@ -218,7 +218,7 @@ module _ (x : Outside) (y : Site) (s : State) (c : Core) (k : Known x y s c) whe
           let inside : nat_lt (pa / 4) (length s.memory) ≡ true = lt-ltb _ _ word.0 in
           let same : machine_word ≡ pc_word = ap (read_at (latched x s)) is ∙ reads (latched x s) pa inside ∙ word.1 in
           let moved_on : m ≡ executed A s.cpu pc_word (decoding pc_word) = goes _ causes.FetchAlign causes.FetchFault s.cpu.pc s.cpu.pc go a (ap is_some is) ∙ ap (λ w. executed A s.cpu w (decoding w)) same in
-          let passes : Passes (paged_of y.map s) (page_at y.map c s.cpu.pc) false = record { valid = omega (arith, names); unprotected = λ q. absurd (cc) } in
+          let passes : IsAccessible (paged_of y.map s) (page_at y.map c s.cpu.pc) false = record { valid = omega (arith, names); unprotected = λ q. absurd (cc) } in
           to (pages_of_inst y.map c (decoding pc_word)) (step_pages y.map c) (executed A s.cpu pc_word (decoding pc_word)) m step_is moved_on (inst_asks pc_word e passes (decoding pc_word) (subst (Faulted ptl) moved_on f))
 
       by : (b : Bool) → is_aligned s.cpu.pc ≡ b → Asked (step_pages y.map c) m

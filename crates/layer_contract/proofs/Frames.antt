@@ -1,10 +1,10 @@
 -- The word at an address of the current user, as memory has it.
 use Rattle.std.proofs.Common.{◌≡◌, ◌≢◌, ℕ, ◌+◌, ◌-◌, ◌*◌, ◌/◌, ◌%◌, ◌<◌, ◌≤◌, true, nat_lt, length, slice_index, sym, ap, ap₂, ◌∙◌, inl, arith, lt-ltb}
-use Rattle.mips_table.specs.Device.{Outside}
+use Rattle.mips_table.specs.Device.{Environment}
 use Rattle.mips_table.specs.Machine.{State}
 use Rattle.layer_map.specs.Map.{zero_frame_at, memory_words}
-use Rattle.page_model.specs.Paging.{IsFrame, Protected, Names}
-use Rattle.page_model.specs.Places.{layout_of}
+use Rattle.page_model.specs.Paging.{IsFrame, Protected, MapsTo}
+use Rattle.page_model.specs.Places.{page_layout}
 use Rattle.cvm_model.specs.Kernel.{Core}
 use Rattle.cvm_model.specs.Primitives.{user_of, pages_of}
 use Rattle.cvm_model.specs.Paged.{paged_of, pages_by}
@@ -13,7 +13,7 @@ use Rattle.layer_contract.specs.Layer.{page_at}
 use Rattle.layer_contract.proofs.Pages.{shown_valid}
 use Rattle.layer_contract.proofs.Places.{page_number, own, Known, Sizes, sizes_of, user_fits, is_user, below, number_below}
 
-module _ (x : Outside) (y : Site) (s : State) (c : Core) (k : Known x y s c) where
+module _ (x : Environment) (y : Site) (s : State) (c : Core) (k : Known x y s c) where
   -- the page of an address: its user, and its number there
   pub page_user : (address : ℕ) → address / 4096 < y.map.params.pages → page_at y.map c address / y.map.params.pages + 1 ≡ c.current
   page_user address lt = let from : 1 ≤ c.current = (is_user x y s c k).0 in let n = (page_number y.map.params.pages (address / 4096) (c.current - 1) lt).0 in omega arith
@@ -36,8 +36,8 @@ module _ (x : Outside) (y : Site) (s : State) (c : Core) (k : Known x y s c) whe
     pub own_word : (i : ℕ) → (pages_by y.map.params.pages c.users).word (page_at y.map c address) i ≡ slice_index (own c) (1024 * (address / 4096) + i)
     own_word i = ap₂ (λ p u. slice_index (user_of c.users u).words (1024 * p + i)) (page_part address in_table) (page_user address in_table)
 
-    module _ (frame : ℕ) (names : Names ((paged_of y.map s).entry (page_at y.map c address)) frame) where
-      pub is_frame : IsFrame (layout_of y.map) frame
+    module _ (frame : ℕ) (names : MapsTo ((paged_of y.map s).entry (page_at y.map c address)) frame) where
+      pub is_frame : IsFrame (page_layout y.map) frame
       is_frame = k.stands.pages.named (page_at y.map c address) frame page_in names
 
       -- a word of its frame

@@ -9,9 +9,9 @@ use Rattle.mips_table.specs.declared.cause.Cause.TheVariants as causes
 use Rattle.mips_table.specs.declared.effect.Effect.{Effect}
 use Rattle.mips_table.specs.declared.effect.Effect.TheVariants.{Set, Wide, Load, Store, Overflow, Call, System}
 use Rattle.mips_table.specs.Decoding.{decoding}
-use Rattle.mips_table.specs.Device.{Outside}
+use Rattle.mips_table.specs.Device.{Environment}
 use Rattle.mips_table.specs.declared.special.TheConstants.{SR}
-use Rattle.mips_table.specs.Machine.{number_of, in_system}
+use Rattle.mips_table.specs.Machine.{cause_number, in_system}
 use Rattle.mips_table.specs.Processor.{Cpu, Access, Move, Ran, Loaded, Stored, Trapped, Privileged, is_aligned, accessed, performed, executed, effect_on, move}
 use Rattle.mips_table.specs.Machine.{State, Coming, Interrupt, Done, located, after_read_at, access, fetch, fetched, privileged, moved, latched, coming}
 use Rattle.cvm_model.specs.Kernel.{Core}
@@ -22,10 +22,10 @@ use Rattle.layer_contract.proofs.Frames.{word_is}
 
 -- a cause that isn't the reset
 abbrev IsLater : Move → Type 0
-IsLater (Trapped cause edata epc) = number_of cause ≢ 0
+IsLater (Trapped cause edata epc) = cause_number cause ≢ 0
 IsLater other = Unit {0}
 
-accessed_later : (may : Bool) (m r : Cause) (a pc : ℕ) (go : Move) → number_of m ≢ 0 → number_of r ≢ 0 → IsLater go → IsLater (accessed may m r a pc go)
+accessed_later : (may : Bool) (m r : Cause) (a pc : ℕ) (go : Move) → cause_number m ≢ 0 → cause_number r ≢ 0 → IsLater go → IsLater (accessed may m r a pc go)
 accessed_later may m r a pc go hm hr hg =
     cond_both (not (is_aligned a)) (Trapped m a pc) (if not may then Trapped r a pc else go) IsLater (λ _. hm) (λ _. cond_both (not may) (Trapped r a pc) go IsLater (λ _. hr) (λ _. hg))
 
@@ -47,7 +47,7 @@ move_later a c word = accessed_later (a.may_fetch c.pc) causes.FetchAlign causes
 
 -- an interrupt is taken in this state, with another cause than the reset
 abbrev TakenIn : State → Coming → Type 0
-TakenIn t (Interrupt before cause edata epc) = (before ≡ t) × (number_of cause ≢ 0)
+TakenIn t (Interrupt before cause edata epc) = (before ≡ t) × (cause_number cause ≢ 0)
 TakenIn t (Done after) = Unit {0}
 
 privileged_in : (t : State) (word : ℕ) (o : Option Inst) → TakenIn t (privileged t word o)
@@ -56,7 +56,7 @@ privileged_in t word (Some (Mtc0 rt k)) = tt
 privileged_in t word (Some Eret) = tt
 privileged_in t word other = (refl, λ e. absurd (cc))
 
-moved_in : (x : Outside) (t : State) (m : Move) → IsLater m → TakenIn t (moved x t m)
+moved_in : (x : Environment) (t : State) (m : Move) → IsLater m → TakenIn t (moved x t m)
 moved_in x t (Ran c) h = tt
 moved_in x t (Loaded c r address) h = tt
 moved_in x t (Stored c address v) h = tt
@@ -76,7 +76,7 @@ read_keeps : (s : State) (a : ℕ) → nat_lt (a / 4) (length s.memory) ≡ true
 read_keeps s a e = rw e refl
 
 -- a fetch of a user takes nothing
-pub fetches : (x : Outside) (y : Site) (s : State) (c : Core) → Known x y s c → fetched (latched x s) ≡ latched x s
+pub fetches : (x : Environment) (y : Site) (s : State) (c : Core) → Known x y s c → fetched (latched x s) ≡ latched x s
 fetches x y s c k = by (is_aligned s.cpu.pc) refl
   where
     at : (o : Option ℕ) → is_aligned s.cpu.pc ≡ true → located s false s.cpu.pc ≡ o → fetched (latched x s) ≡ after_read_at (latched x s) o

@@ -6,19 +6,19 @@ use Rattle.std.proofs.lemmas.Nat.{or_of_8}
 use Rattle.std.proofs.lemmas.List.{get_or_append_left, get_or-append_right, get_or-replicate, length-append, length-replicate}
 use Rattle.std.proofs.lemmas.List.FromFn.{get_or-map-range_with_len, length-map-range_with_len}
 use Rattle.std.proofs.lemmas.List.Elements.{All-nil, All-head, All-tail, All-append, All-replicate, All-from_get_or}
-use Rattle.mips_table.specs.Device.{Outside, sector_of}
+use Rattle.mips_table.specs.Device.{Environment, sector_of}
 use Rattle.mips_table.specs.Fits.{IsWord, IsPage}
 use Rattle.mips_table.specs.Flat.{Flat}
 use Rattle.mips_table.specs.Machine.{step, run}
 use Rattle.mips_table.specs.Fits.{Fits}
 use Rattle.layer_map.specs.Map.{Map, layer_words, code_at, globals_at, heap_at, stack_at, tables_at, frame_table_at, zero_frame_at, memory_words}
-use Rattle.layer_contract.proofs.Apart.{PartsApart}
+use Rattle.layer_contract.proofs.MapBounds.{PartsApart}
 use Rattle.cvm_model.specs.Primitives.{no_flat}
 use Rattle.cvm_model.specs.Cvm.{System, map_of, first_core}
 use Rattle.cvm_model.specs.Paged.{pages_by}
 use Rattle.cvm_model.specs.Stands.{UserFits, input_room}
 use Rattle.layer_contract.specs.Follows.{loaded_memory, loaded_sector, loaded, SystemFits, LoadedResets}
-use Rattle.layer_contract.proofs.Apart.{apart_of}
+use Rattle.layer_contract.proofs.MapBounds.{apart_of}
 
 -- a word of a list of words, or 0
 pub index_word : (ws : List ℕ) (j : ℕ) → All IsWord ws → IsWord (slice_index ws j)
@@ -33,7 +33,7 @@ user_words most (f ∷ rest) zero h = (All-head (UserFits most) f rest h).words
 user_words most (f ∷ rest) (suc k) h = user_words most rest k (All-tail (UserFits most) f rest h)
 
 -- each sector of the loaded disk is a page
-sector_page : (x : Outside) (y : System) (old : List (List ℕ)) → SystemFits x y old → (q : ℕ) → q < length old → IsPage (loaded_sector y old q)
+sector_page : (x : Environment) (y : System) (old : List (List ℕ)) → SystemFits x y old → (q : ℕ) → q < length old → IsPage (loaded_sector y old q)
 sector_page x y old f q lt =
     cond_both ((pages_by y.boot.params.pages (first_core y).users).live q) (map ((pages_by y.boot.params.pages (first_core y).users).word q) (range_with_len 0 1024)) (sector_of old q) IsPage
     (λ _. record {

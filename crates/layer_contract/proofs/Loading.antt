@@ -15,19 +15,19 @@ use Rattle.cvm_model.specs.Cvm.{first_core, first_flat}
 use Rattle.cvm_model.specs.Paged.{pages_by}
 use Rattle.layer_contract.specs.declared.entry.Entry.{Entry}
 use Rattle.layer_contract.specs.declared.entry.Entry.TheVariants.{Dispatch, Primitive, Fault, Leave}
-use Rattle.layer_contract.specs.Layer.{entry_address, Inside, due}
+use Rattle.layer_contract.specs.Layer.{layer_entry, Inside, command_due}
 use Rattle.layer_contract.specs.Follows.{LoadedResets, loaded, loaded_sector}
 use Rattle.layer_contract.specs.Starts.{user_sectors, LoadedStarts, LoadedKeeps}
 
 -- no entry is at address 0
-pub none_at_zero : (e : Entry) (pc : ℕ) → pc ≡ 0 → pc ≢ entry_address e
+pub none_at_zero : (e : Entry) (pc : ℕ) → pc ≡ 0 → pc ≢ layer_entry e
 none_at_zero Dispatch pc z h = absurd (omega arith)
 none_at_zero (Primitive k) pc z h = absurd (omega arith)
 none_at_zero (Fault f) pc z h = absurd (omega arith)
 none_at_zero Leave pc z h = absurd (omega arith)
 
 pub loaded_starts : LoadedResets → LoadedStarts
-unfolding step due
+unfolding step command_due
 loaded_starts resets x y old fits =
     let there = resets x y old fits in
     record {
@@ -38,8 +38,8 @@ loaded_starts resets x y old fits =
       mask = refl;
       some = omega arith;
       inside = λ j from to. let e : 1 ≡ j = omega arith in subst (λ j. Inside (run x (loaded y old) j)) e there.inside;
-      apart = λ j e lt is. let z : 0 ≡ j = omega arith in subst (λ j. (run x (loaded y old) j).cpu.pc ≢ entry_address e) z (none_at_zero e 0 refl);
-      named = λ j lt. let z : 0 ≡ j = omega arith in subst (λ j. NamesSector (user_sectors y) (due x (run x (loaded y old) j))) z tt;
+      apart = λ j e lt is. let z : 0 ≡ j = omega arith in subst (λ j. (run x (loaded y old) j).cpu.pc ≢ layer_entry e) z (none_at_zero e 0 refl);
+      named = λ j lt. let z : 0 ≡ j = omega arith in subst (λ j. NamesSector (user_sectors y) (command_due x (run x (loaded y old) j))) z tt;
       sectors = λ j le q from. ⊎_elim
           (λ z. ap (λ j. sector_of (run x (loaded y old) j).device.sectors q) z)
           (λ some. let e : j ≡ 1 = omega (arith, le, some) in ap (λ j. sector_of (run x (loaded y old) j).device.sectors q) e)

@@ -1,20 +1,20 @@
 -- Where an address of the current user stands: past its memory, in a page that isn't to be had, or in a frame.
 use Rattle.std.proofs.Common.{◌≡◌, ℕ, ◌+◌, ◌-◌, ◌*◌, ◌/◌, ◌%◌, ◌^◌, ◌<◌, ◌≤◌, ◌&&◌, Some, None, Bool, true, false, nat_lt, List, length, slice_index, refl, ap, ◌∙◌, sym, arith, lt-ltb, ltb-true, ne_eqb, eq-eqb, eqb-true}
 use Rattle.std.proofs.lemmas.Bool.{le-ltb, ltb-false, eqb-false}
-use Rattle.mips_table.specs.Device.{Outside}
+use Rattle.mips_table.specs.Device.{Environment}
 use Rattle.mips_table.specs.declared.special.TheConstants.{PTO, PTL, MODE}
-use Rattle.mips_table.specs.Machine.{in_system, entry_address, is_valid, is_protected, translated}
+use Rattle.mips_table.specs.Machine.{in_system, pte_address, is_valid, is_protected, translated}
 use Rattle.mips_table.specs.Machine.{State, located}
 use Rattle.layer_map.specs.Map.{Map, MapInRange, layer_words, code_at, globals_at, heap_at, stack_at, tables_at, frame_table_at, zero_frame_at, memory_words}
-use Rattle.page_model.specs.Paging.{Valid, Protected, Names, Passes}
-use Rattle.layer_contract.proofs.Apart.{PartsApart}
+use Rattle.page_model.specs.Paging.{Valid, Protected, MapsTo, IsAccessible}
+use Rattle.layer_contract.proofs.MapBounds.{PartsApart}
 use Rattle.cvm_model.specs.Kernel.{Core}
 use Rattle.cvm_model.specs.Primitives.{no_flat, user_of, pages_of}
 use Rattle.cvm_model.specs.Cvm.{Running}
 use Rattle.cvm_model.specs.Paged.{paged_of}
-use Rattle.cvm_model.specs.Stands.{Site, UserFits, Stands, RunsUser}
+use Rattle.cvm_model.specs.Stands.{Site, UserFits, RunningRelation, RunsUser}
 use Rattle.layer_contract.specs.Layer.{page_at}
-use Rattle.layer_contract.proofs.Apart.{apart_of}
+use Rattle.layer_contract.proofs.MapBounds.{apart_of}
 use Rattle.layer_contract.proofs.Pages.{names_own}
 
 -- a page in a user's own terms
@@ -49,15 +49,15 @@ own c = (user_of c.users c.current).words
 pub data Place (m : Map) (s : State) (c : Core) (store : Bool) (address : ℕ) : Type 0 where
   Past : nat_lt (address / 4) (length (own c)) ≡ false → located s store address ≡ None → Place m s c store address
   Faults : nat_lt (address / 4) (length (own c)) ≡ true → nat_lt (address / 4096) (slice_index s.special PTL) ≡ true → located s store address ≡ None → Place m s c store address
-  There : nat_lt (address / 4) (length (own c)) ≡ true → (at frame : ℕ) → located s store address ≡ Some at → Names ((paged_of m s).entry (page_at m c address)) frame
+  There : nat_lt (address / 4) (length (own c)) ≡ true → (at frame : ℕ) → located s store address ≡ Some at → MapsTo ((paged_of m s).entry (page_at m c address)) frame
       → (store ≡ true → Protected ((paged_of m s).entry (page_at m c address)) → ⊥) → at / 4 ≡ 1024 * frame + address % 4096 / 4 → Place m s c store address
 
 -- what is known of a machine that runs a user
-pub record Known (x : Outside) (y : Site) (s : State) (c : Core) : Type 0 where
+pub record Known (x : Environment) (y : Site) (s : State) (c : Core) : Type 0 where
   pub range : MapInRange y.map
   pub mode : slice_index s.special MODE ≡ 1
   pub runs : RunsUser y.map s c
-  pub stands : Stands x y s Running c
+  pub stands : RunningRelation x y s Running c
 
 -- the numbers of the map that matter here
 pub record Sizes (m : Map) : Type 0 where
@@ -81,7 +81,7 @@ sizes_of m range =
     let whole : zero_frame_at m % 1024 ≡ 0 = apart.whole_zeros in
     record { layer = omega arith; globals = omega arith; heap = omega arith; low = omega arith; tables = apart.tables; table = apart.frame_table; zeros = omega arith; end = apart.memory; code = code }
 
-module _ (x : Outside) (y : Site) (s : State) (c : Core) (k : Known x y s c) where
+module _ (x : Environment) (y : Site) (s : State) (c : Core) (k : Known x y s c) where
   pub user_fits : UserFits y.map.params.pages (user_of c.users c.current)
   user_fits = let from : 1 ≤ c.current = k.runs.user.0 in let to : c.current ≤ length c.users = k.runs.user.1 in
       k.stands.whole.each (c.current - 1) no_flat (omega arith)
@@ -101,7 +101,7 @@ module _ (x : Outside) (y : Site) (s : State) (c : Core) (k : Known x y s c) whe
   number_below p lt = let from : 1 ≤ c.current = is_user.0 in let to : c.current ≤ y.map.users = is_user.1 in page_below y.map.params.pages p (c.current - 1) y.map.users lt (omega arith)
 
   entry_is : (address : ℕ) → address / 4096 < y.map.params.pages →
-      slice_index s.memory (entry_address address (slice_index s.special PTO) / 4) ≡ (paged_of y.map s).entry (page_at y.map c address)
+      slice_index s.memory (pte_address address (slice_index s.special PTO) / 4) ≡ (paged_of y.map s).entry (page_at y.map c address)
   entry_is address lt =
       let z : Sizes y.map = sizes_of y.map k.range in
       let n = number_below (address / 4096) lt in
@@ -110,7 +110,7 @@ module _ (x : Outside) (y : Site) (s : State) (c : Core) (k : Known x y s c) whe
       let end : memory_words y.map ≤ 65000 * 1024 = z.end in
       ap (slice_index s.memory) (entry_at (slice_index s.special PTO) (tables_at y.map) ((c.current - 1) * y.map.params.pages) (address / 4096) k.runs.pto (omega arith))
 
-  found : (store : Bool) (address : ℕ) → located s store address ≡ translated address (slice_index s.special PTL) store (slice_index s.memory (entry_address address (slice_index s.special PTO) / 4))
+  found : (store : Bool) (address : ℕ) → located s store address ≡ translated address (slice_index s.special PTL) store (slice_index s.memory (pte_address address (slice_index s.special PTO) / 4))
   found store address = let user : in_system s.special ≡ false = ne_eqb _ _ (λ e. absurd (omega (arith, k.mode, e))) in rw user refl
 
   abbrev ptl : ℕ
@@ -123,7 +123,7 @@ module _ (x : Outside) (y : Site) (s : State) (c : Core) (k : Known x y s c) whe
   module _ (address : ℕ) (own_word : nat_lt (address / 4) (length (own c)) ≡ true) (inside : nat_lt (address / 4096) (slice_index s.special PTL) ≡ true) where
     goes : (store : Bool) → Valid (entry address) → (store ≡ true → Protected (entry address) → ⊥) → located s store address ≡ Some (entry address / 4096 * 4096 + address % 4096) → Place y.map s c store address
     goes store v free is =
-        let n : Names (entry address) (entry address / 4096) = names_own _ v in
+        let n : MapsTo (entry address) (entry address / 4096) = names_own _ v in
         let at : (entry address / 4096 * 4096 + address % 4096) / 4 ≡ 1024 * (entry address / 4096) + address % 4096 / 4 = omega arith in
         There own_word (entry address / 4096 * 4096 + address % 4096) (entry address / 4096) is n free at
 
@@ -153,7 +153,7 @@ module _ (x : Outside) (y : Site) (s : State) (c : Core) (k : Known x y s c) whe
           by_valid address e inside store (is_valid (entry address)) refl (found store address ∙ ap (translated address ptl store) (entry_is address (omega arith)))
 
   -- a page of the user's memory that is refused isn't to be had, and one that is found is
-  pub refused_page : (store : Bool) (address : ℕ) → nat_lt (address / 4) (length (own c)) ≡ true → located s store address ≡ None → Passes (paged_of y.map s) (page_at y.map c address) store → ⊥
+  pub refused_page : (store : Bool) (address : ℕ) → nat_lt (address / 4) (length (own c)) ≡ true → located s store address ≡ None → IsAccessible (paged_of y.map s) (page_at y.map c address) store → ⊥
   refused_page store address e is p =
       let lt : address / 4096 < pages_of (user_of c.users c.current) = below address (ltb-true _ _ e) in
       let size : ptl ≡ pages_of (user_of c.users c.current) = k.runs.ptl in

@@ -7,21 +7,21 @@ use Rattle.std.proofs.lemmas.List.{get_or_append_left, get_or-append_right, leng
 use Rattle.std.proofs.Math.Seq.{take-append_seam}
 use Rattle.std.proofs.lemmas.List.FromFn.{get_or-map-range_with_len, length-map-range_with_len}
 use Rattle.std.proofs.lemmas.List.Elements.{All-nil, All-cons, All-append, All-replicate, All-from_get_or}
-use Rattle.mips_table.specs.Device.{Outside, HasEightLines}
+use Rattle.mips_table.specs.Device.{Environment, HasEightLines}
 use Rattle.mips_table.specs.Fits.{IsWord, IsPage}
 use Rattle.mips_table.specs.Machine.{State, zero_cpu, run}
 use Rattle.layer_map.specs.Map.{Map, MapInRange, layer_words, next_page}
 use Rattle.cvm_model.specs.Primitives.{pages_of}
 use Rattle.cvm_model.specs.Cvm.{Running, map_of, first_flat, first_core}
 use Rattle.cvm_model.specs.Kernel.{Core}
-use Rattle.cvm_model.specs.Stands.{Site, UserFits, CoreFits, Stands}
+use Rattle.cvm_model.specs.Stands.{Site, UserFits, CoreFits, RunningRelation}
 use Rattle.layer_contract.specs.Layer.{Linked, Starts, AfterReset}
 use Rattle.layer_contract.specs.Follows.{site_of, loaded, SystemFits}
 use Rattle.layer_contract.specs.Samples.{plain_word, plain_layer, spread_word, spread_map, spread_system, ASpreadStateStands}
 use Rattle.layer_contract.proofs.ResetState.{reset_stands}
 use Rattle.layer_contract.proofs.LoadedState.{index_word, loaded_resets}
-use Rattle.layer_contract.proofs.Exists.{plain_length, plain_at, plain_linked, no_cpu_fits, blank, blank_page}
-use Rattle.layer_contract.proofs.Spread.{pages_spread, are_spread}
+use Rattle.layer_contract.proofs.RelationExists.{plain_length, plain_at, plain_linked, no_cpu_fits, blank, blank_page}
+use Rattle.layer_contract.proofs.SpreadPages.{pages_spread, are_spread}
 use Rattle.layer_contract.proofs.SpreadState.{spread_memory, low, at, spread_stands}
 
 -- the words of a user, filled up to whole pages
@@ -122,7 +122,7 @@ one_pages = let n : length (first_flat ws).words ≡ next_page (length ws) = pad
 are_sizes : sizes ≡ map pages_of (first_core spread_system).users
 are_sizes = ap (λ n. n ∷ 1 ∷ []) (sym one_pages)
 
-system_fits : (x : Outside) → HasEightLines x → 8 ≤ x.count → SystemFits x spread_system (blank x)
+system_fits : (x : Environment) → HasEightLines x → 8 ≤ x.count → SystemFits x spread_system (blank x)
 system_fits x eight enough = record {
   lines = eight;
   range = subst MapInRange (sym same_map) in_range;
@@ -148,7 +148,7 @@ vs_word i = ⊎_elim
     (cases_eq i 0)
 
 -- the loaded machine after its reset
-module _ (x : Outside) (eight : HasEightLines x) (enough : 8 ≤ x.count) where
+module _ (x : Environment) (eight : HasEightLines x) (enough : 8 ≤ x.count) where
   abbrev words : List ℕ
   words = spread_system.boot.words
 
@@ -170,7 +170,7 @@ module _ (x : Outside) (eight : HasEightLines x) (enough : 8 ≤ x.count) where
   linked : Linked spread_map sizes (take layer_words words)
   linked = subst (Linked spread_map sizes) (sym front) (plain_linked spread_map sizes (omega arith) refl (omega arith))
 
-  first_stands : Stands x (site_of spread_system.boot) first Running core
+  first_stands : RunningRelation x (site_of spread_system.boot) first Running core
   first_stands =
       let long : length words ≡ layer_words + (map_of spread_system.boot).code_words = let n : length words ≡ 16484 = words_length in omega arith in
       reset_stands x (site_of spread_system.boot) first core sizes (subst MapInRange (sym same_map) in_range) long
@@ -180,8 +180,8 @@ module _ (x : Outside) (eight : HasEightLines x) (enough : 8 ≤ x.count) where
   after : AfterReset x (the_site spread_map) core first
   after = subst (λ m. AfterReset x (the_site m) core first) same_map reset
 
-  base : Stands x (the_site spread_map) first Running core
-  base = subst (λ m. Stands x (the_site m) first Running core) same_map first_stands
+  base : RunningRelation x (the_site spread_map) first Running core
+  base = subst (λ m. RunningRelation x (the_site m) first Running core) same_map first_stands
 
   abbrev state : State
   state = record first { memory = spread_memory first.memory }
@@ -204,7 +204,7 @@ module _ (x : Outside) (eight : HasEightLines x) (enough : 8 ≤ x.count) where
   pub a_spread_state_stands : ASpreadStateStands x
   a_spread_state_stands = record {
     state = state;
-    stands = subst (λ m. Stands x (the_site m) state Running core) (sym same_map)
+    stands = subst (λ m. RunningRelation x (the_site m) state Running core) (sym same_map)
         (spread_stands x words first core words_length linked starts after base
         (pages_spread (first_flat ws).words (first_flat vs).words size_one size_two a_word vs_word state (at first.memory base.memory) hand
         (λ i lt. after.pages 3 i (omega arith) (ap (nat_lt 3) one_pages) lt)));

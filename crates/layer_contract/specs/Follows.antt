@@ -4,22 +4,22 @@ use Rattle.std.specs.List.{range_with_len}
 use Rattle.mips_table.specs.declared.cause.Cause.{Cause}
 use Rattle.mips_table.specs.declared.cause.Cause.TheVariants.{External}
 use Rattle.mips_table.specs.Arith.{signed}
-use Rattle.mips_table.specs.Device.{Outside, HasEightLines, sector_of}
-use Rattle.mips_table.specs.Machine.{number_of}
+use Rattle.mips_table.specs.Device.{Environment, HasEightLines, sector_of}
+use Rattle.mips_table.specs.Machine.{cause_number}
 use Rattle.mips_table.specs.Fits.{IsWord, IsPage}
-use Rattle.mips_table.specs.Machine.{State, Interrupt, start, latched, coming, step, run}
+use Rattle.mips_table.specs.Machine.{State, Interrupt, power_on, latched, coming, step, run}
 use Rattle.layer_contract.specs.declared.entry.Entry.{Entry}
 use Rattle.layer_contract.specs.declared.entry.Entry.TheVariants.{Primitive, Fault as Exit, Leave}
 use Rattle.layer_map.specs.Map.{Map, MapInRange, layer_words, memory_words}
-use Rattle.c0_meaning.specs.State.{State as C0}
-use Rattle.cvm_model.specs.Kernel.{Core, power_of, End, Answers, Faults, NotYet, DispatchOutcome, KernelMeaning, MeaningLaws}
+use Rattle.c0_meaning.specs.State.{C0State}
+use Rattle.cvm_model.specs.Kernel.{Core, power_of, DispatchEnd, Answers, Faults, NotYet, DispatchOutcome, KernelMeaning, MeaningLaws}
 use Rattle.cvm_model.specs.Primitives.{pages_of}
 use Rattle.cvm_model.specs.Cvm.{Boot, System, Running, Begin, Steps, Traps, Interrupts, map_of, first_flat, first_core, run_steps}
 use Rattle.cvm_model.specs.Paged.{pages_by}
 use Rattle.cvm_model.specs.TypedKernel.{StaysTyped}
-use Rattle.cvm_model.specs.Stands.{Site, input_room, CoreFits, Stands, runs_user}
+use Rattle.cvm_model.specs.Stands.{Site, input_room, CoreFits, RunningRelation, runs_user}
 use Rattle.layer_contract.specs.declared.registers.TheConstants.{ANSWER}
-use Rattle.layer_contract.specs.Layer.{IsEntry, Inside, Way, Comes, IsAt, with_epc, Starts, AfterReset}
+use Rattle.layer_contract.specs.Layer.{IsEntry, Inside, Way, ComesBy, IsAtEntry, with_epc, Starts, AfterReset}
 use Rattle.layer_contract.specs.Calls.{KernelCalled, CallsFollow}
 
 -- the map and the linked words of what is booted
@@ -39,10 +39,10 @@ loaded_sector y old q =
 
 -- the loaded machine, over a disk with these sectors
 abbrev pub loaded : System → List (List ℕ) → State
-loaded y old = start (loaded_memory y.boot) (map (loaded_sector y old) (range_with_len 0 (length old))) y.input
+loaded y old = power_on (loaded_memory y.boot) (map (loaded_sector y old) (range_with_len 0 (length old))) y.input
 
 -- eight lines, a system whose words are words, and a disk that is large enough
-pub record SystemFits (x : Outside) (y : System) (old : List (List ℕ)) : Type 0 where
+pub record SystemFits (x : Environment) (y : System) (old : List (List ℕ)) : Type 0 where
   pub lines : HasEightLines x
   pub range : MapInRange (map_of y.boot)
   pub long : layer_words ≤ length y.boot.words
@@ -55,7 +55,7 @@ pub record SystemFits (x : Outside) (y : System) (old : List (List ℕ)) : Type 
 
 -- after its first step it is a state after the reset
 abbrev pub LoadedResets : Type 0
-LoadedResets = (x : Outside) (y : System) (old : List (List ℕ)) → SystemFits x y old → AfterReset x (site_of y.boot) (first_core y) (run x (loaded y old) 1)
+LoadedResets = (x : Environment) (y : System) (old : List (List ℕ)) → SystemFits x y old → AfterReset x (site_of y.boot) (first_core y) (run x (loaded y old) 1)
 
 -- A kernel that isn't over within n units still runs after so many steps: one for each 8,388,608 units. No primitive takes as many, and the call of one
 -- takes a step.
@@ -69,15 +69,15 @@ IsKernelDoor other = IsEntry other
 
 -- from `dispatch` on, the machine comes to Leave with the answer, or to the fault's exit, as the kernel means it, in the steps of its units
 -- and pages; or it is still on its way
-abbrev pub EndsAs : Outside → ℕ → Site → ℕ → State → DispatchOutcome → End → Type 0
-EndsAs x longest y n s o (Answers a) = Comes x y IsKernelDoor (run_steps y.map longest o.units o.pages) s
-    (λ t. IsAt x y Leave o.after t × (signed (slice_index t.cpu.regs ANSWER) ≡ a))
-EndsAs x longest y n s o (Faults f) = Comes x y IsKernelDoor (run_steps y.map longest o.units o.pages) s (IsAt x y (Exit (power_of f)) o.after)
+abbrev pub EndsAs : Environment → ℕ → Site → ℕ → State → DispatchOutcome → DispatchEnd → Type 0
+EndsAs x longest y n s o (Answers a) = ComesBy x y IsKernelDoor (run_steps y.map longest o.units o.pages) s
+    (λ t. IsAtEntry x y Leave o.after t × (signed (slice_index t.cpu.regs ANSWER) ≡ a))
+EndsAs x longest y n s o (Faults f) = ComesBy x y IsKernelDoor (run_steps y.map longest o.units o.pages) s (IsAtEntry x y (Exit (power_of f)) o.after)
 EndsAs x longest y n s o NotYet = (j : ℕ) → units_per_step * j ≤ n → Way x y IsKernelDoor j s × Inside (run x s j)
 
 -- the kernel's code runs as the kernel means, over typed data
-abbrev pub KernelRuns : Site → (C0 → Type 0) → KernelMeaning → Type 0
-KernelRuns y Typed e = (x : Outside) (longest n : ℕ) (s : State) (c : Core) (cause edata user : ℤ) → KernelCalled x longest y Typed c cause edata user s →
+abbrev pub KernelRuns : Site → (C0State → Type 0) → KernelMeaning → Type 0
+KernelRuns y Typed e = (x : Environment) (longest n : ℕ) (s : State) (c : Core) (cause edata user : ℤ) → KernelCalled x longest y Typed c cause edata user s →
     EndsAs x longest y n s (e.dispatch n c cause edata user) (e.dispatch n c cause edata user).end
 
 -- the layer of these words was made for what is booted: for its map, in range, and its users' sizes
@@ -91,7 +91,7 @@ pub record MadeFor (image sizes : List ℕ) (made_for : Map) (b : Boot) : Type 0
   pub fits : (input : List ℕ) (longest : ℕ) → length input ≤ input_room → CoreFits made_for (first_core (record { boot = b; input = input; longest = longest }))
 
 -- FOLLOWS: and the kernel's code over it runs as the kernel means
-pub record Follows (Typed : C0 → Type 0) (image sizes : List ℕ) (made_for : Map) (b : Boot) : Type 0 where
+pub record Follows (Typed : C0State → Type 0) (image sizes : List ℕ) (made_for : Map) (b : Boot) : Type 0 where
   pub made : MadeFor image sizes made_for b
   pub meaning : MeaningLaws b.meaning
   pub typed : StaysTyped made_for b.meaning Typed
@@ -99,8 +99,9 @@ pub record Follows (Typed : C0 → Type 0) (image sizes : List ℕ) (made_for : 
   pub calls : CallsFollow (site_of b) Typed b.meaning
 
 -- what the step that begins a turn after the first comes to: the user's step, or an interrupt to be taken with its cause, edata and epc
-abbrev pub BeginsAs : Outside → Site → State → Core → Begin → Type 0
-BeginsAs x y s c (Steps after) = Stands x y (step x s) Running after × (runs_user (step x s) ≡ true) × ((step x s).mask ≡ 0)
+abbrev pub BeginsAs : Environment → Site → State → Core → Begin → Type 0
+BeginsAs x y s c (Steps after) = RunningRelation x y (step x s) Running after × (runs_user (step x s) ≡ true) × ((step x s).mask ≡ 0)
 BeginsAs x y s c (Traps cause edata at) =
-    (before : State) × (why : Cause) × (epc : ℕ) × (coming x (latched x s) ≡ Interrupt before why edata epc) × (number_of why ≡ cause) × (with_epc c epc ≡ at)
+    (before : State) × (why : Cause) × (epc : ℕ) × (coming x (latched x s) ≡ Interrupt before why edata epc) × (cause_number why ≡ cause)
+    × (with_epc c epc ≡ at)
 BeginsAs x y s c (Interrupts cause edata at pending) = (coming x (latched x s) ≡ Interrupt (latched x s) External edata s.cpu.pc) × (cause ≡ 1) × (c ≡ at) × (pending ≡ 0)

@@ -3,18 +3,18 @@ use Rattle.std.specs.Prelude.{◌≡◌, codes, true, ℕ, ◌-◌, ◌*◌, ◌
 use Rattle.std.specs.List.{range_with_len}
 use Rattle.mips_table.specs.declared.inst.Inst.TheVariants.{Addi, Ori, Lui}
 use Rattle.mips_table.specs.Encoding.{encoding}
-use Rattle.mips_table.specs.Device.{Outside}
+use Rattle.mips_table.specs.Device.{Environment}
 use Rattle.mips_table.specs.Machine.{State}
 use Rattle.layer_map.specs.declared.params.Params.{Params}
 use Rattle.layer_map.specs.Map.{Map, layer_words, heap_words_at, heap_first_at, stack_first_at, stack_words_at, heap_at, stack_at}
-use Rattle.page_model.specs.Paging.{Paged, Names}
+use Rattle.page_model.specs.Paging.{Paged, MapsTo}
 use Rattle.c0_tree.specs.declared.tree.Kind.{Kind}
 use Rattle.c0_tree.specs.declared.tree.Kind.TheVariants.{Global, Local, Function}
 use Rattle.c0_tree.specs.Tree.{CDecl, CUnit, code, num, done}
 use Rattle.c0_tree.specs.Tree as tree
 use Rattle.c0_meaning.specs.Bare.{z}
 use Rattle.cvm_model.specs.Cvm.{System, Running, first_core}
-use Rattle.cvm_model.specs.Stands.{Stands, runs_user}
+use Rattle.cvm_model.specs.Stands.{RunningRelation, runs_user}
 use Rattle.cvm_model.specs.KernelMeaning.{kernel_meaning}
 use Rattle.cvm_model.specs.Paged.{paged_of}
 use Rattle.layer_contract.specs.Follows.{site_of}
@@ -76,12 +76,12 @@ plain_system = record {
 }
 
 -- there is a state that stands for the start of a run, and one in user mode that stands for user 1 at its start
-pub record AStateStands (x : Outside) : Type 0 where
+pub record AStateStands (x : Environment) : Type 0 where
   pub first : State
-  pub stands : Stands x (site_of plain_system.boot) first Running (first_core plain_system)
+  pub stands : RunningRelation x (site_of plain_system.boot) first Running (first_core plain_system)
   pub user : State
   pub runs : runs_user user ≡ true
-  pub user_stands : Stands x (site_of plain_system.boot) user Running (record (first_core plain_system) { current = 1 })
+  pub user_stands : RunningRelation x (site_of plain_system.boot) user Running (record (first_core plain_system) { current = 1 })
 
 -- Two users over two frames. The first has four pages: two begin with a system call, one is zeros, and the last begins with 9.
 abbrev pub spread_word : ℕ → ℕ
@@ -106,14 +106,14 @@ spread_system = record {
 -- pages in all places: page 0 of user 1 has a frame of its own, its page 1 and page 0 of user 2 share one, its page 2 has the zero frame, and
 -- its page 3 stands in its sector
 pub record AreSpread (a : Paged) : Type 0 where
-  pub own : Names (a.entry 0) 23
-  pub shared : Names (a.entry 1) 24
-  pub shared_too : Names (a.entry 4) 24
-  pub zero : Names (a.entry 2) 22
+  pub own : MapsTo (a.entry 0) 23
+  pub shared : MapsTo (a.entry 1) 24
+  pub shared_too : MapsTo (a.entry 4) 24
+  pub zero : MapsTo (a.entry 2) 22
   pub swapped : a.entry 3 ≡ 0
 
 -- a state with such pages that stands for the start of a run of two users
-pub record ASpreadStateStands (x : Outside) : Type 0 where
+pub record ASpreadStateStands (x : Environment) : Type 0 where
   pub state : State
-  pub stands : Stands x (site_of spread_system.boot) state Running (first_core spread_system)
+  pub stands : RunningRelation x (site_of spread_system.boot) state Running (first_core spread_system)
   pub spread : AreSpread (paged_of spread_map state)

@@ -1,7 +1,7 @@
 // Where the layer and the kernel's code meet.
 
 ghost use Rattle.std.specs.Prelude.{◌≡◌};
-ghost use Rattle.layer_contract.specs.Layer.{entry_address, IsEntry};
+ghost use Rattle.layer_contract.specs.Layer.{layer_entry, IsEntry};
 
 use layer_map::{EXITS, LEAVE, PRIMITIVES, UNIT_ENTRY};
 
@@ -23,7 +23,7 @@ impl Entry {
     /// from 0x2000 on.
     pub fn address(self) -> u32
         requires { IsEntry self }
-        ensures { result ≡ entry_address self }
+        ensures { result ≡ layer_entry self }
     {
         match self {
             Entry::Dispatch => UNIT_ENTRY,

@@ -4,7 +4,7 @@
 #![tactic(auto)]
 
 ghost use Rattle.std.specs.Prelude.{◌≤◌};
-ghost use Rattle.mips_table.specs.Device.{Outside, HasEightLines};
+ghost use Rattle.mips_table.specs.Device.{Environment, HasEightLines};
 ghost use Rattle.layer_contract.specs.Layer.{ResetStands, NoneIsDue};
 ghost use Rattle.layer_contract.specs.Follows.{LoadedResets};
 ghost use Rattle.layer_contract.specs.Starts.{LoadedKeeps, LoadedStarts, StartsCall, StartsGoOn};
@@ -41,13 +41,13 @@ pub fn no_command_is_due()
 
 /// A law: there is a state that stands for the start of a run, and one in user mode.
 pub fn a_state_stands()
-    ensures { (x : Outside) → HasEightLines x → 4 ≤ x.count → AStateStands x }
+    ensures { (x : Environment) → HasEightLines x → 4 ≤ x.count → AStateStands x }
 {}
 
 /// A law: there is a state of two users that stands for the start of a run, with a page in a frame of its own, one in a shared frame, one in the
 /// zero frame and one in its sector.
 pub fn a_spread_state_stands()
-    ensures { (x : Outside) → HasEightLines x → 8 ≤ x.count → ASpreadStateStands x }
+    ensures { (x : Environment) → HasEightLines x → 8 ≤ x.count → ASpreadStateStands x }
 {}
 
 /// A law: the loaded machine is a start, from which the layer takes over after one step, and its sectors past the users' pages are the disk's.

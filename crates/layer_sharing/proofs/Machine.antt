@@ -6,28 +6,28 @@ use Rattle.mips_table.specs.declared.inst.Inst.{Inst}
 use Rattle.mips_table.specs.declared.inst.Inst.TheVariants.{Jr}
 use Rattle.mips_table.specs.Arith.{signed}
 use Rattle.mips_table.specs.Flat.{Flat}
-use Rattle.mips_table.specs.Device.{Outside}
+use Rattle.mips_table.specs.Device.{Environment}
 use Rattle.mips_table.specs.Machine.{State, run}
-use Rattle.mips_table.specs.Code.{Contents, Behind, World, Sound, Configuration, at_with, Reaches}
+use Rattle.mips_table.specs.Code.{Contents, Behind, World, Sound, CodeState, at_with, Reaches}
 use Rattle.mips_table.specs.Simulation.{sectors_of, configuration_of}
 use Rattle.masm.specs.Laws.{ReturnRuns}
 use Rattle.layer_map.specs.Map.{Map, layer_words, block_at, tables_at, memory_words}
 use Rattle.page_model.specs.Laws.{AlikesStand}
-use Rattle.page_model.specs.Paging.{IsUserFrame, Names, Pages, PagesStand, counted, naming}
-use Rattle.page_model.specs.Places.{Places, layout_of, places_of, view}
+use Rattle.page_model.specs.Paging.{IsUserFrame, MapsTo, Pages, PagingInvariant, counted_entries, naming}
+use Rattle.page_model.specs.Places.{Places, page_layout, places_of, paged_view}
 use Rattle.page_fault.specs.Code.{handle_page_code}
 use Rattle.page_fault.specs.Asked.{MapsAreSited}
 use Rattle.cvm_model.specs.Kernel.{Core}
-use Rattle.cvm_model.specs.Primitives.{VmCopy, user_of, pages_of, is_within, is_place, is_good, overlap}
+use Rattle.cvm_model.specs.Primitives.{VmCopy, user_of, pages_of, is_within, is_address, is_good, ranges_overlap}
 use Rattle.cvm_model.specs.Cvm.{Running}
 use Rattle.cvm_model.specs.Paged.{paged_of, pages_by}
-use Rattle.cvm_model.specs.Stands.{Site, UserFits, Stands}
+use Rattle.cvm_model.specs.Stands.{Site, UserFits, RunningRelation}
 use Rattle.layer_contract.specs.Layer.{Inside, BusyWithin, InCode, PrimitiveCalled, ComesBack, PrimitivesAnswer}
 use Rattle.cvm_primitives.specs.Blocks.{IsOneOf}
 use Rattle.cvm_primitives.specs.Copy.{Apart, copied}
 use Rattle.cvm_primitives.specs.View.{CopyArgs, UsersIn, number, SharesFrame, FourOthers}
 use Rattle.cvm_primitives.specs.Code.{vm_copy_code}
-use Rattle.cvm_primitives.specs.Laws.{Entered, GoodCopy, first_word, second_word, copy_steps}
+use Rattle.cvm_primitives.specs.Laws.{EnteredOnPages, GoodCopy, first_word, second_word, copy_steps}
 use Rattle.cvm_primitives.specs.Sharing.{EndsWhole, LastShared, last_page}
 use Rattle.cvm_primitives.proofs.Flats.{InLists}
 use Rattle.cvm_primitives.proofs.Numbers.{overlap_is}
@@ -43,28 +43,28 @@ use Rattle.real_layer.proofs.Leaving.{signed_pos, signed_neg}
 use Rattle.real_layer.proofs.Keeping.{free_block}
 use Rattle.real_layer.proofs.Fitting.{within}
 use Rattle.real_layer.proofs.Calling.{free_past, free_port, own_hand, word_read}
-use Rattle.layer_sharing.specs.Passing.{Passed, CopyPasses}
+use Rattle.layer_sharing.specs.Passing.{CopyPassed, CopyPasses}
 use Rattle.layer_sharing.specs.Sharing.{word_number, LastPage, CopiesShare}
 
 -- entries that are the same are counted the same
-counted_same : (f g : ℕ → ℕ) (k n : ℕ) → ((i : ℕ) → i < n → f i ≡ g i) → counted f k n ≡ counted g k n
+counted_same : (f g : ℕ → ℕ) (k n : ℕ) → ((i : ℕ) → i < n → f i ≡ g i) → counted_entries f k n ≡ counted_entries g k n
 counted_same f g k zero h = refl
 counted_same f g k (suc n) h = ap₂ (λ a e. a + naming e k) (counted_same f g k n (λ i lt. h i (omega arith))) (h n (omega arith))
 
 -- with entries that are the same, pages name the same frames
 shares_same : (p : Places) (a b : ℕ) (f g : ℕ → ℕ) → f (p.tables + a) ≡ g (p.tables + a) → f (p.tables + b) ≡ g (p.tables + b) → SharesFrame p a b f → SharesFrame p a b g
 shares_same p a b f g ea eb h = record {
-  source = subst (λ e. Names e (e / 4096)) ea h.source;
-  target = subst (λ e. Names e (g (p.tables + a) / 4096)) eb (subst (λ e. Names (f (p.tables + b)) (e / 4096)) ea h.target);
+  source = subst (λ e. MapsTo e (e / 4096)) ea h.source;
+  target = subst (λ e. MapsTo e (g (p.tables + a) / 4096)) eb (subst (λ e. MapsTo (f (p.tables + b)) (e / 4096)) ea h.target);
 }
 
 four_same : (p : Places) (a b : ℕ) (f g : ℕ → ℕ) → a < p.layout.pages → ((i : ℕ) → i < p.layout.pages → f (p.tables + i) ≡ g (p.tables + i)) → FourOthers p a b f → FourOthers p a b g
 four_same p a b f g lt same h =
-    let many : counted (λ z. if nat_eq z b then 0 else f (p.tables + z)) (f (p.tables + a) / 4096) p.layout.pages ≡ counted (λ z. if nat_eq z b then 0 else g (p.tables + z)) (g (p.tables + a) / 4096) p.layout.pages =
+    let many : counted_entries (λ z. if nat_eq z b then 0 else f (p.tables + z)) (f (p.tables + a) / 4096) p.layout.pages ≡ counted_entries (λ z. if nat_eq z b then 0 else g (p.tables + z)) (g (p.tables + a) / 4096) p.layout.pages =
     counted_same (λ z. if nat_eq z b then 0 else f (p.tables + z)) (λ z. if nat_eq z b then 0 else g (p.tables + z)) (f (p.tables + a) / 4096) p.layout.pages (λ i li. ap (λ e. if nat_eq i b then 0 else e) (same i li))
-    ∙ ap (λ e. counted (λ z. if nat_eq z b then 0 else g (p.tables + z)) (e / 4096) p.layout.pages) (same a lt) in
+    ∙ ap (λ e. counted_entries (λ z. if nat_eq z b then 0 else g (p.tables + z)) (e / 4096) p.layout.pages) (same a lt) in
     record {
-      names = subst (λ e. Names e (e / 4096)) (same a lt) h.names;
+      names = subst (λ e. MapsTo e (e / 4096)) (same a lt) h.names;
       user = subst (λ e. IsUserFrame p.layout (e / 4096)) (same a lt) h.user;
       four = subst (λ k. 4 ≤ k) many h.four;
     }
@@ -84,7 +84,7 @@ is_pos low high (pos n) e = refl
 is_pos low high (negsuc n) e = absurd (cc)
 
 -- neither is the address of a place
-place : (f : Flat) (z : ℤ) (n : ℕ) → is_place f z n ≡ true → (z ≡ pos (nat_abs z)) × (nat_abs z % 4 ≡ 0) × (nat_abs z + 4 * n ≤ 4096 * pages_of f)
+place : (f : Flat) (z : ℤ) (n : ℕ) → is_address f z n ≡ true → (z ≡ pos (nat_abs z)) × (nat_abs z % 4 ≡ 0) × (nat_abs z + 4 * n ≤ 4096 * pages_of f)
 place f (pos a) n e = let p = and_parts (a % 4 == 0) (nat_le (a + 4 * n) (4096 * pages_of f)) e in (refl, eqb-true (a % 4) 0 p.0, leb-true (a + 4 * n) (4096 * pages_of f) p.1)
 place f (negsuc a) n e = absurd (cc)
 
@@ -96,7 +96,7 @@ reg_is r (pos a) lt e h = ⊎_elim
     (cases_lt r (2 ^ 31))
 reg_is r (negsuc a) lt e h = absurd (cc)
 
-disjoint : (u v a b n : ℕ) → a % 4 ≡ 0 → b % 4 ≡ 0 → not (u == v && overlap a b n) ≡ true → u ≡ v → Apart (a / 4) (b / 4) n
+disjoint : (u v a b n : ℕ) → a % 4 ≡ 0 → b % 4 ≡ 0 → not (u == v && ranges_overlap a b n) ≡ true → u ≡ v → Apart (a / 4) (b / 4) n
 disjoint u v a b n za zb h e = ⊎_elim (λ o. o.0) (λ o. absurd (true≢false (sym h ∙ ap₂ (λ x y. not (x && y)) (eq-eqb u v e) o.1))) (overlap_is a b n za zb)
 
 -- good arguments of a copy, as numbers
@@ -111,7 +111,7 @@ record Args (users : List Flat) (u a v b n : ℤ) : Type 0 where
 args : (most : ℕ) (users : List Flat) (u a v b n : ℤ) → is_good most users (VmCopy u a v b n) ≡ true → Args users u a v b n
 args most users u a v b (negsuc n) e = absurd (cc)
 args most users u a v b (pos n) e =
-    let p = five (is_within 1 (length users) u) (is_within 1 (length users) v) (is_place (user_of users (nat_abs u)) a n) (is_place (user_of users (nat_abs v)) b n) (not (nat_abs u == nat_abs v && overlap (nat_abs a) (nat_abs b) n)) e in
+    let p = five (is_within 1 (length users) u) (is_within 1 (length users) v) (is_address (user_of users (nat_abs u)) a n) (is_address (user_of users (nat_abs v)) b n) (not (nat_abs u == nat_abs v && ranges_overlap (nat_abs a) (nat_abs b) n)) e in
     let f = within 1 (length users) u p.0 in let f0 = f.0 in
     let g = within 1 (length users) v p.1 in let g0 = g.0 in
     let h = place (user_of users (nat_abs u)) a n p.2 in
@@ -133,7 +133,7 @@ pub record Needs : Type 0 where
   pub passes : (w : World) → Sound w → CopyPasses w
 
 -- a run that is below the kernel's code for so many steps isn't back before them
-not_before : ((x : Outside) (s : State) (i j : ℕ) → run x s (i + j) ≡ run x (run x s i) j) → (x : Outside) (y : Site) (s : State) (n steps to : ℕ) → Between x y n (run x s 1) → s.cpu.pc < 4 * layer_words → 4 * layer_words ≤ to → (run x s steps).cpu.pc ≡ to → 1 + n ≤ steps
+not_before : ((x : Environment) (s : State) (i j : ℕ) → run x s (i + j) ≡ run x (run x s i) j) → (x : Environment) (y : Site) (s : State) (n steps to : ℕ) → Between x y n (run x s 1) → s.cpu.pc < 4 * layer_words → 4 * layer_words ≤ to → (run x s steps).cpu.pc ≡ to → 1 + n ≤ steps
 not_before sum x y s n steps to b low high back = ⊎_elim
     (λ lt. ⊎_elim
     (λ none. let z : steps ≡ 0 = omega arith in let pc : s.cpu.pc ≡ to = ap (λ k. (run x s k).cpu.pc) (sym z) ∙ back in absurd (omega arith))
@@ -146,7 +146,7 @@ not_before sum x y s n steps to b low high back = ⊎_elim
     (cases_lt steps (1 + n))
 
 -- the same time: back, and back for the first time
-same_time : ((x : Outside) (s : State) (i j : ℕ) → run x s (i + j) ≡ run x (run x s i) j) → (x : Outside) (y : Site) (s : State) (n back to pc : ℕ) → Between x y n (run x s 1) → s.cpu.pc < 4 * layer_words → 4 * layer_words ≤ pc → (run x s back).cpu.pc ≡ pc
+same_time : ((x : Environment) (s : State) (i j : ℕ) → run x s (i + j) ≡ run x (run x s i) j) → (x : Environment) (y : Site) (s : State) (n back to pc : ℕ) → Between x y n (run x s 1) → s.cpu.pc < 4 * layer_words → 4 * layer_words ≤ pc → (run x s back).cpu.pc ≡ pc
     → ((j : ℕ) → j < back → (run x s j).cpu.pc ≢ pc) → pc ≡ 4 * to → (run x (run x s 1) n).cpu.pc / 4 ≡ to → (run x (run x s 1) n).cpu.pc % 4 ≡ 0 → 1 + n ≡ back
 same_time sum x y s n back to pc all low high home apart there at aligned =
     let late : 1 + n ≤ back = not_before sum x y s n back pc all low high home in
@@ -154,13 +154,13 @@ same_time sum x y s n back to pc all low high home apart there at aligned =
     ⊎_elim (λ lt. absurd (apart (1 + n) lt (ap (λ (v : State). v.cpu.pc) (sum x s 1 n) ∙ here))) (λ le. omega arith) (cases_lt (1 + n) back)
 
 -- what the state at the moment stands for
-stands_at : AlikesStand → (m : Map) → Order m → (v : Pages) (t : State) (u : Configuration) → memory_words m ≤ length t.memory → configuration_of t ≡ u → PagesStand (layout_of m) v (view (places_of m) u.contents.memory u.behind.sectors) → PagesStand (layout_of m) v (paged_of m t)
+stands_at : AlikesStand → (m : Map) → Order m → (v : Pages) (t : State) (u : CodeState) → memory_words m ≤ length t.memory → configuration_of t ≡ u → PagingInvariant (page_layout m) v (paged_view (places_of m) u.contents.memory u.behind.sectors) → PagingInvariant (page_layout m) v (paged_of m t)
 stands_at alikes m o v t u long there h =
     pages_agree alikes m v (words_of t) (slice_index t.memory) (sectors_of t.device.sectors) o (λ k why lt. sym (word_is t k (omega arith)))
-    (subst (λ (e : Configuration). PagesStand (layout_of m) v (view (places_of m) e.contents.memory e.behind.sectors)) (sym there) h)
+    (subst (λ (e : CodeState). PagingInvariant (page_layout m) v (paged_view (places_of m) e.contents.memory e.behind.sectors)) (sym there) h)
 
 -- what it and the state at the end name
-shares_at : (m : Map) → Order m → (p q n : ℕ) (t t' : State) (u u' : Configuration) → memory_words m ≤ length t.memory → memory_words m ≤ length t'.memory → last_page p n < m.users * m.params.pages → last_page q n < m.users * m.params.pages
+shares_at : (m : Map) → Order m → (p q n : ℕ) (t t' : State) (u u' : CodeState) → memory_words m ≤ length t.memory → memory_words m ≤ length t'.memory → last_page p n < m.users * m.params.pages → last_page q n < m.users * m.params.pages
     → configuration_of t ≡ u → configuration_of t' ≡ u' → LastShared (places_of m) p q n u'.contents u.contents.memory
     → (SharesFrame (places_of m) (last_page p n) (last_page q n) (slice_index t'.memory)) ⊎ (FourOthers (places_of m) (last_page p n) (last_page q n) (slice_index t.memory))
 shares_at m o p q n t t' u u' long long' lp lq there there' h = by (last_page p n) (last_page q n) lp lq h
@@ -170,22 +170,22 @@ shares_at m o p q n t t' u u' long long' lp lq there there' h = by (last_page p 
     by a b la lb h =
         let counts = o.counts in let zeros = o.zeros in
         ⊎_elim
-        (λ k. inl (shares_same (places_of m) a b (words_of t') (slice_index t'.memory) (word_is t' (tables_at m + a) (omega arith)) (word_is t' (tables_at m + b) (omega arith)) (subst (λ (e : Configuration). SharesFrame (places_of m) a b e.contents.memory) (sym there') k)))
-        (λ k. inr (four_same (places_of m) a b (words_of t) (slice_index t.memory) la (λ i lt. word_is t (tables_at m + i) (omega arith)) (subst (λ (e : Configuration). FourOthers (places_of m) a b e.contents.memory) (sym there) k)))
+        (λ k. inl (shares_same (places_of m) a b (words_of t') (slice_index t'.memory) (word_is t' (tables_at m + a) (omega arith)) (word_is t' (tables_at m + b) (omega arith)) (subst (λ (e : CodeState). SharesFrame (places_of m) a b e.contents.memory) (sym there') k)))
+        (λ k. inr (four_same (places_of m) a b (words_of t) (slice_index t.memory) la (λ i lt. word_is t (tables_at m + i) (omega arith)) (subst (λ (e : CodeState). FourOthers (places_of m) a b e.contents.memory) (sym there) k)))
         h
 
 -- the words that both show are the same
-words_same : (m : Map) (s t : State) (u : Configuration) → memory_words m ≤ length s.memory → memory_words m ≤ length t.memory → configuration_of t ≡ u → u.contents.memory ≡ words_of s → (k : ℕ) → k < memory_words m → slice_index t.memory k ≡ slice_index s.memory k
-words_same m s t u long long' there same k lt = sym (word_is t k (omega arith)) ∙ ap (λ (e : Configuration). e.contents.memory k) there ∙ ap (λ g. g k) same ∙ word_is s k (omega arith)
+words_same : (m : Map) (s t : State) (u : CodeState) → memory_words m ≤ length s.memory → memory_words m ≤ length t.memory → configuration_of t ≡ u → u.contents.memory ≡ words_of s → (k : ℕ) → k < memory_words m → slice_index t.memory k ≡ slice_index s.memory k
+words_same m s t u long long' there same k lt = sym (word_is t k (omega arith)) ∙ ap (λ (e : CodeState). e.contents.memory k) there ∙ ap (λ g. g k) same ∙ word_is s k (omega arith)
 
 -- all of it, by the run's steps
-last_of : (x : Outside) (m : Map) (c : Core) (p q n : ℕ) (s : State) (back moment : ℕ) (t t' : State) → run x s moment ≡ t → run x s back ≡ t' → moment ≤ back → PagesStand (layout_of m) (copied (pages_by m.params.pages c.users) p q (n - 1024)) (paged_of m t)
+last_of : (x : Environment) (m : Map) (c : Core) (p q n : ℕ) (s : State) (back moment : ℕ) (t t' : State) → run x s moment ≡ t → run x s back ≡ t' → moment ≤ back → PagingInvariant (page_layout m) (copied (pages_by m.params.pages c.users) p q (n - 1024)) (paged_of m t)
     → (SharesFrame (places_of m) (last_page p n) (last_page q n) (slice_index t'.memory)) ⊎ (FourOthers (places_of m) (last_page p n) (last_page q n) (slice_index t.memory))
     → (n ≡ 1024 → (k : ℕ) → k < memory_words m → slice_index t.memory k ≡ slice_index s.memory k) → LastPage x m c p q n s back
 last_of x m c p q n s back moment t t' is is' le h k first = record {
   moment = moment;
   within = le;
-  stands = subst (λ (v : State). PagesStand (layout_of m) (copied (pages_by m.params.pages c.users) p q (n - 1024)) (paged_of m v)) (sym is) h;
+  stands = subst (λ (v : State). PagingInvariant (page_layout m) (copied (pages_by m.params.pages c.users) p q (n - 1024)) (paged_of m v)) (sym is) h;
   first = λ one k lt. ap (λ (v : State). slice_index v.memory k) is ∙ first one k lt;
   shared = ⊎_elim
       (λ a. inl (subst (λ (v : State). SharesFrame (places_of m) (last_page p n) (last_page q n) (slice_index v.memory)) (sym is') a))
@@ -197,7 +197,7 @@ module _ (m : Map) (sizes code : List ℕ) (made : IsMade m sizes code) where
   abbrev y : Site
   y = image_site m sizes code
 
-  module _ (z : Needs) (x : Outside) (longest : ℕ) (s : State) (c : Core) (busy : BusyWithin x longest) (st : Stands x y s Running c) (i : Inside s) where
+  module _ (z : Needs) (x : Environment) (longest : ℕ) (s : State) (c : Core) (busy : BusyWithin x longest) (st : RunningRelation x y s Running c) (i : Inside s) where
     abbrev users : List Flat
     users = c.users
 
@@ -225,8 +225,8 @@ module _ (m : Map) (sizes code : List ℕ) (made : IsMade m sizes code) where
     count : length users ≡ m.users
     count = st.whole.users
 
-    lists : InLists (layout_of m) (length users) per size_of (λ u. (user_of users u).words)
-    lists = in_lists (layout_of m) (length users) per size_of (λ u. (user_of users u).words) (record { some = made.range.params.a_page; lengths = λ u u0 u1. (whole u (u0, u1)).whole; fit = λ u u0 u1. (whole u (u0, u1)).pages })
+    lists : InLists (page_layout m) (length users) per size_of (λ u. (user_of users u).words)
+    lists = in_lists (page_layout m) (length users) per size_of (λ u. (user_of users u).words) (record { some = made.range.params.a_page; lengths = λ u u0 u1. (whole u (u0, u1)).whole; fit = λ u u0 u1. (whole u (u0, u1)).pages })
 
     users_in : UsersIn (places_of m) (length users) per size_of (pages_by per users) (contents s)
     users_in =
@@ -249,7 +249,7 @@ module _ (m : Map) (sizes code : List ℕ) (made : IsMade m sizes code) where
       free : (u : ℕ) → IsOneOf users u → w.kept (block_at u + 32) ≡ None
       free u is = let few : m.users ≤ 64 = made.range.users in let number : length users ≡ m.users = count in let from = is.0 in let to = is.1 in free_block m sizes code made (run x s 1).memory u 32 from (omega arith) (omega arith)
 
-      entered : Entered w (places_of m) longest (length users) per size_of (pages_by per users) (contents s) (behind s)
+      entered : EnteredOnPages w (places_of m) longest (length users) per size_of (pages_by per users) (contents s) (behind s)
       entered =
           let globals = o.globals in let heap = o.heap in let stack = o.stack in let tables = o.tables in let counts = o.counts in let zeros = o.zeros in let most = o.most in
           let few : m.users ≤ 64 = made.range.users in
@@ -299,7 +299,7 @@ module _ (m : Map) (sizes code : List ℕ) (made : IsMade m sizes code) where
     steps = copy_steps (places_of m) longest per (contents s)
 
     -- the machine's states on the way: at the loop's head with the last page left, and back
-    record Points (u u' : Configuration) : Type 0 where
+    record Points (u u' : CodeState) : Type 0 where
       first : ℕ
       last : ℕ
       before : Between x y first (run x s 1)
@@ -310,7 +310,7 @@ module _ (m : Map) (sizes code : List ℕ) (made : IsMade m sizes code) where
       home_size : length (run x (run x s 1) last).memory ≡ length s.memory
       aligned : (run x (run x s 1) last).cpu.pc % 4 ≡ 0
 
-    points : (r : Routed m sizes code made 6 (returning body) x s) (to : ℕ) (u : Configuration) (c' : Contents) (d' : Behind) → Passed (places_of m) (pages_by per users) p q n (contents s) (behind s) u c' d' → slice_index s.cpu.regs 31 ≡ 4 * to
+    points : (r : Routed m sizes code made 6 (returning body) x s) (to : ℕ) (u : CodeState) (c' : Contents) (d' : Behind) → CopyPassed (places_of m) (pages_by per users) p q n (contents s) (behind s) u c' d' → slice_index s.cpu.regs 31 ≡ 4 * to
         → Reaches (w r) steps (at_with (routine_at m 6) (contents s) (behind s)) u → Reaches (w r) steps (at_with (routine_at m 6) (contents s) (behind s)) (at_with (routine_at m 6 + length body) c' d') → Points u (at_with to c' d')
     points r to u c' d' e there one whole =
         let a1 : Arrives x y steps (run x s 1) u = arrives_in m sizes code made z.tools 6 (returning body) x s r steps u e.held.idle one in
@@ -329,13 +329,13 @@ module _ (m : Map) (sizes code : List ℕ) (made : IsMade m sizes code) where
         }
 
     -- wherever the machine is back first
-    by_points : (to : ℕ) (u : Configuration) (c' : Contents) (d' : Behind) → Passed (places_of m) (pages_by per users) p q n (contents s) (behind s) u c' d' → Points u (at_with to c' d') → last_page p n < m.users * per → last_page q n < m.users * per
+    by_points : (to : ℕ) (u : CodeState) (c' : Contents) (d' : Behind) → CopyPassed (places_of m) (pages_by per users) p q n (contents s) (behind s) u c' d' → Points u (at_with to c' d') → last_page p n < m.users * per → last_page q n < m.users * per
         → slice_index s.cpu.regs 31 ≡ 4 * to → s.cpu.pc < 4 * layer_words → 4 * layer_words ≤ slice_index s.cpu.regs 31 → (back : ℕ) → (run x s back).cpu.pc ≡ slice_index s.cpu.regs 31 → ((j : ℕ) → j < back → (run x s j).cpu.pc ≢ slice_index s.cpu.regs 31)
         → LastPage x m c p q n s back
     by_points to u c' d' e h lp lq there low high back home apart =
         let sum = z.tools.below.sum in
         let mem = st.memory in let size1 = h.size in let size2 = h.home_size in
-        let same : 1 + h.last ≡ back = same_time sum x y s h.last back to (slice_index s.cpu.regs 31) h.all low high home apart there (ap (λ (v : Configuration). v.at) h.home) h.aligned in
+        let same : 1 + h.last ≡ back = same_time sum x y s h.last back to (slice_index s.cpu.regs 31) h.all low high home apart there (ap (λ (v : CodeState). v.at) h.home) h.aligned in
         last_of x m c p q n s back (1 + h.first) (run x (run x s 1) h.first) (run x (run x s 1) h.last) (sum x s 1 h.first) (ap (run x s) (sym same) ∙ sum x s 1 h.last)
         (not_before sum x y s h.first back (slice_index s.cpu.regs 31) h.before low high home)
         (stands_at z.tools.alikes m o (copied (pages_by per users) p q (n - 1024)) (run x (run x s 1) h.first) u (omega arith) h.there e.held.stands)
@@ -356,7 +356,7 @@ module _ (m : Map) (sizes code : List ℕ) (made : IsMade m sizes code) where
       where
         from_run : (r : Routed m sizes code made 6 (returning body) x s) (to : ℕ) → slice_index s.cpu.regs 31 ≡ 4 * to → s.cpu.pc < 4 * layer_words → 4 * layer_words ≤ slice_index s.cpu.regs 31 → last_page p n < m.users * per → last_page q n < m.users * per
             → (back : ℕ) → (run x s back).cpu.pc ≡ slice_index s.cpu.regs 31 → ((j : ℕ) → j < back → (run x s j).cpu.pc ≢ slice_index s.cpu.regs 31)
-            → ((u : Configuration) × (c' : Contents) × (d' : Behind) × Passed (places_of m) (pages_by per users) p q n (contents s) (behind s) u c' d' × Reaches (w r) steps (at_with (routine_at m 6) (contents s) (behind s)) u
+            → ((u : CodeState) × (c' : Contents) × (d' : Behind) × CopyPassed (places_of m) (pages_by per users) p q n (contents s) (behind s) u c' d' × Reaches (w r) steps (at_with (routine_at m 6) (contents s) (behind s)) u
             × Reaches (w r) steps (at_with (routine_at m 6) (contents s) (behind s)) (at_with (routine_at m 6 + length body) c' d'))
             → LastPage x m c p q n s back
         from_run r to there low high lp lq back home apart got =

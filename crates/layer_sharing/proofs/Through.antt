@@ -5,7 +5,7 @@ use Rattle.mips_table.specs.declared.inst.Inst.{Inst}
 use Rattle.mips_table.specs.declared.inst.Inst.TheVariants.{Sll, Srl, Addiu, Addu, Sltu, Sltiu, Lw}
 use Rattle.mips_table.specs.Arith.{flag}
 use Rattle.mips_table.specs.Device.{Idle}
-use Rattle.mips_table.specs.Code.{Contents, with_reg, reg, Behind, World, Configuration, at_with, Reaches}
+use Rattle.mips_table.specs.Code.{Contents, with_reg, reg, Behind, World, CodeState, at_with, Reaches}
 use Rattle.masm.specs.Says.{Says, Gives, Reads, straight, AllSaid, sayings, tellings}
 use Rattle.masm.specs.Blocks.{when_code}
 use Rattle.masm.specs.Laws.{From}
@@ -15,30 +15,30 @@ use Rattle.frame_table.specs.View.{Sited}
 use Rattle.page_fault.specs.Asked.{PageBlock}
 use Rattle.cvm_primitives.specs.Routines.{RoutineLaws}
 use Rattle.cvm_primitives.specs.Copy.{Apart, pieces}
-use Rattle.cvm_primitives.specs.View.{page_steps, Held, Marks, CopyGood, UsersIn, RangeGood, CopyArgs, number, size_at, start}
+use Rattle.cvm_primitives.specs.View.{page_steps, PagesHeld, Marks, CopyGood, UsersIn, RangeGood, CopyArgs, number, size_at, entry_state}
 use Rattle.cvm_primitives.specs.Code.{base_code, size_code, check_range_code, apart_code, check_copy_arguments_code, copies_code, pieces_code, vm_copy_code}
 use Rattle.cvm_primitives.specs.Sharing.{EndsWhole, LastShared}
-use Rattle.layer_sharing.specs.Passing.{Through, Passed}
-use Rattle.cvm_primitives.proofs.Between.{Tests}
+use Rattle.layer_sharing.specs.Passing.{Through, CopyPassed}
+use Rattle.cvm_primitives.proofs.PartStates.{Tests}
 use Rattle.cvm_primitives.proofs.Forms.{from_straight}
 use Rattle.cvm_primitives.proofs.Basics.{flag_of, small_is, held_to}
 use Rattle.cvm_primitives.proofs.Piece.{run_short}
-use Rattle.cvm_primitives.proofs.Asks.{product_below, Based, base_from}
+use Rattle.cvm_primitives.proofs.ArgumentTests.{product_below, Based, base_from}
 use Rattle.cvm_primitives.proofs.Copies.{numbers_apart, live_range, range_below}
-use Rattle.cvm_primitives.proofs.Last.{loop_ends}
+use Rattle.cvm_primitives.proofs.LastPiece.{loop_ends}
 
 -- the run from the state that is meant, put in the place of the one that is given
-here : (w : World) (c0 c : Contents) (d0 d : Behind) (k n : ℕ) (t : Configuration) → (c ≡ c0) × (d ≡ d0) → Reaches w n (at_with k c0 d0) t → Reaches w n (at_with k c d) t
+here : (w : World) (c0 c : Contents) (d0 d : Behind) (k n : ℕ) (t : CodeState) → (c ≡ c0) × (d ≡ d0) → Reaches w n (at_with k c0 d0) t → Reaches w n (at_with k c d) t
 here w c0 c d0 d k n t e run = subst (λ c. Reaches w n (at_with k c d) t) (sym e.0) (subst (λ d. Reaches w n (at_with k c0 d) t) (sym e.1) run)
 
 module _ (w : World) (f : RoutineLaws w) where
-  thru_later : (is : List Inst) (n m : ℕ) (c0 : Contents) (d0 : Behind) (Q R : Configuration → Contents → Behind → Type 0) → n ≤ m → ((t : Configuration) (c : Contents) (d : Behind) → Q t c d → R t c d) → Through w is n c0 d0 Q → Through w is m c0 d0 R
+  thru_later : (is : List Inst) (n m : ℕ) (c0 : Contents) (d0 : Behind) (Q R : CodeState → Contents → Behind → Type 0) → n ≤ m → ((t : CodeState) (c : Contents) (d : Behind) → Q t c d → R t c d) → Through w is n c0 d0 Q → Through w is m c0 d0 R
   thru_later is n m c0 d0 Q R le after h = record {
     by = λ k c d at e. let x = h.by k c d at e in (x.0, x.1, x.2, after x.0 x.1 x.2 x.3, f.runs.later w n m _ _ le x.4, f.runs.later w n m _ _ le x.5);
   }
 
   -- one block, and then another from each state that the first may lead to
-  thru_then : (a b : List Inst) (n m : ℕ) (c0 : Contents) (d0 : Behind) (Q : Contents → Behind → Type 0) (R : Configuration → Contents → Behind → Type 0) → From w a n c0 d0 Q → ((c : Contents) (d : Behind) → Q c d → Through w b m c d R) → Through w (a ++ b) (n + m) c0 d0 R
+  thru_then : (a b : List Inst) (n m : ℕ) (c0 : Contents) (d0 : Behind) (Q : Contents → Behind → Type 0) (R : CodeState → Contents → Behind → Type 0) → From w a n c0 d0 Q → ((c : Contents) (d : Behind) → Q c d → Through w b m c d R) → Through w (a ++ b) (n + m) c0 d0 R
   thru_then a b n m c0 d0 Q R da db = record {
     by = λ k c d at e.
         let x = da.by k c d (f.runs.front w k a b at) e in
@@ -47,7 +47,7 @@ module _ (w : World) (f : RoutineLaws w) where
   }
 
   -- a straight block, and then another from the very contents that it leads to
-  straight_thru : (is b : List Inst) (hs : List Says) (m : ℕ) (c0 : Contents) (d0 : Behind) (R : Configuration → Contents → Behind → Type 0) → straight is ≡ true → d0.pending ≡ Idle → ((n : ℕ) → AllSaid w n is hs c0 d0) → ((n : ℕ) → Through w b m (sayings n is hs c0) (tellings hs d0) R) → Through w (is ++ b) (length is + m) c0 d0 R
+  straight_thru : (is b : List Inst) (hs : List Says) (m : ℕ) (c0 : Contents) (d0 : Behind) (R : CodeState → Contents → Behind → Type 0) → straight is ≡ true → d0.pending ≡ Idle → ((n : ℕ) → AllSaid w n is hs c0 d0) → ((n : ℕ) → Through w b m (sayings n is hs c0) (tellings hs d0) R) → Through w (is ++ b) (length is + m) c0 d0 R
   straight_thru is b hs m c0 d0 R g idle h rest = record {
     by = λ n c d at e.
         let run = f.straight.all is hs n c0 d0 (f.runs.front w n is b at) g idle (h n) in
@@ -62,7 +62,7 @@ module _ (w : World) (f : RoutineLaws w) where
   }
 
   -- a body under a condition that holds
-  thru_when : (r : ℕ) (body : List Inst) (n : ℕ) (c0 : Contents) (d0 : Behind) (Q : Configuration → Contents → Behind → Type 0) → length body < 32768 → d0.pending ≡ Idle
+  thru_when : (r : ℕ) (body : List Inst) (n : ℕ) (c0 : Contents) (d0 : Behind) (Q : CodeState → Contents → Behind → Type 0) → length body < 32768 → d0.pending ≡ Idle
       → (reg c0.regs r ≢ 0 → Through w body n c0 d0 Q) → (reg c0.regs r ≡ 0 → ⊥) → Through w (when_code r body) (n + 1) c0 d0 Q
   thru_when r body n c0 d0 Q short idle does skip = record {
     by = λ k c d at e. ⊎_elim
@@ -87,7 +87,7 @@ users_on p users per size v c c' m us = record { few = us.few; most = us.most; s
 
 -- the tests of vm_copy, whose arguments are good
 module _ (w : World) (f : RoutineLaws w) (p : Places) (b : ℕ) (si : Sited p w) (users per : ℕ) (size : ℕ → ℕ) (v : Pages) where
-  pub range_thru : (m : ℕ) (inside : List Inst) (Q : Configuration → Contents → Behind → Type 0) (c : Contents) (d : Behind) (u a n : ℕ) → d.pending ≡ Idle → UsersIn p users per size v c → c.regs 20 ≡ u → c.regs 21 ≡ a → c.regs 14 ≡ n → u < 2 ^ 32 → a < 2 ^ 32 → n < 2 ^ 32 → length inside ≤ 20000
+  pub range_thru : (m : ℕ) (inside : List Inst) (Q : CodeState → Contents → Behind → Type 0) (c : Contents) (d : Behind) (u a n : ℕ) → d.pending ≡ Idle → UsersIn p users per size v c → c.regs 20 ≡ u → c.regs 21 ≡ a → c.regs 14 ≡ n → u < 2 ^ 32 → a < 2 ^ 32 → n < 2 ^ 32 → length inside ≤ 20000
       → (RangeGood users size u a n → (c1 : Contents) (d1 : Behind) → Tests c d c1 d1 → c1.regs 10 ≡ number per u a → Through w inside m c1 d1 Q)
       → ((RangeGood users size u a n → ⊥) → ⊥)
       → Through w (check_range_code users per inside) (2 + (7 + (3 + (3 + (3 + (2 + m) + 1) + 1) + 1) + 1)) c d Q
@@ -132,7 +132,7 @@ module _ (w : World) (f : RoutineLaws w) (p : Places) (b : ℕ) (si : Sited p w)
   flag_small a b = ⊎_elim (λ o. let e = o.0 in omega arith) (λ o. let e = o.0 in omega arith) (flag_of a b)
 
   -- the tests of vm_copy
-  pub copy_asked_thru : (m : ℕ) (inside : List Inst) (Q : Configuration → Contents → Behind → Type 0) (c : Contents) (d : Behind) (u a v' b' n : ℕ) → d.pending ≡ Idle → UsersIn p users per size v c → c.regs 20 ≡ u → c.regs 21 ≡ a → c.regs 22 ≡ v' → c.regs 23 ≡ b' → c.regs 24 ≡ n
+  pub copy_asked_thru : (m : ℕ) (inside : List Inst) (Q : CodeState → Contents → Behind → Type 0) (c : Contents) (d : Behind) (u a v' b' n : ℕ) → d.pending ≡ Idle → UsersIn p users per size v c → c.regs 20 ≡ u → c.regs 21 ≡ a → c.regs 22 ≡ v' → c.regs 23 ≡ b' → c.regs 24 ≡ n
       → u < 2 ^ 32 → a < 2 ^ 32 → v' < 2 ^ 32 → b' < 2 ^ 32 → n < 2 ^ 32 → length inside ≤ 10000
       → (CopyArgs users size u a v' b' n → (c1 : Contents) (d1 : Behind) → Tests (with_reg (with_reg (with_reg c 2 0) 14 n) 26 (number per u a)) d c1 d1 → c1.regs 27 ≡ number per v' b' → Through w inside m c1 d1 Q)
       → ((CopyArgs users size u a v' b' n → ⊥) → ⊥)
@@ -169,7 +169,7 @@ module _ (w : World) (f : RoutineLaws w) (p : Places) (b : ℕ) (si : Sited p w)
       (λ nay. refuse (λ g. nay g.source))))
 
 -- VM_COPY whose last piece is a whole page
-module _ (w : World) (f : RoutineLaws w) (p : Places) (b : ℕ) (si : Sited p w) (page : PageBlock w p b) (users per : ℕ) (size : ℕ → ℕ) (v : Pages) (c : Contents) (d : Behind) (held : Held p v (start c d) c d) (us : UsersIn p users per size v c) (u a v' b' n : ℕ)
+module _ (w : World) (f : RoutineLaws w) (p : Places) (b : ℕ) (si : Sited p w) (page : PageBlock w p b) (users per : ℕ) (size : ℕ → ℕ) (v : Pages) (c : Contents) (d : Behind) (held : PagesHeld p v (entry_state c d) c d) (us : UsersIn p users per size v c) (u a v' b' n : ℕ)
     (ru : c.regs 20 ≡ u) (ra : c.regs 21 ≡ a) (rv : c.regs 22 ≡ v') (rb : c.regs 23 ≡ b') (rn : c.regs 24 ≡ n) (su : u < 2 ^ 32) (sa : a < 2 ^ 32) (sv : v' < 2 ^ 32) (sb : b' < 2 ^ 32) (sn : n < 2 ^ 32) where
   abbrev from_word : ℕ
   from_word = number per u a
@@ -180,8 +180,8 @@ module _ (w : World) (f : RoutineLaws w) (p : Places) (b : ℕ) (si : Sited p w)
   abbrev loop_steps : ℕ
   loop_steps = 3 * page_steps p.layout.pages b * pieces from_word to_word n + 600 * n + 1
 
-  abbrev Told : Configuration → Contents → Behind → Type 0
-  Told = Passed p v from_word to_word n c d
+  abbrev Told : CodeState → Contents → Behind → Type 0
+  Told = CopyPassed p v from_word to_word n c d
 
   pub copy_good : CopyArgs users size u a v' b' n → CopyGood p.layout v from_word to_word n
   copy_good g = record {
@@ -192,10 +192,10 @@ module _ (w : World) (f : RoutineLaws w) (p : Places) (b : ℕ) (si : Sited p w)
     apart = (numbers_apart w f p b si users per size v c u a v' b' n us g.source g.target).1 g.apart;
   }
 
-  pieces_thru : EndsWhole from_word to_word n → CopyGood p.layout v from_word to_word n → (c1 : Contents) → c1.memory ≡ c.memory → Held p v (start c d) c1 d → Marks from_word to_word n c1 → Through w (pieces_code p page.code) (loop_steps + 1) c1 d Told
+  pieces_thru : EndsWhole from_word to_word n → CopyGood p.layout v from_word to_word n → (c1 : Contents) → c1.memory ≡ c.memory → PagesHeld p v (entry_state c d) c1 d → Marks from_word to_word n c1 → Through w (pieces_code p page.code) (loop_steps + 1) c1 d Told
   pieces_thru whole good c1 m h marks = record {
     by = λ k c0 d0 at e.
-        let r = loop_ends w f p b si page (start c d) v from_word to_word n good whole k c1 d (f.runs.front w k (copies_code p page.code) (Addiu 2 0 1 ∷ []) at) h marks in
+        let r = loop_ends w f p b si page (entry_state c d) v from_word to_word n good whole k c1 d (f.runs.front w k (copies_code p page.code) (Addiu 2 0 1 ∷ []) at) h marks in
         let within = r.within in
         let done = r.done in
         let tail = (from_straight w f (Addiu 2 0 1 ∷ []) (Gives 1 ∷ []) r.end r.end_disk (λ c' d'. (c' ≡ with_reg r.end 2 1) × (d' ≡ r.end_disk)) refl done.idle (λ n'. ((refl, tt), (refl, refl)))).by (k + length (copies_code p page.code)) r.end r.end_disk (f.runs.back w k (copies_code p page.code) (Addiu 2 0 1 ∷ []) at) (refl, refl) in
@@ -224,11 +224,11 @@ module _ (w : World) (f : RoutineLaws w) (p : Places) (b : ℕ) (si : Sited p w)
       thru_later w f _ (2 + (24 + (3 + (24 + (7 + (loop_steps + 1 + 1)))))) all_steps c d Told Told (omega arith) (λ t c' d' q. q)
       (copy_asked_thru w f p b si users per size v (loop_steps + 1) (pieces_code p page.code) Told c d u a v' b' n held.idle us ru ra rv rb rn su sa sv sb sn (run_short w p b page)
       (λ g c1 d1 k y27.
-      let h1 : Held p v (start c d) c1 d1 = held_to p v (start c d) c d c1 d1 held k.memory k.special k.r28 k.r29 k.r30 k.r31 k.disk in
+      let h1 : PagesHeld p v (entry_state c d) c1 d1 = held_to p v (entry_state c d) c d c1 d1 held k.memory k.special k.r28 k.r29 k.r30 k.r31 k.disk in
       subst (λ d1. Through w (pieces_code p page.code) (loop_steps + 1) c1 d1 Told) (sym k.disk)
-      (pieces_thru whole (copy_good g) c1 k.memory (subst (λ d1. Held p v (start c d) c1 d1) k.disk h1) (record { from = k.r26; to = y27; left = k.r14 })))
+      (pieces_thru whole (copy_good g) c1 k.memory (subst (λ d1. PagesHeld p v (entry_state c d) c1 d1) k.disk h1) (record { from = k.r26; to = y27; left = k.r14 })))
       (λ nay. nay good))
 
 -- the same by another name of the page-fault block's code
-pub thru_again : (w : World) (p : Places) (users per n : ℕ) (c : Contents) (d : Behind) (Q : Configuration → Contents → Behind → Type 0) (code code' : List Inst) → code ≡ code' → Through w (vm_copy_code p users per code) n c d Q → Through w (vm_copy_code p users per code') n c d Q
+pub thru_again : (w : World) (p : Places) (users per n : ℕ) (c : Contents) (d : Behind) (Q : CodeState → Contents → Behind → Type 0) (code code' : List Inst) → code ≡ code' → Through w (vm_copy_code p users per code) n c d Q → Through w (vm_copy_code p users per code') n c d Q
 thru_again w p users per n c d Q code code' e h = subst (λ code. Through w (vm_copy_code p users per code) n c d Q) e h

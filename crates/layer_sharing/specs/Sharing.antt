@@ -1,10 +1,10 @@
 -- Which frames pages name after a copy on the machine, of the memory that a layer's image makes with any kernel's code behind it.
 use Rattle.std.specs.Prelude.{◌≡◌, ℕ, ◌-◌, ◌<◌, ◌≤◌, ◌⊎◌, ℤ, nat_abs, true, List, slice_index}
-use Rattle.mips_table.specs.Device.{Outside}
+use Rattle.mips_table.specs.Device.{Environment}
 use Rattle.mips_table.specs.Machine.{State, run}
 use Rattle.layer_map.specs.Map.{Map, memory_words}
-use Rattle.page_model.specs.Paging.{PagesStand}
-use Rattle.page_model.specs.Places.{layout_of, places_of}
+use Rattle.page_model.specs.Paging.{PagingInvariant}
+use Rattle.page_model.specs.Places.{page_layout, places_of}
 use Rattle.cvm_model.specs.Kernel.{Core}
 use Rattle.cvm_model.specs.Primitives.{VmCopy, is_good}
 use Rattle.cvm_model.specs.Paged.{paged_of, pages_by}
@@ -30,16 +30,16 @@ FullIn m p q n t = FourOthers (places_of m) (last_page p n) (last_page q n) (sli
 -- A copy of n words from word p to word q, begun in s, is back after so many steps. At a moment of it the machine stands for the users' memories with all
 -- words copied but those of the last page; in a copy of one page the map's words are then what they were in s. In the end that page is shared, unless at
 -- that moment four other pages named the frame.
-pub record LastPage (x : Outside) (m : Map) (c : Core) (p q n : ℕ) (s : State) (steps : ℕ) : Type 0 where
+pub record LastPage (x : Environment) (m : Map) (c : Core) (p q n : ℕ) (s : State) (steps : ℕ) : Type 0 where
   pub moment : ℕ
   pub within : moment ≤ steps
-  pub stands : PagesStand (layout_of m) (copied (pages_by m.params.pages c.users) p q (n - 1024)) (paged_of m (run x s moment))
+  pub stands : PagingInvariant (page_layout m) (copied (pages_by m.params.pages c.users) p q (n - 1024)) (paged_of m (run x s moment))
   pub first : n ≡ 1024 → (k : ℕ) → k < memory_words m → slice_index (run x s moment).memory k ≡ slice_index s.memory k
   pub shared : (SharedIn m p q n (run x s steps)) ⊎ (FullIn m p q n (run x s moment))
 
 -- SHARING: a good vm_copy whose last piece is a whole page comes back with that page shared, but where four other pages name the source's frame
 abbrev pub CopiesShare : Site → Type 0
-CopiesShare y = (x : Outside) (longest : ℕ) (s : State) (c : Core) (u a v b n : ℤ) → BusyWithin x longest → PrimitiveCalled x y c (VmCopy u a v b n) s →
+CopiesShare y = (x : Environment) (longest : ℕ) (s : State) (c : Core) (u a v b n : ℤ) → BusyWithin x longest → PrimitiveCalled x y c (VmCopy u a v b n) s →
     is_good y.map.params.pages c.users (VmCopy u a v b n) ≡ true → EndsWhole (word_number y.map u a) (word_number y.map v b) (nat_abs n) →
     (back : ComesBack x y longest c (VmCopy u a v b n) s) × LastPage x y.map c (word_number y.map u a) (word_number y.map v b) (nat_abs n) s back.comes.steps
 

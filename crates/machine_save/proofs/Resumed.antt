@@ -5,7 +5,7 @@ use Rattle.std.specs.List.{flat_map}
 use Rattle.cvm_words.specs.Bytes.{word}
 use Rattle.cvm_outside.specs.Numbering.{Tally}
 use Rattle.schedule_file.specs.Rows.{Rows}
-use Rattle.mips_table.specs.Device.{Outside}
+use Rattle.mips_table.specs.Device.{Environment}
 use Rattle.mips_table.specs.Machine.{State, run}
 use Rattle.mips_machine.specs.Machine.{state_of}
 use Rattle.mips_machine.specs.Saved.{saved, CanBeSaved, SavedOnce}
@@ -129,7 +129,7 @@ is_some : (o : Option (List (List ℕ))) (now : List (List ℕ)) → o ≡ Some 
 is_some None now h = absurd (cc)
 is_some (Some x) now h = refl
 
-any_told : (x : Outside) (z : State) (k total : ℕ) (told : Option (List (List ℕ))) (e : RunEnd) → AnyEnds x z k total told e → IsSome told
+any_told : (x : Environment) (z : State) (k total : ℕ) (told : Option (List (List ℕ))) (e : RunEnd) → AnyEnds x z k total told e → IsSome told
 any_told x z k total told Done h = is_some told _ h.sectors
 any_told x z k total told KernelFaulted h = is_some told _ h.sectors
 any_told x z k total told OutOfSteps h = is_some told _ h.1

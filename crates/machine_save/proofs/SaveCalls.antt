@@ -7,7 +7,7 @@ use Rattle.cvm_outside.specs.Causes.{ShelfCounts}
 use Rattle.cvm_outside.specs.Numbering.{Tally}
 use Rattle.cvm_outside.specs.Told.{IsCutOff, retold}
 use Rattle.cvm_outside.specs.Outside.{Outside, Files, Output, Drive, files, drive}
-use Rattle.cvm_outside.specs.Script.{Call, Stored, Who, TheDisk, Performs, Does, Fails}
+use Rattle.cvm_outside.specs.Script.{Call, Stored, Who, TheDisk, Performs, CallDone, CallFailed}
 use Rattle.cvm_outside.specs.declared.shelf.Shelf as shelf_of
 use Rattle.cvm_outside.specs.declared.sink.Sink as sink_of
 use Rattle.cvm_outside.specs.declared.sectors.Sectors as sectors_of
@@ -16,9 +16,9 @@ use Rattle.cvm_outside.specs.declared.shelf.ShelfFault.TheVariants.{Failed, TooL
 use Rattle.cvm_outside.proofs.Follow.{both, first}
 use Rattle.cvm_outside.proofs.Putting.{same_script}
 use Rattle.schedule_file.specs.Rows.{Rows}
-use Rattle.mips_table.specs.Device.{Outside as Surroundings}
+use Rattle.mips_table.specs.Device.{Environment}
 use Rattle.mips_table.specs.Machine.{State, run}
-use Rattle.mips_table.specs.Turns.{complete, end_within, lines_of, TurnLaws}
+use Rattle.mips_table.specs.Turns.{complete, end_within, lines_of_turn, TurnLaws}
 use Rattle.mips_machine.specs.Saved.{saved}
 use Rattle.mips_machine.specs.Steps.{outside_of}
 use Rattle.layer_map.specs.Map.{memory_frames}
@@ -67,23 +67,23 @@ pub record OnePut (name bytes : List ℕ) (old new : Files) (r : Result (Unit {0
   pub taken : new.taken ≡ old.taken
   pub count : ShelfCounts old.faults new.faults r
 
-pub put_does : (name bytes : List ℕ) (sink : Output) (disk : Drive) (old new : Files) → OnePut name bytes old new (Ok tt) → Does (Stored name bytes) (beside sink disk old) (beside sink disk new)
+pub put_does : (name bytes : List ℕ) (sink : Output) (disk : Drive) (old new : Files) → OnePut name bytes old new (Ok tt) → CallDone (Stored name bytes) (beside sink disk old) (beside sink disk new)
 put_does name bytes sink disk old new p = (p.others, p.whole, p.count.cases, ap₂ (λ (t n : ℕ). beside sink disk (record new { taken = t; faults = n })) p.taken p.count.cases)
 
-pub put_fails : (name bytes : List ℕ) (sink : Output) (disk : Drive) (old new : Files) (f : ShelfFault) → OnePut name bytes old new (Err f) → Fails (Stored name bytes) (beside sink disk old) (beside sink disk new)
+pub put_fails : (name bytes : List ℕ) (sink : Output) (disk : Drive) (old new : Files) (f : ShelfFault) → OnePut name bytes old new (Err f) → CallFailed (Stored name bytes) (beside sink disk old) (beside sink disk new)
 put_fails name bytes sink disk old new Failed p =
     (p.others, p.part, record { later = p.count.later; rose = p.count.cases }, ap (λ (t : ℕ). beside sink disk (record new { taken = t })) p.taken)
 put_fails name bytes sink disk old new TooLong p = absurd (p.few.0 refl)
 put_fails name bytes sink disk old new NoMemory p = absurd (p.few.1 refl)
 
 -- THE WORDS of a run that stopped are those of its machine at its last step
-module _ (counts : TurnLaws) (x : Surroundings) (y : System) (s : State) (late held : ℕ) (m : RunMachines x y s late held) (turns steps : ℕ) (p : Past) (past : IsPast (run_at x y s Boot turns steps) p) where
+module _ (counts : TurnLaws) (x : Environment) (y : System) (s : State) (late held : ℕ) (m : RunMachines x y s late held) (turns steps : ℕ) (p : Past) (past : IsPast (run_at x y s Boot turns steps) p) where
   pub same_words : (words : List ℕ) (now : List (List ℕ)) (shown : List ℕ) → SavedAt x y s turns steps words now shown → words ≡ saved_words (run_at x y s Boot turns steps) p
   same_words words now shown w =
       let e : end_within x s turns steps ≡ w.at = counts.ends x s turns steps w.at w.end w.within in
       let n : complete x s (end_within x s turns steps) ≡ turns = ap (complete x s) e ∙ w.stood.all in
-      let is : IsCvm y (lines_of x s) turns (p.cvm (complete x s (end_within x s turns steps))) =
-      subst (λ (k : ℕ). IsCvm y (lines_of x s) k (p.cvm (complete x s (end_within x s turns steps)))) n (past.turns (complete x s (end_within x s turns steps)) (omega arith)) in
+      let is : IsCvm y (lines_of_turn x s) turns (p.cvm (complete x s (end_within x s turns steps))) =
+      subst (λ (k : ℕ). IsCvm y (lines_of_turn x s) k (p.cvm (complete x s (end_within x s turns steps)))) n (past.turns (complete x s (end_within x s turns steps)) (omega arith)) in
       let c : p.cvm (complete x s (end_within x s turns steps)) ≡ w.past = m.same turns (p.cvm (complete x s (end_within x s turns steps))) w.past is w.stood.cvm in
       w.words_are ∙ sym (
       ap (λ (t : ℕ). saved y.input (run x s t) (complete x s (end_within x s turns steps)) (p.cvm (complete x s (end_within x s turns steps))).core.current) e

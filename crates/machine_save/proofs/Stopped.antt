@@ -5,7 +5,7 @@ use Rattle.std.specs.List.{flat_map}
 use Rattle.cvm_words.specs.Bytes.{word}
 use Rattle.cvm_outside.specs.Numbering.{Tally}
 use Rattle.schedule_file.specs.Rows.{Rows}
-use Rattle.mips_table.specs.Device.{Outside}
+use Rattle.mips_table.specs.Device.{Environment}
 use Rattle.mips_table.specs.Machine.{State}
 use Rattle.mips_machine.specs.Steps.{outside_of}
 use Rattle.layer_map.specs.Map.{memory_frames}
@@ -34,7 +34,7 @@ use Rattle.machine_save.specs.SavedBoots.{AreDisk, AreTakenUp}
 use Rattle.machine_save.specs.declared.saving.SavedEnd.{SavedEnd}
 use Rattle.machine_save.specs.declared.saving.SavedEnd.TheVariants.{Saved, ShelfFault, RowFault, Ended}
 
-answered : (x : Outside) (y : System) (s : State) (held most : ℕ) (old now : List (List ℕ)) (turns steps : ℕ) (calls : ℕ → State → Type 0) (before mid after file refile : Option (List ℕ)) (e : SavedEnd) → ShowsSaved mid after e →
+answered : (x : Environment) (y : System) (s : State) (held most : ℕ) (old now : List (List ℕ)) (turns steps : ℕ) (calls : ℕ → State → Type 0) (before mid after file refile : Option (List ℕ)) (e : SavedEnd) → ShowsSaved mid after e →
     IsSaved x y s held most old now turns steps before after file refile e → SavedAnswerEnds x y s held most old now turns steps calls before after file refile (Ok e)
 answered x y s held most old now turns steps calls before mid after file refile Saved shows h = h
 answered x y s held most old now turns steps calls before mid after file refile ShelfFault shows h = h

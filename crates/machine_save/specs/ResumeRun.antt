@@ -3,7 +3,7 @@ use Rattle.std.specs.Prelude.{◌≡◌, ℕ, ◌-◌, ◌<◌, ◌≤◌, ◌�
 use Rattle.std.specs.List.{flat_map}
 use Rattle.cvm_words.specs.Bytes.{word}
 use Rattle.cvm_outside.specs.Numbering.{Tally}
-use Rattle.mips_table.specs.Device.{Outside}
+use Rattle.mips_table.specs.Device.{Environment}
 use Rattle.mips_table.specs.Machine.{State, run}
 use Rattle.schedule_file.specs.Rows.{Rows}
 use Rattle.mips_machine.specs.Saved.{saved, CanBeSaved}
@@ -51,7 +51,7 @@ pub record Names (inputs words : List ℕ) (sectors : List (List ℕ)) (z : Stat
   pub sectors_are : z.device.sectors ≡ sectors
 
 -- ANY WORDS: they name one machine over these sectors, and the run is that machine's, for as many turns and steps as are left
-pub record GoesOnFrom (x : Outside) (inputs words : List ℕ) (sectors : List (List ℕ)) (turns steps : ℕ) (retold : Option (List (List ℕ)))
+pub record GoesOnFrom (x : Environment) (inputs words : List ℕ) (sectors : List (List ℕ)) (turns steps : ℕ) (retold : Option (List (List ℕ)))
     (e : RunEnd) : Type 0 where
   pub machine : State
   pub done : ℕ

@@ -5,7 +5,7 @@ use Rattle.std.specs.Io.KnownBytes.{append_known}
 use Rattle.cvm_words.specs.Bytes.{word}
 use Rattle.cvm_outside.specs.Numbering.{Tally}
 use Rattle.cvm_outside.specs.Told.{AppendsPart, retold}
-use Rattle.mips_table.specs.Device.{Outside}
+use Rattle.mips_table.specs.Device.{Environment}
 use Rattle.mips_table.specs.Machine.{State}
 use Rattle.schedule_file.specs.Rows.{Rows}
 use Rattle.mips_machine.specs.Steps.{outside_of}
@@ -51,7 +51,7 @@ PutsState file run room name shelf reshelf e = length (saved_run run) ≤ room �
 
 -- THE RUN STOPPED from `s` where the boot prints `stopped`, whose text is `shown` up to there: the words are those of the machine there, no more than `most`,
 -- and the sectors are its; what is printed and what the file holds are as this end says
-pub record IsSaved (x : Outside) (y : System) (s : State) (held most : ℕ) (old now : List (List ℕ)) (turns steps : ℕ)
+pub record IsSaved (x : Environment) (y : System) (s : State) (held most : ℕ) (old now : List (List ℕ)) (turns steps : ℕ)
     (before after file refile : Option (List ℕ)) (e : SavedEnd) : Type 0 where
   pub words : List ℕ
   pub shown : List ℕ
@@ -63,7 +63,7 @@ pub record IsSaved (x : Outside) (y : System) (s : State) (held most : ℕ) (old
   pub put : HoldsSaved file refile (flat_map word words) e
 
 -- HOW THE CALL ENDS: it stopped, and the state was put, or was to be; or it ends as the boot does, and then the machine has halted, or no report was begun
-abbrev pub SavedAnswerEnds : Outside → System → State → (held most : ℕ) → (old now : List (List ℕ)) → (turns steps : ℕ) → (calls : ℕ → State → Type 0) →
+abbrev pub SavedAnswerEnds : Environment → System → State → (held most : ℕ) → (old now : List (List ℕ)) → (turns steps : ℕ) → (calls : ℕ → State → Type 0) →
     (before after file refile : Option (List ℕ)) → Result SavedEnd LoadFault → Type 0
 SavedAnswerEnds x y s held most old now turns steps calls before after file refile (Ok (Ended e)) =
     AnswerEnds x y s held old now Boot turns steps calls before after (Ok e)

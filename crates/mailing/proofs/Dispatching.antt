@@ -14,7 +14,7 @@ use Rattle.c0_meaning.specs.Running.{begin}
 use Rattle.c0_meaning.specs.Execution.{run_within}
 use Rattle.cvm_model.specs.Kernel.{Core, Changes}
 use Rattle.cvm_model.specs.KernelMeaning.{Machines, setting_of, machines_of, core_at}
-use Rattle.cvm_model.proofs.KeptAll.{ComesWithin}
+use Rattle.cvm_model.proofs.KeepsSystem.{ComesWithin}
 use Rattle.kernel_theorems.specs.UserRuns.{told}
 use Rattle.mailing.specs.Tree.{kernel_tree}
 use Rattle.mailing.specs.Property.{data_of}

@@ -5,10 +5,10 @@ use Rattle.mips_table.specs.declared.cause.Cause.TheVariants.{Syscall}
 use Rattle.mips_table.specs.Flat.{Flat, Trap, vstep}
 use Rattle.kernel_theorems.specs.UserRuns.{after, TrapsAfter}
 use Rattle.kernel_theorems.proofs.UserRuns.{traps_last, is_cause, leaves_last}
-use Rattle.mailing.specs.Users.{Leg, behind, CallsInTurn, before_trap, Runs, Waits, Ended, Follows}
+use Rattle.mailing.specs.Users.{Leg, behind, CallsInTurn, before_trap, Runs, Waits, Ended, FollowsLegs}
 
 module _ (first : Flat) (all : List Leg) (last : ℕ) (f : Flat) where
-  abbrev pub goes_on : (left : List Leg) (t : ℕ) → t < before_trap left last → Follows first all last f left (Runs t) → Follows first all last f left (Runs (suc t))
+  abbrev pub goes_on : (left : List Leg) (t : ℕ) → t < before_trap left last → FollowsLegs first all last f left (Runs t) → FollowsLegs first all last f left (Runs (suc t))
   goes_on left t lt h = record {
     calls = h.calls;
     ends = h.ends;
@@ -19,7 +19,7 @@ module _ (first : Flat) (all : List Leg) (last : ℕ) (f : Flat) where
     traps_are = h.traps_are;
   }
 
-  abbrev pub is_answered : (leg : Leg) (legs : List Leg) (t : ℕ) → t ≡ leg.steps → Follows first all last f (leg ∷ legs) (Runs t) → Follows first all last (behind f leg) legs (Runs 0)
+  abbrev pub is_answered : (leg : Leg) (legs : List Leg) (t : ℕ) → t ≡ leg.steps → FollowsLegs first all last f (leg ∷ legs) (Runs t) → FollowsLegs first all last (behind f leg) legs (Runs 0)
   is_answered leg legs t same h = record {
     calls = h.calls.1;
     ends = h.ends;
@@ -30,7 +30,7 @@ module _ (first : Flat) (all : List Leg) (last : ℕ) (f : Flat) where
     traps_are = let e = h.traps_are in omega (arith, e);
   }
 
-  abbrev pub is_waiting : (leg : Leg) (legs : List Leg) (t : ℕ) → t ≡ leg.steps → Follows first all last f (leg ∷ legs) (Runs t) → Follows first all last f (leg ∷ legs) Waits
+  abbrev pub is_waiting : (leg : Leg) (legs : List Leg) (t : ℕ) → t ≡ leg.steps → FollowsLegs first all last f (leg ∷ legs) (Runs t) → FollowsLegs first all last f (leg ∷ legs) Waits
   is_waiting leg legs t same h = record {
     calls = h.calls;
     ends = h.ends;
@@ -41,7 +41,7 @@ module _ (first : Flat) (all : List Leg) (last : ℕ) (f : Flat) where
     traps_are = let e = h.traps_are in omega (arith, e);
   }
 
-  abbrev pub is_answered_late : (leg : Leg) (legs : List Leg) → Follows first all last f (leg ∷ legs) Waits → Follows first all last (behind f leg) legs (Runs 0)
+  abbrev pub is_answered_late : (leg : Leg) (legs : List Leg) → FollowsLegs first all last f (leg ∷ legs) Waits → FollowsLegs first all last (behind f leg) legs (Runs 0)
   is_answered_late leg legs h = record {
     calls = h.calls.1;
     ends = h.ends;
@@ -52,7 +52,7 @@ module _ (first : Flat) (all : List Leg) (last : ℕ) (f : Flat) where
     traps_are = let e = h.traps_are in omega (arith, e);
   }
 
-  abbrev pub is_over : (t : ℕ) → t ≡ last → Follows first all last f [] (Runs t) → Follows first all last f [] Ended
+  abbrev pub is_over : (t : ℕ) → t ≡ last → FollowsLegs first all last f [] (Runs t) → FollowsLegs first all last f [] Ended
   is_over t same h = record {
     calls = h.calls;
     ends = h.ends;

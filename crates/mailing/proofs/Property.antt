@@ -4,12 +4,12 @@ use Rattle.std.specs.Prelude.{◌==◌, if◌then◌else◌, ℤ, pos, map}
 use Rattle.std.specs.Int.{w32, cast_unsigned}
 use Rattle.std.proofs.lemmas.Bool.{le-ltb, lt-ltb}
 use Rattle.std.proofs.lemmas.Int.{of_z-to_z, to_z_pos}
-use Rattle.mips_table.specs.Machine.{number_of, Console, LOG_ROOM, log_has_room}
+use Rattle.mips_table.specs.Machine.{cause_number, Console, LOG_ROOM, log_has_room}
 use Rattle.mips_table.specs.declared.cause.Cause.{Cause}
 use Rattle.mips_table.specs.declared.cause.Cause.TheVariants.{Syscall}
-use Rattle.mips_table.specs.Flat.{Flat, Next as Goes, Trap, vstep}
+use Rattle.mips_table.specs.Flat.{Flat, Goes, Trap, vstep}
 use Rattle.layer_map.specs.declared.params.Params.{Params}
-use Rattle.c0_meaning.specs.State.{State}
+use Rattle.c0_meaning.specs.State.{C0State}
 use Rattle.c0_meaning.specs.World.{Configuration}
 use Rattle.c0_meaning.specs.Execution as c0_run
 use Rattle.cvm_model.specs.Kernel.{Core, Changes, KernelMeaning}
@@ -21,12 +21,12 @@ use Rattle.cvm_model.specs.declared.row.Next.TheVariants.{User, Halt}
 use Rattle.cvm_model.specs.Invariant.{Dispatch, IsTrapOf, with_machine, HasUsers, RunsAreLawful}
 use Rattle.cvm_model.specs.Systems.{SystemProperty, status_after, lines_taken, UsePages, KeepsAll, KeptAllAt, IsSystemInvariant}
 use Rattle.cvm_model.proofs.Systems.{systems_hold, status_join, lines_join, append_none}
-use Rattle.cvm_model.proofs.KeptAll.{ComesWithin, keeps_within_by, all_user, all_halt}
+use Rattle.cvm_model.proofs.KeepsSystem.{ComesWithin, keeps_within_by, all_user, all_halt}
 use Rattle.kernel_theorems.specs.UserRuns.{after, told}
 use Rattle.kernel_theorems.proofs.Histories.{one_more}
 use Rattle.kernel_theorems.proofs.UserRuns.{goes_before, goes_next, its_step, put_in}
 use Rattle.mailing.specs.Tree.{kernel_tree}
-use Rattle.mailing.specs.Users.{Leg, before_trap, Place, Runs, Waits, Ended, machine_at, IsRunning, Follows}
+use Rattle.mailing.specs.Users.{Leg, before_trap, Place, Runs, Waits, Ended, machine_at, IsRunning, FollowsLegs}
 use Rattle.mailing.specs.Property.{Message, sends, receives, asks, prints, numbers, ints, AreSmall, Mails, data_of, held, number_in, IsFull, IsEmpty, calls_left, waits_by, over_of, status_of_places, Standing, stand, unsent, sent_by, sent, StandsSo, IsMailing, Mailing, MailIsKept, MailIsPrinted}
 use Rattle.mailing.proofs.Dispatching.{core_of, Gives, Code}
 use Rattle.mailing.proofs.Dispatching as code
@@ -70,19 +70,19 @@ gone : (A : Type 0) → Ended ≡ Waits → A
 gone A e = absurd (cc)
 
 -- A CORE by its parts, with another machine of its user
-abbrev core : State → List Flat → Console → ℕ → Core
+abbrev core : C0State → List Flat → Console → ℕ → Core
 core s us o u = record { c0 = s; users = us; console = o; current = u }
 
-core_is : (before : Core) (h g : Flat) (us : List Flat) (s : State) (u : ℕ) → before.users ≡ us → before.current ≡ u → before.c0 ≡ s → h ≡ g
+core_is : (before : Core) (h g : Flat) (us : List Flat) (s : C0State) (u : ℕ) → before.users ≡ us → before.current ≡ u → before.c0 ≡ s → h ≡ g
     → with_machine before h ≡ core s (with_user us u g) before.console u
 core_is before h g us s u users current word same =
-    ap (λ (s : State). core s (with_user before.users before.current h) before.console before.current) word
+    ap (λ (s : C0State). core s (with_user before.users before.current h) before.console before.current) word
     ∙ ap₂ (λ (us : List Flat) (u : ℕ). core s (with_user us u h) before.console u) users current
     ∙ ap (λ (g : Flat). core s (with_user us u g) before.console u) same
 
-whole : (c : Core) (us : List Flat) (s : State) (u : ℕ) → c.users ≡ us → c.current ≡ u → c.c0 ≡ s → c ≡ core s us c.console u
+whole : (c : Core) (us : List Flat) (s : C0State) (u : ℕ) → c.users ≡ us → c.current ≡ u → c.c0 ≡ s → c ≡ core s us c.console u
 whole c us s u users current word =
-    ap (λ (s : State). core s c.users c.console c.current) word ∙ ap₂ (λ (us : List Flat) (u : ℕ). core s us c.console u) users current
+    ap (λ (s : C0State). core s c.users c.console c.current) word ∙ ap₂ (λ (us : List Flat) (u : ℕ). core s us c.console u) users current
 
 lifts : (pages : ℕ) (o : c0_run.Outcome Machines Changes) (P Q : Configuration Machines Changes → Type 0) → ((d : Configuration Machines Changes) → P d → Q d) → ComesWithin pages o P → ComesWithin pages o Q
 lifts pages (c0_run.Done used d) P Q to h = (h.0, to d h.1)
@@ -125,7 +125,7 @@ module _ (y : System) (ms : List Message) (one two : ℕ) (r : Mails y ms one tw
 
   -- BEHIND A DISPATCH
   made : (k : ℕ) (past : List Dispatch) (e : Dispatch) (s : Standing) (o : Console) (u : ℕ)
-      → (a : Follows F (sends ms) one s.f (sends s.rest) s.sender) (b : Follows G (receives ms) two s.g (calls_left s.hand (held s.box s.rest)) s.receiver)
+      → (a : FollowsLegs F (sends ms) one s.f (sends s.rest) s.sender) (b : FollowsLegs G (receives ms) two s.g (calls_left s.hand (held s.box s.rest)) s.receiver)
       → ms ≡ s.printed ++ held s.hand (held s.box s.rest) → sent past ++ (sent_by e ++ ints (unsent s.sender s.rest)) ≡ ints ms → o.log ≡ numbers s.printed
       → (s.sender ≡ Waits → IsFull s.box) → (s.receiver ≡ Waits → IsEmpty s.hand × IsEmpty s.box)
       → (status_of_places s.sender s.receiver ≡ Running → ((u ≡ 1) × IsRunning s.sender) ⊎ ((u ≡ 2) × IsRunning s.receiver)) → status_of e.next ≡ status_of_places s.sender s.receiver
@@ -182,9 +182,9 @@ module _ (y : System) (ms : List Message) (one two : ℕ) (r : Mails y ms one tw
       (lifts 0 _ (Gives (core_of box waits over f g o u) a after) (KeptAllAt y I k cause edata past (core_of box waits over f g o u)) to does))
 
   -- a trap that is known
-  arrive : (k : ℕ) (cause : Cause) (edata word : ℕ) (past : List Dispatch) (at : Core) → cause ≡ Syscall → edata ≡ word → KeepsAll y 200 J k 6 word past at → KeepsAll y 200 J k (number_of cause) edata past at
+  arrive : (k : ℕ) (cause : Cause) (edata word : ℕ) (past : List Dispatch) (at : Core) → cause ≡ Syscall → edata ≡ word → KeepsAll y 200 J k 6 word past at → KeepsAll y 200 J k (cause_number cause) edata past at
   arrive k cause edata word past at is same h =
-      subst (λ (z : Cause). KeepsAll y 200 J k (number_of z) edata past at) (sym is) (subst (λ (e : ℕ). KeepsAll y 200 J k 6 e past at) (sym same) h)
+      subst (λ (z : Cause). KeepsAll y 200 J k (cause_number z) edata past at) (sym is) (subst (λ (e : ℕ). KeepsAll y 200 J k 6 e past at) (sym same) h)
 
   -- THE START
   started : KeepsAll y 200 J 0 0 0 [] (first_core y)
@@ -204,7 +204,7 @@ module _ (y : System) (ms : List Message) (one two : ℕ) (r : Mails y ms one tw
   moves : (k cause edata : ℕ) (past : List Dispatch) (at : Core) → UsePages y 200 0 past → (box waits over : ℕ) (f g : Flat) (o : Console) (u a : ℕ) (s : Standing) (after : Console)
       → at ≡ core_of box waits over f g o u → Code p cause edata (core_of box waits over f g o u) a (at_place s after u) → 1 ≤ a → a ≤ 2 → ((a ≡ 1) × IsRunning s.sender) ⊎ ((a ≡ 2) × IsRunning s.receiver)
       → Running ≡ status_of_places s.sender s.receiver
-      → (b : Follows F (sends ms) one s.f (sends s.rest) s.sender) (c : Follows G (receives ms) two s.g (calls_left s.hand (held s.box s.rest)) s.receiver)
+      → (b : FollowsLegs F (sends ms) one s.f (sends s.rest) s.sender) (c : FollowsLegs G (receives ms) two s.g (calls_left s.hand (held s.box s.rest)) s.receiver)
       → ms ≡ s.printed ++ held s.hand (held s.box s.rest)
       → sent past ++ (sent_by (made_of k cause edata (core_of box waits over f g o u) (at_place s after u) (User a)) ++ ints (unsent s.sender s.rest)) ≡ ints ms → after.log ≡ numbers s.printed
       → (s.sender ≡ Waits → IsFull s.box) → (s.receiver ≡ Waits → IsEmpty s.hand × IsEmpty s.box)
@@ -218,7 +218,7 @@ module _ (y : System) (ms : List Message) (one two : ℕ) (r : Mails y ms one tw
   halts : (k cause edata : ℕ) (past : List Dispatch) (at : Core) → UsePages y 200 0 past → (box waits over : ℕ) (f g : Flat) (o : Console) (u : ℕ) (s : Standing)
       → at ≡ core_of box waits over f g o u → Code p cause edata (core_of box waits over f g o u) 0 (at_place s o u)
       → Halted ≡ status_of_places s.sender s.receiver
-      → (b : Follows F (sends ms) one s.f (sends s.rest) s.sender) (c : Follows G (receives ms) two s.g (calls_left s.hand (held s.box s.rest)) s.receiver)
+      → (b : FollowsLegs F (sends ms) one s.f (sends s.rest) s.sender) (c : FollowsLegs G (receives ms) two s.g (calls_left s.hand (held s.box s.rest)) s.receiver)
       → ms ≡ s.printed ++ held s.hand (held s.box s.rest)
       → sent past ++ (sent_by (made_of k cause edata (core_of box waits over f g o u) (at_place s o u) Halt) ++ ints (unsent s.sender s.rest)) ≡ ints ms → o.log ≡ numbers s.printed
       → (s.sender ≡ Waits → IsFull s.box) → (s.receiver ≡ Waits → IsEmpty s.hand × IsEmpty s.box)
@@ -300,7 +300,7 @@ module _ (y : System) (ms : List Message) (one two : ℕ) (r : Mails y ms one tw
                 (data_of (number_in box) (waits_by 1 (Runs t) + waits_by 2 q) (over_of (Runs t) q)) 1 so.users_are here so.data_is is.left,
           )
 
-      puts : (m : Message) (rest : List Message) (f g : Flat) (t s : ℕ) → So k past c (stand printed hand None (m ∷ rest) f g (Runs t) (Runs s)) → c.current ≡ 1 → KeepsAll y 200 J k (number_of cause) edata past at
+      puts : (m : Message) (rest : List Message) (f g : Flat) (t s : ℕ) → So k past c (stand printed hand None (m ∷ rest) f g (Runs t) (Runs s)) → c.current ≡ 1 → KeepsAll y 200 J k (cause_number cause) edata past at
       puts m rest f g t s so here =
           let n = first_traps None (m ∷ rest) f g t (Runs s) so here in
           let turns = so.turns_are in
@@ -315,7 +315,7 @@ module _ (y : System) (ms : List Message) (one two : ℕ) (r : Mails y ms one tw
           (is_answered F (sends ms) one f (record { steps = m.sending; argument = m.number; answer = 0 }) (sends rest) t n.0.now so.sender) so.receiver so.all
           (ap (λ (z : ℤ). sent past ++ (z ∷ ints rest)) says ∙ so.sent_are) so.log_is (busy (IsFull (Some m)) 0) (busy (IsEmpty hand × IsEmpty (Some m)) s) (omega (arith, turns)) (omega (arith, long)))
 
-      waits_for_room : (b m : Message) (rest : List Message) (f g : Flat) (t s : ℕ) → So k past c (stand printed hand (Some b) (m ∷ rest) f g (Runs t) (Runs s)) → c.current ≡ 1 → KeepsAll y 200 J k (number_of cause) edata past at
+      waits_for_room : (b m : Message) (rest : List Message) (f g : Flat) (t s : ℕ) → So k past c (stand printed hand (Some b) (m ∷ rest) f g (Runs t) (Runs s)) → c.current ≡ 1 → KeepsAll y 200 J k (cause_number cause) edata past at
       waits_for_room b m rest f g t s so here =
           let n = first_traps (Some b) (m ∷ rest) f g t (Runs s) so here in
           let turns = so.turns_are in
@@ -329,7 +329,7 @@ module _ (y : System) (ms : List Message) (one two : ℕ) (r : Mails y ms one tw
           (is_waiting F (sends ms) one f (record { steps = m.sending; argument = m.number; answer = 0 }) (sends rest) t n.0.now so.sender) so.receiver so.all
           (ap (λ (z : ℤ). sent past ++ (z ∷ ints rest)) says ∙ so.sent_are) so.log_is (λ e. tt) (busy (IsEmpty hand × IsEmpty (Some b)) s) (omega (arith, turns)) (omega (arith, long)))
 
-      first_ends : (box : Option Message) (f g : Flat) (t s : ℕ) → So k past c (stand printed hand box [] f g (Runs t) (Runs s)) → c.current ≡ 1 → KeepsAll y 200 J k (number_of cause) edata past at
+      first_ends : (box : Option Message) (f g : Flat) (t s : ℕ) → So k past c (stand printed hand box [] f g (Runs t) (Runs s)) → c.current ≡ 1 → KeepsAll y 200 J k (cause_number cause) edata past at
       first_ends box f g t s so here =
           let n = first_traps box [] f g t (Runs s) so here in
           let turns = so.turns_are in
@@ -340,7 +340,7 @@ module _ (y : System) (ms : List Message) (one two : ℕ) (r : Mails y ms one tw
           (code.first_ends p has_room (after (suc one) f) (after s g) c.console (number_in box)) (omega arith) (omega arith) (inr (refl, tt)) refl
           (is_over F (sends ms) one f t n.0.now so.sender) so.receiver so.all so.sent_are so.log_is (gone (IsFull box)) so.for_mail (omega (arith, turns)) (omega (arith, long)))
 
-      first_ends_all : (box : Option Message) (f g : Flat) (t : ℕ) → So k past c (stand printed hand box [] f g (Runs t) Ended) → c.current ≡ 1 → KeepsAll y 200 J k (number_of cause) edata past at
+      first_ends_all : (box : Option Message) (f g : Flat) (t : ℕ) → So k past c (stand printed hand box [] f g (Runs t) Ended) → c.current ≡ 1 → KeepsAll y 200 J k (cause_number cause) edata past at
       first_ends_all box f g t so here =
           let n = first_traps box [] f g t Ended so here in
           let turns = so.turns_are in
@@ -366,7 +366,7 @@ module _ (y : System) (ms : List Message) (one two : ℕ) (r : Mails y ms one tw
   -- those of a receiver with nothing in its hand
   module _ (k : ℕ) (past : List Dispatch) (touch : UsePages y 200 0 past) (printed : List Message) (c at : Core) (cause : Cause) (edata : ℕ) (came : IsTrapOf c cause edata at) where
     -- the sender's message goes to a receiver that waits
-    delivers : (m : Message) (rest : List Message) (f g : Flat) (t : ℕ) → So k past c (stand printed None None (m ∷ rest) f g (Runs t) Waits) → c.current ≡ 1 → KeepsAll y 200 J k (number_of cause) edata past at
+    delivers : (m : Message) (rest : List Message) (f g : Flat) (t : ℕ) → So k past c (stand printed None None (m ∷ rest) f g (Runs t) Waits) → c.current ≡ 1 → KeepsAll y 200 J k (cause_number cause) edata past at
     delivers m rest f g t so here =
         let n = first_traps k past touch printed None c at cause edata came None (m ∷ rest) f g t Waits so here in
         let turns = so.turns_are in
@@ -381,7 +381,7 @@ module _ (y : System) (ms : List Message) (one two : ℕ) (r : Mails y ms one tw
         (is_answered_late G (receives ms) two g (asks m) (prints m ∷ receives rest) so.receiver) so.all
         (ap (λ (z : ℤ). sent past ++ (z ∷ ints rest)) says ∙ so.sent_are) so.log_is (busy (IsFull None) 0) (busy (IsEmpty (Some m) × IsEmpty None) 0) (omega (arith, turns)) (omega (arith, long)))
 
-    takes : (b : Message) (rest : List Message) (f g : Flat) (t s : ℕ) → So k past c (stand printed None (Some b) rest f g (Runs t) (Runs s)) → c.current ≡ 2 → KeepsAll y 200 J k (number_of cause) edata past at
+    takes : (b : Message) (rest : List Message) (f g : Flat) (t s : ℕ) → So k past c (stand printed None (Some b) rest f g (Runs t) (Runs s)) → c.current ≡ 2 → KeepsAll y 200 J k (cause_number cause) edata past at
     takes b rest f g t s so here =
         let n = second_traps k past touch printed None c at cause edata came (Some b) rest f g (Runs t) s so here in
         let turns = so.turns_are in
@@ -395,7 +395,7 @@ module _ (y : System) (ms : List Message) (one two : ℕ) (r : Mails y ms one tw
         so.sender (is_answered G (receives ms) two g (asks b) (prints b ∷ receives rest) s n.0.now so.receiver) so.all so.sent_are so.log_is
         (busy (IsFull None) t) (busy (IsEmpty (Some b) × IsEmpty None) 0) (omega (arith, turns)) (omega (arith, long)))
 
-    takes_last : (b : Message) (rest : List Message) (f g : Flat) (s : ℕ) → So k past c (stand printed None (Some b) rest f g Ended (Runs s)) → c.current ≡ 2 → KeepsAll y 200 J k (number_of cause) edata past at
+    takes_last : (b : Message) (rest : List Message) (f g : Flat) (s : ℕ) → So k past c (stand printed None (Some b) rest f g Ended (Runs s)) → c.current ≡ 2 → KeepsAll y 200 J k (cause_number cause) edata past at
     takes_last b rest f g s so here =
         let n = second_traps k past touch printed None c at cause edata came (Some b) rest f g Ended s so here in
         let turns = so.turns_are in
@@ -410,7 +410,7 @@ module _ (y : System) (ms : List Message) (one two : ℕ) (r : Mails y ms one tw
         so.sender (is_answered G (receives ms) two g (asks b) (prints b ∷ receives rest) s n.0.now so.receiver) so.all so.sent_are so.log_is
         (gone (IsFull None)) (busy (IsEmpty (Some b) × IsEmpty None) 0) (omega (arith, turns)) (omega (arith, long)))
 
-    takes_and_puts : (b m : Message) (rest : List Message) (f g : Flat) (s : ℕ) → So k past c (stand printed None (Some b) (m ∷ rest) f g Waits (Runs s)) → c.current ≡ 2 → KeepsAll y 200 J k (number_of cause) edata past at
+    takes_and_puts : (b m : Message) (rest : List Message) (f g : Flat) (s : ℕ) → So k past c (stand printed None (Some b) (m ∷ rest) f g Waits (Runs s)) → c.current ≡ 2 → KeepsAll y 200 J k (cause_number cause) edata past at
     takes_and_puts b m rest f g s so here =
         let n = second_traps k past touch printed None c at cause edata came (Some b) (m ∷ rest) f g Waits s so here in
         let turns = so.turns_are in
@@ -426,7 +426,7 @@ module _ (y : System) (ms : List Message) (one two : ℕ) (r : Mails y ms one tw
         (is_answered G (receives ms) two g (asks b) (prints b ∷ receives (m ∷ rest)) s n.0.now so.receiver) so.all so.sent_are so.log_is
         (busy (IsFull (Some m)) 0) (busy (IsEmpty (Some b) × IsEmpty (Some m)) 0) (omega (arith, turns)) (omega (arith, long)))
 
-    waits_for_mail : (m : Message) (rest : List Message) (f g : Flat) (t s : ℕ) → So k past c (stand printed None None (m ∷ rest) f g (Runs t) (Runs s)) → c.current ≡ 2 → KeepsAll y 200 J k (number_of cause) edata past at
+    waits_for_mail : (m : Message) (rest : List Message) (f g : Flat) (t s : ℕ) → So k past c (stand printed None None (m ∷ rest) f g (Runs t) (Runs s)) → c.current ≡ 2 → KeepsAll y 200 J k (cause_number cause) edata past at
     waits_for_mail m rest f g t s so here =
         let n = second_traps k past touch printed None c at cause edata came None (m ∷ rest) f g (Runs t) s so here in
         let turns = so.turns_are in
@@ -439,7 +439,7 @@ module _ (y : System) (ms : List Message) (one two : ℕ) (r : Mails y ms one tw
         so.sender (is_waiting G (receives ms) two g (asks m) (prints m ∷ receives rest) s n.0.now so.receiver) so.all so.sent_are so.log_is
         (busy (IsFull None) t) (λ e. (tt, tt)) (omega (arith, turns)) (omega (arith, long)))
 
-    second_ends : (f g : Flat) (t s : ℕ) → So k past c (stand printed None None [] f g (Runs t) (Runs s)) → c.current ≡ 2 → KeepsAll y 200 J k (number_of cause) edata past at
+    second_ends : (f g : Flat) (t s : ℕ) → So k past c (stand printed None None [] f g (Runs t) (Runs s)) → c.current ≡ 2 → KeepsAll y 200 J k (cause_number cause) edata past at
     second_ends f g t s so here =
         let n = second_traps k past touch printed None c at cause edata came None [] f g (Runs t) s so here in
         let turns = so.turns_are in
@@ -450,7 +450,7 @@ module _ (y : System) (ms : List Message) (one two : ℕ) (r : Mails y ms one tw
         (code.second_ends p has_room (after t f) (after (suc two) g) c.console 0) (omega arith) (omega arith) (inl (refl, tt)) refl
         so.sender (is_over G (receives ms) two g s n.0.now so.receiver) so.all so.sent_are so.log_is (busy (IsFull None) t) (gone (IsEmpty None × IsEmpty None)) (omega (arith, turns)) (omega (arith, long)))
 
-    second_ends_all : (f g : Flat) (s : ℕ) → So k past c (stand printed None None [] f g Ended (Runs s)) → c.current ≡ 2 → KeepsAll y 200 J k (number_of cause) edata past at
+    second_ends_all : (f g : Flat) (s : ℕ) → So k past c (stand printed None None [] f g Ended (Runs s)) → c.current ≡ 2 → KeepsAll y 200 J k (cause_number cause) edata past at
     second_ends_all f g s so here =
         let n = second_traps k past touch printed None c at cause edata came None [] f g Ended s so here in
         let turns = so.turns_are in
@@ -474,7 +474,7 @@ module _ (y : System) (ms : List Message) (one two : ℕ) (r : Mails y ms one tw
     logged : (log : List ℕ) → log ≡ numbers printed → m.number < 2 ^ 31 → log ++ cast_unsigned w32 (pos m.number) ∷ [] ≡ numbers (printed ++ m ∷ [])
     logged log is small = ap (λ (ns : List ℕ). ns ++ cast_unsigned w32 (pos m.number) ∷ []) is ∙ ap (λ (n : ℕ). numbers printed ++ n ∷ []) (word_is m.number small) ∙ sym (numbers_push printed m)
 
-    prints_it : (box : Option Message) (rest : List Message) (f g : Flat) (t s : ℕ) → So k past c (stand printed (Some m) box rest f g (Runs t) (Runs s)) → c.current ≡ 2 → KeepsAll y 200 J k (number_of cause) edata past at
+    prints_it : (box : Option Message) (rest : List Message) (f g : Flat) (t s : ℕ) → So k past c (stand printed (Some m) box rest f g (Runs t) (Runs s)) → c.current ≡ 2 → KeepsAll y 200 J k (cause_number cause) edata past at
     prints_it box rest f g t s so here =
         let n = second_traps k past touch printed (Some m) c at cause edata came box rest f g (Runs t) s so here in
         let turns = so.turns_are in
@@ -488,7 +488,7 @@ module _ (y : System) (ms : List Message) (one two : ℕ) (r : Mails y ms one tw
         so.sender (is_answered G (receives ms) two g (prints m) (receives (held box rest)) s n.0.now so.receiver) (so.all ∙ sym (append_assoc printed (m ∷ []) (held box rest))) so.sent_are
         (logged c.console.log so.log_is small.1) (busy (IsFull box) t) (busy (IsEmpty None × IsEmpty box) 0) (omega (arith, turns)) (omega (arith, long)))
 
-    prints_late : (box : Option Message) (rest : List Message) (f g : Flat) (s : ℕ) → So k past c (stand printed (Some m) box rest f g Ended (Runs s)) → c.current ≡ 2 → KeepsAll y 200 J k (number_of cause) edata past at
+    prints_late : (box : Option Message) (rest : List Message) (f g : Flat) (s : ℕ) → So k past c (stand printed (Some m) box rest f g Ended (Runs s)) → c.current ≡ 2 → KeepsAll y 200 J k (cause_number cause) edata past at
     prints_late box rest f g s so here =
         let n = second_traps k past touch printed (Some m) c at cause edata came box rest f g Ended s so here in
         let turns = so.turns_are in
@@ -503,7 +503,7 @@ module _ (y : System) (ms : List Message) (one two : ℕ) (r : Mails y ms one tw
         so.sender (is_answered G (receives ms) two g (prints m) (receives (held box rest)) s n.0.now so.receiver) (so.all ∙ sym (append_assoc printed (m ∷ []) (held box rest))) so.sent_are
         (logged c.console.log so.log_is small.1) (gone (IsFull box)) (busy (IsEmpty None × IsEmpty box) 0) (omega (arith, turns)) (omega (arith, long)))
 
-    prints_while_full : (b : Message) (rest : List Message) (f g : Flat) (s : ℕ) → So k past c (stand printed (Some m) (Some b) rest f g Waits (Runs s)) → c.current ≡ 2 → KeepsAll y 200 J k (number_of cause) edata past at
+    prints_while_full : (b : Message) (rest : List Message) (f g : Flat) (s : ℕ) → So k past c (stand printed (Some m) (Some b) rest f g Waits (Runs s)) → c.current ≡ 2 → KeepsAll y 200 J k (cause_number cause) edata past at
     prints_while_full b rest f g s so here =
         let n = second_traps k past touch printed (Some m) c at cause edata came (Some b) rest f g Waits s so here in
         let turns = so.turns_are in
@@ -521,7 +521,7 @@ module _ (y : System) (ms : List Message) (one two : ℕ) (r : Mails y ms one tw
   -- WHICH IT IS, of all
   module _ (k : ℕ) (past : List Dispatch) (touch : UsePages y 200 0 past) (printed : List Message) (c at : Core) (cause : Cause) (edata : ℕ) (came : IsTrapOf c cause edata at) where
     abbrev Kept : Type 0
-    Kept = KeepsAll y 200 J k (number_of cause) edata past at
+    Kept = KeepsAll y 200 J k (cause_number cause) edata past at
 
     by_first : (hand box : Option Message) (rest : List Message) (f g : Flat) (t : ℕ) (q : Place) → So k past c (stand printed hand box rest f g (Runs t) q) → c.current ≡ 1 → Kept
     by_first hand box [] f g t (Runs s) so here = first_ends k past touch printed hand c at cause edata came box f g t s so here
@@ -647,8 +647,8 @@ module _ (y : System) (ms : List Message) (one two : ℕ) (r : Mails y ms one tw
       (λ t so here. lined_second k past touch h.printed h.hand h.box h.rest h.sender_from h.receiver_from mask c h.sender_place t so here)
 
   trapped : (k : ℕ) (cause : Cause) (edata : ℕ) (past : List Dispatch) (c at : Core) → IsTrapOf c cause edata at → status_after past ≡ Running → UsePages y 200 0 past → I k past c
-      → KeepsAll y 200 J k (number_of cause) edata past at
-  trapped k cause edata past c at came on touch h = by_who k past c (KeepsAll y 200 J k (number_of cause) edata past at) on h
+      → KeepsAll y 200 J k (cause_number cause) edata past at
+  trapped k cause edata past c at came on touch h = by_who k past c (KeepsAll y 200 J k (cause_number cause) edata past at) on h
       (λ t so here. by_first k past touch h.printed c at cause edata came h.hand h.box h.rest h.sender_from h.receiver_from t h.receiver_place so here)
       (λ t so here. by_second k past touch h.printed c at cause edata came h.hand h.box h.rest h.sender_from h.receiver_from h.sender_place t so here)
 

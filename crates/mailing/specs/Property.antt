@@ -7,7 +7,7 @@ use Rattle.mips_table.specs.Arith.{signed}
 use Rattle.mips_table.specs.Flat.{Flat}
 use Rattle.mips_table.specs.Machine.{LOG_ROOM}
 use Rattle.c0_meaning.specs.Value.{int, group, empty, part}
-use Rattle.c0_meaning.specs.State.{State}
+use Rattle.c0_meaning.specs.State.{C0State}
 use Rattle.cvm_model.specs.Kernel.{Core}
 use Rattle.cvm_model.specs.KernelMeaning.{kernel_meaning}
 use Rattle.cvm_model.specs.Primitives.{user_of}
@@ -15,7 +15,7 @@ use Rattle.cvm_model.specs.Cvm.{System, Cvm, Status, Running, Halted, first_flat
 use Rattle.cvm_model.specs.Invariant.{Dispatch, dispatches_of, HasEight, HasUsers, IsSafe}
 use Rattle.cvm_model.specs.Systems.{SystemProperty, status_after, lines_taken, UsePages, IsSystemInvariant, SystemHolds}
 use Rattle.mailing.specs.Tree.{kernel_tree}
-use Rattle.mailing.specs.Users.{Leg, CallsInTurn, ended, steps_of, Place, Runs, Waits, Ended, machine_at, IsRunning, Follows}
+use Rattle.mailing.specs.Users.{Leg, CallsInTurn, ended, steps_of, Place, Runs, Waits, Ended, machine_at, IsRunning, FollowsLegs}
 
 -- a message: its number, and the untrapped steps of the sender before the call that sends it, of the receiver before the call that asks for it, and from its
 -- answer to the call that prints it
@@ -63,7 +63,7 @@ pub record Mails (y : System) (ms : List Message) (one two : ℕ) : Type 0 where
   pub room : 11 ≤ y.boot.params.stack
 
 -- the kernel's data: the message in the mailbox or 0, who waits or 0, and the sum of those who have ended
-abbrev pub data_of : (box waits over : ℕ) → State
+abbrev pub data_of : (box waits over : ℕ) → C0State
 data_of box waits over = record {
   global_values = group (part (int (pos box)) (part (int (pos waits)) (part (int (pos over)) empty)));
   heap_values = group empty;
@@ -150,8 +150,8 @@ ints ms = map (λ (m : Message). pos m.number) ms
 -- are left; they are those that were sent, and then those that were not yet. Each user follows its calls; who waits, waits for the mailbox; and each turn was
 -- the first, a step of a user, or lines that were taken.
 pub record StandsSo (ms : List Message) (one two : ℕ) (f g : Flat) (k : ℕ) (past : List Dispatch) (at : Core) (s : Standing) : Type 0 where
-  pub sender : Follows f (sends ms) one s.f (sends s.rest) s.sender
-  pub receiver : Follows g (receives ms) two s.g (calls_left s.hand (held s.box s.rest)) s.receiver
+  pub sender : FollowsLegs f (sends ms) one s.f (sends s.rest) s.sender
+  pub receiver : FollowsLegs g (receives ms) two s.g (calls_left s.hand (held s.box s.rest)) s.receiver
   pub all : ms ≡ s.printed ++ held s.hand (held s.box s.rest)
   pub sent_are : sent past ++ ints (unsent s.sender s.rest) ≡ ints ms
   pub log_is : at.console.log ≡ numbers s.printed

@@ -81,7 +81,7 @@ IsRunning Ended = ⊥
 
 -- A USER FOLLOWS its calls: from a first machine and all of its calls it has come to where these are left, and to a place in the first of them. It has made so
 -- many steps, of which so many trapped.
-pub record Follows (first : Flat) (all : List Leg) (last : ℕ) (f : Flat) (left : List Leg) (p : Place) : Type 0 where
+pub record FollowsLegs (first : Flat) (all : List Leg) (last : ℕ) (f : Flat) (left : List Leg) (p : Place) : Type 0 where
   pub calls : CallsInTurn f left last
   pub ends : ended f left last ≡ ended first all last
   pub is_at : IsAt left last p

@@ -1,9 +1,9 @@
 -- Each boot of the system with a mailbox shows its messages.
 use Rattle.std.proofs.Common.{◌≡◌, ℕ, suc, ◌+◌, ◌≤◌, List, [], ◌∷◌, ◌++◌, length, refl, ap, ◌∙◌, arith}
 use Rattle.std.specs.Prelude.{codes}
-use Rattle.mips_table.specs.Device.{Outside}
+use Rattle.mips_table.specs.Device.{Environment}
 use Rattle.mips_table.specs.Machine.{State, LOG_ROOM}
-use Rattle.mips_table.specs.Turns.{lines_of, TurnLaws}
+use Rattle.mips_table.specs.Turns.{lines_of_turn, TurnLaws}
 use Rattle.mips_table.specs.Flat.{Flat}
 use Rattle.cvm_model.specs.Kernel.{Core, KernelMeaning}
 use Rattle.cvm_model.specs.KernelMeaning.{kernel_meaning}
@@ -19,7 +19,7 @@ use Rattle.cvm_shell.specs.declared.exit_status.Status.TheVariants.{Done}
 use Rattle.cvm_shell.specs.Boot.{booted, around, first_state, steps_before}
 use Rattle.kernel_theorems.specs.Text.{Means}
 use Rattle.kernel_boots.specs.Boots.{turns_made}
-use Rattle.kernel_boots.specs.Systems.{EndsWithin, HasHalted, SystemShown}
+use Rattle.kernel_boots.specs.Systems.{SystemEndsWithin, HasHalted, SystemShown}
 use Rattle.kernel_boots.proofs.Boots.{asked_read}
 use Rattle.kernel_boots.proofs.Systems.{asks_source, asked_users, stopped, systems_boot}
 use Rattle.mailing.specs.Tree.{kernel_tree}
@@ -35,7 +35,7 @@ mails sender receiver ms one two first second small few y means users room =
 
 module _ (law : MailEnds) (y : System) (ms : List Message) (one two : ℕ) (f g : Flat) (lines : ℕ) where
   -- how long it runs
-  ends : EndsWithin y 200 (Mailing y ms one two f g) lines (turns_for ms one two + lines) (dispatches_for ms + lines) 0
+  ends : SystemEndsWithin y 200 (Mailing y ms one two f g) lines (turns_for ms one two + lines) (dispatches_for ms + lines) 0
   ends = record {
     some = omega arith;
     below = λ k past at h on few. let b = law.below ms one two f g k past at h.0 on in omega (arith, b, few);
@@ -49,7 +49,7 @@ reported : (names : List (List ℕ)) (at : Core) (messages : List ℕ) (users : 
     → codes "halted\n" ++ report_text names at ≡ report_of messages users
 reported names at messages users named data_is logged same = rw (named, data_is, logged, same) refl
 
-module _ (law : MailEnds) (x : Outside) (y : System) (ms : List Message) (one two : ℕ) (r : Mails y ms one two) (f g : Flat) (s : State) (late raised turns steps : ℕ) (status : Status) (text : List ℕ)
+module _ (law : MailEnds) (x : Environment) (y : System) (ms : List Message) (one two : ℕ) (r : Mails y ms one two) (f g : Flat) (s : State) (late raised turns steps : ℕ) (status : Status) (text : List ℕ)
     (h : SystemShown x y s late raised turns steps 200 (HasUsers y) (Mailing y ms one two f g) status text) where
   names : y.boot.meaning.names ≡ codes "box" ∷ codes "waits" ∷ codes "over" ∷ []
   names = ap (λ (m : KernelMeaning). m.names) r.meaning_is
@@ -72,10 +72,10 @@ module _ (law : MailEnds) (x : Outside) (y : System) (ms : List Message) (one tw
             (reported y.boot.meaning.names h.stands.state.core (numbers ms) (ended f (sends ms) one ∷ ended g (receives ms) two ∷ []) names done.data_is done.log_is done.users_are),
       )
 
-  carried : (k : ℕ) → turns_made x s turns steps ≡ suc k → IsCarried (dispatches_of y (lines_of x s) 200 (suc k)) h.stands.state.core
+  carried : (k : ℕ) → turns_made x s turns steps ≡ suc k → IsCarried (dispatches_of y (lines_of_turn x s) 200 (suc k)) h.stands.state.core
   carried k e =
-      let held : SystemHolds (HasUsers y) (Mailing y ms one two f g) (suc k) (dispatches_of y (lines_of x s) 200 (suc k)) h.stands.state = h.holds k e in
-      law.carried ms one two f g held.made (dispatches_of y (lines_of x s) 200 (suc k)) h.stands.state.core held.kept.0
+      let held : SystemHolds (HasUsers y) (Mailing y ms one two f g) (suc k) (dispatches_of y (lines_of_turn x s) 200 (suc k)) h.stands.state = h.holds k e in
+      law.carried ms one two f g held.made (dispatches_of y (lines_of_turn x s) 200 (suc k)) h.stands.state.core held.kept.0
 
   shown : MailShown x y s late raised turns steps ms one two f g status text
   shown = record {

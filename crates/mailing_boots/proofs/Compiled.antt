@@ -1,7 +1,7 @@
 -- From the texts to each boot.
 use Rattle.std.specs.Fmt.{digits}
 use Rattle.std.proofs.Common.{◌≡◌, ℕ, List, [], ◌∷◌, ◌++◌, length, refl, sym, ap, ◌∙◌, subst, arith}
-use Rattle.mips_table.specs.Device.{Outside}
+use Rattle.mips_table.specs.Device.{Environment}
 use Rattle.mips_table.specs.Machine.{State}
 use Rattle.mips_table.specs.Flat.{Flat}
 use Rattle.c0_tree.specs.declared.primitive.Program.TheVariants.{User}
@@ -57,7 +57,7 @@ lines_are : (users : List Flat) → report_of one_to_ten users ≡ mail_lines ++
 unfolding digits
 lines_are users = refl
 
-module _ (x : Outside) (y : System) (s : State) (late raised turns steps : ℕ) (status : Status) (text : List ℕ) (one two : CUnit) (one_is : IsUnitAs User sender_text one) (two_is : IsUnitAs User receiver_text two)
+module _ (x : Environment) (y : System) (s : State) (late raised turns steps : ℕ) (status : Status) (text : List ℕ) (one two : CUnit) (one_is : IsUnitAs User sender_text one) (two_is : IsUnitAs User receiver_text two)
     (h : ProgramMailShown x y s late raised turns steps one two 144 174 one_to_ten status text) where
   shown : NamedMailShown x y s late raised turns steps status text
   shown = record {

@@ -13,7 +13,7 @@ use Rattle.kernel_boots.specs.Systems.{AsksSystem}
 use Rattle.kernel_boots.proofs.Systems.{fewer_turns}
 use Rattle.mailing.specs.Text.{text as kernel_text}
 use Rattle.std.proofs.Common.{◌≡◌, ℕ, suc, ◌+◌, ◌*◌, ◌≤◌, List, [], ◌∷◌, ◌++◌, length, refl, sym, ap, ap₂, ◌∙◌, subst, arith}
-use Rattle.mips_table.specs.Device.{Outside}
+use Rattle.mips_table.specs.Device.{Environment}
 use Rattle.mips_table.specs.Machine.{State}
 use Rattle.c0_tree.specs.Tree.{CUnit}
 use Rattle.cvm_model.specs.Cvm.{System, first_flat}
@@ -120,7 +120,7 @@ module _ (ns : List ℕ) (ms : List Message) (same : numbers ms ≡ ns) where
       let e = steps_are (receives ms) two in
       omega (arith, a, b, c, d, e, few_one, few_two)
 
-module _ (x : Outside) (y : System) (s : State) (late raised turns steps : ℕ) (one two : CUnit) (p q : ℕ) (ns : List ℕ) (ms : List Message) (same : numbers ms ≡ ns) (a b : ℕ)
+module _ (x : Environment) (y : System) (s : State) (late raised turns steps : ℕ) (one two : CUnit) (p q : ℕ) (ns : List ℕ) (ms : List Message) (same : numbers ms ≡ ns) (a b : ℕ)
     (calls_a : CallsInTurn (first_flat (image_words one)) (sends ms) a) (calls_b : CallsInTurn (first_flat (image_words two)) (receives ms) b)
     (few_a : untrapped_in (sends ms) a ≤ p) (few_b : untrapped_in (receives ms) b ≤ q) (status : Status) (text : List ℕ)
     (h : MailShown x y s late raised turns steps ms a b (first_flat (image_words one)) (first_flat (image_words two)) status text) where

@@ -13,7 +13,7 @@ use Rattle.cvm_model.proofs.Systems.{append_none}
 use Rattle.user_c0.specs.Image.{image_words}
 use Rattle.user_c0.specs.Events.{Event, call, replies, calls, others, untrapped, answer_of, answers}
 use Rattle.user_c0.specs.Program.{EndsBy, steps_of as most_steps}
-use Rattle.user_c0.specs.Users.{HasCome, UsersGoOn, IntsAreTold}
+use Rattle.user_c0.specs.Users.{UserHasCome, UsersGoOn, IntsAreTold}
 use Rattle.kernel_theorems.specs.UserRuns.{after, told}
 use Rattle.program_systems.specs.Coming.{CallsNext, CallsCome, EndsNext, EndsCome}
 use Rattle.program_systems.proofs.Asking.{replies_call, others_call, untrapped_call}
@@ -40,7 +40,7 @@ record From (es : List Event) (f : Flat) (most : ℕ) (arguments replies : List 
 
 module _ (calls_come : CallsCome) (ends_come : EndsCome) (tell : IntsAreTold) (ahead : AnswersAheadDontMatter) (u : CUnit) (n : ℕ) (arguments given : List ℕ) (b : CallsAndReturns u n arguments given) where
   -- THE END
-  module _ (es : List Event) (f : Flat) (come : HasCome u es f) (none : others es ≡ []) (known : answers es ≡ ints given) (few : untrapped es ≤ most_steps n) where
+  module _ (es : List Event) (f : Flat) (come : UserHasCome u es f) (none : others es ≡ []) (known : answers es ≡ ints given) (few : untrapped es ≤ most_steps n) where
     seen : prog u (answers es) n ≡ record { arguments = ints arguments; ending = done }
     seen = ap (λ xs. prog u xs n) known ∙ b.runs
 
@@ -69,7 +69,7 @@ module _ (calls_come : CallsCome) (ends_come : EndsCome) (tell : IntsAreTold) (a
 
   -- A CALL, with what was asked and answered before it
   module _ (asked replied : List ℕ) (a x : ℕ) (more later : List ℕ) (es : List Event) (f : Flat) (arguments_are : arguments ≡ asked ++ a ∷ more) (given_are : given ≡ replied ++ x ∷ later)
-      (same : length asked ≡ length replied) (come : HasCome u es f) (none : others es ≡ []) (known : answers es ≡ ints replied) (few : untrapped es ≤ most_steps n) (small : x < 2 ^ 31) where
+      (same : length asked ≡ length replied) (come : UserHasCome u es f) (none : others es ≡ []) (known : answers es ≡ ints replied) (few : untrapped es ≤ most_steps n) (small : x < 2 ^ 31) where
     count_here : calls es ≡ length asked
     count_here =
         let d : length (answers es) ≡ length (ints replied) = ap length known in
@@ -103,7 +103,7 @@ module _ (calls_come : CallsCome) (ends_come : EndsCome) (tell : IntsAreTold) (a
     abbrev behind_it : List Event
     behind_it = its_call.events ++ call (Some word) ∷ []
 
-    then_come : HasCome u behind_it (told (after (suc its_call.steps) f) x)
+    then_come : UserHasCome u behind_it (told (after (suc its_call.steps) f) x)
     then_come = its_call.answered (cast_unsigned w32 (pos x)) word_tells.0
 
     then_none : others behind_it ≡ []
@@ -143,7 +143,7 @@ module _ (calls_come : CallsCome) (ends_come : EndsCome) (tell : IntsAreTold) (a
 
   -- ALL OF THEM
   from : (more later asked replied : List ℕ) (es : List Event) (f : Flat) → arguments ≡ asked ++ more → given ≡ replied ++ later → length asked ≡ length replied → length more ≡ length later
-      → HasCome u es f → others es ≡ [] → answers es ≡ ints replied → untrapped es ≤ most_steps n → AreInts later → From es f (most_steps n) more later
+      → UserHasCome u es f → others es ≡ [] → answers es ≡ ints replied → untrapped es ≤ most_steps n → AreInts later → From es f (most_steps n) more later
   from [] [] asked replied es f arguments_are given_are same alike come none known few small =
       at_end es f come none (known ∙ sym (ap ints (given_are ∙ append_none replied))) few
   from [] (x ∷ later) asked replied es f arguments_are given_are same alike come none known few small = absurd (omega (arith, alike))

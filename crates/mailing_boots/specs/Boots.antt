@@ -2,9 +2,9 @@
 use Rattle.std.specs.Prelude.{◌≡◌, ◌≢◌, ℕ, suc, pos, ◌+◌, ◌≤◌, List, [], ◌∷◌, ◌++◌, length, codes}
 use Rattle.std.specs.Io.KnownBytes.{append_known}
 use Rattle.schedule_file.specs.Rows.{Rows}
-use Rattle.mips_table.specs.Device.{Outside}
+use Rattle.mips_table.specs.Device.{Environment}
 use Rattle.mips_table.specs.Machine.{State, LOG_ROOM}
-use Rattle.mips_table.specs.Turns.{lines_of}
+use Rattle.mips_table.specs.Turns.{lines_of_turn}
 use Rattle.mips_table.specs.Flat.{Flat}
 use Rattle.c0_meaning.specs.Value.{int, empty, part}
 use Rattle.boot_turns.specs.declared.answers.View.TheVariants.{Boot}
@@ -34,9 +34,9 @@ report_of messages users =
 -- for three messages at most; its status is no kernel's fault; and under a schedule of so many `line` rows, with as many turns more as the steps of both users
 -- and one, and with the steps of the machine for them, it is done, has halted, and printed at most a row for each trap, for each `line` row and for the start,
 -- and then the report, in which the console has the messages in order and each user stands behind its end
-pub record MailShown (x : Outside) (y : System) (s : State) (late raised turns steps : ℕ) (ms : List Message) (one two : ℕ) (f g : Flat) (status : Status) (text : List ℕ) : Type 0 where
+pub record MailShown (x : Environment) (y : System) (s : State) (late raised turns steps : ℕ) (ms : List Message) (one two : ℕ) (f g : Flat) (status : Status) (text : List ℕ) : Type 0 where
   pub shown : SystemShown x y s late raised turns steps 200 (HasUsers y) (Mailing y ms one two f g) status text
-  pub carried : (k : ℕ) → turns_made x s turns steps ≡ suc k → IsCarried (dispatches_of y (lines_of x s) 200 (suc k)) shown.stands.state.core
+  pub carried : (k : ℕ) → turns_made x s turns steps ≡ suc k → IsCarried (dispatches_of y (lines_of_turn x s) 200 (suc k)) shown.stands.state.core
   pub no_fault : status ≢ KernelFault
   pub halted : turns_for ms one two + raised ≤ turns → steps_for y (turns_for ms one two + raised) (dispatches_for ms + raised) 200 0 + late ≤ steps
       → (status ≡ Done) × (shown.stands.state.status ≡ Halted) × (length shown.stands.state.rows ≤ dispatches_for ms + raised)

@@ -2,7 +2,7 @@
 use Rattle.std.specs.Prelude.{◌≡◌, ◌≢◌, ℕ, ◌+◌, ◌*◌, ◌≤◌, List, [], ◌∷◌, ◌++◌, length, codes}
 use Rattle.std.specs.Io.KnownBytes.{append_known}
 use Rattle.schedule_file.specs.Rows.{Rows, longest}
-use Rattle.mips_table.specs.Device.{Outside}
+use Rattle.mips_table.specs.Device.{Environment}
 use Rattle.mips_table.specs.Machine.{State}
 use Rattle.layer_map.specs.Map.{Map}
 use Rattle.c0_tree.specs.declared.primitive.Program.TheVariants.{User}
@@ -39,7 +39,7 @@ turns_by sending receiving messages = 3 + 3 * messages + sending + receiving
 -- WHAT A RUN SHOWS of programs that send and receive these numbers with so many untrapped steps at most: they are messages, whose calls, with some steps
 -- between, are those of the programs' images; the run shows what it shows of such users, so the status is no kernel's fault; and with as many turns as
 -- these steps, each trap, the schedule's `line` rows and one, and the steps of the machine for them, it is done, has halted, and reports the numbers in order
-pub record ProgramMailShown (x : Outside) (y : System) (s : State) (late raised turns steps : ℕ) (one two : CUnit) (sending receiving : ℕ) (ns : List ℕ) (status : Status) (text : List ℕ) : Type 0 where
+pub record ProgramMailShown (x : Environment) (y : System) (s : State) (late raised turns steps : ℕ) (one two : CUnit) (sending receiving : ℕ) (ns : List ℕ) (status : Status) (text : List ℕ) : Type 0 where
   pub messages : List Message
   pub numbers_are : numbers messages ≡ ns
   pub sender_last : ℕ
@@ -83,7 +83,7 @@ mail_lines =
 -- THE NAMED SYSTEM: whatever the programs' trees are, with their places in the text, what was sent was printed, once and in order, but for three messages at most;
 -- the status is no kernel's fault; and under a schedule of L `line` rows, with 351 turns and L more, and the steps of the machine for them, it is done, has
 -- halted, and its text is at most 33 + L rows and then the report: the numbers from 1 to 10 on the console, and each user's machine behind its end
-pub record NamedMailShown (x : Outside) (y : System) (s : State) (late raised turns steps : ℕ) (status : Status) (text : List ℕ) : Type 0 where
+pub record NamedMailShown (x : Environment) (y : System) (s : State) (late raised turns steps : ℕ) (status : Status) (text : List ℕ) : Type 0 where
   pub one : CUnit
   pub two : CUnit
   pub one_is : IsUnitAs User sender_text one

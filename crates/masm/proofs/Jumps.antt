@@ -4,7 +4,7 @@ use Rattle.std.proofs.lemmas.Bool.{cond-true, cond-false}
 use Rattle.mips_table.specs.declared.inst.Inst.{Inst}
 use Rattle.mips_table.specs.declared.effect.Effect.TheVariants.{Set}
 use Rattle.mips_table.specs.Arith.{extended}
-use Rattle.mips_table.specs.Effect.{next, branch, jump}
+use Rattle.mips_table.specs.Effect.{next, branch, jump_target}
 use Rattle.mips_table.specs.Code.{Contents, with_reg, Behind, World, Sound, at_with, settle, acted, EffectMay, effect_at, act, Reaches}
 use Rattle.masm.specs.Laws.{JumpsLead}
 use Rattle.masm.proofs.Runs.{step_to}
@@ -46,10 +46,10 @@ module _ (w : World) (f : Sound w) where
   passed i k imm b c d at e passes =
       led i k (k + 1) 0 0 c d at (e ∙ ap (λ t. Set 0 0 (branch (4 * k) imm t)) passes ∙ ap (Set 0 0) (after i k at))
 
-  pub jumped : (i : Inst) (k index r v : ℕ) (c : Contents) (d : Behind) → w.code k ≡ Some i → effect_at i k c ≡ Set r v (jump (4 * k) index) → Reaches w 1 (at_with k c d) (settle index (with_reg c r v) d)
+  pub jumped : (i : Inst) (k index r v : ℕ) (c : Contents) (d : Behind) → w.code k ≡ Some i → effect_at i k c ≡ Set r v (jump_target (4 * k) index) → Reaches w 1 (at_with k c d) (settle index (with_reg c r v) d)
   jumped i k index r v c d at e =
       let lt = f.inside k i at in let s = f.small in
-      let there : jump (4 * k) index ≡ 4 * index = omega arith in
+      let there : jump_target (4 * k) index ≡ 4 * index = omega arith in
       led i k index r v c d at (e ∙ ap (Set r v) there)
 
   pub jumps : JumpsLead w

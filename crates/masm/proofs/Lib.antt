@@ -5,8 +5,8 @@ pub mod Blocks
 pub mod Loops
 pub mod Routines
 pub mod Standing
-mod Stays
+mod RegistersStay
 mod Copy
 mod Wait
-mod Transfer
+mod SectorTransfers
 mod Calls

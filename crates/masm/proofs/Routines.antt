@@ -6,7 +6,7 @@ use Rattle.std.proofs.lemmas.Bool.{cases_eq}
 use Rattle.mips_table.specs.declared.inst.Inst.{Inst}
 use Rattle.mips_table.specs.declared.inst.Inst.TheVariants.{Jr}
 use Rattle.mips_table.specs.Device.{Idle}
-use Rattle.mips_table.specs.Code.{Contents, reg, Behind, World, Sound, Configuration, at_with, Reaches, CodeAt, Does, Goes}
+use Rattle.mips_table.specs.Code.{Contents, reg, Behind, World, Sound, CodeState, at_with, Reaches, CodeAt, Does, LeadsTo}
 use Rattle.masm.specs.Says.{Says, straight, AllSaid, sayings, tellings}
 use Rattle.masm.specs.Blocks.{when_code, loop_code}
 use Rattle.masm.specs.Laws.{WhenRuns, From}
@@ -124,7 +124,7 @@ module _ (w : World) (f : Sound w) where
       (x.0, x.1, x.2.0, returning w f body n m to c0 d0 x.0 x.1 at x.3 x.2.1 x.2.2)
 
 -- from any configuration of one condition to one of another, and on
-pub goes_on_to : (w : World) (n m : ℕ) (P Q R : Configuration → Type 0) → Goes w n P Q → Goes w m Q R → Goes w (n + m) P R
+pub goes_on_to : (w : World) (n m : ℕ) (P Q R : CodeState → Type 0) → LeadsTo w n P Q → LeadsTo w m Q R → LeadsTo w (n + m) P R
 goes_on_to w n m P Q R a b = record {
   by = λ s p.
       let x = a.by s p in
@@ -132,7 +132,7 @@ goes_on_to w n m P Q R a b = record {
       (y.0, y.1, joined w n m s x.0 y.0 x.2 y.2);
 }
 
-pub goes_weaker : (w : World) (n m : ℕ) (P P' Q Q' : Configuration → Type 0) → n ≤ m → ((s : Configuration) → P' s → P s) → ((s : Configuration) → Q s → Q' s) → Goes w n P Q → Goes w m P' Q'
+pub goes_weaker : (w : World) (n m : ℕ) (P P' Q Q' : CodeState → Type 0) → n ≤ m → ((s : CodeState) → P' s → P s) → ((s : CodeState) → Q s → Q' s) → LeadsTo w n P Q → LeadsTo w m P' Q'
 goes_weaker w n m P P' Q Q' le before after a = record {
   by = λ s p.
       let x = a.by s (before s p) in
@@ -140,7 +140,7 @@ goes_weaker w n m P P' Q Q' le before after a = record {
 }
 
 -- a block that stands somewhere goes on from its first word to its end
-pub goes_through : (w : World) (is : List Inst) (n k : ℕ) (P Q : Contents → Behind → Type 0) → CodeAt w k is → Does w is n P Q → Goes w n (λ s. (s.at ≡ k) × P s.contents s.behind) (λ s. (s.at ≡ k + length is) × Q s.contents s.behind)
+pub goes_through : (w : World) (is : List Inst) (n k : ℕ) (P Q : Contents → Behind → Type 0) → CodeAt w k is → Does w is n P Q → LeadsTo w n (λ s. (s.at ≡ k) × P s.contents s.behind) (λ s. (s.at ≡ k + length is) × Q s.contents s.behind)
 goes_through w is n k P Q at does = record {
   by = λ s p.
       let x = does.by k s.contents s.behind at p.1 in

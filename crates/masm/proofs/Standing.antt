@@ -5,8 +5,8 @@ use Rattle.mips_table.specs.declared.inst.Inst.{Inst}
 use Rattle.std.specs.Prelude.{All}
 use Rattle.std.proofs.lemmas.List.Elements.{All-head, All-tail}
 use Rattle.mips_table.specs.Encoding.{InRange}
-use Rattle.mips_table.specs.Code.{World, Configuration, MayAt, code_run, CodeAt, RunLaws}
-use Rattle.masm.specs.Laws.{IsPart, with_code}
+use Rattle.mips_table.specs.Code.{World, CodeState, MayAt, code_run, CodeAt, RunLaws}
+use Rattle.masm.specs.Laws.{IsPartOfCode, with_code}
 use Rattle.masm.specs.Standing.{placed, alone, BlockStands}
 
 some_is : (i j : Inst) → Some i ≡ Some j → i ≡ j
@@ -32,7 +32,7 @@ range n (i ∷ is) a k j e = ⊎_elim
     (λ ne. range (n + 1) is (All-tail InRange i is a) k j (sym (others n i is k ne) ∙ e))
     (cases_eq k n)
 
-part : (n : ℕ) (is : List Inst) (w : World) → CodeAt w n is → IsPart (placed n is) w.code
+part : (n : ℕ) (is : List Inst) (w : World) → CodeAt w n is → IsPartOfCode (placed n is) w.code
 part n [] w at k j e = absurd (cc)
 part n (i ∷ is) w at k j e = ⊎_elim
     (λ z. ap w.code z ∙ at.0 ∙ sym (first n i is k z) ∙ e)
@@ -48,7 +48,7 @@ stands : (n : ℕ) (is : List Inst) (w : World) → CodeAt (alone w n is) n is
 stands n [] w = tt
 stands n (i ∷ is) w = (first n i is n refl, moved w (placed (n + 1) is) (placed n (i ∷ is)) (n + 1) is (λ k j le e. others n i is k (λ z. absurd (omega arith)) ∙ e) (stands (n + 1) is w))
 
-among : (w : World) (n : ℕ) (is : List Inst) (s : Configuration) (o : Option Inst) → placed n is s.at ≡ o → MayAt (alone w n is) o s → (n ≤ s.at) × (s.at < n + length is)
+among : (w : World) (n : ℕ) (is : List Inst) (s : CodeState) (o : Option Inst) → placed n is s.at ≡ o → MayAt (alone w n is) o s → (n ≤ s.at) × (s.at < n + length is)
 among w n is s None e m = absurd m
 among w n is s (Some i) e m = inside n is s.at i e
 

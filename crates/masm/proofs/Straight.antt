@@ -11,7 +11,7 @@ use Rattle.mips_table.specs.Effect.{next, divided}
 use Rattle.mips_table.specs.Device.{Pending, Idle, BUFFER, SECTOR, COMMAND, is_buffer, is_busy}
 use Rattle.mips_table.specs.Machine.{LOG, LEFT, INPUT, LOG_ROOM}
 use Rattle.mips_table.specs.Code.{put, reg, Contents, with_reg, with_wide, Behind, World, Sound, at_with, settle, word_loaded, after_load, after_store, logged, commanded, acted, EffectMay, effect_at, act, Reaches, CodeAt}
-use Rattle.masm.specs.Says.{Says, Gives, Widens, Reads, Writes, ReadsDisk, WritesDisk, Hears, Takes, Logs, Asks, is_disk_word, DiskWord, Said, said, told, goes_on, straight, AllSaid, sayings, tellings}
+use Rattle.masm.specs.Says.{Says, Gives, Widens, Reads, Writes, ReadsDisk, WritesDisk, Hears, Takes, Logs, Asks, is_disk_word, DiskWord, Said, said, ports_after, falls_through, straight, AllSaid, sayings, tellings}
 use Rattle.masm.specs.Laws.{StraightRuns}
 use Rattle.masm.proofs.Runs.{none, joined, later, step_to, settled, to_there}
 
@@ -24,7 +24,7 @@ on_cond : (n : ℕ) (b : Bool) (e f : Effect) → On n e → On n f → On n (co
 on_cond n true e f a b = a
 on_cond n false e f a b = b
 
-on : (i : Inst) (n : ℕ) (c : Contents) → goes_on i ≡ true → On n (effect_at i n c)
+on : (i : Inst) (n : ℕ) (c : Contents) → falls_through i ≡ true → On n (effect_at i n c)
 on (Sll rd rt sa) n c g = refl
 on (Srl rd rt sa) n c g = refl
 on (Sra rd rt sa) n c g = refl
@@ -119,7 +119,7 @@ module _ (w : World) (f : Sound w) where
       ∙ either (is_buffer x) (nat_eq x SECTOR) wrote (settle n c d) h.0
 
   -- the one step lemma, over the effect
-  acts : (i : Inst) (n : ℕ) (c : Contents) (d : Behind) (e : Effect) (h : Says) → n < w.words → On n e → Said w i c d e h → EffectMay w i c e × (acted w i n c d e ≡ settle (n + 1) (said i c e h) (told d h))
+  acts : (i : Inst) (n : ℕ) (c : Contents) (d : Behind) (e : Effect) (h : Says) → n < w.words → On n e → Said w i c d e h → EffectMay w i c e × (acted w i n c d e ≡ settle (n + 1) (said i c e h) (ports_after d h))
   acts i n c d (Set r u to) (Gives v) lt o s =
       let small = f.small in
       let at : to / 4 ≡ n + 1 = ap (λ t. t / 4) o ∙ omega arith in
@@ -166,7 +166,7 @@ module _ (w : World) (f : Sound w) where
       let at : a / 4 ≡ INPUT = ap (λ t. t / 4) s.0 in
       let above : nat_lt INPUT w.words ≡ false = le-ltb INPUT w.words (omega arith) in
       let value : word_loaded w c d INPUT ≡ v = cond-false (nat_lt INPUT w.words) (c.memory INPUT) _ above ∙ s.2 in
-      let left : after_load w d INPUT ≡ told d (Takes v) = cond-false (nat_lt INPUT w.words) d _ above in (
+      let left : after_load w d INPUT ≡ ports_after d (Takes v) = cond-false (nat_lt INPUT w.words) d _ above in (
         (ap (λ t. t % 4) s.0, λ le. s.1),
         ap₂ (λ y z. settle (n + 1) (with_reg c r y) z) (ap (word_loaded w c d) at ∙ value) (ap (after_load w d) at ∙ left),
       )
@@ -180,14 +180,14 @@ module _ (w : World) (f : Sound w) where
   acts i n c d System Asks lt o s = (s, refl)
   acts i n c d e h lt o s = absurd s
 
-  pub said_step : (i : Inst) (h : Says) (n : ℕ) (c : Contents) (d : Behind) → w.code n ≡ Some i → goes_on i ≡ true → Said w i c d (effect_at i n c) h → Reaches w 1 (at_with n c d) (settle (n + 1) (said i c (effect_at i n c) h) (told d h))
+  pub said_step : (i : Inst) (h : Says) (n : ℕ) (c : Contents) (d : Behind) → w.code n ≡ Some i → falls_through i ≡ true → Said w i c d (effect_at i n c) h → Reaches w 1 (at_with n c d) (settle (n + 1) (said i c (effect_at i n c) h) (ports_after d h))
   unfolding act
   said_step i h n c d at g s =
       let a = acts i n c d (effect_at i n c) h (f.inside n i at) (on i n c g) s in
       step_to w (at_with n c d) _ i at a.0 a.1
 
   -- nothing that is said begins a command
-  still : (d : Behind) (h : Says) → d.pending ≡ Idle → (told d h).pending ≡ Idle
+  still : (d : Behind) (h : Says) → d.pending ≡ Idle → (ports_after d h).pending ≡ Idle
   still d (Gives v) e = e
   still d (Widens hi lo) e = e
   still d (Reads x v) e = e
@@ -199,18 +199,18 @@ module _ (w : World) (f : Sound w) where
   still d (Logs v) e = cond_both (nat_lt (length d.log) LOG_ROOM) _ d (λ b. b.pending ≡ Idle) (λ t. e) (λ t. e)
   still d Asks e = e
 
-  pub next_step : (i : Inst) (h : Says) (n : ℕ) (c : Contents) (d : Behind) → w.code n ≡ Some i → goes_on i ≡ true → d.pending ≡ Idle → Said w i c d (effect_at i n c) h → Reaches w 1 (at_with n c d) (at_with (n + 1) (said i c (effect_at i n c) h) (told d h))
-  next_step i h n c d at g idle s = settled w 1 (n + 1) _ (said i c (effect_at i n c) h) (told d h) (still d h idle) (said_step i h n c d at g s)
+  pub next_step : (i : Inst) (h : Says) (n : ℕ) (c : Contents) (d : Behind) → w.code n ≡ Some i → falls_through i ≡ true → d.pending ≡ Idle → Said w i c d (effect_at i n c) h → Reaches w 1 (at_with n c d) (at_with (n + 1) (said i c (effect_at i n c) h) (ports_after d h))
+  next_step i h n c d at g idle s = settled w 1 (n + 1) _ (said i c (effect_at i n c) h) (ports_after d h) (still d h idle) (said_step i h n c d at g s)
 
   pub straight_runs : (is : List Inst) (hs : List Says) (n : ℕ) (c : Contents) (d : Behind) → CodeAt w n is → straight is ≡ true → d.pending ≡ Idle → AllSaid w n is hs c d → Reaches w (length is) (at_with n c d) (at_with (n + length is) (sayings n is hs c) (tellings hs d))
   straight_runs [] [] n c d at g idle s = let e : n ≡ n + 0 = omega arith in to_there w 0 _ _ _ (ap (λ m. at_with m c d) e) (none w (at_with n c d))
   straight_runs (i ∷ is) (h ∷ hs) n c d at g idle s =
-      let b = and_parts (goes_on i) (straight is) g in
+      let b = and_parts (falls_through i) (straight is) g in
       let e : n + 1 + length is ≡ n + length (i ∷ is) = omega arith in
       let idle' = still d h idle in
       let first = next_step i h n c d at.0 b.0 idle s.0 in
-      let rest = straight_runs is hs (n + 1) (said i c (effect_at i n c) h) (told d h) at.1 b.1 idle' s.1 in
-      let end = ap (λ m. at_with m (sayings (n + 1) is hs (said i c (effect_at i n c) h)) (tellings hs (told d h))) e in
+      let rest = straight_runs is hs (n + 1) (said i c (effect_at i n c) h) (ports_after d h) at.1 b.1 idle' s.1 in
+      let end = ap (λ m. at_with m (sayings (n + 1) is hs (said i c (effect_at i n c) h)) (tellings hs (ports_after d h))) e in
       later w (1 + length is) _ _ _ (omega arith) (joined w 1 (length is) _ _ _ first (to_there w (length is) _ _ _ end rest))
   straight_runs [] (h ∷ hs) n c d at g idle s = absurd s
   straight_runs (i ∷ is) [] n c d at g idle s = absurd s

@@ -4,17 +4,17 @@ use Rattle.mips_table.specs.declared.inst.Inst.{Inst}
 use Rattle.mips_table.specs.declared.inst.Inst.TheVariants.{Jr}
 use Rattle.mips_table.specs.declared.effect.Effect.TheVariants.{Set, Store}
 use Rattle.mips_table.specs.Arith.{signed_quotient, signed_remainder}
-use Rattle.mips_table.specs.Effect.{branch, divided, jump, next}
+use Rattle.mips_table.specs.Effect.{branch, divided, jump_target, next}
 use Rattle.mips_table.specs.Encoding.{InRange, encoding}
 use Rattle.mips_table.specs.Device.{Idle, COMMAND, SECTOR}
-use Rattle.mips_table.specs.Code.{Contents, reg, with_reg, Behind, World, Sound, Configuration, at_with, settle, commanded, effect_at, act, May, Reaches, CodeAt, Does}
-use Rattle.masm.specs.Says.{Says, Widens, Said, said, told, goes_on, straight, AllSaid, sayings, tellings}
+use Rattle.mips_table.specs.Code.{Contents, reg, with_reg, Behind, World, Sound, CodeState, at_with, settle, commanded, effect_at, act, May, Reaches, CodeAt, Does}
+use Rattle.masm.specs.Says.{Says, Widens, Said, said, ports_after, falls_through, straight, AllSaid, sayings, tellings}
 use Rattle.masm.specs.Blocks.{when_code, loop_code, when_words, loop_words}
 use Rattle.masm.specs.declared.registers.TheConstants.{RETURN}
 
 -- each instruction of the part stands in the whole
-abbrev pub IsPart : (part whole : ℕ → Option Inst) → Type 0
-IsPart part whole = (n : ℕ) (i : Inst) → part n ≡ Some i → whole n ≡ Some i
+abbrev pub IsPartOfCode : (part whole : ℕ → Option Inst) → Type 0
+IsPartOfCode part whole = (n : ℕ) (i : Inst) → part n ≡ Some i → whole n ≡ Some i
 
 -- the same run with other code
 abbrev pub with_code : World → (ℕ → Option Inst) → World
@@ -24,26 +24,26 @@ with_code w code = record w { code = code }
 -- does, and a run of part of the code is a run of all of it. Where no command is under way a step ends where it leads. A run that leads
 -- elsewhere takes a step.
 pub record RunsCompose : Type 0 where
-  pub none : (w : World) (s : Configuration) → Reaches w 0 s s
+  pub none : (w : World) (s : CodeState) → Reaches w 0 s s
   pub empty : (w : World) (n : ℕ) (c : Contents) (d : Behind) → Reaches w 0 (at_with n c d) (at_with (n + 0) c d)
-  pub one : (w : World) (s : Configuration) (i : Inst) → w.code s.at ≡ Some i → May w i s → Reaches w 1 s (act w i s)
-  pub joined : (w : World) (n m : ℕ) (s t u : Configuration) → Reaches w n s t → Reaches w m t u → Reaches w (n + m) s u
+  pub one : (w : World) (s : CodeState) (i : Inst) → w.code s.at ≡ Some i → May w i s → Reaches w 1 s (act w i s)
+  pub joined : (w : World) (n m : ℕ) (s t u : CodeState) → Reaches w n s t → Reaches w m t u → Reaches w (n + m) s u
   pub followed : (w : World) (a b : List Inst) (n p q : ℕ) (c : Contents) (d : Behind) (c' : Contents) (d' : Behind) (c'' : Contents) (d'' : Behind) → Reaches w p (at_with n c d) (at_with (n + length a) c' d') → Reaches w q (at_with (n + length a) c' d') (at_with (n + length a + length b) c'' d'') → Reaches w (p + q) (at_with n c d) (at_with (n + length (a ++ b)) c'' d'')
-  pub later : (w : World) (n m : ℕ) (s t : Configuration) → n ≤ m → Reaches w n s t → Reaches w m s t
-  pub elsewhere : (w : World) (n : ℕ) (s t : Configuration) → s.at ≢ t.at → (r : Reaches w n s t) → 1 ≤ r.steps
+  pub later : (w : World) (n m : ℕ) (s t : CodeState) → n ≤ m → Reaches w n s t → Reaches w m s t
+  pub elsewhere : (w : World) (n : ℕ) (s t : CodeState) → s.at ≢ t.at → (r : Reaches w n s t) → 1 ≤ r.steps
   pub front : (w : World) (n : ℕ) (a b : List Inst) → CodeAt w n (a ++ b) → CodeAt w n a
   pub back : (w : World) (n : ℕ) (a b : List Inst) → CodeAt w n (a ++ b) → CodeAt w (n + length a) b
-  pub wider : (w : World) (code : ℕ → Option Inst) → IsPart code w.code → (n : ℕ) (s t : Configuration) → Reaches (with_code w code) n s t → Reaches w n s t
-  pub part_sound : (w : World) (code : ℕ → Option Inst) → IsPart code w.code → Sound w → Sound (with_code w code)
-  pub settled : (w : World) (n m : ℕ) (s : Configuration) (c : Contents) (d : Behind) → d.pending ≡ Idle → Reaches w n s (settle m c d) → Reaches w n s (at_with m c d)
+  pub wider : (w : World) (code : ℕ → Option Inst) → IsPartOfCode code w.code → (n : ℕ) (s t : CodeState) → Reaches (with_code w code) n s t → Reaches w n s t
+  pub part_sound : (w : World) (code : ℕ → Option Inst) → IsPartOfCode code w.code → Sound w → Sound (with_code w code)
+  pub settled : (w : World) (n m : ℕ) (s : CodeState) (c : Contents) (d : Behind) → d.pending ≡ Idle → Reaches w n s (settle m c d) → Reaches w n s (at_with m c d)
   pub settles : (n : ℕ) (c : Contents) (d : Behind) → d.pending ≡ Idle → settle n c d ≡ at_with n c d
 
 -- Straight code does what is said of its instructions: any one of them, also while a command is under way; one of them, or all of a
 -- list, while none is. A division by other than 0 is said by its remainder and quotient, and one by 0 leaves hi and lo. A store to the
 -- command port gives the command, for a sector that may be used.
 pub record StraightRuns (w : World) : Type 0 where
-  pub one : (i : Inst) (h : Says) (n : ℕ) (c : Contents) (d : Behind) → w.code n ≡ Some i → goes_on i ≡ true → Said w i c d (effect_at i n c) h → Reaches w 1 (at_with n c d) (settle (n + 1) (said i c (effect_at i n c) h) (told d h))
-  pub next : (i : Inst) (h : Says) (n : ℕ) (c : Contents) (d : Behind) → w.code n ≡ Some i → goes_on i ≡ true → d.pending ≡ Idle → Said w i c d (effect_at i n c) h → Reaches w 1 (at_with n c d) (at_with (n + 1) (said i c (effect_at i n c) h) (told d h))
+  pub one : (i : Inst) (h : Says) (n : ℕ) (c : Contents) (d : Behind) → w.code n ≡ Some i → falls_through i ≡ true → Said w i c d (effect_at i n c) h → Reaches w 1 (at_with n c d) (settle (n + 1) (said i c (effect_at i n c) h) (ports_after d h))
+  pub next : (i : Inst) (h : Says) (n : ℕ) (c : Contents) (d : Behind) → w.code n ≡ Some i → falls_through i ≡ true → d.pending ≡ Idle → Said w i c d (effect_at i n c) h → Reaches w 1 (at_with n c d) (at_with (n + 1) (said i c (effect_at i n c) h) (ports_after d h))
   pub all : (is : List Inst) (hs : List Says) (n : ℕ) (c : Contents) (d : Behind) → CodeAt w n is → straight is ≡ true → d.pending ≡ Idle → AllSaid w n is hs c d → Reaches w (length is) (at_with n c d) (at_with (n + length is) (sayings n is hs c) (tellings hs d))
   pub division : (i : Inst) (c : Contents) (d : Behind) (a b pc hi lo : ℕ) → b ≢ 0 → Said w i c d (divided a b pc hi lo) (Widens (signed_remainder a b) (signed_quotient a b))
   pub by_zero : (i : Inst) (c : Contents) (d : Behind) (a b pc hi lo : ℕ) → b ≡ 0 → Said w i c d (divided a b pc hi lo) (Widens hi lo)
@@ -55,7 +55,7 @@ pub record JumpsLead (w : World) : Type 0 where
   pub taken : (i : Inst) (k imm : ℕ) (b : Bool) (c : Contents) (d : Behind) → w.code k ≡ Some i → effect_at i k c ≡ Set 0 0 (branch (4 * k) imm b) → b ≡ true → imm < 32768 → Reaches w 1 (at_with k c d) (settle (k + 1 + imm) c d)
   pub taken_back : (i : Inst) (k to len : ℕ) (b : Bool) (c : Contents) (d : Behind) → w.code k ≡ Some i → effect_at i k c ≡ Set 0 0 (branch (4 * k) (65536 - len) b) → b ≡ true → to + len ≡ k + 1 → 0 < len → len ≤ 32768 → Reaches w 1 (at_with k c d) (settle to c d)
   pub passed : (i : Inst) (k imm : ℕ) (b : Bool) (c : Contents) (d : Behind) → w.code k ≡ Some i → effect_at i k c ≡ Set 0 0 (branch (4 * k) imm b) → b ≡ false → Reaches w 1 (at_with k c d) (settle (k + 1) c d)
-  pub jumped : (i : Inst) (k index r v : ℕ) (c : Contents) (d : Behind) → w.code k ≡ Some i → effect_at i k c ≡ Set r v (jump (4 * k) index) → Reaches w 1 (at_with k c d) (settle index (with_reg c r v) d)
+  pub jumped : (i : Inst) (k index r v : ℕ) (c : Contents) (d : Behind) → w.code k ≡ Some i → effect_at i k c ≡ Set r v (jump_target (4 * k) index) → Reaches w 1 (at_with k c d) (settle index (with_reg c r v) d)
   pub led : (i : Inst) (k to r v : ℕ) (c : Contents) (d : Behind) → w.code k ≡ Some i → effect_at i k c ≡ Set r v (4 * to) → Reaches w 1 (at_with k c d) (settle to (with_reg c r v) d)
   pub after : (i : Inst) (k : ℕ) → w.code k ≡ Some i → next (4 * k) ≡ 4 * (k + 1)
 

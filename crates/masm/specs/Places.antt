@@ -7,19 +7,19 @@ use Rattle.masm.specs.declared.registers.Places.{Places}
 use Rattle.masm.specs.declared.registers.TheConstants.{RETURN}
 
 -- the address of a word that every jump reaches
-abbrev pub IsPlace : ℕ → Type 0
-IsPlace a = (a % 4 ≡ 0) × (a < 2 ^ 28)
+abbrev pub IsJumpTarget : ℕ → Type 0
+IsJumpTarget a = (a % 4 ≡ 0) × (a < 2 ^ 28)
 
 -- each address of these is one
 pub record ArePlaces (p : Places) : Type 0 where
-  pub globals : IsPlace p.globals
-  pub faults : All IsPlace p.faults
-  pub multiply : IsPlace p.multiply
-  pub divide : IsPlace p.divide
-  pub remainder : IsPlace p.remainder
-  pub new_object : IsPlace p.new_object
-  pub functions : All IsPlace p.functions.items
-  pub primitives : All IsPlace p.primitives.items
+  pub globals : IsJumpTarget p.globals
+  pub faults : All IsJumpTarget p.faults
+  pub multiply : IsJumpTarget p.multiply
+  pub divide : IsJumpTarget p.divide
+  pub remainder : IsJumpTarget p.remainder
+  pub new_object : IsJumpTarget p.new_object
+  pub functions : All IsJumpTarget p.functions.items
+  pub primitives : All IsJumpTarget p.primitives.items
 
 -- The word of an instruction that jumps, calls or returns, where no command is under way: a jump leads to the place's word, a call does too
 -- and leaves the address behind it in the return register, and a return leads to the word whose address is there. Each takes a step, and

@@ -55,76 +55,76 @@ Said w i c d System Asks = PrivilegedMay w i
 Said w i c d e h = ⊥
 
 -- the register that an effect writes
-abbrev pub written : Effect → ℕ
-written (Set r u to) = r
-written (Load r a) = r
-written other = 0
+abbrev pub register_written : Effect → ℕ
+register_written (Set r u to) = r
+register_written (Load r a) = r
+register_written other = 0
 
 -- the contents after it
 abbrev pub said : Inst → Contents → Effect → Says → Contents
-said i c e (Gives v) = with_reg c (written e) v
+said i c e (Gives v) = with_reg c (register_written e) v
 said i c e (Widens hi lo) = with_wide c hi lo
-said i c e (Reads x v) = with_reg c (written e) v
+said i c e (Reads x v) = with_reg c (register_written e) v
 said i c e (Writes x v) = record c { memory = put c.memory x v }
-said i c e (ReadsDisk x v) = with_reg c (written e) v
+said i c e (ReadsDisk x v) = with_reg c (register_written e) v
 said i c e (WritesDisk x v) = record c { memory = put c.memory x v }
-said i c e (Hears x v) = with_reg c (written e) v
-said i c e (Takes v) = with_reg c (written e) v
+said i c e (Hears x v) = with_reg c (register_written e) v
+said i c e (Takes v) = with_reg c (register_written e) v
 said i c e (Logs v) = c
 said i c e Asks = privileged i c
 
 -- what is behind the ports after it
-abbrev pub told : Behind → Says → Behind
-told d (Takes v) = record d { input = drop 1 d.input }
-told d (Logs v) = logged d v
-told d other = d
+abbrev pub ports_after : Behind → Says → Behind
+ports_after d (Takes v) = record d { input = drop 1 d.input }
+ports_after d (Logs v) = logged d v
+ports_after d other = d
 
 -- the instruction goes on to the next, whatever the registers hold, unless its address traps
-abbrev pub goes_on : Inst → Bool
-goes_on (Sll rd rt sa) = true
-goes_on (Srl rd rt sa) = true
-goes_on (Sra rd rt sa) = true
-goes_on (Sllv rd rt rs) = true
-goes_on (Srlv rd rt rs) = true
-goes_on (Srav rd rt rs) = true
-goes_on (Addu rd rs rt) = true
-goes_on (Subu rd rs rt) = true
-goes_on (And rd rs rt) = true
-goes_on (Or rd rs rt) = true
-goes_on (Xor rd rs rt) = true
-goes_on (Nor rd rs rt) = true
-goes_on (Slt rd rs rt) = true
-goes_on (Sltu rd rs rt) = true
-goes_on (Addiu rt rs imm) = true
-goes_on (Slti rt rs imm) = true
-goes_on (Sltiu rt rs imm) = true
-goes_on (Andi rt rs imm) = true
-goes_on (Ori rt rs imm) = true
-goes_on (Xori rt rs imm) = true
-goes_on (Lui rt imm) = true
-goes_on (Lw rt rs imm) = true
-goes_on (Sw rt rs imm) = true
-goes_on (Mult rs rt) = true
-goes_on (Multu rs rt) = true
-goes_on (Div rs rt) = true
-goes_on (Divu rs rt) = true
-goes_on (Mfhi rd) = true
-goes_on (Mthi rs) = true
-goes_on (Mflo rd) = true
-goes_on (Mtlo rs) = true
-goes_on (Mfc0 rt special) = true
-goes_on (Mtc0 rt special) = true
-goes_on other = false
+abbrev pub falls_through : Inst → Bool
+falls_through (Sll rd rt sa) = true
+falls_through (Srl rd rt sa) = true
+falls_through (Sra rd rt sa) = true
+falls_through (Sllv rd rt rs) = true
+falls_through (Srlv rd rt rs) = true
+falls_through (Srav rd rt rs) = true
+falls_through (Addu rd rs rt) = true
+falls_through (Subu rd rs rt) = true
+falls_through (And rd rs rt) = true
+falls_through (Or rd rs rt) = true
+falls_through (Xor rd rs rt) = true
+falls_through (Nor rd rs rt) = true
+falls_through (Slt rd rs rt) = true
+falls_through (Sltu rd rs rt) = true
+falls_through (Addiu rt rs imm) = true
+falls_through (Slti rt rs imm) = true
+falls_through (Sltiu rt rs imm) = true
+falls_through (Andi rt rs imm) = true
+falls_through (Ori rt rs imm) = true
+falls_through (Xori rt rs imm) = true
+falls_through (Lui rt imm) = true
+falls_through (Lw rt rs imm) = true
+falls_through (Sw rt rs imm) = true
+falls_through (Mult rs rt) = true
+falls_through (Multu rs rt) = true
+falls_through (Div rs rt) = true
+falls_through (Divu rs rt) = true
+falls_through (Mfhi rd) = true
+falls_through (Mthi rs) = true
+falls_through (Mflo rd) = true
+falls_through (Mtlo rs) = true
+falls_through (Mfc0 rt special) = true
+falls_through (Mtc0 rt special) = true
+falls_through other = false
 
 -- all of them do
 abbrev pub straight : List Inst → Bool
 straight [] = true
-straight (i ∷ is) = goes_on i && straight is
+straight (i ∷ is) = falls_through i && straight is
 
 -- each instruction of the list, which stands at n, does what is said of it
 abbrev pub AllSaid : World → ℕ → List Inst → List Says → Contents → Behind → Type 0
 AllSaid w n [] [] c d = Unit {0}
-AllSaid w n (i ∷ is) (h ∷ hs) c d = Said w i c d (effect_at i n c) h × AllSaid w (n + 1) is hs (said i c (effect_at i n c) h) (told d h)
+AllSaid w n (i ∷ is) (h ∷ hs) c d = Said w i c d (effect_at i n c) h × AllSaid w (n + 1) is hs (said i c (effect_at i n c) h) (ports_after d h)
 AllSaid w n is hs c d = ⊥
 
 -- the contents after all of them
@@ -135,4 +135,4 @@ sayings n is hs c = c
 -- what is behind the ports after all of them
 abbrev pub tellings : List Says → Behind → Behind
 tellings [] d = d
-tellings (h ∷ hs) d = tellings hs (told d h)
+tellings (h ∷ hs) d = tellings hs (ports_after d h)

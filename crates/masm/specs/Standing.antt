@@ -2,8 +2,8 @@
 use Rattle.std.specs.Prelude.{◌≡◌, ℕ, ◌+◌, ◌<◌, ◌≤◌, ◌==◌, if◌then◌else◌, List, [], ◌∷◌, length, All, Option, Some, None}
 use Rattle.mips_table.specs.declared.inst.Inst.{Inst}
 use Rattle.mips_table.specs.Encoding.{InRange}
-use Rattle.mips_table.specs.Code.{World, Configuration, code_run, Steps, CodeAt}
-use Rattle.masm.specs.Laws.{IsPart, with_code}
+use Rattle.mips_table.specs.Code.{World, CodeState, code_run, Steps, CodeAt}
+use Rattle.masm.specs.Laws.{IsPartOfCode, with_code}
 
 -- the block at n, and no other code
 abbrev pub placed : ℕ → List Inst → ℕ → Option Inst
@@ -17,8 +17,8 @@ alone w n is = with_code w (placed n is)
 -- Alone the block stands where it stands in the whole code, of which it is a part, and its instructions in range are so there. In a run of it alone each instruction is one
 -- of the block's: it is left at the run's end, and nowhere else.
 pub record BlockStands (n : ℕ) (is : List Inst) : Type 0 where
-  pub part : (w : World) → CodeAt w n is → IsPart (placed n is) w.code
+  pub part : (w : World) → CodeAt w n is → IsPartOfCode (placed n is) w.code
   pub stands : (w : World) → CodeAt (alone w n is) n is
   pub inside : (k : ℕ) (i : Inst) → placed n is k ≡ Some i → (n ≤ k) × (k < n + length is)
   pub range : All InRange is → (k : ℕ) (i : Inst) → placed n is k ≡ Some i → InRange i
-  pub stays : (w : World) (m j : ℕ) (s t : Configuration) → Steps (alone w n is) m s t → j < m → (n ≤ (code_run (alone w n is) s j).at) × ((code_run (alone w n is) s j).at < n + length is)
+  pub stays : (w : World) (m j : ℕ) (s t : CodeState) → Steps (alone w n is) m s t → j < m → (n ≤ (code_run (alone w n is) s j).at) × ((code_run (alone w n is) s j).at < n + length is)

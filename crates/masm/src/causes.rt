@@ -2,7 +2,7 @@
 
 ghost use Rattle.std.specs.Prelude.{◌≡◌};
 ghost use Rattle.mips_table.specs.declared.cause.Cause.TheVariants.{FetchFault, DataFault};
-ghost use Rattle.mips_table.specs.Machine.{number_of};
+ghost use Rattle.mips_table.specs.Machine.{cause_number};
 
 /// Translation refuses the pc.
 pub const FETCH_FAULT: u32 = 3;
@@ -12,6 +12,6 @@ pub const DATA_FAULT: u32 = 8;
 
 /// A law: the constants are the numbers of these causes.
 pub fn causes_are_numbers()
-    ensures fetch { FETCH_FAULT ≡ number_of FetchFault }
-    ensures data { DATA_FAULT ≡ number_of DataFault }
+    ensures fetch { FETCH_FAULT ≡ cause_number FetchFault }
+    ensures data { DATA_FAULT ≡ cause_number DataFault }
 {}

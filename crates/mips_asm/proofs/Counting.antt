@@ -7,9 +7,9 @@ use Rattle.std.proofs.lemmas.List.Folds.{list_any-append}
 use Rattle.std.proofs.lemmas.List.Sums.{sum_by_push}
 use Rattle.std.proofs.lemmas.Grind.{flat_map-append}
 use mathlib.Core.Path.{fun_ext}
-use Rattle.mips_asm.specs.Line.{meaning, width}
+use Rattle.mips_asm.specs.Line.{line_meaning, width}
 use Rattle.mips_asm.specs.Text.{is_good_byte}
-use Rattle.mips_asm.specs.Assembled.{labels, words_in, bytes_in, has, place_of, repeats, resolved, meaning_fault, meaning_words, twice_fault, line_fault, first_fault, words_of}
+use Rattle.mips_asm.specs.Assembled.{labels, words_in, bytes_in, has, label_place, repeats, labels_resolved, meaning_fault, meaning_words, twice_fault, line_fault, first_fault, words_of_lines}
 use Rattle.mips_asm.specs.Passes.{repeats_in, fault_at, fault_from, words_from}
 
 or_false : (a : Bool) → (a || false) ≡ a
@@ -38,9 +38,9 @@ repeats_are before (n ∷ ns) =
 
 -- the fault of a line
 line_fault_is : (lines before : List (List ℕ)) (line : List ℕ)
-    → line_fault lines before line ≡ fault_at (place_of lines) (has (flat_map labels before)) (bytes_in before) (length before + 1) (words_in before) line
+    → line_fault lines before line ≡ fault_at (label_place lines) (has (flat_map labels before)) (bytes_in before) (length before + 1) (words_in before) line
 line_fault_is lines before line =
-    ap (λ t. option_or (meaning_fault (bytes_in before + prefix_len is_good_byte line) (length before + 1) (resolved (place_of lines) (words_in before) (meaning line))) (twice_fault (length before + 1) t))
+    ap (λ t. option_or (meaning_fault (bytes_in before + prefix_len is_good_byte line) (length before + 1) (labels_resolved (label_place lines) (words_in before) (line_meaning line))) (twice_fault (length before + 1) t))
     (repeats_are (flat_map labels before) (labels line))
 
 -- what is counted before the next line
@@ -48,11 +48,11 @@ next_number : (before : List (List ℕ)) (line : List ℕ) → length (before ++
 next_number before line = omega (arith, length-append before (line ∷ []))
 
 pub first_fault_is : (lines before rest : List (List ℕ))
-    → first_fault lines before rest ≡ fault_from (place_of lines) (has (flat_map labels before)) (bytes_in before) (length before + 1) (words_in before) rest
+    → first_fault lines before rest ≡ fault_from (label_place lines) (has (flat_map labels before)) (bytes_in before) (length before + 1) (words_in before) rest
 first_fault_is lines before [] = refl
 first_fault_is lines before (line ∷ rest) =
     let more = before ++ (line ∷ []) in
-    let place = place_of lines in
+    let place = label_place lines in
     let here = fault_at place (has (flat_map labels before)) (bytes_in before) (length before + 1) (words_in before) line in
     ap (λ o. option_or o (first_fault lines more rest)) (line_fault_is lines before line)
     ∙ ap (option_or here) (first_fault_is lines more rest)
@@ -60,11 +60,11 @@ first_fault_is lines before (line ∷ rest) =
     ∙ ap (λ n. option_or here (fault_from place (λ q. has (flat_map labels before) q || has (labels line) q) n (length more + 1) (words_in more) rest)) (sum_by_push (λ l. length l + 1) before line)
     ∙ ap (λ n. option_or here (fault_from place (λ q. has (flat_map labels before) q || has (labels line) q) (bytes_in before + (length line + 1)) n (words_in more) rest)) (next_number before line)
     ∙ ap (λ n. option_or here (fault_from place (λ q. has (flat_map labels before) q || has (labels line) q) (bytes_in before + (length line + 1)) (length before + 1 + 1) n rest))
-    (sum_by_push (λ l. width (meaning l)) before line)
+    (sum_by_push (λ l. width (line_meaning l)) before line)
 
-pub words_are : (lines before rest : List (List ℕ)) → words_of lines before rest ≡ words_from (place_of lines) (words_in before) rest
+pub words_are : (lines before rest : List (List ℕ)) → words_of_lines lines before rest ≡ words_from (label_place lines) (words_in before) rest
 words_are lines before [] = refl
 words_are lines before (line ∷ rest) =
-    let here = meaning_words (resolved (place_of lines) (words_in before) (meaning line)) in
+    let here = meaning_words (labels_resolved (label_place lines) (words_in before) (line_meaning line)) in
     ap (λ ws. here ++ ws) (words_are lines (before ++ (line ∷ [])) rest)
-    ∙ ap (λ n. here ++ words_from (place_of lines) n rest) (sum_by_push (λ l. width (meaning l)) before line)
+    ∙ ap (λ n. here ++ words_from (label_place lines) n rest) (sum_by_push (λ l. width (line_meaning l)) before line)

@@ -6,8 +6,8 @@ use mathlib.Core.Path.{fun_ext}
 use Rattle.mips_asm.specs.declared.fault.AsmFault.{AsmFault}
 use Rattle.std.specs.List.{prefix_len}
 use Rattle.mips_asm.specs.Text.{content, colon_parts, labels_in, is_good_byte}
-use Rattle.mips_asm.specs.Line.{Meaning, meaning, width}
-use Rattle.mips_asm.specs.Assembled.{labels, has, resolved, meaning_fault, twice_fault}
+use Rattle.mips_asm.specs.Line.{LineMeaning, line_meaning, width}
+use Rattle.mips_asm.specs.Assembled.{labels, has, labels_resolved, meaning_fault, twice_fault}
 use Rattle.mips_asm.specs.Passes.{repeats_in, fault_at, fault_from}
 
 -- what is there after a line's labels are set
@@ -20,26 +20,26 @@ some_or None new false at e = ap is_some e
 pub found : (place : List ℕ → Option ℕ) (seen : List ℕ → Bool) (start number at : ℕ) (line : List ℕ) (rest : List (List ℕ)) (o : Option AsmFault) (f : AsmFault)
     → o ≡ fault_at place seen start number at line → o ≡ Some f → Some f ≡ fault_from place seen start number at (line ∷ rest)
 found place seen start number at line rest o f is some =
-    sym (ap (λ k. option_or k (fault_from place (λ q. seen q || has (labels line) q) (start + (length line + 1)) (number + 1) (at + width (meaning line)) rest)) (sym is ∙ some))
+    sym (ap (λ k. option_or k (fault_from place (λ q. seen q || has (labels line) q) (start + (length line + 1)) (number + 1) (at + width (line_meaning line)) rest)) (sym is ∙ some))
 
 -- the line has none
 pub next_line : (place : List ℕ → Option ℕ) (seen after : List ℕ → Bool) (start number at next : ℕ) (line : List ℕ) (rest : List (List ℕ)) (o : Option AsmFault)
-    → o ≡ fault_at place seen start number at line → o ≡ None → ((q : List ℕ) → after q ≡ (seen q || has (labels line) q)) → next ≡ at + width (meaning line)
+    → o ≡ fault_at place seen start number at line → o ≡ None → ((q : List ℕ) → after q ≡ (seen q || has (labels line) q)) → next ≡ at + width (line_meaning line)
     → fault_from place after (start + (length line + 1)) (number + 1) next rest ≡ fault_from place seen start number at (line ∷ rest)
 next_line place seen after start number at next line rest o is none same far =
     ap (λ s. fault_from place s (start + (length line + 1)) (number + 1) next rest) (fun_ext same)
     ∙ ap (λ n. fault_from place (λ q. seen q || has (labels line) q) (start + (length line + 1)) (number + 1) n rest) far
-    ∙ sym (ap (λ k. option_or k (fault_from place (λ q. seen q || has (labels line) q) (start + (length line + 1)) (number + 1) (at + width (meaning line)) rest)) (sym is ∙ none))
+    ∙ sym (ap (λ k. option_or k (fault_from place (λ q. seen q || has (labels line) q) (start + (length line + 1)) (number + 1) (at + width (line_meaning line)) rest)) (sym is ∙ none))
 
 -- the parts of a line's fault, as the code comes by them
-pub fault_is : (place : List ℕ → Option ℕ) (seen : List ℕ → Bool) (start number at good : ℕ) (line text : List ℕ) (o : Option AsmFault) (read known : Meaning) (twice : Bool)
+pub fault_is : (place : List ℕ → Option ℕ) (seen : List ℕ → Bool) (start number at good : ℕ) (line text : List ℕ) (o : Option AsmFault) (read known : LineMeaning) (twice : Bool)
     → o ≡ option_or (meaning_fault (start + good) number known) (twice_fault number twice) → good ≡ prefix_len is_good_byte line
-    → known ≡ resolved place at read → read ≡ meaning line → twice ≡ repeats_in seen (labels_in (colon_parts text)) → text ≡ content (take (prefix_len is_good_byte line) line)
+    → known ≡ labels_resolved place at read → read ≡ line_meaning line → twice ≡ repeats_in seen (labels_in (colon_parts text)) → text ≡ content (take (prefix_len is_good_byte line) line)
     → o ≡ fault_at place seen start number at line
 fault_is place seen start number at good line text o read known twice is front resolves reads repeated labelled =
     is ∙ ap (λ g. option_or (meaning_fault (start + g) number known) (twice_fault number twice)) front
-    ∙ ap (λ m. option_or (meaning_fault (start + prefix_len is_good_byte line) number m) (twice_fault number twice)) (resolves ∙ ap (resolved place at) reads)
-    ∙ ap (λ t. option_or (meaning_fault (start + prefix_len is_good_byte line) number (resolved place at (meaning line))) (twice_fault number t))
+    ∙ ap (λ m. option_or (meaning_fault (start + prefix_len is_good_byte line) number m) (twice_fault number twice)) (resolves ∙ ap (labels_resolved place at) reads)
+    ∙ ap (λ t. option_or (meaning_fault (start + prefix_len is_good_byte line) number (labels_resolved place at (line_meaning line))) (twice_fault number t))
     (repeated ∙ ap (λ t. repeats_in seen (labels_in (colon_parts t))) labelled)
 
 pub found_some : (place : List ℕ → Option ℕ) (seen : List ℕ → Bool) (start number at : ℕ) (line : List ℕ) (rest : List (List ℕ)) (o : Option AsmFault)

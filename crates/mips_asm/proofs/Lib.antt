@@ -1,6 +1,6 @@
 pub mod Numbers
 pub mod Cuts
-pub mod Prefix
+pub mod PrefixLengths
 pub mod Forms
 pub mod Readings
 pub mod Labels

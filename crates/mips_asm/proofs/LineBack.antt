@@ -14,11 +14,11 @@ use Rattle.mips_table.specs.Rows.{mnemonic_of}
 use Rattle.mips_asm.specs.declared.listing.Written.{Written}
 use Rattle.mips_asm.specs.Number.{number, in_name}
 use Rattle.mips_asm.specs.Text.{trim, content, colon_parts, labels_in, after_labels, is_good_byte}
-use Rattle.mips_asm.specs.Line.{bad_byte, out_of_range, nothing, word, word_directive, mnemonic_len, named, statement, of_parts, meaning}
+use Rattle.mips_asm.specs.Line.{bad_byte, out_of_range, nothing, word, word_directive, mnemonic_len, named, statement, of_parts, line_meaning}
 use Rattle.mips_asm.specs.Assembled.{labels}
-use Rattle.mips_asm.specs.Listing.{written, listed, operands, line_for}
+use Rattle.mips_asm.specs.Listing.{operand_text, listed, operands, line_for}
 use Rattle.mips_asm.specs.Back.{ReadsBack}
-use Rattle.mips_asm.proofs.Prefix.{both, prefix_len_all}
+use Rattle.mips_asm.proofs.PrefixLengths.{both, prefix_len_all}
 use Rattle.mips_asm.proofs.Tokens.{token, all_imply, all_append, front_len, not_blank, trim_blank}
 use Rattle.mips_asm.proofs.OperandsBack.{AllSmall, written_token, none_at}
 use Rattle.mips_asm.proofs.RowsBack.{row_back, named_row, in_mnemonic, mnemonic_bytes, mnemonic_some, operands_small}
@@ -58,8 +58,8 @@ no_labels : (line : List ℕ) → list_all plain line ≡ true → labels line �
 no_labels line all =
     ap (λ t. labels_in (colon_parts (content t))) (good_whole line all) ∙ ap (λ t. labels_in (colon_parts t)) (content_whole line all) ∙ ap labels_in (parts_whole line all)
 
-meaning_is : (line : List ℕ) → list_all plain line ≡ true → prefix_len is_ascii_whitespace line ≡ 0 → meaning line ≡ statement line
-unfolding meaning
+meaning_is : (line : List ℕ) → list_all plain line ≡ true → prefix_len is_ascii_whitespace line ≡ 0 → line_meaning line ≡ statement line
+unfolding line_meaning
 meaning_is line all first =
     ap (λ b. cond b (of_parts (after_labels (colon_parts (content line)))) bad_byte) (all_imply plain is_good_byte plain_good line all)
     ∙ ap (λ t. of_parts (after_labels (colon_parts t))) (content_whole line all) ∙ ap (λ ps. of_parts (after_labels ps)) (parts_whole line all)
@@ -107,8 +107,8 @@ rest_ends (o ∷ os) = refl
 listed_plain : (before : List ℕ) (os : List Written) → list_all plain before ≡ true → AllSmall os → list_all plain (listed before os) ≡ true
 listed_plain before [] start small = refl
 listed_plain before (o ∷ os) start small =
-    all_append plain (before ++ written o) (listed (codes ", ") os)
-    (all_append plain before (written o) start (all_imply token plain token_plain (written o) (written_token o small.0)))
+    all_append plain (before ++ operand_text o) (listed (codes ", ") os)
+    (all_append plain before (operand_text o) start (all_imply token plain token_plain (operand_text o) (written_token o small.0)))
     (listed_plain (codes ", ") os refl small.1)
 
 instruction_line : (i : Inst) → InRange i → list_all plain (mnemonic_of i ++ listed (codes " ") (operands i)) ≡ true
@@ -117,7 +117,7 @@ instruction_line i range =
     (all_imply token plain token_plain (mnemonic_of i) (all_imply in_mnemonic token mnemonic_token (mnemonic_of i) (mnemonic_bytes i)))
     (listed_plain (codes " ") (operands i) refl (operands_small i range))
 
-instruction_means : (i : Inst) → InRange i → meaning (mnemonic_of i ++ listed (codes " ") (operands i)) ≡ word (encoding i)
+instruction_means : (i : Inst) → InRange i → line_meaning (mnemonic_of i ++ listed (codes " ") (operands i)) ≡ word (encoding i)
 instruction_means i range =
     let m = mnemonic_of i in
     let rest = listed (codes " ") (operands i) in
@@ -134,7 +134,7 @@ directive_statement : (value : ℕ) → statement (codes ".word 0x" ++ hex8 valu
 unfolding statement
 directive_statement value = refl
 
-directive_means : (value : ℕ) → value < 2 ^ 32 → meaning (codes ".word 0x" ++ hex8 value) ≡ word value
+directive_means : (value : ℕ) → value < 2 ^ 32 → line_meaning (codes ".word 0x" ++ hex8 value) ≡ word value
 directive_means value small =
     meaning_is (codes ".word 0x" ++ hex8 value) (directive_line value) refl ∙ directive_statement value
     ∙ ap (λ t. word_directive (number t)) (trim_blank (48 ∷ (120 ∷ hex8 value)) (hex8_token value))
@@ -147,14 +147,14 @@ one_line line all = none_at 10 line (all_imply plain (λ c. not (c == 10)) plain
 -- the line of any word
 of_instruction : (value : ℕ) (i : Inst) → decoding value ≡ Some i → InRange i → encoding i ≡ value → ReadsBack value
 of_instruction value i is range back = record {
-  means = ap (λ o. meaning (line_for value o)) is ∙ instruction_means i range ∙ ap word back;
+  means = ap (λ o. line_meaning (line_for value o)) is ∙ instruction_means i range ∙ ap word back;
   unlabelled = ap (λ o. labels (line_for value o)) is ∙ no_labels (mnemonic_of i ++ listed (codes " ") (operands i)) (instruction_line i range);
   one_line = subst (λ o. All (λ c. (c == 10) ≡ false) (line_for value o)) (sym is) (one_line (mnemonic_of i ++ listed (codes " ") (operands i)) (instruction_line i range));
 }
 
 of_directive : (value : ℕ) → decoding value ≡ None → value < 2 ^ 32 → ReadsBack value
 of_directive value is small = record {
-  means = ap (λ o. meaning (line_for value o)) is ∙ directive_means value small;
+  means = ap (λ o. line_meaning (line_for value o)) is ∙ directive_means value small;
   unlabelled = ap (λ o. labels (line_for value o)) is ∙ no_labels (codes ".word 0x" ++ hex8 value) (directive_line value);
   one_line = subst (λ o. All (λ c. (c == 10) ≡ false) (line_for value o)) (sym is) (one_line (codes ".word 0x" ++ hex8 value) (directive_line value));
 }

@@ -13,9 +13,9 @@ use Rattle.std.proofs.lemmas.Str.Parse.{digit_from_value}
 use Rattle.std.proofs.lemmas.Bool.{and_from, cases_eq, cases_lt}
 use Rattle.std.proofs.lemmas.Bool.Decides.{nat_tests}
 use Rattle.mips_asm.specs.Number.{number, is_decimal, decimal_number, hexadecimal_number, is_name, in_name, begins_name}
-use Rattle.mips_asm.specs.Operand.{adds, out, signed, unsigned, register, numbered}
+use Rattle.mips_asm.specs.Operand.{adds, out, signed_operand, unsigned, register, numbered}
 use Rattle.mips_asm.specs.Listing.{signed_text}
-use Rattle.mips_asm.proofs.Prefix.{both}
+use Rattle.mips_asm.proofs.PrefixLengths.{both}
 use Rattle.mips_asm.proofs.Tokens.{all_imply}
 
 digits_pass : (ds : List ℕ) → AllDigits 10 ds → list_all is_ascii_digit ds ≡ true
@@ -101,17 +101,17 @@ pub special_back : (n : ℕ) → n < 9 → numbered 99 9 (codes "c" ++ decimal n
 special_back n small = digits_back 9 n small (omega arith)
 
 -- a number of 16 bits: the digits of its own bits, or `-` and digits
-signed_high : (n : ℕ) → n ≤ 32767 → signed (pos n) ≡ adds n
+signed_high : (n : ℕ) → n ≤ 32767 → signed_operand (pos n) ≡ adds n
 signed_high n small = ap (λ b. cond b (adds n) (out (pos n))) (le-leb n 32767 small)
 
-signed_low : (k : ℕ) → k ≤ 32767 → signed (negsuc k) ≡ adds (65536 - suc k)
+signed_low : (k : ℕ) → k ≤ 32767 → signed_operand (negsuc k) ≡ adds (65536 - suc k)
 signed_low k small = ap (λ b. cond (b && true) (adds (65536 - suc k)) (out (negsuc k))) (le-leb k 32767 small)
 
 -- what is said of the text of such a number
 pub record SignedBack (bits : ℕ) (text : List ℕ) : Type 0 where
   pub value : ℤ
   pub reads : number text ≡ Some value
-  pub means : signed value ≡ adds bits
+  pub means : signed_operand value ≡ adds bits
   pub bytes : list_all (λ c. is_ascii_digit c || c == 45) text ≡ true
   pub no_name : is_name text ≡ false
   pub some : 0 < length text

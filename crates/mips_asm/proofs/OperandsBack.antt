@@ -15,12 +15,12 @@ use Rattle.mips_asm.specs.declared.listing.Written.{Written}
 use Rattle.mips_asm.specs.declared.listing.Written.TheVariants as w
 use Rattle.mips_asm.specs.Number.{number}
 use Rattle.mips_asm.specs.Text.{trim}
-use Rattle.mips_asm.specs.Operand.{adds, branch_label, jump_label, signed, unsigned, and_register, register, with_base, len_before, inside, memory, first_bit, reading}
+use Rattle.mips_asm.specs.Operand.{adds, branch_label, jump_label, signed_operand, unsigned, and_register, register, with_base, len_before, inside, memory, first_bit, reading}
 use Rattle.mips_asm.specs.Line.{word, with_reading, with_operands, operands, with_word}
-use Rattle.mips_asm.specs.Listing.{written, listed, signed_text}
+use Rattle.mips_asm.specs.Listing.{operand_text, listed, signed_text}
 use Rattle.mips_asm.proofs.Tokens.{token, all_imply, all_append, front_len, digit_token, not_blank, trim_token, trim_blank}
 use Rattle.mips_asm.proofs.NumbersBack.{signed_back, unsigned_back, register_back, special_back, decimal_digits, decimal_some, decimal_no_name}
-use Rattle.mips_asm.proofs.Prefix.{both}
+use Rattle.mips_asm.proofs.PrefixLengths.{both}
 use Rattle.std.proofs.lemmas.List.Folds.{list_all-append}
 use Rattle.mips_asm.proofs.Numbers.{all_at}
 
@@ -45,7 +45,7 @@ Small (w.Number n) = n < 2 ^ 32
 Small (w.Signed bits) = bits < 2 ^ 16
 Small (w.Address bits base) = (bits < 2 ^ 16) × (base < 32)
 
-pub written_token : (o : Written) → Small o → list_all token (written o) ≡ true
+pub written_token : (o : Written) → Small o → list_all token (operand_text o) ≡ true
 written_token (w.Register n) small = decimal_token n (omega arith)
 written_token (w.Special n) small = decimal_token n (omega arith)
 written_token (w.Number n) small = decimal_token n small
@@ -91,36 +91,36 @@ memory_of_parts s r tokens plain rest =
     ∙ ap (λ t. with_base (number s) (register t)) (trim_token r rest)
 
 -- the operands read back
-pub register_reads : (field : Field) (n : ℕ) → n < 32 → reading (Register field) (written (w.Register n)) ≡ Some (adds (n * 2 ^ first_bit field))
+pub register_reads : (field : Field) (n : ℕ) → n < 32 → reading (Register field) (operand_text (w.Register n)) ≡ Some (adds (n * 2 ^ first_bit field))
 register_reads field n small = ap (option_map (λ r. adds (r * 2 ^ first_bit field))) (register_back n small)
 
-pub special_reads : (n : ℕ) → n < 9 → reading Special (written (w.Special n)) ≡ Some (adds (n * 2 ^ 11))
+pub special_reads : (n : ℕ) → n < 9 → reading Special (operand_text (w.Special n)) ≡ Some (adds (n * 2 ^ 11))
 special_reads n small = ap (option_map (λ k. adds (k * 2 ^ 11))) (special_back n small)
 
-pub amount_reads : (n : ℕ) → n < 32 → reading Amount (written (w.Number n)) ≡ Some (adds (n * 2 ^ 6))
+pub amount_reads : (n : ℕ) → n < 32 → reading Amount (operand_text (w.Number n)) ≡ Some (adds (n * 2 ^ 6))
 amount_reads n small = unsigned_back 32 6 n small (omega arith)
 
-pub code_reads : (n : ℕ) → n < 2 ^ 20 → reading Code (written (w.Number n)) ≡ Some (adds (n * 2 ^ 6))
+pub code_reads : (n : ℕ) → n < 2 ^ 20 → reading Code (operand_text (w.Number n)) ≡ Some (adds (n * 2 ^ 6))
 code_reads n small = unsigned_back (2 ^ 20) 6 n small (omega arith)
 
-pub unsigned_reads : (n : ℕ) → n < 2 ^ 16 → reading Unsigned (written (w.Number n)) ≡ Some (adds (n * 2 ^ 0))
+pub unsigned_reads : (n : ℕ) → n < 2 ^ 16 → reading Unsigned (operand_text (w.Number n)) ≡ Some (adds (n * 2 ^ 0))
 unsigned_reads n small = unsigned_back (2 ^ 16) 0 n small (omega arith)
 
-pub jump_reads : (n : ℕ) → n < 2 ^ 26 → reading Jump (written (w.Number n)) ≡ Some (adds (n * 2 ^ 0))
+pub jump_reads : (n : ℕ) → n < 2 ^ 26 → reading Jump (operand_text (w.Number n)) ≡ Some (adds (n * 2 ^ 0))
 jump_reads n small =
     ap (λ b. cond b (Some (jump_label (decimal n))) (option_map (unsigned (2 ^ 26) 0) (number (decimal n)))) (decimal_no_name n (omega arith))
     ∙ unsigned_back (2 ^ 26) 0 n small (omega arith)
 
-pub signed_reads : (bits : ℕ) → bits < 2 ^ 16 → reading Signed (written (w.Signed bits)) ≡ Some (adds bits)
-signed_reads bits small = let b = signed_back bits small in ap (option_map signed) b.reads ∙ ap Some b.means
+pub signed_reads : (bits : ℕ) → bits < 2 ^ 16 → reading Signed (operand_text (w.Signed bits)) ≡ Some (adds bits)
+signed_reads bits small = let b = signed_back bits small in ap (option_map signed_operand) b.reads ∙ ap Some b.means
 
-pub branch_reads : (bits : ℕ) → bits < 2 ^ 16 → reading Branch (written (w.Signed bits)) ≡ Some (adds bits)
+pub branch_reads : (bits : ℕ) → bits < 2 ^ 16 → reading Branch (operand_text (w.Signed bits)) ≡ Some (adds bits)
 branch_reads bits small =
     let b = signed_back bits small in
-    ap (λ n. cond n (Some (branch_label (signed_text bits))) (option_map signed (number (signed_text bits)))) b.no_name
-    ∙ ap (option_map signed) b.reads ∙ ap Some b.means
+    ap (λ n. cond n (Some (branch_label (signed_text bits))) (option_map signed_operand (number (signed_text bits)))) b.no_name
+    ∙ ap (option_map signed_operand) b.reads ∙ ap Some b.means
 
-pub memory_reads : (bits base : ℕ) → bits < 2 ^ 16 → base < 32 → reading Memory (written (w.Address bits base)) ≡ Some (adds (bits + base * 2 ^ 21))
+pub memory_reads : (bits base : ℕ) → bits < 2 ^ 16 → base < 32 → reading Memory (operand_text (w.Address bits base)) ≡ Some (adds (bits + base * 2 ^ 21))
 memory_reads bits base small below =
     let b = signed_back bits small in
     let s = signed_text bits in
@@ -136,16 +136,16 @@ abbrev pub Reads : List Operand → List Written → ℕ → Type 0
 Reads [] [] n = n ≡ 0
 Reads [] (o ∷ os) n = ⊥
 Reads (k ∷ ks) [] n = ⊥
-Reads (k ∷ ks) (o ∷ os) n = (a : ℕ) × (b : ℕ) × Small o × (reading k (written o) ≡ Some (adds a)) × Reads ks os b × (n ≡ a + b)
+Reads (k ∷ ks) (o ∷ os) n = (a : ℕ) × (b : ℕ) × Small o × (reading k (operand_text o) ≡ Some (adds a)) × Reads ks os b × (n ≡ a + b)
 
 pub operands_back : (v : ℕ) (ks : List Operand) (os : List Written) (n : ℕ) → Reads ks os n → v + n < 2 ^ 32
-    → with_operands (word v) ks (map (λ o. 32 ∷ written o) os) ≡ word (v + n)
+    → with_operands (word v) ks (map (λ o. 32 ∷ operand_text o) os) ≡ word (v + n)
 operands_back v [] [] n none fits = ap word (omega (arith, none))
 operands_back v [] (o ∷ os) n none fits = absurd none
 operands_back v (k ∷ ks) [] n none fits = absurd none
 operands_back v (k ∷ ks) (o ∷ os) n (a, b, small, reads, more, is) fits =
-    let texts = map (λ o. 32 ∷ written o) os in
-    ap (λ t. with_operands (with_reading (word v) (reading k t)) ks texts) (trim_blank (written o) (written_token o small))
+    let texts = map (λ o. 32 ∷ operand_text o) os in
+    ap (λ t. with_operands (with_reading (word v) (reading k t)) ks texts) (trim_blank (operand_text o) (written_token o small))
     ∙ ap (λ r. with_operands (with_reading (word v) r) ks texts) reads
     ∙ ap (λ u. with_operands (word u) ks texts) (mod-eq_of_lt (below v a b n is fits))
     ∙ operands_back (v + a) ks os b more (next v a b n is fits) ∙ ap word (total v a b n is)
@@ -171,25 +171,25 @@ none_at x xs all = λ k d inside. not_true (get_or xs k d == x) (all_at (λ c. n
 no_comma : (c : ℕ) → token c ≡ true → not (c == 44) ≡ true
 no_comma c h = grind (arith, nat_tests)
 
-all_no_comma : (o : Written) → Small o → All (λ c. (c == 44) ≡ false) (32 ∷ written o)
-all_no_comma o small = none_at 44 (32 ∷ written o) (all_imply token (λ c. not (c == 44)) no_comma (written o) (written_token o small))
+all_no_comma : (o : Written) → Small o → All (λ c. (c == 44) ≡ false) (32 ∷ operand_text o)
+all_no_comma o small = none_at 44 (32 ∷ operand_text o) (all_imply token (λ c. not (c == 44)) no_comma (operand_text o) (written_token o small))
 
 abbrev pub AllSmall : List Written → Type 0
 AllSmall [] = Unit {0}
 AllSmall (o ∷ os) = Small o × AllSmall os
 
 pub listed_parts : (o : Written) (os : List Written) → Small o → AllSmall os
-    → slice_split (λ c. c == 44) (listed (codes " ") (o ∷ os)) ≡ map (λ o. 32 ∷ written o) (o ∷ os)
+    → slice_split (λ c. c == 44) (listed (codes " ") (o ∷ os)) ≡ map (λ o. 32 ∷ operand_text o) (o ∷ os)
 listed_parts o [] small more =
-    ap (slice_split (λ c. c == 44)) (append_nil (32 ∷ written o))
-    ∙ slice_split_none (λ c. c == 44) (32 ∷ written o) (all_no_comma o small)
+    ap (slice_split (λ c. c == 44)) (append_nil (32 ∷ operand_text o))
+    ∙ slice_split_none (λ c. c == 44) (32 ∷ operand_text o) (all_no_comma o small)
   where
     append_nil : (xs : List ℕ) → xs ++ [] ≡ xs
     append_nil [] = refl
     append_nil (x ∷ xs) = ap (λ l. x ∷ l) (append_nil xs)
 listed_parts o (p ∷ os) small more =
-    slice_split_at (λ c. c == 44) (32 ∷ written o) 44 (listed (codes " ") (p ∷ os)) (all_no_comma o small) refl
-    ∙ ap (λ l. (32 ∷ written o) ∷ l) (listed_parts p os more.0 more.1)
+    slice_split_at (λ c. c == 44) (32 ∷ operand_text o) 44 (listed (codes " ") (p ∷ os)) (all_no_comma o small) refl
+    ∙ ap (λ l. (32 ∷ operand_text o) ∷ l) (listed_parts p os more.0 more.1)
 
 -- a written operand isn't blank
 digits_not_blank : (ds : List ℕ) → list_all token ds ≡ true → 0 < length ds → list_all is_ascii_whitespace ds ≡ false
@@ -200,7 +200,7 @@ and_no : (b : Bool) → (b && false) ≡ false
 and_no true = refl
 and_no false = refl
 
-written_not_blank : (o : Written) → Small o → list_all is_ascii_whitespace (written o) ≡ false
+written_not_blank : (o : Written) → Small o → list_all is_ascii_whitespace (operand_text o) ≡ false
 written_not_blank (w.Register n) small = refl
 written_not_blank (w.Special n) small = refl
 written_not_blank (w.Number n) small = digits_not_blank (decimal n) (decimal_token n small) (decimal_some n small)
@@ -211,9 +211,9 @@ written_not_blank (w.Address bits base) small =
 
 listed_not_blank : (o : Written) (os : List Written) → Small o → list_all is_ascii_whitespace (listed (codes " ") (o ∷ os)) ≡ false
 listed_not_blank o os small =
-    list_all-append is_ascii_whitespace (written o) (listed (codes ", ") os) ∙ ap (λ b. b && list_all is_ascii_whitespace (listed (codes ", ") os)) (written_not_blank o small)
+    list_all-append is_ascii_whitespace (operand_text o) (listed (codes ", ") os) ∙ ap (λ b. b && list_all is_ascii_whitespace (listed (codes ", ") os)) (written_not_blank o small)
 
-pub operands_listed : (o : Written) (os : List Written) → Small o → AllSmall os → operands (listed (codes " ") (o ∷ os)) ≡ map (λ o. 32 ∷ written o) (o ∷ os)
+pub operands_listed : (o : Written) (os : List Written) → Small o → AllSmall os → operands (listed (codes " ") (o ∷ os)) ≡ map (λ o. 32 ∷ operand_text o) (o ∷ os)
 operands_listed o os small more =
     ap (λ b. cond b [] (slice_split (λ c. c == 44) (listed (codes " ") (o ∷ os)))) (listed_not_blank o os small) ∙ listed_parts o os small more
 

@@ -4,9 +4,9 @@ use Rattle.std.specs.Option.{option_or}
 use Rattle.std.specs.List.{list_any, prefix_len, sum_by}
 use Rattle.mips_asm.specs.declared.fault.AsmFault.{AsmFault}
 use Rattle.mips_asm.specs.declared.fault.AsmFault.TheVariants.{BadByte, UnknownMnemonic, BadOperand, OutOfRange, UnknownLabel, LabelTwice, TooLong}
-use Rattle.mips_asm.specs.Text.{lines_of, content, colon_parts, labels_in, is_good_byte}
-use Rattle.mips_asm.specs.Operand.{adds, signed}
-use Rattle.mips_asm.specs.Line.{Meaning, bad_byte, unknown, bad_operand, unknown_label, out_of_range, word, zeros, branch, jump, meaning, width, with_reading}
+use Rattle.mips_asm.specs.Text.{asm_lines, content, colon_parts, labels_in, is_good_byte}
+use Rattle.mips_asm.specs.Operand.{adds, signed_operand}
+use Rattle.mips_asm.specs.Line.{LineMeaning, bad_byte, unknown, bad_operand, unknown_label, out_of_range, word, zeros, branch, jump, line_meaning, width, with_reading}
 
 -- the labels at the start of a line, those before a bad byte where it has one
 abbrev pub labels : List ℕ → List (List ℕ)
@@ -14,7 +14,7 @@ labels line = labels_in (colon_parts (content (take (prefix_len is_good_byte lin
 
 -- how many words these lines count
 abbrev pub words_in : List (List ℕ) → ℕ
-words_in lines = sum_by (λ line. width (meaning line)) lines
+words_in lines = sum_by (λ line. width (line_meaning line)) lines
 
 -- how many bytes these lines take, each with its LF
 abbrev pub bytes_in : List (List ℕ) → ℕ
@@ -27,11 +27,11 @@ has names name = list_any (λ n. bytes_eq n name) names
 -- the place of a label in words, where the first of these lines has the place `at`: that of the first line that sets it
 abbrev pub place_from : ℕ → List (List ℕ) → List ℕ → Option ℕ
 place_from at [] name = None
-place_from at (line ∷ lines) name = if has (labels line) name then Some at else place_from (at + width (meaning line)) lines name
+place_from at (line ∷ lines) name = if has (labels line) name then Some at else place_from (at + width (line_meaning line)) lines name
 
 -- the place of a label of a text with these lines
-abbrev pub place_of : List (List ℕ) → List ℕ → Option ℕ
-place_of lines name = place_from 0 lines name
+abbrev pub label_place : List (List ℕ) → List ℕ → Option ℕ
+label_place lines name = place_from 0 lines name
 
 -- whether one of the names was there before, among these or earlier in the list
 abbrev pub repeats : List (List ℕ) → List (List ℕ) → Bool
@@ -39,27 +39,27 @@ repeats before [] = false
 repeats before (n ∷ ns) = has before n || repeats (before ++ (n ∷ [])) ns
 
 -- the offset of a branch at the word `at` to the word `to`, from the word after the branch
-abbrev pub offset : ℕ → ℕ → ℤ
-offset at to = pos to +ℤ neg_ℤ (pos (at + 1))
+abbrev pub branch_offset : ℕ → ℕ → ℤ
+branch_offset at to = pos to +ℤ neg_ℤ (pos (at + 1))
 
 -- a branch at a place, whose label has this place
-abbrev pub branch_to : ℕ → ℕ → Option ℕ → Meaning
+abbrev pub branch_to : ℕ → ℕ → Option ℕ → LineMeaning
 branch_to w at None = unknown_label
-branch_to w at (Some to) = with_reading (word w) (Some (signed (offset at to)))
+branch_to w at (Some to) = with_reading (word w) (Some (signed_operand (branch_offset at to)))
 
 -- a jump to a label that has this place
-abbrev pub jump_to : ℕ → Option ℕ → Meaning
+abbrev pub jump_to : ℕ → Option ℕ → LineMeaning
 jump_to w None = unknown_label
 jump_to w (Some to) = with_reading (word w) (Some (adds (to % 2 ^ 26)))
 
 -- what a line at a place gives where the places of the labels are known
-abbrev pub resolved : (List ℕ → Option ℕ) → ℕ → Meaning → Meaning
-resolved place at (branch w l) = branch_to w at (place l)
-resolved place at (jump w l) = jump_to w (place l)
-resolved place at m = m
+abbrev pub labels_resolved : (List ℕ → Option ℕ) → ℕ → LineMeaning → LineMeaning
+labels_resolved place at (branch w l) = branch_to w at (place l)
+labels_resolved place at (jump w l) = jump_to w (place l)
+labels_resolved place at m = m
 
 -- the fault in what a line gives, for the line with this number, whose first bad byte stands at this place of the text
-abbrev pub meaning_fault : ℕ → ℕ → Meaning → Option AsmFault
+abbrev pub meaning_fault : ℕ → ℕ → LineMeaning → Option AsmFault
 meaning_fault bad number bad_byte = Some (BadByte bad)
 meaning_fault bad number unknown = Some (UnknownMnemonic number)
 meaning_fault bad number bad_operand = Some (BadOperand number)
@@ -68,7 +68,7 @@ meaning_fault bad number unknown_label = Some (UnknownLabel number)
 meaning_fault bad number m = None
 
 -- the words in what a line gives
-abbrev pub meaning_words : Meaning → List ℕ
+abbrev pub meaning_words : LineMeaning → List ℕ
 meaning_words (word w) = w ∷ []
 meaning_words (zeros n) = replicate n 0
 meaning_words m = []
@@ -80,7 +80,7 @@ twice_fault number twice = if twice then Some (LabelTwice number) else None
 -- the fault of a line after the lines `before`, in a text with these lines
 abbrev pub line_fault : List (List ℕ) → List (List ℕ) → List ℕ → Option AsmFault
 line_fault lines before line =
-    option_or (meaning_fault (bytes_in before + prefix_len is_good_byte line) (length before + 1) (resolved (place_of lines) (words_in before) (meaning line)))
+    option_or (meaning_fault (bytes_in before + prefix_len is_good_byte line) (length before + 1) (labels_resolved (label_place lines) (words_in before) (line_meaning line)))
     (twice_fault (length before + 1) (repeats (flat_map labels before) (labels line)))
 
 -- the first fault of the lines `rest` after the lines `before`; after the last line, that there are too many words
@@ -89,10 +89,10 @@ first_fault lines before [] = if nat_lt 65536 (words_in before) then Some TooLon
 first_fault lines before (line ∷ rest) = option_or (line_fault lines before line) (first_fault lines (before ++ (line ∷ [])) rest)
 
 -- the words of the lines `rest` after the lines `before`
-abbrev pub words_of : List (List ℕ) → List (List ℕ) → List (List ℕ) → List ℕ
-words_of lines before [] = []
-words_of lines before (line ∷ rest) =
-    meaning_words (resolved (place_of lines) (words_in before) (meaning line)) ++ words_of lines (before ++ (line ∷ [])) rest
+abbrev pub words_of_lines : List (List ℕ) → List (List ℕ) → List (List ℕ) → List ℕ
+words_of_lines lines before [] = []
+words_of_lines lines before (line ∷ rest) =
+    meaning_words (labels_resolved (label_place lines) (words_in before) (line_meaning line)) ++ words_of_lines lines (before ++ (line ∷ [])) rest
 
 -- the first fault, or else the words
 abbrev pub fault_or : Option AsmFault → List ℕ → Result (List ℕ) AsmFault
@@ -101,4 +101,4 @@ fault_or None ws = Ok ws
 
 -- the answer for a text
 unfoldable pub assembled : List ℕ → Result (List ℕ) AsmFault
-assembled text = fault_or (first_fault (lines_of text) [] (lines_of text)) (words_of (lines_of text) [] (lines_of text))
+assembled text = fault_or (first_fault (asm_lines text) [] (asm_lines text)) (words_of_lines (asm_lines text) [] (asm_lines text))

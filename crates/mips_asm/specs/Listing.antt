@@ -15,17 +15,17 @@ abbrev pub signed_text : ℕ → List ℕ
 signed_text bits = signed_decimal (cast_signed w16 (bits % 2 ^ 16))
 
 -- the text of an operand
-abbrev pub written : Written → List ℕ
-written (Register number) = codes "r" ++ decimal number
-written (Special number) = codes "c" ++ decimal number
-written (Number number) = decimal number
-written (Signed bits) = signed_text bits
-written (Address bits base) = ((signed_text bits ++ codes "(r") ++ decimal base) ++ codes ")"
+abbrev pub operand_text : Written → List ℕ
+operand_text (Register number) = codes "r" ++ decimal number
+operand_text (Special number) = codes "c" ++ decimal number
+operand_text (Number number) = decimal number
+operand_text (Signed bits) = signed_text bits
+operand_text (Address bits base) = ((signed_text bits ++ codes "(r") ++ decimal base) ++ codes ")"
 
 -- the operands, with this before the first, and a comma and a blank before each other
 abbrev pub listed : List ℕ → List Written → List ℕ
 listed before [] = []
-listed before (o ∷ os) = (before ++ written o) ++ listed (codes ", ") os
+listed before (o ∷ os) = (before ++ operand_text o) ++ listed (codes ", ") os
 
 -- what stands before the operand at an index
 abbrev pub separator_at : ℕ → List ℕ

@@ -12,11 +12,11 @@ use Rattle.mips_asm.specs.Number.{number, is_name, decimal_number}
 use Rattle.mips_asm.specs.Text.{trim}
 
 -- what an operand's text says: a number to add to the word, a value out of range, or a label to branch or jump to
-pub data Reading : Type 0 where
-  adds : ℕ → Reading
-  out : ℤ → Reading
-  branch_label : List ℕ → Reading
-  jump_label : List ℕ → Reading
+pub data OperandReading : Type 0 where
+  adds : ℕ → OperandReading
+  out : ℤ → OperandReading
+  branch_label : List ℕ → OperandReading
+  jump_label : List ℕ → OperandReading
 
 -- where a register's field begins in the word
 abbrev pub first_bit : Field → ℕ
@@ -34,24 +34,24 @@ abbrev pub register : List ℕ → Option ℕ
 register text = numbered 114 32 text
 
 -- a number of 16 bits with a sign
-abbrev pub signed : ℤ → Reading
-signed z = if le_z (negsuc 32767) z && le_z z (pos 32767) then adds (of_z w16 z) else out z
+abbrev pub signed_operand : ℤ → OperandReading
+signed_operand z = if le_z (negsuc 32767) z && le_z z (pos 32767) then adds (of_z w16 z) else out z
 
 -- a number below a limit, whose field begins at a bit
-abbrev pub unsigned : ℕ → ℕ → ℤ → Reading
+abbrev pub unsigned : ℕ → ℕ → ℤ → OperandReading
 unsigned limit place (pos n) = if nat_lt n limit then adds (n * 2 ^ place) else out (pos n)
 unsigned limit place (negsuc n) = out (negsuc n)
 
 -- the register of an address beside its number
-abbrev pub and_register : ℕ → Reading → Reading
+abbrev pub and_register : ℕ → OperandReading → OperandReading
 and_register r (adds n) = adds (n + r * 2 ^ 21)
 and_register r read = read
 
 -- a number and the register in parentheses after it
-abbrev pub with_base : Option ℤ → Option ℕ → Option Reading
+abbrev pub with_base : Option ℤ → Option ℕ → Option OperandReading
 with_base None r = None
 with_base (Some z) None = None
-with_base (Some z) (Some r) = Some (and_register r (signed z))
+with_base (Some z) (Some r) = Some (and_register r (signed_operand z))
 
 -- the length of what stands before the first byte of a kind
 abbrev pub len_before : ℕ → List ℕ → ℕ
@@ -62,17 +62,17 @@ abbrev pub inside : List ℕ → Option (List ℕ)
 inside text = if nat_le 2 (length text) && slice_index text (length text - 1) == 41 then Some (slice_range text 1 (length text - 1)) else None
 
 -- a number, and a register in parentheses
-abbrev pub memory : List ℕ → Option Reading
+abbrev pub memory : List ℕ → Option OperandReading
 memory text = with_base (number (trim (take (len_before 40 text) text))) (option_and_then (λ t. register (trim t)) (inside (drop (len_before 40 text) text)))
 
 -- what the text of an operand says, if it has the operand's form
-abbrev pub reading : Operand → List ℕ → Option Reading
+abbrev pub reading : Operand → List ℕ → Option OperandReading
 reading (Register field) text = option_map (λ r. adds (r * 2 ^ first_bit field)) (register text)
 reading Special text = option_map (λ k. adds (k * 2 ^ 11)) (numbered 99 9 text)
 reading Amount text = option_map (unsigned 32 6) (number text)
 reading Code text = option_map (unsigned (2 ^ 20) 6) (number text)
-reading Signed text = option_map signed (number text)
+reading Signed text = option_map signed_operand (number text)
 reading Unsigned text = option_map (unsigned (2 ^ 16) 0) (number text)
-reading Branch text = if is_name text then Some (branch_label text) else option_map signed (number text)
+reading Branch text = if is_name text then Some (branch_label text) else option_map signed_operand (number text)
 reading Jump text = if is_name text then Some (jump_label text) else option_map (unsigned (2 ^ 26) 0) (number text)
 reading Memory text = memory text

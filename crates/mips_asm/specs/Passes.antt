@@ -8,20 +8,20 @@ use Rattle.mips_asm.specs.declared.fault.AsmFault.{AsmFault}
 use Rattle.mips_asm.specs.declared.fault.AsmFault.TheVariants.{TooLong}
 use Rattle.std.specs.List.{prefix_len}
 use Rattle.mips_asm.specs.Text.{is_good_byte}
-use Rattle.mips_asm.specs.Line.{meaning, width}
-use Rattle.mips_asm.specs.Assembled.{labels, has, resolved, meaning_fault, meaning_words, twice_fault}
+use Rattle.mips_asm.specs.Line.{line_meaning, width}
+use Rattle.mips_asm.specs.Assembled.{labels, has, labels_resolved, meaning_fault, meaning_words, twice_fault}
 
 -- the place that a map gives a name
-abbrev pub look : {S : Type 0} → IndexMap (Bor (List ℕ)) ℕ S → List ℕ → Option ℕ
-look m q = get_by (λ k. bytes_eq q k.now) m
+abbrev pub label_of : {S : Type 0} → IndexMap (Bor (List ℕ)) ℕ S → List ℕ → Option ℕ
+label_of m q = get_by (λ k. bytes_eq q k.now) m
 
 -- the places in a map are far below the limit of their type
 abbrev pub Near : {S : Type 0} → IndexMap (Bor (List ℕ)) ℕ S → Type 0
-Near m = (q : List ℕ) → IfSome (look m q) (λ p. p < 2 ^ 62)
+Near m = (q : List ℕ) → IfSome (label_of m q) (λ p. p < 2 ^ 62)
 
 -- these names get this place where a map gave them none, and nothing else changes
-abbrev pub SetsNames : {S T : Type 0} → IndexMap (Bor (List ℕ)) ℕ S → IndexMap (Bor (List ℕ)) ℕ T → List (List ℕ) → ℕ → Type 0
-SetsNames old new names at = (q : List ℕ) → look new q ≡ option_or (look old q) (cond (has names q) (Some at) None)
+abbrev pub SetsLabels : {S T : Type 0} → IndexMap (Bor (List ℕ)) ℕ S → IndexMap (Bor (List ℕ)) ℕ T → List (List ℕ) → ℕ → Type 0
+SetsLabels old new names at = (q : List ℕ) → label_of new q ≡ option_or (label_of old q) (cond (has names q) (Some at) None)
 
 -- whether one of the names is seen, or stands earlier in the list
 abbrev pub repeats_in : (List ℕ → Bool) → List (List ℕ) → Bool
@@ -31,16 +31,16 @@ repeats_in seen (n ∷ ns) = seen n || repeats_in (λ q. seen q || bytes_eq n q)
 -- the fault of a line
 abbrev pub fault_at : (List ℕ → Option ℕ) → (List ℕ → Bool) → ℕ → ℕ → ℕ → List ℕ → Option AsmFault
 fault_at place seen start number at line =
-    option_or (meaning_fault (start + prefix_len is_good_byte line) number (resolved place at (meaning line))) (twice_fault number (repeats_in seen (labels line)))
+    option_or (meaning_fault (start + prefix_len is_good_byte line) number (labels_resolved place at (line_meaning line))) (twice_fault number (repeats_in seen (labels line)))
 
 -- the first fault of these lines, where the first of them starts at this byte and has this number and place, and these labels are seen
 abbrev pub fault_from : (List ℕ → Option ℕ) → (List ℕ → Bool) → ℕ → ℕ → ℕ → List (List ℕ) → Option AsmFault
 fault_from place seen start number at [] = if nat_lt 65536 at then Some TooLong else None
 fault_from place seen start number at (line ∷ rest) =
     option_or (fault_at place seen start number at line)
-    (fault_from place (λ q. seen q || has (labels line) q) (start + (length line + 1)) (number + 1) (at + width (meaning line)) rest)
+    (fault_from place (λ q. seen q || has (labels line) q) (start + (length line + 1)) (number + 1) (at + width (line_meaning line)) rest)
 
 -- the words of these lines, where the first of them has this place
 abbrev pub words_from : (List ℕ → Option ℕ) → ℕ → List (List ℕ) → List ℕ
 words_from place at [] = []
-words_from place at (line ∷ rest) = meaning_words (resolved place at (meaning line)) ++ words_from place (at + width (meaning line)) rest
+words_from place at (line ∷ rest) = meaning_words (labels_resolved place at (line_meaning line)) ++ words_from place (at + width (line_meaning line)) rest

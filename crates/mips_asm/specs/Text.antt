@@ -10,8 +10,8 @@ abbrev pub is_good_byte : ℕ → Bool
 is_good_byte c = is_in_range 32 126 c || c == 9 || c == 13
 
 -- the lines: what stands between the LFs. An LF at the end leaves an empty line behind it, which has neither words nor faults.
-abbrev pub lines_of : List ℕ → List (List ℕ)
-lines_of text = slice_split (λ c. c == 10) text
+abbrev pub asm_lines : List ℕ → List (List ℕ)
+asm_lines text = slice_split (λ c. c == 10) text
 
 -- the bytes before the comment
 abbrev pub content : List ℕ → List ℕ

@@ -2,11 +2,11 @@
 
 ghost use Rattle.std.specs.Prelude.{◌≡◌, ◌<◌, ◌≤◌, ◌+◌, ◌^◌, ◌%◌, IfSome};
 ghost use Rattle.std.specs.Option.{option_or};
-ghost use Rattle.mips_asm.specs.Assembled.{meaning_fault, twice_fault, offset as offset_of, branch_to as branch_to_of, jump_to as jump_to_of};
-ghost use Rattle.mips_asm.specs.Assembled.{resolved as resolved_of};
+ghost use Rattle.mips_asm.specs.Assembled.{meaning_fault, twice_fault, branch_offset as offset_of, branch_to as branch_to_of, jump_to as jump_to_of};
+ghost use Rattle.mips_asm.specs.Assembled.{labels_resolved as resolved_of};
 ghost use Rattle.mips_asm.specs.Fault.{asm_fault_number, asm_fault_place, asm_fault_line, asm_fault_value};
-ghost use Rattle.mips_asm.specs.Passes.{look, Near};
-ghost use Rattle.mips_asm.specs.View.{view};
+ghost use Rattle.mips_asm.specs.Passes.{label_of, Near};
+ghost use Rattle.mips_asm.specs.View.{line_view};
 
 use crate::line::{Line, with_reading};
 use crate::operand::{Reading, signed};
@@ -109,7 +109,7 @@ fn offset(at: u64, to: u64) -> i64
 fn branch_to<'a>(word: u32, at: u64, place: Option<u64>) -> Line<'a>
     requires at { at < 2 ^ 62 }
     requires to { IfSome place (λ p. p < 2 ^ 62) }
-    ensures { view result ≡ branch_to_of word at place }
+    ensures { line_view result ≡ branch_to_of word at place }
 {
     match place {
         None => Line::UnknownLabel,
@@ -119,7 +119,7 @@ fn branch_to<'a>(word: u32, at: u64, place: Option<u64>) -> Line<'a>
 
 // A jump to a label that has this place.
 fn jump_to<'a>(word: u32, place: Option<u64>) -> Line<'a>
-    ensures { view result ≡ jump_to_of word place }
+    ensures { line_view result ≡ jump_to_of word place }
 {
     match place {
         None => Line::UnknownLabel,
@@ -132,7 +132,7 @@ fn jump_to<'a>(word: u32, place: Option<u64>) -> Line<'a>
 
 // The place of a label.
 fn place_at(places: &IndexMap<&[u8], u64>, label: &[u8]) -> Option<u64>
-    ensures { result ≡ look places.now label.now }
+    ensures { result ≡ label_of places.now label.now }
 {
     places.get(label).copied()
 }
@@ -141,7 +141,7 @@ fn place_at(places: &IndexMap<&[u8], u64>, label: &[u8]) -> Option<u64>
 pub fn resolve<'a>(places: &IndexMap<&[u8], u64>, at: u64, line: Line<'a>) -> Line<'a>
     requires at { at < 2 ^ 62 }
     requires places { Near places.now }
-    ensures { view result ≡ resolved_of (look places.now) at (view line.entry) }
+    ensures { line_view result ≡ resolved_of (label_of places.now) at (line_view line.entry) }
 {
     match line {
         Line::Branch(word, label) => branch_to(word, at, place_at(places, label)),
@@ -153,7 +153,7 @@ pub fn resolve<'a>(places: &IndexMap<&[u8], u64>, at: u64, line: Line<'a>) -> Li
 /// The least fault of a line with this number, whose first bad byte stands at this place of the text; `twice` says whether
 /// the line sets a label again.
 pub fn line_fault(bad: u64, number: u64, line: &Line, twice: bool) -> Option<AsmFault>
-    ensures { result ≡ option_or (meaning_fault bad number (view line.now)) (twice_fault number twice) }
+    ensures { result ≡ option_or (meaning_fault bad number (line_view line.now)) (twice_fault number twice) }
 {
     match line {
         Line::BadByte => Some(AsmFault::BadByte { at: bad }),

@@ -3,7 +3,7 @@
 ghost use Rattle.std.specs.Prelude.{◌≡◌, ◌≤◌, ◌<◌, [], length, drop, take, MatchOption, All, Some, None, IfSome};
 ghost use Rattle.mips_asm.specs.Text.{colon_parts, labels_in, after_labels as after_labels_of, content as content_of};
 ghost use Rattle.mips_asm.specs.Text.{is_good_byte as is_good_byte_of, EndAlike, TakesLabel};
-ghost use Rattle.mips_asm.specs.Line.{meaning as meaning_of, width as width_of, mnemonic_len as mnemonic_len_of, word_directive as word_directive_of};
+ghost use Rattle.mips_asm.specs.Line.{line_meaning as meaning_of, width as width_of, mnemonic_len as mnemonic_len_of, word_directive as word_directive_of};
 ghost use Rattle.mips_asm.specs.Line.{zero_directive as zero_directive_of, with_reading as with_reading_of, with_operands as with_operands_of};
 ghost use Rattle.mips_asm.specs.Line.{operands as operands_of, may_be_left_out as may_be_left_out_of, instruction as instruction_of, named as named_of};
 ghost use Rattle.mips_asm.specs.Line.{statement as statement_of, of_parts, is_known as is_known_of, left_colon};
@@ -12,7 +12,7 @@ ghost use Rattle.mips_asm.specs.Number.{in_name as in_name_of};
 ghost use Rattle.std.specs.List.{prefix_len, list_all};
 ghost use Rattle.std.specs.Char.{is_ascii_whitespace};
 ghost use Rattle.std.specs.Prelude.{option_map, is_some, not, ◌==◌};
-ghost use Rattle.mips_asm.specs.View.{view, reading_view, parts_left};
+ghost use Rattle.mips_asm.specs.View.{line_view, reading_view, parts_left};
 
 use crate::form::Operand;
 use crate::form_table::form_named;
@@ -48,7 +48,7 @@ pub enum Line<'a> {
 
 /// How many words a line counts for the addresses.
 pub fn width(line: &Line) -> u32
-    ensures { result ≡ width_of (view line.now) }
+    ensures { result ≡ width_of (line_view line.now) }
 {
     match line {
         Line::BadByte => 0,
@@ -108,7 +108,7 @@ fn name_len(text: &[u8]) -> usize
 
 // What `.word` gives.
 fn word_directive<'a>(value: Option<i64>) -> Line<'a>
-    ensures { view result ≡ word_directive_of value }
+    ensures { line_view result ≡ word_directive_of value }
 {
     match value {
         None => Line::BadOperand,
@@ -126,7 +126,7 @@ fn word_directive<'a>(value: Option<i64>) -> Line<'a>
 
 // What `.zero` gives.
 fn zero_directive<'a>(value: Option<i64>) -> Line<'a>
-    ensures { view result ≡ zero_directive_of value }
+    ensures { line_view result ≡ zero_directive_of value }
 {
     match value {
         None => Line::BadOperand,
@@ -142,7 +142,7 @@ fn zero_directive<'a>(value: Option<i64>) -> Line<'a>
 
 /// The line with one more operand.
 pub fn with_reading<'a>(line: Line<'a>, reading: Option<Reading<'a>>) -> Line<'a>
-    ensures { view result ≡ with_reading_of (view line.entry) (option_map reading_view reading.entry) }
+    ensures { line_view result ≡ with_reading_of (line_view line.entry) (option_map reading_view reading.entry) }
 {
     let Some(reading) = reading else {
         return Line::BadOperand;
@@ -181,7 +181,7 @@ fn may_be_left_out(operand: Operand) -> bool
 
 // The line with its operands, whose texts stand between commas.
 fn with_operands<'a>(start: Line<'a>, kinds: &[Operand], text: &'a [u8]) -> Line<'a>
-    ensures { view result ≡ with_operands_of (view start.entry) kinds.now (operands_of text.now) }
+    ensures { line_view result ≡ with_operands_of (line_view start.entry) kinds.now (operands_of text.now) }
 {
     let mut line = start;
     let mut rest = operand_text(text);
@@ -207,7 +207,7 @@ fn with_operands<'a>(start: Line<'a>, kinds: &[Operand], text: &'a [u8]) -> Line
 
 // An instruction.
 fn instruction<'a>(mnemonic: &[u8], rest: &'a [u8]) -> Line<'a>
-    ensures { view result ≡ instruction_of (form_of mnemonic.now) rest.now }
+    ensures { line_view result ≡ instruction_of (form_of mnemonic.now) rest.now }
 {
     match form_named(mnemonic) {
         None => Line::Unknown,
@@ -217,7 +217,7 @@ fn instruction<'a>(mnemonic: &[u8], rest: &'a [u8]) -> Line<'a>
 
 // An instruction or a directive.
 fn named<'a>(mnemonic: &[u8], rest: &'a [u8]) -> Line<'a>
-    ensures { view result ≡ named_of mnemonic.now rest.now }
+    ensures { line_view result ≡ named_of mnemonic.now rest.now }
 {
     if mnemonic == b".word".as_slice() {
         word_directive(number(trim(rest)))
@@ -231,7 +231,7 @@ fn named<'a>(mnemonic: &[u8], rest: &'a [u8]) -> Line<'a>
 // What a statement gives, with no label and no blank before it.
 #[tactic(auto, unfolding(crate::specs::Line::statement))]
 fn statement(text: &[u8]) -> Line<'_>
-    ensures { view result ≡ statement_of text.now }
+    ensures { line_view result ≡ statement_of text.now }
 {
     if text.is_empty() {
         return Line::Nothing;
@@ -269,7 +269,7 @@ fn is_known(mnemonic: &[u8]) -> bool
 
 // What a statement with a colon in it gives.
 fn after_colon<'a>(part: &[u8]) -> Line<'a>
-    ensures { view result ≡ left_colon part.now }
+    ensures { line_view result ≡ left_colon part.now }
 {
     let text = trim_start(part);
     if is_known(&text[..mnemonic_len(text)]) {
@@ -281,7 +281,7 @@ fn after_colon<'a>(part: &[u8]) -> Line<'a>
 
 // What a line gives, by its content without the labels.
 fn of_content(text: &[u8]) -> Line<'_>
-    ensures { view result ≡ of_parts (colon_parts text.now) }
+    ensures { line_view result ≡ of_parts (colon_parts text.now) }
 {
     let (part, rest) = cut(text, b':');
     match rest {
@@ -320,9 +320,9 @@ pub fn good_len(line: &[u8]) -> usize
 /// What a line gives, without its LF: `BadByte` where a byte of it, of its comment too, is neither printable ASCII nor a
 /// tab or CR; else the words of its statement, or the fault that the statement has. Its labels are passed over: they are
 /// read by `next_label`.
-#[tactic(auto, unfolding(crate::specs::Line::meaning))]
+#[tactic(auto, unfolding(crate::specs::Line::line_meaning))]
 pub fn read_line(line: &[u8]) -> Line<'_>
-    ensures { view result ≡ meaning_of line.now }
+    ensures { line_view result ≡ meaning_of line.now }
 {
     if all_good(line) {
         of_content(after_labels(content(line)))

@@ -4,7 +4,7 @@ ghost use Rattle.std.specs.Prelude.{◌≡◌, ◌≤◌, ◌++◌, length, code
 ghost use Rattle.mips_table.specs.Decoding.{decoding};
 ghost use Rattle.mips_asm.specs.Assembled.{assembled};
 ghost use Rattle.mips_asm.specs.Back.{ReadsBack};
-ghost use Rattle.mips_asm.specs.Listing.{operands as operands_of, separator_at, written, listed, line_for, line_of, listing};
+ghost use Rattle.mips_asm.specs.Listing.{operands as operands_of, separator_at, operand_text, listed, line_for, line_of, listing};
 
 use crate::instruction_rows::rows;
 use cvm_text::{decimal, decimal_u64, hex8};
@@ -44,7 +44,7 @@ fn put_number(out: &mut Vec<u8>, number: u32) -> Result<(), AllocError>
 
 // Appends the number with a sign that 16 bits mean.
 fn put_signed(out: &mut Vec<u8>, bits: u32) -> Result<(), AllocError>
-    ensures { OnOk result (out.new.items ≡ out.old.items ++ written (Written.Signed bits)) }
+    ensures { OnOk result (out.new.items ≡ out.old.items ++ operand_text (Written.Signed bits)) }
 {
     let value = ((bits % 65536) as u16).cast_signed();
     put(out, decimal(i64::from(value)).as_str().as_bytes())
@@ -52,7 +52,7 @@ fn put_signed(out: &mut Vec<u8>, bits: u32) -> Result<(), AllocError>
 
 // Appends an operand.
 fn put_operand(out: &mut Vec<u8>, operand: Written) -> Result<(), AllocError>
-    ensures { OnOk result (out.new.items ≡ out.old.items ++ written operand) }
+    ensures { OnOk result (out.new.items ≡ out.old.items ++ operand_text operand) }
 {
     match operand {
         Register(number) => {

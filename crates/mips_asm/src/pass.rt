@@ -1,10 +1,10 @@
 // The passes over the lines of a text.
 
 ghost use Rattle.std.specs.Prelude.{◌≡◌, ◌≤◌, ◌<◌, ◌+◌, ◌++◌, ◌^◌, ℕ, List, false, OnOk, IfOk, IfSome, is_some, length, ◌||◌, Some, None, []};
-ghost use Rattle.mips_asm.specs.Text.{colon_parts, labels_in, lines_of};
-ghost use Rattle.mips_asm.specs.Assembled.{place_of, has, labels, meaning_words};
-ghost use Rattle.mips_asm.specs.Passes.{look, Near, SetsNames, repeats_in, fault_at, fault_from, words_from};
-ghost use Rattle.mips_asm.specs.View.{view};
+ghost use Rattle.mips_asm.specs.Text.{colon_parts, labels_in, asm_lines};
+ghost use Rattle.mips_asm.specs.Assembled.{label_place, has, labels, meaning_words};
+ghost use Rattle.mips_asm.specs.Passes.{label_of, Near, SetsLabels, repeats_in, fault_at, fault_from, words_from};
+ghost use Rattle.mips_asm.specs.View.{line_view};
 
 use crate::fault::{AsmFault, line_fault, resolve};
 use crate::line::{Line, good_len, label_text, next_label, read_line, width};
@@ -18,8 +18,8 @@ fn set_labels<'a>(
     text: &'a [u8],
     at: u64,
 ) -> Result<bool, AllocError>
-    ensures places { OnOk result (SetsNames places.old places.new (labels_in (colon_parts text.now)) at) }
-    ensures twice { IfOk result (λ t. t ≡ repeats_in (λ q. is_some (look places.old q)) (labels_in (colon_parts text.now))) }
+    ensures places { OnOk result (SetsLabels places.old places.new (labels_in (colon_parts text.now)) at) }
+    ensures twice { IfOk result (λ t. t ≡ repeats_in (λ q. is_some (label_of places.old q)) (labels_in (colon_parts text.now))) }
 {
     let mut twice = false;
     let mut rest = text;
@@ -52,7 +52,7 @@ fn next_place(at: u64, width: u32) -> Result<u64, AllocError>
 
 /// The places of all labels, in words from the text's start.
 pub fn places(alloc: Global, text: &[u8]) -> Result<IndexMap<&[u8], u64>, AllocError>
-    ensures places { IfOk result (λ m. (q : List ℕ) → look m q ≡ place_of (lines_of text.now) q) }
+    ensures places { IfOk result (λ m. (q : List ℕ) → label_of m q ≡ label_place (asm_lines text.now) q) }
     ensures near { IfOk result (λ m. Near m) }
 {
     let mut places = IndexMap::new(alloc);
@@ -82,8 +82,8 @@ fn fault_of_line<'a>(
     requires places { Near places.now }
     requires at { at < 2 ^ 62 }
     requires start { start + length line.now < 2 ^ 64 }
-    ensures fault { IfOk result (λ f. f ≡ fault_at (look places.now) (λ q. is_some (look seen.old q)) start number at line.now) }
-    ensures seen { OnOk result ((q : List ℕ) → is_some (look seen.new q) ≡ (is_some (look seen.old q) || has (labels line.now) q)) }
+    ensures fault { IfOk result (λ f. f ≡ fault_at (label_of places.now) (λ q. is_some (label_of seen.old q)) start number at line.now) }
+    ensures seen { OnOk result ((q : List ℕ) → is_some (label_of seen.new q) ≡ (is_some (label_of seen.old q) || has (labels line.now) q)) }
 {
     let twice = set_labels(seen, label_text(line), at)?;
     let bad = (start + good_len(line)) as u64;
@@ -97,7 +97,7 @@ pub fn first_fault(
     text: &[u8],
 ) -> Result<Option<AsmFault>, AllocError>
     requires { Near places.now }
-    ensures { IfOk result (λ f. f ≡ fault_from (look places.now) (λ q. false) 0 1 0 (lines_of text.now)) }
+    ensures { IfOk result (λ f. f ≡ fault_from (label_of places.now) (λ q. false) 0 1 0 (asm_lines text.now)) }
 {
     let mut seen = IndexMap::new(alloc);
     let mut start = 0usize;
@@ -133,7 +133,7 @@ fn too_long(words: u64) -> Option<AsmFault>
 
 // Appends the words in what a line gives.
 fn append(words: &mut Vec<u32>, line: &Line) -> Result<(), AllocError>
-    ensures { OnOk result (words.new.items ≡ words.old.items ++ meaning_words (view line.now)) }
+    ensures { OnOk result (words.new.items ≡ words.old.items ++ meaning_words (line_view line.now)) }
 {
     match line {
         Line::Word(word) => words.push(*word).map_err(|_| AllocError),
@@ -149,7 +149,7 @@ pub fn words(
     text: &[u8],
 ) -> Result<Vec<u32>, AllocError>
     requires { Near places.now }
-    ensures { IfOk result (λ ws. ws.items ≡ words_from (look places.now) 0 (lines_of text.now)) }
+    ensures { IfOk result (λ ws. ws.items ≡ words_from (label_of places.now) 0 (asm_lines text.now)) }
 {
     let mut words = Vec::new(alloc);
     let mut at = 0u64;

@@ -7,7 +7,7 @@
 #![tactic(auto)]
 
 ghost use Rattle.std.specs.Prelude.{◌≡◌, slice_index};
-ghost use Rattle.mips_table.specs.Machine.{number_of as number_in, taken, left};
+ghost use Rattle.mips_table.specs.Machine.{cause_number as number_in, taken, left};
 
 use mips_table::Cause;
 

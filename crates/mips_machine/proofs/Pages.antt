@@ -5,10 +5,10 @@ use Rattle.std.specs.Prelude.{nat_lt, if◌then◌else◌, not, ◌&&◌, slice_
 use Rattle.std.proofs.lemmas.Bool.{ltb-true, cond-true}
 use Rattle.mips_table.specs.Processor.{is_aligned}
 use Rattle.mips_table.specs.declared.special.TheConstants.{PTO, PTL}
-use Rattle.mips_table.specs.Machine.{State, in_system, entry_address, is_valid, is_protected, located}
+use Rattle.mips_table.specs.Machine.{State, in_system, pte_address, is_valid, is_protected, located}
 use Rattle.mips_machine.specs.declared.board.Page.{Page}
 use Rattle.mips_machine.specs.Board.{Board, around}
-use Rattle.mips_machine.specs.Stretch.{in_memory, place, Serves}
+use Rattle.mips_machine.specs.Stretch.{in_memory, place, KeepsPage}
 
 -- where an address is, by the mode, by whether its entry serves, and by the entry's frame
 abbrev spot : Bool → Bool → ℕ → ℕ → Option ℕ
@@ -53,7 +53,7 @@ pub lies_inside : (s : State) (address k : ℕ) → place s false address ≡ So
 lies_inside s address k e = in_words (length s.memory) k (located s false address) (aligned_place (is_aligned address) (located s false address) (length s.memory) k e)
 
 -- no address has the number of no page
-pub none_serves : (b : Board) → Serves (around b) (record { page = 2 ^ 32 - 1; first = 0; entry = 0 })
+pub none_serves : (b : Board) → KeepsPage (around b) (record { page = 2 ^ 32 - 1; first = 0; entry = 0 })
 none_serves b = record {
   places = λ address low is _. absurd (omega (arith, low, is));
   entries = λ address low is. absurd (omega (arith, low, is));
@@ -65,7 +65,7 @@ module _ (b : Board) where
   sys = in_system b.special
 
   abbrev entry_of : ℕ → ℕ
-  entry_of address = entry_address address (slice_index b.special PTO) / 4
+  entry_of address = pte_address address (slice_index b.special PTO) / 4
 
   -- whether an entry serves a load from a page with this number
   abbrev serves_load : ℕ → ℕ → Bool
@@ -73,7 +73,7 @@ module _ (b : Board) where
 
   -- a page is kept where one of its addresses was found
   pub found_serves : (address word n : ℕ) → length b.memory ≡ 1024 * n → word < 2 ^ 32 → place (around b) false address ≡ Some word →
-      Serves (around b) (record { page = address / 4096; first = word / 1024 * 1024; entry = entry_of address })
+      KeepsPage (around b) (record { page = address / 4096; first = word / 1024 * 1024; entry = entry_of address })
   found_serves address word n whole low found =
       let at = aligned_place (is_aligned address) (located (around b) false address) (length b.memory) word found in
       record {
@@ -90,7 +90,7 @@ module _ (b : Board) where
       entry_at q = slice_index b.memory ((slice_index b.special PTO + 4 * q) % 2 ^ 32 / 4)
 
   -- a page is kept over a store to any word but its entry
-  pub still_serves : (kept : Page) (k value : ℕ) → Serves (around b) kept → kept.entry ≢ k → Serves (around (record b { memory = slice_set b.memory k value })) kept
+  pub still_serves : (kept : Page) (k value : ℕ) → KeepsPage (around b) kept → kept.entry ≢ k → KeepsPage (around (record b { memory = slice_set b.memory k value })) kept
   still_serves kept k value serves apart = record {
     places = λ address low is fits. (
         let same : slice_index (slice_set b.memory k value) (entry_of address) ≡ slice_index b.memory (entry_of address) =

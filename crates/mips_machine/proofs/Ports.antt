@@ -2,8 +2,8 @@
 use Rattle.std.proofs.Common.{◌≡◌, ℕ, ◌+◌, ◌-◌, ◌≤◌, false, not, [], ◌∷◌, ◌++◌, Some, length, slice_index, refl, sym, ◌∙◌, ne_eqb, arith}
 use Rattle.std.specs.Prelude.{◌==◌, nat_lt, slice_set, if◌then◌else◌}
 use Rattle.std.proofs.lemmas.Bool.{cond_both, cond-false}
-use Rattle.mips_table.specs.Device.{Device, Pending, Idle, Reading, Writing, BUFFER, SECTOR, COMMAND, is_busy, is_buffer, begun, port_read, port_write}
-use Rattle.mips_table.specs.Device.{Outside, POWER}
+use Rattle.mips_table.specs.Device.{Device, Pending, Idle, Reading, Writing, BUFFER, SECTOR, COMMAND, is_busy, is_buffer, command_begun, port_read, port_write}
+use Rattle.mips_table.specs.Device.{Environment, POWER}
 use Rattle.mips_table.specs.Machine.{State, LOG, LEFT, INPUT, LOG_ROOM, port_word, port_written}
 use Rattle.sector_disk.specs.Ports.{unfinished}
 
@@ -15,7 +15,7 @@ disk_word s k log left input =
     ∙ cond-false (k == LEFT) (length s.input) last (ne_eqb _ _ left) ∙ cond-false (k == INPUT) (slice_index s.input 0) (port_read s.device k) (ne_eqb _ _ input))
 
 -- neither the power port nor the log
-pub disk_written : (x : Outside) (s : State) (k value : ℕ) → (k ≡ POWER → ⊥) → (k ≡ LOG → ⊥) → record s { device = port_write x.busy x.count s.device k value } ≡ port_written x s k value
+pub disk_written : (x : Environment) (s : State) (k value : ℕ) → (k ≡ POWER → ⊥) → (k ≡ LOG → ⊥) → record s { device = port_write x.busy x.count s.device k value } ≡ port_written x s k value
 disk_written x s k value power log =
     let disk : State = record s { device = port_write x.busy x.count s.device k value } in
     let logs : State = if nat_lt (length s.log) LOG_ROOM then record s { log = s.log ++ value ∷ [] } else s in
@@ -36,7 +36,7 @@ none_unfinished Idle e = refl
 none_unfinished (Reading left sector) e = cc
 none_unfinished (Writing left sector) e = cc
 
-begun_begins : (busy : ℕ → ℕ) (count : ℕ) (d : Device) (command : ℕ) → unfinished d.pending ≡ 0 → Begins d (begun busy count d command)
+begun_begins : (busy : ℕ → ℕ) (count : ℕ) (d : Device) (command : ℕ) → unfinished d.pending ≡ 0 → Begins d (command_begun busy count d command)
 begun_begins busy count d command idle =
     let reading : Device = record d { pending = Reading (busy d.commands) d.sector; commands = d.commands + 1 } in
     let writing : Device = record d { pending = Writing (busy d.commands) d.sector; commands = d.commands + 1 } in
@@ -48,7 +48,7 @@ pub write_begins : (busy : ℕ → ℕ) (count : ℕ) (d : Device) (k value : �
 write_begins busy count d k value =
     let filled : Device = record d { buffer = slice_set d.buffer (k - BUFFER) value } in
     let named : Device = record d { sector = value } in
-    cond_both (is_busy d.pending) d (if k == COMMAND then begun busy count d value else if is_buffer k then filled else if k == SECTOR then named else d) (Begins d) (λ _. refl)
-    (λ rests. cond_both (k == COMMAND) (begun busy count d value) (if is_buffer k then filled else if k == SECTOR then named else d) (Begins d) (λ _. begun_begins busy count d value (none_unfinished d.pending rests))
+    cond_both (is_busy d.pending) d (if k == COMMAND then command_begun busy count d value else if is_buffer k then filled else if k == SECTOR then named else d) (Begins d) (λ _. refl)
+    (λ rests. cond_both (k == COMMAND) (command_begun busy count d value) (if is_buffer k then filled else if k == SECTOR then named else d) (Begins d) (λ _. begun_begins busy count d value (none_unfinished d.pending rests))
     (λ _. cond_both (is_buffer k) filled (if k == SECTOR then named else d) (Begins d) (λ _. refl)
     (λ _. cond_both (k == SECTOR) named d (Begins d) (λ _. refl) (λ _. refl))))

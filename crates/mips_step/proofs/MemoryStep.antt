@@ -9,8 +9,8 @@ use Rattle.mips_table.specs.declared.effect.Effect.{Effect}
 use Rattle.mips_table.specs.declared.effect.Effect.TheVariants.{Set, Wide, Load, Store, Overflow, Call, System}
 use Rattle.mips_table.specs.Decoding.{decoding}
 use Rattle.mips_table.specs.Processor.{Cpu, Access, Move, Loaded, Stored, Trapped, with_loaded, advanced, is_aligned, accessed, performed, executed, effect_on}
-use Rattle.mips_step.specs.Step.{End, took_place, trap, Performs, Executes, StepsOver}
-use Rattle.mips_step.specs.Ends.{Ends, Reads, StepsInMemory}
+use Rattle.mips_step.specs.Step.{StepOutcome, took_place, trap, EffectPerforms, Executes, StepsOver}
+use Rattle.mips_step.specs.Ends.{StepEnds, BusReads, StepsInMemory}
 
 -- a test that is told by MatchBool
 choose : (b : Bool) (P Q : Type 0) (E : Move → Type 0) (x y : Move) → MatchBool b P Q → (P → E x) → (Q → E y) → E (cond (not b) y x)
@@ -30,18 +30,18 @@ module _ {S V : Type 0} (may_fetch may_load may_store : S → ℕ → Bool) (loa
     (fetches_seen : (s : S) (a : ℕ) → may_fetch s a ≡ (access (view s)).may_fetch a)
     (loads_seen : (s : S) (a : ℕ) → may_load s a ≡ (access (view s)).may_load a)
     (stores_seen : (s : S) (a : ℕ) → may_store s a ≡ (access (view s)).may_store a)
-    (reads : (s : S) (a value : ℕ) (t : S) → loads s a value t → Reads word read (view s) a value (view t))
+    (reads : (s : S) (a value : ℕ) (t : S) → loads s a value t → BusReads word read (view s) a value (view t))
     (writes : (s : S) (a value : ℕ) (t : S) → stores s a value t → view t ≡ written (view s) a value)
     (access_stays : (s : S) (a value : ℕ) (t : S) → loads s a value t → access (view t) ≡ access (view s))
   where
-    E : Cpu → V → End → S → Move → Type 0
-    E cpu v end new m = Ends access word read written cpu v m end (view new)
+    E : Cpu → V → StepOutcome → S → Move → Type 0
+    E cpu v end new m = StepEnds access word read written cpu v m end (view new)
 
-    trapped : (cpu : Cpu) (mid : S) (cause : Cause) (edata epc : ℕ) (end : End) (new : S) → (end ≡ trap cpu cause edata epc) × (new ≡ mid) → E cpu (view mid) end new (Trapped cause edata epc)
+    trapped : (cpu : Cpu) (mid : S) (cause : Cause) (edata epc : ℕ) (end : StepOutcome) (new : S) → (end ≡ trap cpu cause edata epc) × (new ≡ mid) → E cpu (view mid) end new (Trapped cause edata epc)
     unfolding E
     trapped cpu mid cause edata epc end new h = (h.0, ap view h.1)
 
-    reached : (cpu : Cpu) (mid : S) (asked may : Bool) (seen : asked ≡ may) (address : ℕ) (end : End) (new : S) (Does : Type 0) (m : Move) →
+    reached : (cpu : Cpu) (mid : S) (asked may : Bool) (seen : asked ≡ may) (address : ℕ) (end : StepOutcome) (new : S) (Does : Type 0) (m : Move) →
         MatchBool (is_aligned address) (MatchBool asked Does ((end ≡ trap cpu causes.DataFault address cpu.pc) × (new ≡ mid))) ((end ≡ trap cpu causes.DataAlign address cpu.pc) × (new ≡ mid)) →
         (Does → E cpu (view mid) end new m) → E cpu (view mid) end new (accessed may causes.DataAlign causes.DataFault address cpu.pc m)
     reached cpu mid asked may seen address end new Does m h f =
@@ -50,7 +50,7 @@ module _ {S V : Type 0} (may_fetch may_load may_store : S → ℕ → Bool) (loa
         (λ g. choose may Does (T causes.DataFault) (E cpu (view mid) end new) _ _ (subst (λ b. MatchBool b Does (T causes.DataFault)) seen g) f (λ t. trapped cpu mid causes.DataFault address cpu.pc end new t))
         (λ t. trapped cpu mid causes.DataAlign address cpu.pc end new t)
 
-    performs : (cpu : Cpu) (mid : S) (code : ℕ) (effect : Effect) (end : End) (new : S) → Performs may_fetch may_load may_store loads stores cpu mid code effect end new → E cpu (view mid) end new (performed (access (view mid)) cpu code effect)
+    performs : (cpu : Cpu) (mid : S) (code : ℕ) (effect : Effect) (end : StepOutcome) (new : S) → EffectPerforms may_fetch may_load may_store loads stores cpu mid code effect end new → E cpu (view mid) end new (performed (access (view mid)) cpu code effect)
     unfolding E
     performs cpu mid code (Set register value to) end new h = (h.0, ap view h.1)
     performs cpu mid code (Wide hi lo to) end new h = (h.0, ap view h.1)
@@ -63,12 +63,12 @@ module _ {S V : Type 0} (may_fetch may_load may_store : S → ℕ → Bool) (loa
     performs cpu mid code Call end new h = (h.0, ap view h.1)
     performs cpu mid code System end new h = (h.0, ap view h.1)
 
-    executes : (cpu : Cpu) (mid : S) (code : ℕ) (inst : Option Inst) (end : End) (new : S) → Executes may_fetch may_load may_store loads stores cpu mid code inst end new → E cpu (view mid) end new (executed (access (view mid)) cpu code inst)
+    executes : (cpu : Cpu) (mid : S) (code : ℕ) (inst : Option Inst) (end : StepOutcome) (new : S) → Executes may_fetch may_load may_store loads stores cpu mid code inst end new → E cpu (view mid) end new (executed (access (view mid)) cpu code inst)
     executes cpu mid code None end new h = trapped cpu mid causes.Illegal code cpu.pc end new h
     executes cpu mid code (Some inst) end new h = performs cpu mid code (effect_on inst cpu) end new h
 
     -- what StepsOver says is what the one definition says
-    pub ends : (cpu : Cpu) (old : S) (end : End) (new : S) → StepsOver may_fetch may_load may_store loads stores cpu old end new → StepsInMemory access word read written cpu (view old) end (view new)
+    pub ends : (cpu : Cpu) (old : S) (end : StepOutcome) (new : S) → StepsOver may_fetch may_load may_store loads stores cpu old end new → StepsInMemory access word read written cpu (view old) end (view new)
     unfolding E
     ends cpu old end new h =
         let T : Cause → Type 0 = λ c. (end ≡ trap cpu c cpu.pc cpu.pc) × (new ≡ old) in

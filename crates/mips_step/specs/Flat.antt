@@ -10,5 +10,5 @@ unchanged words address = words
 
 -- the machine after a step, with how it ended
 abbrev pub answer : Outcome → table.Flat → table.VStep
-answer Done after = table.Next after
+answer Done after = table.Goes after
 answer (Trap cause edata) after = table.Trap after cause edata

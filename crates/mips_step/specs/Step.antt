@@ -12,48 +12,48 @@ use Rattle.mips_step.specs.declared.cpu.Outcome.{Outcome}
 use Rattle.mips_step.specs.declared.cpu.Outcome.TheVariants.{Done, Trap}
 
 -- how a step ended, and the processor after it
-pub record End : Type 0 where
+pub record StepOutcome : Type 0 where
   pub outcome : Outcome
   pub cpu : Cpu
 
 -- an instruction that took place
-abbrev pub took_place : Cpu → End
+abbrev pub took_place : Cpu → StepOutcome
 took_place cpu = record { outcome = Done; cpu = cpu }
 
 -- a trap, with its cause, what it concerns and where to go on; it leaves the registers
-abbrev pub trap : Cpu → Cause → ℕ → ℕ → End
+abbrev pub trap : Cpu → Cause → ℕ → ℕ → StepOutcome
 trap cpu cause edata epc = record { outcome = Trap cause edata; cpu = record cpu { pc = epc } }
 
 -- the processor over a bus whose value has the type S
 module _ {S : Type 0} (may_fetch may_load may_store : S → ℕ → Bool) (loads stores : S → ℕ → ℕ → S → Type 0) where
   -- an aligned access that translation takes is done, else it traps
-  abbrev pub Accesses : Bool → Cpu → ℕ → S → End → S → Type 0 → Type 0
+  abbrev pub Accesses : Bool → Cpu → ℕ → S → StepOutcome → S → Type 0 → Type 0
   Accesses may cpu address mid end new Does =
       MatchBool (is_aligned address)
       (MatchBool may Does ((end ≡ trap cpu causes.DataFault address cpu.pc) × (new ≡ mid)))
       ((end ≡ trap cpu causes.DataAlign address cpu.pc) × (new ≡ mid))
 
   -- what an effect does
-  abbrev pub Performs : Cpu → S → ℕ → Effect → End → S → Type 0
-  Performs cpu mid word (Set register value to) end new = (end ≡ took_place (went_on cpu register value to)) × (new ≡ mid)
-  Performs cpu mid word (Wide hi lo to) end new = (end ≡ took_place (record cpu { pc = to; hi = hi; lo = lo })) × (new ≡ mid)
-  Performs cpu mid word (Load register address) end new =
+  abbrev pub EffectPerforms : Cpu → S → ℕ → Effect → StepOutcome → S → Type 0
+  EffectPerforms cpu mid word (Set register value to) end new = (end ≡ took_place (went_on cpu register value to)) × (new ≡ mid)
+  EffectPerforms cpu mid word (Wide hi lo to) end new = (end ≡ took_place (record cpu { pc = to; hi = hi; lo = lo })) × (new ≡ mid)
+  EffectPerforms cpu mid word (Load register address) end new =
       Accesses (may_load mid address) cpu address mid end new
       ((value : ℕ) × loads mid address value new × (end ≡ took_place (with_loaded (advanced cpu) register value)))
-  Performs cpu mid word (Store address value) end new =
+  EffectPerforms cpu mid word (Store address value) end new =
       Accesses (may_store mid address) cpu address mid end new
       (stores mid address value new × (end ≡ took_place (advanced cpu)))
-  Performs cpu mid word Overflow end new = (end ≡ trap cpu causes.Overflow word (next cpu.pc)) × (new ≡ mid)
-  Performs cpu mid word Call end new = (end ≡ trap cpu causes.Syscall word (next cpu.pc)) × (new ≡ mid)
-  Performs cpu mid word System end new = (end ≡ trap cpu causes.Illegal word cpu.pc) × (new ≡ mid)
+  EffectPerforms cpu mid word Overflow end new = (end ≡ trap cpu causes.Overflow word (next cpu.pc)) × (new ≡ mid)
+  EffectPerforms cpu mid word Call end new = (end ≡ trap cpu causes.Syscall word (next cpu.pc)) × (new ≡ mid)
+  EffectPerforms cpu mid word System end new = (end ≡ trap cpu causes.Illegal word cpu.pc) × (new ≡ mid)
 
   -- what the instruction in a word does, if there is one
-  abbrev pub Executes : Cpu → S → ℕ → Option Inst → End → S → Type 0
+  abbrev pub Executes : Cpu → S → ℕ → Option Inst → StepOutcome → S → Type 0
   Executes cpu mid word None end new = (end ≡ trap cpu causes.Illegal word cpu.pc) × (new ≡ mid)
-  Executes cpu mid word (Some inst) end new = Performs cpu mid word (effect_on inst cpu) end new
+  Executes cpu mid word (Some inst) end new = EffectPerforms cpu mid word (effect_on inst cpu) end new
 
   -- fetch, then the instruction over the bus that the fetch left
-  abbrev pub StepsOver : Cpu → S → End → S → Type 0
+  abbrev pub StepsOver : Cpu → S → StepOutcome → S → Type 0
   StepsOver cpu old end new =
       MatchBool (is_aligned cpu.pc)
       (MatchBool (may_fetch old cpu.pc)

@@ -1,7 +1,7 @@
 // What the processor reads and writes.
 ghost use Rattle.std.specs.Prelude.{◌≡◌, ℕ, Bool};
 ghost use Rattle.mips_table.specs.Processor.{Access};
-ghost use Rattle.mips_step.specs.Ends.{Reads};
+ghost use Rattle.mips_step.specs.Ends.{BusReads};
 
 /// A memory behind translation, with byte addresses.
 ///
@@ -75,7 +75,7 @@ pub trait MemoryBus: Bus {
     ghost stores_seen: { (bus : Self) (address : ℕ) → Self.may_store bus address ≡ (access (view bus)).may_store address };
 
     /// A load answers the word, and reads.
-    ghost reads: { (bus : Self) (a v : ℕ) (after : Self) → Self.loads bus a v after → Reads word read (view bus) a v (view after) };
+    ghost reads: { (bus : Self) (a v : ℕ) (after : Self) → Self.loads bus a v after → BusReads word read (view bus) a v (view after) };
 
     /// A store writes.
     ghost writes: { (bus : Self) (a v : ℕ) (after : Self) → Self.stores bus a v after → view after ≡ written (view bus) a v };

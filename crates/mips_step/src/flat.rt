@@ -2,7 +2,7 @@
 ghost use Rattle.std.specs.Prelude.{◌≡◌, ℕ, ◌/◌, List, slice_set, refl};
 ghost use Rattle.std.proofs.Common.{ap};
 ghost use Rattle.mips_table.specs.Flat.{vstep, is_inside, flat_access, word_at};
-ghost use Rattle.mips_step.specs.Ends.{Reads};
+ghost use Rattle.mips_step.specs.Ends.{BusReads};
 ghost use Rattle.mips_step.specs.Flat.{answer, unchanged};
 ghost use Rattle.mips_step.specs.View.{cpu_of};
 
@@ -23,7 +23,7 @@ impl Bus for Flat {
 
     ghost may_store = { λ s a. is_inside s.words.items a };
 
-    ghost loads = { λ s a value t. Reads word_at unchanged s.words.items a value t.words.items };
+    ghost loads = { λ s a value t. BusReads word_at unchanged s.words.items a value t.words.items };
 
     ghost stores = { λ s a value t. t.words.items ≡ slice_set s.words.items (a / 4) value };
 

@@ -3,7 +3,7 @@ ghost use Rattle.std.specs.Prelude.{◌≡◌, ◌<◌, ℕ};
 ghost use Rattle.mips_table.specs.Processor.{with_loaded, advanced};
 ghost use Rattle.mips_table.specs.Effect.{HasRegister};
 ghost use Rattle.mips_step.specs.Ends.{StepsInMemory};
-ghost use Rattle.mips_step.specs.Step.{Accesses, Performs, StepsOver, took_place};
+ghost use Rattle.mips_step.specs.Step.{Accesses, EffectPerforms, StepsOver, took_place};
 ghost use Rattle.mips_step.specs.View.{cpu_of};
 
 use crate::bus::{Bus, MemoryBus};
@@ -38,7 +38,7 @@ pub fn step<B: Bus>(cpu: &mut Cpu, bus: &mut B) -> Outcome
 // What the instruction in this word asks for.
 fn perform<B: Bus>(cpu: &mut Cpu, bus: &mut B, word: u32, effect: Effect) -> Outcome
     requires { HasRegister effect }
-    ensures { Performs B.may_fetch B.may_load B.may_store B.loads B.stores
+    ensures { EffectPerforms B.may_fetch B.may_load B.may_store B.loads B.stores
         (cpu_of cpu.old) bus.old word effect (record { outcome = result; cpu = cpu_of cpu.new }) bus.new }
 {
     match effect {

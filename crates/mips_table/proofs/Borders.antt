@@ -11,24 +11,24 @@ use Rattle.mips_table.specs.Arith.{sum, extended}
 use Rattle.mips_table.specs.Encoding.{encoding}
 use Rattle.mips_table.specs.Decoding.{decoding}
 use Rattle.mips_table.specs.Processor.{Cpu, Move, Ran, Loaded, Stored, Trapped, Privileged, is_aligned, advanced, accessed, move}
-use Rattle.mips_table.specs.Device.{Outside, POWER}
+use Rattle.mips_table.specs.Device.{Environment, POWER}
 use Rattle.mips_table.specs.declared.special.TheConstants.{SR, MODE, EPC}
-use Rattle.mips_table.specs.Machine.{INPUT, State, in_system, located, port_written, written_at, after_read_at, access, left, Coming, Interrupt, Done, privileged, moved, fetch, fetched, coming, cleared, interrupted, come_to, latched, ended, if_on, step, run}
+use Rattle.mips_table.specs.Machine.{INPUT, State, in_system, located, port_written, written_at, after_read_at, access, left, Coming, Interrupt, Done, privileged, moved, fetch, fetched, coming, cleared, interrupted, come_to, latched, step_ended, if_on, step, run}
 use Rattle.mips_table.specs.Fits.{Fits}
 use Rattle.mips_table.specs.Code.{Program, on_machine, Sound}
-use Rattle.mips_table.specs.Simulation.{Quiet, Holds}
+use Rattle.mips_table.specs.Simulation.{Quiet, MemoryHolds}
 use Rattle.mips_table.specs.Borders.{Taken}
-use Rattle.mips_table.proofs.Round.{decoding-encoding}
+use Rattle.mips_table.proofs.DecodingInverts.{decoding-encoding}
 use Rattle.mips_table.proofs.Words.{step_fits}
 use Rattle.mips_table.proofs.Instruction.{plainly, instruction, below}
 use Rattle.mips_table.proofs.Simulate.{latched_quiet}
 
 -- a machine that is off
-step_off : (x : Outside) (s : State) (word : ℕ) → s.off ≡ Some word → step x s ≡ s
+step_off : (x : Environment) (s : State) (word : ℕ) → s.off ≡ Some word → step x s ≡ s
 unfolding step
 step_off x s word e = ap (if_on x s) e
 
-pub stays_off : (x : Outside) (s : State) (word n : ℕ) → s.off ≡ Some word → run x s n ≡ s
+pub stays_off : (x : Environment) (s : State) (word n : ℕ) → s.off ≡ Some word → run x s n ≡ s
 stays_off x s word zero e = refl
 stays_off x s word (suc n) e = ap (step x) (stays_off x s word n e) ∙ step_off x s word e
 
@@ -64,7 +64,7 @@ privileged_keeps s t word (Some (Mtc0 rt k)) e = tt
 privileged_keeps s t word (Some Eret) e = tt
 privileged_keeps s t word other e = e
 
-moved_keeps : (x : Outside) (s t : State) (m : Move) → Same s t → Kept s (moved x t m)
+moved_keeps : (x : Environment) (s t : State) (m : Move) → Same s t → Kept s (moved x t m)
 moved_keeps x s t (Ran c) e = tt
 moved_keeps x s t (Loaded c r address) e = tt
 moved_keeps x s t (Stored c address value) e = tt
@@ -72,7 +72,7 @@ moved_keeps x s t (Trapped cause edata epc) e = e
 moved_keeps x s t (Privileged word) e =
     cond_both (in_system t.special) (privileged t word (decoding word)) (Interrupt t causes.Illegal word t.cpu.pc) (Kept s) (λ _. privileged_keeps s t word (decoding word) e) (λ _. e)
 
-coming_keeps : (x : Outside) (s : State) → Kept s (coming x s)
+coming_keeps : (x : Environment) (s : State) → Kept s (coming x s)
 coming_keeps x s =
     let moves : Coming = moved x (fetched s) (move (access s) s.cpu (fetch s)) in
     let external : Coming = Interrupt s causes.External s.mask s.cpu.pc in
@@ -81,7 +81,7 @@ coming_keeps x s =
     (λ _. cond_both line external moves (Kept s) (λ _. same s) (λ _. moved_keeps x s (fetched s) (move (access s) s.cpu (fetch s)) (fetch_keeps s)))
 
 -- what comes of a machine whose reset is latched is the reset
-clears : (x : Outside) (s before : State) (cause : Cause) (edata epc : ℕ) → Same s before → coming x s ≡ Interrupt before cause edata epc → (cleared cause before).reset ≡ false
+clears : (x : Environment) (s before : State) (cause : Cause) (edata epc : ℕ) → Same s before → coming x s ≡ Interrupt before cause edata epc → (cleared cause before).reset ≡ false
 clears x s before cause edata epc k e = by_latch s.reset refl cause e
   where
     others : (cause : Cause) → s.reset ≡ false → (cleared cause before).reset ≡ false
@@ -108,11 +108,11 @@ cleared_same other s = (refl, refl)
 reset_pc : (c d : Cpu) → c ≡ d → record c { pc = 0 } ≡ record d { pc = 0 }
 reset_pc c d e = rw e refl
 
-pub interrupt_taken : (x : Outside) (s before : State) (cause : Cause) (edata epc : ℕ) → Fits x s → s.off ≡ None → coming x (latched x s) ≡ Interrupt before cause edata epc → Taken x s before cause edata epc
+pub interrupt_taken : (x : Environment) (s before : State) (cause : Cause) (edata epc : ℕ) → Fits x s → s.off ≡ None → coming x (latched x s) ≡ Interrupt before cause edata epc → Taken x s before cause edata epc
 unfolding step
 interrupt_taken x s before cause edata epc h on e =
     let s1 : State = latched x s in
-    let is : step x s ≡ ended (interrupted before cause edata epc) = ap (if_on x s) on ∙ ap (λ c. ended (come_to c)) e in
+    let is : step x s ≡ step_ended (interrupted before cause edata epc) = ap (if_on x s) on ∙ ap (λ c. step_ended (come_to c)) e in
     let k : Same s1 before = subst (Kept s1) e (coming_keeps x s1) in
     let c = cleared_same cause before in
     record {
@@ -129,12 +129,12 @@ interrupt_taken x s before cause edata epc h on e =
       memory = ap (λ z. z.memory) is ∙ c.1 ∙ k.memory;
     }
 
-module _ (x : Outside) (p : Program) (f : Sound (on_machine x p)) (s : State) (q : Quiet x s) (h : Holds (on_machine x p) s.memory) where
-  step_done : (after : State) → coming x (latched x s) ≡ Done after → step x s ≡ ended after
+module _ (x : Environment) (p : Program) (f : Sound (on_machine x p)) (s : State) (q : Quiet x s) (h : MemoryHolds (on_machine x p) s.memory) where
+  step_done : (after : State) → coming x (latched x s) ≡ Done after → step x s ≡ step_ended after
   unfolding step
-  step_done after e = ap (if_on x s) q.on ∙ ap (λ c. ended (come_to c)) e
+  step_done after e = ap (if_on x s) q.on ∙ ap (λ c. step_ended (come_to c)) e
 
-  pub eret_leaves : p.code (s.cpu.pc / 4) ≡ Some Eret → step x s ≡ ended (record (latched x s) { special = left s.special; cpu = record s.cpu { pc = slice_index s.special EPC } })
+  pub eret_leaves : p.code (s.cpu.pc / 4) ≡ Some Eret → step x s ≡ step_ended (record (latched x s) { special = left s.special; cpu = record s.cpu { pc = slice_index s.special EPC } })
   eret_leaves at =
       let s1 : State = latched x s in
       let word : ℕ = encoding Eret in
@@ -143,7 +143,7 @@ module _ (x : Outside) (p : Program) (f : Sound (on_machine x p)) (s : State) (q
       ∙ cond-true _ (privileged s1 word (decoding word)) (Interrupt s1 causes.Illegal word s.cpu.pc) (eq-eqb _ _ q.mode) ∙ ap (privileged s1 word) (decoding-encoding Eret (f.range (s.cpu.pc / 4) Eret at)))
 
   pub power_ends : (rt rs imm : ℕ) → p.code (s.cpu.pc / 4) ≡ Some (Sw rt rs imm) → sum (slice_index s.cpu.regs rs) (extended imm) ≡ 4 * POWER
-      → step x s ≡ ended (record (latched x s) { off = Some (slice_index s.cpu.regs rt); cpu = advanced s.cpu })
+      → step x s ≡ step_ended (record (latched x s) { off = Some (slice_index s.cpu.regs rt); cpu = advanced s.cpu })
   power_ends rt rs imm at e =
       let s1 : State = latched x s in
       let q1 = latched_quiet x p f s q in

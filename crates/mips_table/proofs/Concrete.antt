@@ -7,11 +7,11 @@ use Rattle.std.proofs.lemmas.List.Elements.{All-cons, All-replicate}
 use Rattle.mips_table.specs.declared.inst.Inst.{Inst}
 use Rattle.mips_table.specs.declared.inst.Inst.TheVariants.{Addiu, Sw}
 use Rattle.mips_table.specs.Encoding.{InRange, encoding}
-use Rattle.mips_table.specs.Device.{Outside, HasEightLines, LinesEnd}
-use Rattle.mips_table.specs.Machine.{start, run}
+use Rattle.mips_table.specs.Device.{Environment, HasEightLines, LinesEnd}
+use Rattle.mips_table.specs.Machine.{power_on, run}
 use Rattle.mips_table.specs.Fits.{IsWord, Fits}
-use Rattle.mips_table.specs.Code.{World, on_machine, on_flat, Sound, Configuration, act, code_run, MayRun}
-use Rattle.mips_table.specs.Simulation.{configuration_of, Quiet, Holds, Serves, Simulates, flat_configuration, FlatFits, SimulatesFlat}
+use Rattle.mips_table.specs.Code.{World, on_machine, on_flat, Sound, CodeState, act, code_run, MayRun}
+use Rattle.mips_table.specs.Simulation.{configuration_of, Quiet, MemoryHolds, DiskServes, Simulates, flat_configuration, FlatFits, SimulatesFlat}
 use Rattle.mips_table.specs.Premises.{storing, eight_words, program, machine, flat, OnMachine, OnFlat, raising}
 use Rattle.mips_table.proofs.Start.{zero_fits, start_fits}
 use Rattle.mips_table.proofs.Simulate.{follows}
@@ -49,15 +49,15 @@ words =
     All-cons IsWord (encoding (Addiu 1 0 5)) (encoding (Sw 1 0 28) ∷ replicate 6 0) (omega arith) (All-cons IsWord (encoding (Sw 1 0 28)) (replicate 6 0) (omega arith) zeros)
 
 -- the code on a machine of eight words
-sound_machine : (x : Outside) → Sound (on_machine x program)
+sound_machine : (x : Environment) → Sound (on_machine x program)
 sound_machine x = record { small = omega arith; range = range; inside = inside; keeps = keeps }
 
-pub on_machine_met : (x : Outside) → x.count ≡ 0 → HasEightLines x → OnMachine x
+pub on_machine_met : (x : Environment) → x.count ≡ 0 → HasEightLines x → OnMachine x
 unfolding act
 on_machine_met x count eight =
     let w : World = on_machine x program in
     let f : Sound w = sound_machine x in
-    let fits : Fits x (start eight_words [] []) = start_fits x eight_words [] [] eight words (sym count) (λ k d lt. absurd (omega arith)) (omega arith) (λ k d lt. absurd (omega arith)) in
+    let fits : Fits x (power_on eight_words [] []) = start_fits x eight_words [] [] eight words (sym count) (λ k d lt. absurd (omega arith)) (omega arith) (λ k d lt. absurd (omega arith)) in
     let q : Quiet x machine = record {
       fits = record { cpu = fits.cpu; special = fits.special; memory = fits.memory; device = fits.device; console = fits.console; lines = fits.lines; mask = fits.mask; off = fits.off };
       on = refl;
@@ -66,9 +66,9 @@ on_machine_met x count eight =
       mode = refl;
       aligned = refl;
     } in
-    let h : Holds w machine.memory = record { size = refl; kept = kept } in
-    let v : Serves x w machine.device = record { count = omega arith; named = tt } in
-    let end : Configuration = code_run w (configuration_of machine) 2 in
+    let h : MemoryHolds w machine.memory = record { size = refl; kept = kept } in
+    let v : DiskServes x w machine.device = record { count = omega arith; named = tt } in
+    let end : CodeState = code_run w (configuration_of machine) 2 in
     let may : MayRun w 2 (configuration_of machine) = (refl, ((refl, (λ le. refl), refl, (omega arith), λ e. absurd (omega arith)), tt)) in
     let r : Simulates x w 2 machine = follows x program f 2 machine q h v may in
     let size : length (run x machine 2).memory ≡ 8 = (r.along 2 (omega arith)).holds.size in
@@ -88,8 +88,8 @@ on_flat_met =
     let w : World = on_flat program in
     let f : Sound w = record { small = omega arith; range = range; inside = inside; keeps = keeps } in
     let fits : FlatFits flat = record { cpu = zero_fits; aligned = refl; words = words } in
-    let h : Holds w flat.words = record { size = refl; kept = kept } in
-    let end : Configuration = code_run w (flat_configuration flat) 2 in
+    let h : MemoryHolds w flat.words = record { size = refl; kept = kept } in
+    let end : CodeState = code_run w (flat_configuration flat) 2 in
     let may : MayRun w 2 (flat_configuration flat) = (refl, ((refl, (λ le. absurd (omega arith)), refl, (omega arith), λ e. absurd (omega arith)), tt)) in
     let r : SimulatesFlat w 2 flat = flat_follows program f 2 flat fits h may in
     record {

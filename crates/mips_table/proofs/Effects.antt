@@ -12,7 +12,7 @@ use Rattle.mips_table.specs.declared.inst.Inst.TheVariants.{Sll, Srl, Sra, Sllv,
 use Rattle.mips_table.specs.declared.effect.Effect.TheVariants.{Set, Wide, Overflow}
 use Rattle.mips_table.specs.Arith.{signed, sum, difference, sum_overflows, difference_overflows, is_negative, is_positive, shifted_signed, extended, flag, signed_product, signed_quotient, signed_remainder}
 use Rattle.mips_table.specs.Encoding.{InRange}
-use Rattle.mips_table.specs.Effect.{next, branch, jump, set_halves, divided, divided_unsigned, effect_of}
+use Rattle.mips_table.specs.Effect.{next, branch, jump_target, set_halves, divided, divided_unsigned, effect_of}
 use Rattle.mips_table.specs.Fits.{IsWord, EffectFits}
 
 cut : (n : ℕ) → n % 2 ^ 32 < 2 ^ 32
@@ -33,7 +33,7 @@ signed_part n k h = cond_both (is_negative n) (2 ^ 32 - 1 - (2 ^ 32 - 1 - n) / 2
 branches : (pc imm : ℕ) (taken : Bool) → branch pc imm taken < 2 ^ 32
 branches pc imm taken = cond_both taken ((pc + 4 + 4 * extended imm) % 2 ^ 32) (next pc) IsWord (λ e. cut _) (λ e. cut _)
 
-jumps : (pc index : ℕ) → index < 2 ^ 26 → jump pc index < 2 ^ 32
+jumps : (pc index : ℕ) → index < 2 ^ 26 → jump_target pc index < 2 ^ 32
 jumps pc index h = omega arith
 
 within : (n : ℕ) → n < 2 ^ 16 → n < 2 ^ 32

@@ -4,10 +4,10 @@ use Rattle.std.proofs.Common.{◌≡◌, ℕ, zero, suc, List, [], ◌∷◌, So
 use Rattle.std.proofs.lemmas.Bool.{eq-eqb}
 use Rattle.std.proofs.lemmas.Nat.{and_assoc, and_comm}
 use Rattle.mips_table.specs.declared.table.Row.{Row}
-use Rattle.mips_table.specs.Rows.{overlap, apart_from, rows_apart, Belongs, OneRow}
+use Rattle.mips_table.specs.Rows.{rows_overlap, apart_from, rows_apart, Belongs, OneRow}
 
 -- two rows with a word in common overlap
-overlaps : (w : ℕ) (a b : Row) → Belongs w a → Belongs w b → overlap a b ≡ true
+overlaps : (w : ℕ) (a b : Row) → Belongs w a → Belongs w b → rows_overlap a b ≡ true
 overlaps w a b p q = eq-eqb _ _
     (ap (λ v. bit_and v b.mask) (sym p) ∙ and_assoc b.mask w a.mask ∙ ap (bit_and w) (and_comm a.mask b.mask) ∙ sym (and_assoc a.mask w b.mask) ∙ ap (λ v. bit_and v a.mask) q)
 
@@ -22,7 +22,7 @@ clash false p q = cc
 -- a row that overlaps none of the others shares no word with them
 apart : (w : ℕ) (a b : Row) (rows : List Row) (k : ℕ) → apart_from a rows ≡ true → slice_get rows k ≡ Some b → Belongs w a → Belongs w b → ⊥
 apart w a b [] k t g p q = cc
-apart w a b (r ∷ rows) zero t g p q = let e : r ≡ b = cc in clash (overlap a r) (overlaps w a r p (rw e q)) (halves _ _ t).0
+apart w a b (r ∷ rows) zero t g p q = let e : r ≡ b = cc in clash (rows_overlap a r) (overlaps w a r p (rw e q)) (halves _ _ t).0
 apart w a b (r ∷ rows) (suc k) t g p q = apart w a b rows k (halves _ _ t).1 g p q
 
 -- no word is in two rows

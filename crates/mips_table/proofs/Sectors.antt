@@ -3,7 +3,7 @@
 use Rattle.std.proofs.Common.{◌≡◌, ℕ, zero, suc, ◌+◌, ◌-◌, ◌<◌, ◌≤◌, true, not, nat_lt, [], refl, arith, get_or-set_other}
 use Rattle.std.specs.Prelude.{◌==◌, if◌then◌else◌, slice_set}
 use Rattle.std.proofs.lemmas.Bool.{cond_both}
-use Rattle.mips_table.specs.Device.{Device, Pending, Idle, Reading, Writing, BUFFER, SECTOR, COMMAND, is_busy, is_buffer, sector_of, begun, port_write, settled}
+use Rattle.mips_table.specs.Device.{Device, Pending, Idle, Reading, Writing, BUFFER, SECTOR, COMMAND, is_busy, is_buffer, sector_of, command_begun, port_write, settled}
 use Rattle.mips_table.specs.Fits.{NamesSector}
 
 -- the sectors are the same, and a command under way is still for one of the first n sectors
@@ -14,7 +14,7 @@ pub record KeepsSectors (n : ℕ) (d e : Device) : Type 0 where
 same : (n : ℕ) (d : Device) → KeepsSectors n d d
 same n d = record { sectors = refl; named = λ h. h }
 
-begins : (n : ℕ) (busy : ℕ → ℕ) (count : ℕ) (d : Device) (v : ℕ) → d.sector < n → KeepsSectors n d (begun busy count d v)
+begins : (n : ℕ) (busy : ℕ → ℕ) (count : ℕ) (d : Device) (v : ℕ) → d.sector < n → KeepsSectors n d (command_begun busy count d v)
 begins n busy count d v lt =
     let reading : Device = record d { pending = Reading (busy d.commands) d.sector; commands = d.commands + 1 } in
     let writing : Device = record d { pending = Writing (busy d.commands) d.sector; commands = d.commands + 1 } in
@@ -27,8 +27,8 @@ pub written_keeps : (n : ℕ) (busy : ℕ → ℕ) (count : ℕ) (d : Device) (k
 written_keeps n busy count d k v lt =
     let fills : Device = record d { buffer = slice_set d.buffer (k - BUFFER) v } in
     let names : Device = record d { sector = v } in
-    cond_both (is_busy d.pending) d (if k == COMMAND then begun busy count d v else if is_buffer k then fills else if k == SECTOR then names else d) (KeepsSectors n d) (λ _. same n d)
-    (λ _. cond_both (k == COMMAND) (begun busy count d v) (if is_buffer k then fills else if k == SECTOR then names else d) (KeepsSectors n d) (λ e. begins n busy count d v (lt e))
+    cond_both (is_busy d.pending) d (if k == COMMAND then command_begun busy count d v else if is_buffer k then fills else if k == SECTOR then names else d) (KeepsSectors n d) (λ _. same n d)
+    (λ _. cond_both (k == COMMAND) (command_begun busy count d v) (if is_buffer k then fills else if k == SECTOR then names else d) (KeepsSectors n d) (λ e. begins n busy count d v (lt e))
     (λ _. cond_both (is_buffer k) fills (if k == SECTOR then names else d) (KeepsSectors n d) (λ _. record { sectors = refl; named = λ h. h })
     (λ _. cond_both (k == SECTOR) names d (KeepsSectors n d) (λ _. record { sectors = refl; named = λ h. h }) (λ _. same n d))))
 

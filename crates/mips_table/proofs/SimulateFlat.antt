@@ -12,15 +12,15 @@ use Rattle.mips_table.specs.Encoding.{encoding}
 use Rattle.mips_table.specs.Decoding.{decoding}
 use Rattle.mips_table.specs.Effect.{next, effect_of}
 use Rattle.mips_table.specs.Processor.{Move, Loaded, Stored, Trapped, went_on, advanced, accessed, performed, effect_on, executed}
-use Rattle.mips_table.specs.Flat.{Flat, VStep, Next, flat_access, word_at, answered, vstep}
+use Rattle.mips_table.specs.Flat.{Flat, VStep, Goes, flat_access, word_at, after_move, vstep}
 use Rattle.mips_table.specs.Device.{COMMAND, SECTOR, is_buffer}
 use Rattle.mips_table.specs.Machine.{LOG, INPUT}
 use Rattle.mips_table.specs.Fits.{EffectFits, IsWord}
-use Rattle.mips_table.specs.Code.{put, Contents, with_reg, Behind, World, Program, on_flat, Sound, Configuration, at_with, settle, commanded, logged, port_loaded, word_loaded, after_load, after_store, acted, PrivilegedMay, EffectMay, effect_at, act, MayAt, act_at, code_run, MayRun}
-use Rattle.mips_table.specs.Simulation.{contents_of, Holds, nothing_behind, flat_configuration, FlatFits, flat_after, flat_run, FlatAlong, FlatInstructs, SimulatesFlat}
-use Rattle.mips_table.proofs.Round.{decoding-encoding}
+use Rattle.mips_table.specs.Code.{put, Contents, with_reg, Behind, World, Program, on_flat, Sound, CodeState, at_with, settle, commanded, logged, port_loaded, word_loaded, after_load, after_store, acted, PrivilegedMay, EffectMay, effect_at, act, MayAt, act_at, code_run, MayRun}
+use Rattle.mips_table.specs.Simulation.{contents_of, MemoryHolds, nothing_behind, flat_configuration, FlatFits, flat_after, flat_run, FlatAlong, FlatInstructs, SimulatesFlat}
+use Rattle.mips_table.proofs.DecodingInverts.{decoding-encoding}
 use Rattle.mips_table.proofs.Words.{read_word, goes_on, advances as advanced_fits, effect_fits}
-use Rattle.mips_table.proofs.Space.{set_put, write_put, reg_same}
+use Rattle.mips_table.proofs.ReadableWords.{set_put, write_put, reg_same}
 
 -- a step of the run is the first one and then the others
 flat_run_first : (s : Flat) (n : ℕ) → flat_run s (suc n) ≡ flat_run (flat_after (vstep s)) n
@@ -36,14 +36,14 @@ module _ (p : Program) (f : Sound (on_flat p)) where
   w = on_flat p
 
   -- the step leads to a machine that fits, which the run of code calls t
-  record Good (a : VStep) (t : Configuration) : Type 0 where
+  record Good (a : VStep) (t : CodeState) : Type 0 where
     after : Flat
-    is : a ≡ Next after
+    is : a ≡ Goes after
     same : flat_configuration after ≡ t
     fits : FlatFits after
-    holds : Holds w after.words
+    holds : MemoryHolds w after.words
 
-  to : (a a' : VStep) (t t' : Configuration) → a' ≡ a → t' ≡ t → Good a t → Good a' t'
+  to : (a a' : VStep) (t t' : CodeState) → a' ≡ a → t' ≡ t → Good a t → Good a' t'
   to a a' t t' e e' g = subst (Good a') (sym e') (subst (λ y. Good y t) (sym e) g)
 
   advances : (pc : ℕ) → pc % 4 ≡ 0 → pc / 4 < p.words → (next pc % 4 ≡ 0) × (next pc / 4 ≡ pc / 4 + 1)
@@ -52,8 +52,8 @@ module _ (p : Program) (f : Sound (on_flat p)) where
   word : (n : ℕ) → IsWord (n % 2 ^ 32)
   word n = omega arith
 
-  reg_good : (s : Flat) (r v pc n : ℕ) → FlatFits s → Holds w s.words → r < 32 → IsWord v → IsWord pc → pc % 4 ≡ 0 → pc / 4 ≡ n
-      → Good (Next (record s { cpu = went_on s.cpu r v pc })) (settle n (with_reg (contents s) r v) nothing_behind)
+  reg_good : (s : Flat) (r v pc n : ℕ) → FlatFits s → MemoryHolds w s.words → r < 32 → IsWord v → IsWord pc → pc % 4 ≡ 0 → pc / 4 ≡ n
+      → Good (Goes (record s { cpu = went_on s.cpu r v pc })) (settle n (with_reg (contents s) r v) nothing_behind)
   reg_good s r v pc n q h lt value small aligned e = record {
     after = record s { cpu = went_on s.cpu r v pc };
     is = refl;
@@ -63,8 +63,8 @@ module _ (p : Program) (f : Sound (on_flat p)) where
     holds = h;
   }
 
-  wide_good : (s : Flat) (hi lo pc : ℕ) → FlatFits s → Holds w s.words → IsWord hi → IsWord lo → IsWord pc → pc % 4 ≡ 0
-      → Good (Next (record s { cpu = record s.cpu { pc = pc; hi = hi; lo = lo } })) (settle (pc / 4) (record (contents s) { hi = hi; lo = lo }) nothing_behind)
+  wide_good : (s : Flat) (hi lo pc : ℕ) → FlatFits s → MemoryHolds w s.words → IsWord hi → IsWord lo → IsWord pc → pc % 4 ≡ 0
+      → Good (Goes (record s { cpu = record s.cpu { pc = pc; hi = hi; lo = lo } })) (settle (pc / 4) (record (contents s) { hi = hi; lo = lo }) nothing_behind)
   wide_good s hi lo pc q h a b small aligned = record {
     after = record s { cpu = record s.cpu { pc = pc; hi = hi; lo = lo } };
     is = refl;
@@ -73,8 +73,8 @@ module _ (p : Program) (f : Sound (on_flat p)) where
     holds = h;
   }
 
-  store_good : (s : Flat) (k v : ℕ) → FlatFits s → Holds w s.words → s.cpu.pc / 4 < p.words → k < p.words → p.kept k ≡ None → IsWord v
-      → Good (Next (record { cpu = advanced s.cpu; words = slice_set s.words k v })) (at_with (s.cpu.pc / 4 + 1) (record (contents s) { memory = put (slice_index s.words) k v }) nothing_behind)
+  store_good : (s : Flat) (k v : ℕ) → FlatFits s → MemoryHolds w s.words → s.cpu.pc / 4 < p.words → k < p.words → p.kept k ≡ None → IsWord v
+      → Good (Goes (record { cpu = advanced s.cpu; words = slice_set s.words k v })) (at_with (s.cpu.pc / 4 + 1) (record (contents s) { memory = put (slice_index s.words) k v }) nothing_behind)
   store_good s k v q h lt inside free value =
       let a = advances s.cpu.pc q.aligned lt in
       record {
@@ -110,34 +110,34 @@ module _ (p : Program) (f : Sound (on_flat p)) where
   stores_inside s k n v lt =
       let c : Contents = contents s in
       let d : Behind = nothing_behind in
-      let writes : Configuration = at_with n (record c { memory = put c.memory k v }) d in
+      let writes : CodeState = at_with n (record c { memory = put c.memory k v }) d in
       cond-true _ writes
       (if k == LOG then settle n c (logged d v) else if k == COMMAND then settle n c (commanded w d (c.memory SECTOR) v) else if is_buffer k then writes else if k == SECTOR then writes else at_with n c d)
       (lt-ltb k p.words lt)
 
   -- an access of an aligned word inside goes on
-  goes : (s : Flat) (address : ℕ) (m : Move) → Holds w s.words → address % 4 ≡ 0 → address / 4 < p.words
-      → answered s (accessed ((flat_access s.words).may_load address) causes.DataAlign causes.DataFault address s.cpu.pc m) ≡ answered s m
+  goes : (s : Flat) (address : ℕ) (m : Move) → MemoryHolds w s.words → address % 4 ≡ 0 → address / 4 < p.words
+      → after_move s (accessed ((flat_access s.words).may_load address) causes.DataAlign causes.DataFault address s.cpu.pc m) ≡ after_move s m
   goes s address m h aligned lt =
-      ap (λ o. answered s (accessed o causes.DataAlign causes.DataFault address s.cpu.pc m)) (lt-ltb (address / 4) (length s.words) (omega (arith, h.size)))
-      ∙ ap (λ o. answered s (if not o then Trapped causes.DataAlign address s.cpu.pc else m)) (eq-eqb (address % 4) 0 aligned)
+      ap (λ o. after_move s (accessed o causes.DataAlign causes.DataFault address s.cpu.pc m)) (lt-ltb (address / 4) (length s.words) (omega (arith, h.size)))
+      ∙ ap (λ o. after_move s (if not o then Trapped causes.DataAlign address s.cpu.pc else m)) (eq-eqb (address % 4) 0 aligned)
 
-  effects : (s : Flat) (bits : ℕ) (i : Inst) (e : Effect) → FlatFits s → Holds w s.words → s.cpu.pc / 4 < p.words → EffectFits e → EffectMay w i (contents s) e
-      → Good (answered s (performed (flat_access s.words) s.cpu bits e)) (acted w i (s.cpu.pc / 4) (contents s) nothing_behind e)
+  effects : (s : Flat) (bits : ℕ) (i : Inst) (e : Effect) → FlatFits s → MemoryHolds w s.words → s.cpu.pc / 4 < p.words → EffectFits e → EffectMay w i (contents s) e
+      → Good (after_move s (performed (flat_access s.words) s.cpu bits e)) (acted w i (s.cpu.pc / 4) (contents s) nothing_behind e)
   effects s bits i (Set r v pc) q h lt b m = reg_good s r v pc (pc / 4) q h b.0 b.1 b.2 m refl
   effects s bits i (Wide hi lo pc) q h lt b m = wide_good s hi lo pc q h b.0 b.1 b.2 m
   effects s bits i (Load r address) q h lt b m =
       let a = advances s.cpu.pc q.aligned lt in
       let k : ℕ = address / 4 in
       let lt' : k < p.words = inside k m.1 in
-      to (Next (record s { cpu = went_on s.cpu r (slice_index s.words k) (next s.cpu.pc) })) _ _ _
+      to (Goes (record s { cpu = went_on s.cpu r (slice_index s.words k) (next s.cpu.pc) })) _ _ _
       (goes s address (Loaded (advanced s.cpu) r address) h m.0 lt')
       (loads_inside s k (s.cpu.pc / 4 + 1) r lt')
       (reg_good s r (slice_index s.words k) (next s.cpu.pc) (s.cpu.pc / 4 + 1) q h b.0 (read_word s.words k q.words) (word _) a.0 a.1)
   effects s bits i (Store address v) q h lt b m =
       let k : ℕ = address / 4 in
       let lt' : k < p.words = inside k m.1 in
-      to (Next (record { cpu = advanced s.cpu; words = slice_set s.words k v })) _ _ _
+      to (Goes (record { cpu = advanced s.cpu; words = slice_set s.words k v })) _ _ _
       (goes s address (Stored (advanced s.cpu) address v) h m.0 lt')
       (stores_inside s k (s.cpu.pc / 4 + 1) v lt')
       (store_good s k v q h lt lt' m.2 b.1)
@@ -146,18 +146,18 @@ module _ (p : Program) (f : Sound (on_flat p)) where
   effects s bits i System q h lt b m = absurd (none_privileged i m)
 
   -- the step is that of the instruction that stands there
-  pub flat_step : (s : Flat) (i : Inst) → p.code (s.cpu.pc / 4) ≡ Some i → FlatFits s → Holds w s.words → vstep s ≡ answered s (performed (flat_access s.words) s.cpu (encoding i) (effect_on i s.cpu))
+  pub flat_step : (s : Flat) (i : Inst) → p.code (s.cpu.pc / 4) ≡ Some i → FlatFits s → MemoryHolds w s.words → vstep s ≡ after_move s (performed (flat_access s.words) s.cpu (encoding i) (effect_on i s.cpu))
   flat_step s i at q h =
       let k : ℕ = s.cpu.pc / 4 in
       let lt = f.inside k i at in
       let does : ℕ → Move = λ bits. executed (flat_access s.words) s.cpu bits (decoding bits) in
       let bits : ℕ = word_at s.words s.cpu.pc in
-      ap (λ o. answered s (accessed o causes.FetchAlign causes.FetchFault s.cpu.pc s.cpu.pc (does bits))) (lt-ltb k (length s.words) (omega (arith, h.size)))
-      ∙ ap (λ o. answered s (if not o then Trapped causes.FetchAlign s.cpu.pc s.cpu.pc else does bits)) (eq-eqb (s.cpu.pc % 4) 0 q.aligned)
-      ∙ ap (λ v. answered s (does v)) (h.kept k (encoding i) (f.keeps k i at))
-      ∙ ap (λ o. answered s (executed (flat_access s.words) s.cpu (encoding i) o)) (decoding-encoding i (f.range k i at))
+      ap (λ o. after_move s (accessed o causes.FetchAlign causes.FetchFault s.cpu.pc s.cpu.pc (does bits))) (lt-ltb k (length s.words) (omega (arith, h.size)))
+      ∙ ap (λ o. after_move s (if not o then Trapped causes.FetchAlign s.cpu.pc s.cpu.pc else does bits)) (eq-eqb (s.cpu.pc % 4) 0 q.aligned)
+      ∙ ap (λ v. after_move s (does v)) (h.kept k (encoding i) (f.keeps k i at))
+      ∙ ap (λ o. after_move s (executed (flat_access s.words) s.cpu (encoding i) o)) (decoding-encoding i (f.range k i at))
 
-  steps_once : (s : Flat) (i : Inst) → p.code (s.cpu.pc / 4) ≡ Some i → FlatFits s → Holds w s.words → MayAt w (Some i) (flat_configuration s) → Good (vstep s) (act w i (flat_configuration s))
+  steps_once : (s : Flat) (i : Inst) → p.code (s.cpu.pc / 4) ≡ Some i → FlatFits s → MemoryHolds w s.words → MayAt w (Some i) (flat_configuration s) → Good (vstep s) (act w i (flat_configuration s))
   unfolding act
   steps_once s i at q h may =
       let k : ℕ = s.cpu.pc / 4 in
@@ -166,18 +166,18 @@ module _ (p : Program) (f : Sound (on_flat p)) where
       let whole : 4 * k ≡ s.cpu.pc = let a = q.aligned in omega arith in
       let same_effect : effect_at i k (contents s) ≡ e = ap₂ (λ pc g. effect_of i pc g s.cpu.hi s.cpu.lo) whole (sym (reg_same s.cpu.regs q.cpu.regs.none)) in
       let b : EffectFits e = effect_fits i s.cpu q.cpu range in
-      to (answered s (performed (flat_access s.words) s.cpu (encoding i) e)) _ (acted w i k (contents s) nothing_behind e) _
+      to (after_move s (performed (flat_access s.words) s.cpu (encoding i) e)) _ (acted w i k (contents s) nothing_behind e) _
       (flat_step s i at q h)
       (ap (acted w i k (contents s) nothing_behind) same_effect)
       (effects s (encoding i) i e q h (f.inside k i at) b (subst (EffectMay w i (contents s)) same_effect may))
 
-  record After (s s' : Flat) (t : Configuration) : Type 0 where
+  record After (s s' : Flat) (t : CodeState) : Type 0 where
     same : flat_configuration s' ≡ t
     fits : FlatFits s'
-    holds : Holds w s'.words
+    holds : MemoryHolds w s'.words
     instructs : FlatInstructs w s
 
-  steps_at : (s : Flat) (o : Option Inst) → p.code (s.cpu.pc / 4) ≡ o → FlatFits s → Holds w s.words → MayAt w o (flat_configuration s) → After s (flat_after (vstep s)) (act_at w o (flat_configuration s))
+  steps_at : (s : Flat) (o : Option Inst) → p.code (s.cpu.pc / 4) ≡ o → FlatFits s → MemoryHolds w s.words → MayAt w o (flat_configuration s) → After s (flat_after (vstep s)) (act_at w o (flat_configuration s))
   steps_at s None at q h may = absurd may
   steps_at s (Some i) at q h may =
       let g = steps_once s i at q h may in
@@ -185,12 +185,12 @@ module _ (p : Program) (f : Sound (on_flat p)) where
       record {
         same = ap flat_configuration there ∙ g.same;
         fits = subst FlatFits (sym there) g.fits;
-        holds = subst (λ z. Holds w z.words) (sym there) g.holds;
-        instructs = record { inst = i; code = at; untrapped = g.is ∙ ap Next (sym there) };
+        holds = subst (λ z. MemoryHolds w z.words) (sym there) g.holds;
+        instructs = record { inst = i; code = at; untrapped = g.is ∙ ap Goes (sym there) };
       }
 
   -- a run
-  pub flat_follows : (n : ℕ) (s : Flat) → FlatFits s → Holds w s.words → MayRun w n (flat_configuration s) → SimulatesFlat w n s
+  pub flat_follows : (n : ℕ) (s : Flat) → FlatFits s → MemoryHolds w s.words → MayRun w n (flat_configuration s) → SimulatesFlat w n s
   flat_follows zero s q h may = record {
     same = λ j le. let e : 0 ≡ j = omega arith in subst (λ j. flat_configuration (flat_run s j) ≡ code_run w (flat_configuration s) j) e refl;
     along = λ j le. let e : 0 ≡ j = omega arith in subst (FlatAlong w s) e (record { fits = q; holds = h });
@@ -207,4 +207,4 @@ module _ (p : Program) (f : Sound (on_flat p)) where
       }
     where
       later : (s : Flat) (j : ℕ) → FlatAlong w (flat_after (vstep s)) j → FlatAlong w s (suc j)
-      later s j b = record { fits = subst FlatFits (sym (flat_run_first s j)) b.fits; holds = subst (λ z. Holds w z.words) (sym (flat_run_first s j)) b.holds }
+      later s j b = record { fits = subst FlatFits (sym (flat_run_first s j)) b.fits; holds = subst (λ z. MemoryHolds w z.words) (sym (flat_run_first s j)) b.holds }

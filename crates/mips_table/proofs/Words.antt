@@ -14,12 +14,12 @@ use Rattle.mips_table.specs.declared.effect.Effect.{Effect}
 use Rattle.mips_table.specs.declared.effect.Effect.TheVariants.{Set, Wide, Load, Store, Overflow, Call, System}
 use Rattle.mips_table.specs.Encoding.{InRange, encoding}
 use Rattle.mips_table.specs.Decoding.{decoding}
-use Rattle.mips_table.specs.Processor.{Cpu, Access, Move, Ran, Loaded, Stored, Trapped, Privileged, write, went_on, with_loaded, advanced, is_aligned, accessed, performed, effect_on, executed, move}
-use Rattle.mips_table.specs.Device.{Device, Pending, Idle, Reading, Writing, Outside, BUFFER, SECTOR, COMMAND, POWER, is_busy, is_buffer, port_read, begun, port_write, settled}
+use Rattle.mips_table.specs.Processor.{Cpu, Access, Move, Ran, Loaded, Stored, Trapped, Privileged, write_register, went_on, with_loaded, advanced, is_aligned, accessed, performed, effect_on, executed, move}
+use Rattle.mips_table.specs.Device.{Device, Pending, Idle, Reading, Writing, Environment, BUFFER, SECTOR, COMMAND, POWER, is_busy, is_buffer, port_read, command_begun, port_write, settled}
 use Rattle.mips_table.specs.declared.special.TheConstants.{SR, ESR, EPC, PTO, PTL, MODE, EMODE}
-use Rattle.mips_table.specs.Machine.{LOG, LEFT, INPUT, LOG_ROOM, State, number_of, in_system, located, port_word, read, after_read, read_at, after_read_at, port_written, written, written_at, access, is_flag, flagged, taken, Coming, Interrupt, Done, privileged, moved, fetch, fetched, coming, cleared, come_to, latched, ended, if_on, step, run}
+use Rattle.mips_table.specs.Machine.{LOG, LEFT, INPUT, LOG_ROOM, State, cause_number, in_system, located, port_word, read_physical, after_read, read_at, after_read_at, port_written, written, written_at, access, is_flag, flagged, taken, Coming, Interrupt, Done, privileged, moved, fetch, fetched, coming, cleared, come_to, latched, step_ended, if_on, step, run}
 use Rattle.mips_table.specs.Fits.{IsWord, EffectFits, MoveFits, KeepsWords, IsPage, NamesSector, DeviceFits, AreRegisters, AreSpecial, CpuFits, ConsoleFits, Fits}
-use Rattle.mips_table.proofs.Round.{encoding-decoding}
+use Rattle.mips_table.proofs.DecodingInverts.{encoding-decoding}
 use Rattle.mips_table.proofs.Effects.{bounded}
 
 nothing : IsWord 0
@@ -36,7 +36,7 @@ pub read_word : (l : List ℕ) (i : ℕ) → All IsWord l → IsWord (slice_inde
 read_word l i h = ⊎_elim (λ lt. All-get_or IsWord l i 0 lt h) (λ ge. subst IsWord (sym (get_or_past l i 0 ge)) nothing) (cases_lt i (length l))
 
 -- a register is written
-pub write_fits : (regs : List ℕ) (r v : ℕ) → AreRegisters regs → IsWord v → AreRegisters (write regs r v)
+pub write_fits : (regs : List ℕ) (r v : ℕ) → AreRegisters regs → IsWord v → AreRegisters (write_register regs r v)
 write_fits regs r v h w = cond_both (r == 0) regs (slice_set regs r v) AreRegisters (λ e. h)
     (λ e. record { size = length-set regs r v ∙ h.size; each = All-set IsWord regs r v w h.each; none = get_or-set_other regs r 0 v 0 (λ same. eqb-false r 0 e (sym same)) ∙ h.none })
 
@@ -96,7 +96,7 @@ device_read count d k h =
     (λ _. cond_both (is_busy d.pending) 0 (slice_index d.buffer (k - BUFFER)) IsWord (λ _. nothing) (λ _. read_word d.buffer (k - BUFFER) h.buffer.each))
     (λ _. cond_both (k == SECTOR) d.sector 0 IsWord (λ _. h.sector) (λ _. nothing)))
 
-begun_fits : (busy : ℕ → ℕ) (count : ℕ) (d : Device) (v : ℕ) → DeviceFits count d → DeviceFits count (begun busy count d v)
+begun_fits : (busy : ℕ → ℕ) (count : ℕ) (d : Device) (v : ℕ) → DeviceFits count d → DeviceFits count (command_begun busy count d v)
 begun_fits busy count d v h =
     let reading : Device = record d { pending = Reading (busy d.commands) d.sector; commands = d.commands + 1 } in
     let writing : Device = record d { pending = Writing (busy d.commands) d.sector; commands = d.commands + 1 } in
@@ -109,8 +109,8 @@ device_written : (busy : ℕ → ℕ) (count : ℕ) (d : Device) (k v : ℕ) →
 device_written busy count d k v h w =
     let filled : Device = record d { buffer = slice_set d.buffer (k - BUFFER) v } in
     let named : Device = record d { sector = v } in
-    cond_both (is_busy d.pending) d (if k == COMMAND then begun busy count d v else if is_buffer k then filled else if k == SECTOR then named else d) (DeviceFits count) (λ _. h)
-    (λ _. cond_both (k == COMMAND) (begun busy count d v) (if is_buffer k then filled else if k == SECTOR then named else d) (DeviceFits count) (λ _. begun_fits busy count d v h)
+    cond_both (is_busy d.pending) d (if k == COMMAND then command_begun busy count d v else if is_buffer k then filled else if k == SECTOR then named else d) (DeviceFits count) (λ _. h)
+    (λ _. cond_both (k == COMMAND) (command_begun busy count d v) (if is_buffer k then filled else if k == SECTOR then named else d) (DeviceFits count) (λ _. begun_fits busy count d v h)
     (λ _. cond_both (is_buffer k) filled (if k == SECTOR then named else d) (DeviceFits count)
     (λ _. record { buffer = page_fits d.buffer (k - BUFFER) v h.buffer w; sector = h.sector; pending = h.pending; sectors = h.sectors; pages = h.pages })
     (λ _. cond_both (k == SECTOR) named d (DeviceFits count) (λ _. record { buffer = h.buffer; sector = w; pending = h.pending; sectors = h.sectors; pages = h.pages }) (λ _. h))))
@@ -137,14 +137,14 @@ word_logged log input v h w lt = record {
 }
 
 -- a state that fits, with a memory of so many words
-abbrev pub FitsWith : Outside → ℕ → State → Type 0
+abbrev pub FitsWith : Environment → ℕ → State → Type 0
 FitsWith x n s = Fits x s × (length s.memory ≡ n)
 
-abbrev pub ComingFits : Outside → ℕ → Coming → Type 0
+abbrev pub ComingFits : Environment → ℕ → Coming → Type 0
 ComingFits x n (Interrupt before cause edata epc) = FitsWith x n before × IsWord edata × IsWord epc
 ComingFits x n (Done after) = FitsWith x n after
 
-module _ (x : Outside) where
+module _ (x : Environment) where
   with_cpu : (s : State) (n : ℕ) (c : Cpu) → FitsWith x n s → CpuFits c → FitsWith x n (record s { cpu = c })
   with_cpu s n c h f = (record { cpu = f; special = h.0.special; memory = h.0.memory; device = h.0.device; console = h.0.console; lines = h.0.lines; mask = h.0.mask; off = h.0.off }, h.1)
 
@@ -164,7 +164,7 @@ module _ (x : Outside) where
       (λ _. cond_both (k == LEFT) (length s.input) input IsWord (λ _. h.console.few)
       (λ _. cond_both (k == INPUT) (slice_index s.input 0) disk IsWord (λ _. read_word s.input 0 h.console.left) (λ _. device_read x.count s.device k h.device)))
 
-  reads : (s : State) (k : ℕ) → Fits x s → IsWord (read s k)
+  reads : (s : State) (k : ℕ) → Fits x s → IsWord (read_physical s k)
   reads s k h = cond_both (nat_lt k (length s.memory)) (slice_index s.memory k) (port_word s k) IsWord (λ _. read_word s.memory k h.memory) (λ _. port_reads s k h)
 
   reads_at : (s : State) (o : Option ℕ) → Fits x s → IsWord (read_at s o)
@@ -253,7 +253,7 @@ module _ (x : Outside) where
       (λ _. cond_both line external instruction (ComingFits x (length s.memory)) (λ _. ((h, refl), small _ h.mask, h.cpu.pc))
       (λ _. moves (fetched s) (length s.memory) (move (access s) s.cpu (fetch s)) (fetched_fits s h) (move_fits (access s) s.cpu h.cpu (fetch s) (reads_at s (located s false s.cpu.pc) h))))
 
-  number_fits : (cause : Cause) → IsWord (number_of cause)
+  number_fits : (cause : Cause) → IsWord (cause_number cause)
   number_fits causes.Reset = omega arith
   number_fits causes.External = omega arith
   number_fits causes.FetchAlign = omega arith
@@ -290,10 +290,10 @@ module _ (x : Outside) where
   comes_to n (Interrupt s cause edata epc) f =
       let h : Fits x s = f.0.0 in
       let g : FitsWith x n (cleared cause s) = clears n cause s f.0 in
-      (with_special (cleared cause s) (record s.cpu { pc = 0 }) _ g.0 (record { pc = nothing; regs = h.cpu.regs; hi = h.cpu.hi; lo = h.cpu.lo }) (takes s (number_of cause) edata epc h (number_fits cause) f.1 f.2), g.1)
+      (with_special (cleared cause s) (record s.cpu { pc = 0 }) _ g.0 (record { pc = nothing; regs = h.cpu.regs; hi = h.cpu.hi; lo = h.cpu.lo }) (takes s (cause_number cause) edata epc h (number_fits cause) f.1 f.2), g.1)
   comes_to n (Done after) f = f
 
-  ends : (s : State) → Fits x s → Fits x (ended s)
+  ends : (s : State) → Fits x s → Fits x (step_ended s)
   ends s h = record { cpu = h.cpu; special = h.special; memory = h.memory; device = settled_fits x.count s.device.pending s.device h.device.pending h.device; console = h.console; lines = h.lines; mask = h.mask; off = h.off }
 
   pub latches : (s : State) → Fits x s → Fits x (latched x s)

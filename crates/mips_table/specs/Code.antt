@@ -7,7 +7,7 @@ use Rattle.mips_table.specs.declared.effect.Effect.{Effect}
 use Rattle.mips_table.specs.declared.effect.Effect.TheVariants.{Set, Wide, Load, Store, Overflow, Call, System}
 use Rattle.mips_table.specs.Encoding.{InRange, encoding}
 use Rattle.mips_table.specs.Effect.{effect_of}
-use Rattle.mips_table.specs.Device.{Pending, Idle, Reading, Writing, Outside, BUFFER, SECTOR, COMMAND, POWER, is_busy, is_buffer}
+use Rattle.mips_table.specs.Device.{Pending, Idle, Reading, Writing, Environment, BUFFER, SECTOR, COMMAND, POWER, is_busy, is_buffer}
 use Rattle.mips_table.specs.declared.special.TheConstants.{SR, MODE}
 use Rattle.mips_table.specs.Machine.{LOG, LEFT, INPUT, log_has_room, flagged}
 
@@ -67,7 +67,7 @@ pub record Program : Type 0 where
   pub count : ℕ
 
 -- a program on the physical machine
-abbrev pub on_machine : Outside → Program → World
+abbrev pub on_machine : Environment → Program → World
 on_machine x p = record { code = p.code; kept = p.kept; system = true; words = p.words; count = p.count; busy = x.busy }
 
 -- a program on the flat machine, which has no ports and no special registers
@@ -82,13 +82,13 @@ pub record Sound (w : World) : Type 0 where
   pub keeps : (n : ℕ) (i : Inst) → w.code n ≡ Some i → w.kept n ≡ Some (encoding i)
 
 -- where the code stands (a word number), what it sees, and what is behind the ports
-pub record Configuration : Type 0 where
+pub record CodeState : Type 0 where
   pub at : ℕ
   pub contents : Contents
   pub behind : Behind
 
 -- a configuration by its parts
-abbrev pub at_with : ℕ → Contents → Behind → Configuration
+abbrev pub at_with : ℕ → Contents → Behind → CodeState
 at_with n c d = record { at = n; contents = c; behind = d }
 
 -- the buffer's words are those of b
@@ -100,7 +100,7 @@ abbrev pub buffer_of : (ℕ → ℕ) → ℕ → ℕ
 buffer_of memory i = if nat_lt i 1024 then memory (BUFFER + i) else 0
 
 -- the end of a step, by the command under way
-abbrev pub settling : Pending → ℕ → Contents → Behind → Configuration
+abbrev pub settling : Pending → ℕ → Contents → Behind → CodeState
 settling Idle n c d = at_with n c d
 settling (Reading zero sector) n c d = at_with n (record c { memory = filled c.memory (d.sectors sector) }) (record d { pending = Idle })
 settling (Reading (suc left) sector) n c d = at_with n c (record d { pending = Reading left sector })
@@ -108,7 +108,7 @@ settling (Writing zero sector) n c d = at_with n c (record d { sectors = λ k. i
 settling (Writing (suc left) sector) n c d = at_with n c (record d { pending = Writing left sector })
 
 -- the end of a step after which the code goes on at n
-abbrev pub settle : ℕ → Contents → Behind → Configuration
+abbrev pub settle : ℕ → Contents → Behind → CodeState
 settle n c d = settling d.pending n c d
 
 -- a command is numbered and begins, unless it is lost
@@ -142,7 +142,7 @@ abbrev pub logged : Behind → ℕ → Behind
 logged d value = if log_has_room d.log then record d { log = d.log ++ value ∷ [] } else d
 
 -- what a store does, where the code goes on at n
-abbrev pub after_store : World → ℕ → Contents → Behind → ℕ → ℕ → Configuration
+abbrev pub after_store : World → ℕ → Contents → Behind → ℕ → ℕ → CodeState
 after_store w n c d k value =
     let written = settle n (record c { memory = put c.memory k value }) d in
     let lost = settle n c d in
@@ -161,7 +161,7 @@ privileged (Mtc0 rt special) c = record c { special = put c.special special (fla
 privileged other c = c
 
 -- what an instruction at n comes to, by its effect
-abbrev pub acted : World → Inst → ℕ → Contents → Behind → Effect → Configuration
+abbrev pub acted : World → Inst → ℕ → Contents → Behind → Effect → CodeState
 acted w i n c d (Set register value to) = settle (to / 4) (with_reg c register value) d
 acted w i n c d (Wide hi lo to) = settle (to / 4) (with_wide c hi lo) d
 acted w i n c d (Load register address) = settle (n + 1) (with_reg c register (word_loaded w c d (address / 4))) (after_load w d (address / 4))
@@ -192,43 +192,43 @@ abbrev pub effect_at : Inst → ℕ → Contents → Effect
 effect_at i n c = effect_of i (4 * n) (reg c.regs) c.hi c.lo
 
 -- one instruction
-unfoldable pub act : World → Inst → Configuration → Configuration
+unfoldable pub act : World → Inst → CodeState → CodeState
 act w i s = acted w i s.at s.contents s.behind (effect_at i s.at s.contents)
 
 -- it may run
-abbrev pub May : World → Inst → Configuration → Type 0
+abbrev pub May : World → Inst → CodeState → Type 0
 May w i s = EffectMay w i s.contents (effect_at i s.at s.contents)
 
 -- there is one, and it may run
-abbrev pub MayAt : World → Option Inst → Configuration → Type 0
+abbrev pub MayAt : World → Option Inst → CodeState → Type 0
 MayAt w None s = ⊥
 MayAt w (Some i) s = May w i s
 
 -- the instruction at a place, if there is one
-abbrev pub act_at : World → Option Inst → Configuration → Configuration
+abbrev pub act_at : World → Option Inst → CodeState → CodeState
 act_at w None s = s
 act_at w (Some i) s = act w i s
 
 -- one step of code
-abbrev pub code_step : World → Configuration → Configuration
+abbrev pub code_step : World → CodeState → CodeState
 code_step w s = act_at w (w.code s.at) s
 
 -- the configuration after so many steps of code
-abbrev pub code_run : World → Configuration → ℕ → Configuration
+abbrev pub code_run : World → CodeState → ℕ → CodeState
 code_run w s zero = s
 code_run w s (suc n) = code_run w (code_step w s) n
 
 -- each of the first n instructions may run
-abbrev pub MayRun : World → ℕ → Configuration → Type 0
+abbrev pub MayRun : World → ℕ → CodeState → Type 0
 MayRun w zero s = Unit {0}
 MayRun w (suc n) s = MayAt w (w.code s.at) s × MayRun w n (code_step w s)
 
 -- exactly n steps of code lead from s to t, and each instruction may run
-abbrev pub Steps : World → ℕ → Configuration → Configuration → Type 0
+abbrev pub Steps : World → ℕ → CodeState → CodeState → Type 0
 Steps w n s t = MayRun w n s × (code_run w s n ≡ t)
 
 -- at most n steps do
-pub record Reaches (w : World) (n : ℕ) (s t : Configuration) : Type 0 where
+pub record Reaches (w : World) (n : ℕ) (s t : CodeState) : Type 0 where
   pub steps : ℕ
   pub within : steps ≤ n
   pub run : Steps w steps s t
@@ -243,13 +243,13 @@ pub record Does (w : World) (is : List Inst) (steps : ℕ) (P Q : Contents → B
   pub by : (n : ℕ) (c : Contents) (d : Behind) → CodeAt w n is → P c d → (c' : Contents) × (d' : Behind) × Q c' d' × Reaches w steps (at_with n c d) (at_with (n + length is) c' d')
 
 -- from each configuration of P the code comes to one of Q, in so many steps at most: for exits, calls and jumps
-pub record Goes (w : World) (steps : ℕ) (P Q : Configuration → Type 0) : Type 0 where
-  pub by : (s : Configuration) → P s → (t : Configuration) × Q t × Reaches w steps s t
+pub record LeadsTo (w : World) (steps : ℕ) (P Q : CodeState → Type 0) : Type 0 where
+  pub by : (s : CodeState) → P s → (t : CodeState) × Q t × Reaches w steps s t
 
 -- a run of m and then n steps is one of m + n; steps join, and are cut at each place; each instruction on the way may run
 pub record RunLaws : Type 0 where
-  pub sum : (w : World) (s : Configuration) (m n : ℕ) → code_run w s (m + n) ≡ code_run w (code_run w s m) n
-  pub joined : (w : World) (m n : ℕ) (s t u : Configuration) → Steps w m s t → Steps w n t u → Steps w (m + n) s u
-  pub front : (w : World) (m n : ℕ) (s u : Configuration) → Steps w (m + n) s u → Steps w m s (code_run w s m)
-  pub back : (w : World) (m n : ℕ) (s u : Configuration) → Steps w (m + n) s u → Steps w n (code_run w s m) u
-  pub each : (w : World) (n j : ℕ) (s t : Configuration) → Steps w n s t → j < n → MayAt w (w.code (code_run w s j).at) (code_run w s j)
+  pub sum : (w : World) (s : CodeState) (m n : ℕ) → code_run w s (m + n) ≡ code_run w (code_run w s m) n
+  pub joined : (w : World) (m n : ℕ) (s t u : CodeState) → Steps w m s t → Steps w n t u → Steps w (m + n) s u
+  pub front : (w : World) (m n : ℕ) (s u : CodeState) → Steps w (m + n) s u → Steps w m s (code_run w s m)
+  pub back : (w : World) (m n : ℕ) (s u : CodeState) → Steps w (m + n) s u → Steps w n (code_run w s m) u
+  pub each : (w : World) (n j : ℕ) (s t : CodeState) → Steps w n s t → j < n → MayAt w (w.code (code_run w s j).at) (code_run w s j)

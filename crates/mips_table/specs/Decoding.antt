@@ -3,7 +3,7 @@ use Rattle.std.specs.Prelude.{ℕ, Bool, ◌&&◌, Option, Some, None, if◌then
 use Rattle.mips_table.specs.declared.inst.Inst.{Inst}
 use Rattle.mips_table.specs.declared.inst.Inst.TheVariants.{Sll, Srl, Sra, Sllv, Srlv, Srav, Jr, Jalr, Syscall, Add, Addu, Sub, Subu, And, Or, Xor, Nor, Slt, Sltu, Bltz, Bgez, J, Jal, Beq, Bne, Blez, Bgtz, Addi, Addiu, Slti, Sltiu, Andi, Ori, Xori, Lui, Mfc0, Mtc0, Eret, Lw, Sw, Mult, Multu, Div, Divu, Mfhi, Mthi, Mflo, Mtlo}
 use Rattle.mips_table.specs.declared.fields.Fields.{Fields}
-use Rattle.mips_table.specs.Word.{fields_of}
+use Rattle.mips_table.specs.Word.{word_fields}
 
 -- an instruction, where a test of the word holds
 abbrev pub only_if : Bool → Inst → Option Inst
@@ -79,4 +79,4 @@ inst_of f =
 
 -- the instruction of a word, where it has one
 abbrev pub decoding : ℕ → Option Inst
-decoding word = inst_of (fields_of word)
+decoding word = inst_of (word_fields word)

@@ -32,18 +32,18 @@ pub record Device : Type 0 where
   pub sectors : List (List ℕ)
 
 -- what happens outside: the lines that are raised at each step, a last step that has any, the busy time of each command, and the number of sectors
-pub record Outside : Type 0 where
+pub record Environment : Type 0 where
   pub lines : ℕ → ℕ
   pub last : ℕ
   pub busy : ℕ → ℕ
   pub count : ℕ
 
 -- there are eight lines
-abbrev pub HasEightLines : Outside → Type 0
+abbrev pub HasEightLines : Environment → Type 0
 HasEightLines x = (t : ℕ) → x.lines t < 2 ^ 8
 
 -- no line is raised after the last step
-abbrev pub LinesEnd : Outside → Type 0
+abbrev pub LinesEnd : Environment → Type 0
 LinesEnd x = (t : ℕ) → x.last < t → x.lines t ≡ 0
 
 -- whether a command is under way
@@ -69,8 +69,8 @@ port_read d k =
     0
 
 -- a command is numbered and begins, unless it is lost
-abbrev pub begun : (ℕ → ℕ) → ℕ → Device → ℕ → Device
-begun busy count d command =
+abbrev pub command_begun : (ℕ → ℕ) → ℕ → Device → ℕ → Device
+command_begun busy count d command =
     if not (nat_lt d.sector count) then d else
     if command == 1 then record d { pending = Reading (busy d.commands) d.sector; commands = d.commands + 1 } else
     if command == 2 then record d { pending = Writing (busy d.commands) d.sector; commands = d.commands + 1 } else
@@ -80,7 +80,7 @@ begun busy count d command =
 abbrev pub port_write : (ℕ → ℕ) → ℕ → Device → ℕ → ℕ → Device
 port_write busy count d k value =
     if is_busy d.pending then d else
-    if k == COMMAND then begun busy count d value else
+    if k == COMMAND then command_begun busy count d value else
     if is_buffer k then record d { buffer = slice_set d.buffer (k - BUFFER) value } else
     if k == SECTOR then record d { sector = value } else
     d
@@ -94,5 +94,5 @@ settled (Writing zero sector) d = record d { sectors = slice_set d.sectors secto
 settled (Writing (suc left) sector) d = record d { pending = Writing left sector }
 
 -- at the end of each step the disk counts
-abbrev pub counted : Device → Device
-counted d = settled d.pending d
+abbrev pub disk_counted : Device → Device
+disk_counted d = settled d.pending d

@@ -15,8 +15,8 @@ abbrev pub branch : ℕ → ℕ → Bool → ℕ
 branch pc imm taken = if taken then (pc + 4 + 4 * extended imm) % 2 ^ 32 else next pc
 
 -- where a jump goes: in the part of 2^28 bytes of the next instruction
-abbrev pub jump : ℕ → ℕ → ℕ
-jump pc index = 4 * index + next pc / 2 ^ 28 * 2 ^ 28
+abbrev pub jump_target : ℕ → ℕ → ℕ
+jump_target pc index = 4 * index + next pc / 2 ^ 28 * 2 ^ 28
 
 -- hi and lo get the halves of 64 bits
 abbrev pub set_halves : ℕ → ℕ → Effect
@@ -54,8 +54,8 @@ effect_of (Slt rd rs rt) pc reg hi lo = Set rd (flag (less (reg rs) (reg rt))) (
 effect_of (Sltu rd rs rt) pc reg hi lo = Set rd (flag (nat_lt (reg rs) (reg rt))) (next pc)
 effect_of (Bltz rs imm) pc reg hi lo = Set 0 0 (branch pc imm (is_negative (reg rs)))
 effect_of (Bgez rs imm) pc reg hi lo = Set 0 0 (branch pc imm (not (is_negative (reg rs))))
-effect_of (J index) pc reg hi lo = Set 0 0 (jump pc index)
-effect_of (Jal index) pc reg hi lo = Set 31 (next pc) (jump pc index)
+effect_of (J index) pc reg hi lo = Set 0 0 (jump_target pc index)
+effect_of (Jal index) pc reg hi lo = Set 31 (next pc) (jump_target pc index)
 effect_of (Beq rs rt imm) pc reg hi lo = Set 0 0 (branch pc imm (reg rs == reg rt))
 effect_of (Bne rs rt imm) pc reg hi lo = Set 0 0 (branch pc imm (not (reg rs == reg rt)))
 effect_of (Blez rs imm) pc reg hi lo = Set 0 0 (branch pc imm (not (is_positive (reg rs))))

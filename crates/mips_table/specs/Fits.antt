@@ -1,12 +1,12 @@
 -- Words below 2^32, and lists of their lengths.
 use Rattle.std.specs.Prelude.{◌≡◌, ℕ, ◌^◌, ◌<◌, ◌≤◌, List, length, slice_index, All, IfSome}
-use Rattle.mips_table.specs.Device.{Device, Pending, Idle, Reading, Writing, Outside, HasEightLines}
+use Rattle.mips_table.specs.Device.{Device, Pending, Idle, Reading, Writing, Environment, HasEightLines}
 use Rattle.mips_table.specs.declared.inst.Inst.{Inst}
 use Rattle.mips_table.specs.declared.effect.Effect.{Effect}
 use Rattle.mips_table.specs.declared.effect.Effect.TheVariants.{Set, Wide, Load, Store, Overflow, Call, System}
 use Rattle.mips_table.specs.Encoding.{InRange}
 use Rattle.mips_table.specs.Processor.{Cpu, Access, Move, Ran, Loaded, Stored, Trapped, Privileged, with_loaded, effect_on, move}
-use Rattle.mips_table.specs.Machine.{State, start, run, LOG_ROOM}
+use Rattle.mips_table.specs.Machine.{State, power_on, run, LOG_ROOM}
 
 -- a word of 32 bits
 abbrev pub IsWord : ℕ → Type 0
@@ -81,7 +81,7 @@ pub record ConsoleFits (log input : List ℕ) : Type 0 where
   pub left : All IsWord input
 
 -- each word of the machine is below 2^32, each list has its length, and the mask and the outside have eight lines
-pub record Fits (x : Outside) (s : State) : Type 0 where
+pub record Fits (x : Environment) (s : State) : Type 0 where
   pub cpu : CpuFits s.cpu
   pub special : AreSpecial s.special
   pub memory : All IsWord s.memory
@@ -93,9 +93,9 @@ pub record Fits (x : Outside) (s : State) : Type 0 where
 
 -- the machine fits at its start
 abbrev pub StartFits : Type 0
-StartFits = (x : Outside) (memory : List ℕ) (sectors : List (List ℕ)) (input : List ℕ) → HasEightLines x → All IsWord memory → length sectors ≡ x.count → All IsPage sectors → IsWord (length input) → All IsWord input
-    → Fits x (start memory sectors input)
+StartFits = (x : Environment) (memory : List ℕ) (sectors : List (List ℕ)) (input : List ℕ) → HasEightLines x → All IsWord memory → length sectors ≡ x.count → All IsPage sectors → IsWord (length input) → All IsWord input
+    → Fits x (power_on memory sectors input)
 
 -- a machine that fits goes on to fit, and its memory keeps its length
 abbrev pub StaysFitting : Type 0
-StaysFitting = (x : Outside) (s : State) (n : ℕ) → Fits x s → Fits x (run x s n) × (length (run x s n).memory ≡ length s.memory)
+StaysFitting = (x : Environment) (s : State) (n : ℕ) → Fits x s → Fits x (run x s n) × (length (run x s n).memory ≡ length s.memory)

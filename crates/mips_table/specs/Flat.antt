@@ -11,7 +11,7 @@ pub record Flat : Type 0 where
 
 -- what one step comes to: the machine after it, and the trap that came
 pub data VStep : Type 0 where
-  Next : (after : Flat) → VStep
+  Goes : (after : Flat) → VStep
   Trap : (after : Flat) (cause : Cause) (edata : ℕ) → VStep
 
 -- an aligned address is refused where it is past the words
@@ -27,13 +27,13 @@ abbrev pub word_at : List ℕ → ℕ → ℕ
 word_at words address = slice_index words (address / 4)
 
 -- the machine after a move; every instruction on special registers is illegal
-abbrev pub answered : Flat → Move → VStep
-answered f (Ran c) = Next (record f { cpu = c })
-answered f (Loaded c register address) = Next (record f { cpu = with_loaded c register (word_at f.words address) })
-answered f (Stored c address value) = Next (record { cpu = c; words = slice_set f.words (address / 4) value })
-answered f (Trapped cause edata epc) = Trap (record f { cpu = record f.cpu { pc = epc } }) cause edata
-answered f (Privileged word) = Trap f causes.Illegal word
+abbrev pub after_move : Flat → Move → VStep
+after_move f (Ran c) = Goes (record f { cpu = c })
+after_move f (Loaded c register address) = Goes (record f { cpu = with_loaded c register (word_at f.words address) })
+after_move f (Stored c address value) = Goes (record { cpu = c; words = slice_set f.words (address / 4) value })
+after_move f (Trapped cause edata epc) = Trap (record f { cpu = record f.cpu { pc = epc } }) cause edata
+after_move f (Privileged word) = Trap f causes.Illegal word
 
 -- one step of the flat machine
 abbrev pub vstep : Flat → VStep
-vstep f = answered f (move (flat_access f.words) f.cpu (word_at f.words f.cpu.pc))
+vstep f = after_move f (move (flat_access f.words) f.cpu (word_at f.words f.cpu.pc))

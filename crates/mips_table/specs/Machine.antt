@@ -8,7 +8,7 @@ use Rattle.mips_table.specs.declared.cause.Cause.TheVariants.{Reset, External, F
 use Rattle.mips_table.specs.Decoding.{decoding}
 use Rattle.mips_table.specs.Effect.{next}
 use Rattle.mips_table.specs.Processor.{Cpu, Access, Move, Ran, Loaded, Stored, Trapped, Privileged, went_on, with_loaded, advanced, is_aligned, move}
-use Rattle.mips_table.specs.Device.{Device, Idle, Outside, POWER, port_read, port_write, counted}
+use Rattle.mips_table.specs.Device.{Device, Idle, Environment, POWER, port_read, port_write, disk_counted}
 
 -- The ports of the console, by word number: a write to the log appends, and a read gives its length; at fffff00c.
 abbrev pub LOG : ℕ
@@ -54,8 +54,8 @@ abbrev pub zero_cpu : Cpu
 zero_cpu = record { pc = 0; regs = replicate 32 0; hi = 0; lo = 0 }
 
 -- how the machine starts with these words of memory, sectors and input: all else is 0 or empty, and the reset is latched
-abbrev pub start : List ℕ → List (List ℕ) → List ℕ → State
-start memory sectors input = record {
+abbrev pub power_on : List ℕ → List (List ℕ) → List ℕ → State
+power_on memory sectors input = record {
   cpu = zero_cpu;
   special = replicate 9 0;
   memory = memory;
@@ -69,24 +69,24 @@ start memory sectors input = record {
 }
 
 -- the number of a cause
-abbrev pub number_of : Cause → ℕ
-number_of Reset = 0
-number_of External = 1
-number_of FetchAlign = 2
-number_of FetchFault = 3
-number_of Illegal = 4
-number_of Overflow = 5
-number_of Syscall = 6
-number_of DataAlign = 7
-number_of DataFault = 8
+abbrev pub cause_number : Cause → ℕ
+cause_number Reset = 0
+cause_number External = 1
+cause_number FetchAlign = 2
+cause_number FetchFault = 3
+cause_number Illegal = 4
+cause_number Overflow = 5
+cause_number Syscall = 6
+cause_number DataAlign = 7
+cause_number DataFault = 8
 
 -- whether the special registers say system mode
 abbrev pub in_system : List ℕ → Bool
 in_system special = slice_index special MODE == 0
 
 -- the address of the page table's entry for an address
-abbrev pub entry_address : ℕ → ℕ → ℕ
-entry_address address pto = (pto + 4 * (address / 4096)) % 2 ^ 32
+abbrev pub pte_address : ℕ → ℕ → ℕ
+pte_address address pto = (pto + 4 * (address / 4096)) % 2 ^ 32
 
 -- bit 11 of an entry says that it is valid
 abbrev pub is_valid : ℕ → Bool
@@ -107,7 +107,7 @@ translated address ptl is_store entry =
 abbrev pub located : State → Bool → ℕ → Option ℕ
 located s is_store address =
     if in_system s.special then Some address else
-    translated address (slice_index s.special PTL) is_store (slice_index s.memory (entry_address address (slice_index s.special PTO) / 4))
+    translated address (slice_index s.special PTL) is_store (slice_index s.memory (pte_address address (slice_index s.special PTO) / 4))
 
 -- what a port gives
 abbrev pub port_word : State → ℕ → ℕ
@@ -118,8 +118,8 @@ port_word s k =
     port_read s.device k
 
 -- a physical word is read: of memory, or of a port
-abbrev pub read : State → ℕ → ℕ
-read s k = if nat_lt k (length s.memory) then slice_index s.memory k else port_word s k
+abbrev pub read_physical : State → ℕ → ℕ
+read_physical s k = if nat_lt k (length s.memory) then slice_index s.memory k else port_word s k
 
 -- the state after that: a read of the input port takes its word
 abbrev pub after_read : State → ℕ → State
@@ -128,7 +128,7 @@ after_read s k = if nat_lt k (length s.memory) then s else if k == INPUT then re
 -- the word at a physical address
 abbrev pub read_at : State → Option ℕ → ℕ
 read_at s None = 0
-read_at s (Some address) = read s (address / 4)
+read_at s (Some address) = read_physical s (address / 4)
 
 -- the state after that
 abbrev pub after_read_at : State → Option ℕ → State
@@ -136,18 +136,18 @@ after_read_at s None = s
 after_read_at s (Some address) = after_read s (address / 4)
 
 -- a write to a port: to the power port, to the log, which is lost where the log is full, or to the disk
-abbrev pub port_written : Outside → State → ℕ → ℕ → State
+abbrev pub port_written : Environment → State → ℕ → ℕ → State
 port_written x s k value =
     if k == POWER then record s { off = Some value } else
     if k == LOG then (if log_has_room s.log then record s { log = s.log ++ value ∷ [] } else s) else
     record s { device = port_write x.busy x.count s.device k value }
 
 -- a physical word is written: of memory, or of a port
-abbrev pub written : Outside → State → ℕ → ℕ → State
+abbrev pub written : Environment → State → ℕ → ℕ → State
 written x s k value = if nat_lt k (length s.memory) then record s { memory = slice_set s.memory k value } else port_written x s k value
 
 -- a write to a physical address
-abbrev pub written_at : Outside → State → Option ℕ → ℕ → State
+abbrev pub written_at : Environment → State → Option ℕ → ℕ → State
 written_at x s None value = s
 written_at x s (Some address) value = written x s (address / 4) value
 
@@ -189,7 +189,7 @@ privileged s word (Some Eret) = Done (record s { special = left s.special; cpu =
 privileged s word other = Interrupt s Illegal word s.cpu.pc
 
 -- what comes of the processor's move, once the instruction is fetched
-abbrev pub moved : Outside → State → Move → Coming
+abbrev pub moved : Environment → State → Move → Coming
 moved x s (Ran c) = Done (record s { cpu = c })
 moved x s (Loaded c register address) = Done (record (after_read_at s (located s false address)) { cpu = with_loaded c register (read_at s (located s false address)) })
 moved x s (Stored c address value) = Done (record (written_at x s (located s true address) value) { cpu = c })
@@ -205,7 +205,7 @@ abbrev pub fetched : State → State
 fetched s = if is_aligned s.cpu.pc then after_read_at s (located s false s.cpu.pc) else s
 
 -- the interrupt with the least cause, or else the instruction
-abbrev pub coming : Outside → State → Coming
+abbrev pub coming : Environment → State → Coming
 coming x s =
     if s.reset then Interrupt s Reset 0 s.cpu.pc else
     if slice_index s.special SR == 1 && not (s.mask == 0) then Interrupt s External s.mask s.cpu.pc else
@@ -219,7 +219,7 @@ cleared other s = s
 
 -- an interrupt changes no register and no memory
 abbrev pub interrupted : State → Cause → ℕ → ℕ → State
-interrupted s cause edata epc = record (cleared cause s) { cpu = record s.cpu { pc = 0 }; special = taken s.special (number_of cause) edata epc }
+interrupted s cause edata epc = record (cleared cause s) { cpu = record s.cpu { pc = 0 }; special = taken s.special (cause_number cause) edata epc }
 
 -- the state that comes
 abbrev pub come_to : Coming → State
@@ -227,27 +227,27 @@ come_to (Interrupt s cause edata epc) = interrupted s cause edata epc
 come_to (Done after) = after
 
 -- the lines of the step are latched
-abbrev pub latched : Outside → State → State
+abbrev pub latched : Environment → State → State
 latched x s = record s { mask = bit_or s.mask (x.lines s.time) }
 
 -- the step is done, and the disk counts
-abbrev pub ended : State → State
-ended s = record s { device = counted s.device; time = s.time + 1 }
+abbrev pub step_ended : State → State
+step_ended s = record s { device = disk_counted s.device; time = s.time + 1 }
 
 -- one step of a machine that is on: the lines, then the interrupt or the instruction, then the disk
-abbrev pub stepped : Outside → State → State
-stepped x s = ended (come_to (coming x (latched x s)))
+abbrev pub stepped : Environment → State → State
+stepped x s = step_ended (come_to (coming x (latched x s)))
 
 -- a machine that is off stays as it is
-abbrev pub if_on : Outside → State → Option ℕ → State
+abbrev pub if_on : Environment → State → Option ℕ → State
 if_on x s (Some word) = s
 if_on x s None = stepped x s
 
 -- one step
-unfoldable pub step : Outside → State → State
+unfoldable pub step : Environment → State → State
 step x s = if_on x s s.off
 
 -- the machine after so many steps
-abbrev pub run : Outside → State → ℕ → State
+abbrev pub run : Environment → State → ℕ → State
 run x s zero = s
 run x s (suc n) = step x (run x s n)

@@ -4,10 +4,10 @@ use Rattle.mips_table.specs.declared.inst.Inst.{Inst}
 use Rattle.mips_table.specs.declared.inst.Inst.TheVariants.{Addiu, Sw}
 use Rattle.mips_table.specs.Encoding.{encoding}
 use Rattle.mips_table.specs.Flat.{Flat}
-use Rattle.mips_table.specs.Device.{Outside}
-use Rattle.mips_table.specs.Machine.{State, zero_cpu, start, run}
-use Rattle.mips_table.specs.Code.{Program, on_machine, on_flat, Sound, Configuration, Steps}
-use Rattle.mips_table.specs.Simulation.{configuration_of, Quiet, Holds, Serves, flat_configuration, FlatFits, flat_run}
+use Rattle.mips_table.specs.Device.{Environment}
+use Rattle.mips_table.specs.Machine.{State, zero_cpu, power_on, run}
+use Rattle.mips_table.specs.Code.{Program, on_machine, on_flat, Sound, CodeState, Steps}
+use Rattle.mips_table.specs.Simulation.{configuration_of, Quiet, MemoryHolds, DiskServes, flat_configuration, FlatFits, flat_run}
 
 -- 5 is stored in word 7
 abbrev pub storing : List Inst
@@ -23,19 +23,19 @@ program = record { code = slice_get storing; kept = slice_get (map encoding stor
 
 -- the physical machine that took its reset
 abbrev pub machine : State
-machine = record (start eight_words [] []) { reset = false }
+machine = record (power_on eight_words [] []) { reset = false }
 
 -- the flat machine
 abbrev pub flat : Flat
 flat = record { cpu = zero_cpu; words = eight_words }
 
 -- on the physical machine the premises are met, and so word 7 is 5 after two steps, whatever lines are raised
-pub record OnMachine (x : Outside) : Type 0 where
+pub record OnMachine (x : Environment) : Type 0 where
   pub sound : Sound (on_machine x program)
   pub quiet : Quiet x machine
-  pub holds : Holds (on_machine x program) machine.memory
-  pub serves : Serves x (on_machine x program) machine.device
-  pub end : Configuration
+  pub holds : MemoryHolds (on_machine x program) machine.memory
+  pub serves : DiskServes x (on_machine x program) machine.device
+  pub end : CodeState
   pub steps : Steps (on_machine x program) 2 (configuration_of machine) end
   pub stored : slice_index (run x machine 2).memory 7 ≡ 5
 
@@ -43,11 +43,11 @@ pub record OnMachine (x : Outside) : Type 0 where
 pub record OnFlat : Type 0 where
   pub sound : Sound (on_flat program)
   pub fits : FlatFits flat
-  pub holds : Holds (on_flat program) flat.words
-  pub end : Configuration
+  pub holds : MemoryHolds (on_flat program) flat.words
+  pub end : CodeState
   pub steps : Steps (on_flat program) 2 (flat_configuration flat) end
   pub stored : slice_index (flat_run flat 2).words 7 ≡ 5
 
 -- an outside without sectors, in which lines 0 and 3 are raised at step 1
-abbrev pub raising : Outside
+abbrev pub raising : Environment
 raising = record { lines = λ t. if t == 1 then 9 else 0; last = 1; busy = λ _. 0; count = 0 }

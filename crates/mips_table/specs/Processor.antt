@@ -31,16 +31,16 @@ pub data Move : Type 0 where
   Privileged : (word : ℕ) → Move
 
 -- a write to a register; register 0 stays as it is
-abbrev pub write : List ℕ → ℕ → ℕ → List ℕ
-write regs register value = if register == 0 then regs else slice_set regs register value
+abbrev pub write_register : List ℕ → ℕ → ℕ → List ℕ
+write_register regs register value = if register == 0 then regs else slice_set regs register value
 
 -- the processor with a register written, and its pc elsewhere
 abbrev pub went_on : Cpu → ℕ → ℕ → ℕ → Cpu
-went_on c register value to = record c { pc = to; regs = write c.regs register value }
+went_on c register value to = record c { pc = to; regs = write_register c.regs register value }
 
 -- the processor with a register loaded
 abbrev pub with_loaded : Cpu → ℕ → ℕ → Cpu
-with_loaded c register value = record c { regs = write c.regs register value }
+with_loaded c register value = record c { regs = write_register c.regs register value }
 
 -- the processor at the next instruction
 abbrev pub advanced : Cpu → Cpu

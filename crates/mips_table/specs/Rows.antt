@@ -7,13 +7,13 @@ use Rattle.mips_table.specs.Encoding.{InRange, encoding}
 use Rattle.mips_table.specs.Decoding.{decoding}
 
 -- whether some word may be in both rows
-abbrev pub overlap : Row → Row → Bool
-overlap a b = bit_and a.value b.mask == bit_and b.value a.mask
+abbrev pub rows_overlap : Row → Row → Bool
+rows_overlap a b = bit_and a.value b.mask == bit_and b.value a.mask
 
 -- whether no word is in this row and in one of the others
 abbrev pub apart_from : Row → List Row → Bool
 apart_from a [] = true
-apart_from a (b ∷ rows) = not (overlap a b) && apart_from a rows
+apart_from a (b ∷ rows) = not (rows_overlap a b) && apart_from a rows
 
 -- whether no word is in two rows
 abbrev pub rows_apart : List Row → Bool
@@ -33,9 +33,9 @@ name_not_in a [] = true
 name_not_in a (b ∷ rows) = not (same_text a.mnemonic.now b.mnemonic.now) && name_not_in a rows
 
 -- whether no mnemonic stands twice
-abbrev pub names_apart : List Row → Bool
-names_apart [] = true
-names_apart (a ∷ rows) = name_not_in a rows && names_apart rows
+abbrev pub mnemonics_apart : List Row → Bool
+mnemonics_apart [] = true
+mnemonics_apart (a ∷ rows) = name_not_in a rows && mnemonics_apart rows
 
 -- a word whose bits under the mask are the value
 abbrev pub Belongs : ℕ → Row → Type 0
@@ -97,55 +97,55 @@ mnemonic_of (Mflo _) = codes "mflo"
 mnemonic_of (Mtlo _) = codes "mtlo"
 
 -- the place of an instruction's row in the table
-abbrev pub place_of : Inst → ℕ
-place_of (Sll _ _ _) = 0
-place_of (Srl _ _ _) = 1
-place_of (Sra _ _ _) = 2
-place_of (Sllv _ _ _) = 3
-place_of (Srlv _ _ _) = 4
-place_of (Srav _ _ _) = 5
-place_of (Jr _) = 6
-place_of (Jalr _ _) = 7
-place_of (Syscall _) = 8
-place_of (Add _ _ _) = 9
-place_of (Addu _ _ _) = 10
-place_of (Sub _ _ _) = 11
-place_of (Subu _ _ _) = 12
-place_of (And _ _ _) = 13
-place_of (Or _ _ _) = 14
-place_of (Xor _ _ _) = 15
-place_of (Nor _ _ _) = 16
-place_of (Slt _ _ _) = 17
-place_of (Sltu _ _ _) = 18
-place_of (Bltz _ _) = 19
-place_of (Bgez _ _) = 20
-place_of (J _) = 21
-place_of (Jal _) = 22
-place_of (Beq _ _ _) = 23
-place_of (Bne _ _ _) = 24
-place_of (Blez _ _) = 25
-place_of (Bgtz _ _) = 26
-place_of (Addi _ _ _) = 27
-place_of (Addiu _ _ _) = 28
-place_of (Slti _ _ _) = 29
-place_of (Sltiu _ _ _) = 30
-place_of (Andi _ _ _) = 31
-place_of (Ori _ _ _) = 32
-place_of (Xori _ _ _) = 33
-place_of (Lui _ _) = 34
-place_of (Mfc0 _ _) = 35
-place_of (Mtc0 _ _) = 36
-place_of Eret = 37
-place_of (Lw _ _ _) = 38
-place_of (Sw _ _ _) = 39
-place_of (Mult _ _) = 40
-place_of (Multu _ _) = 41
-place_of (Div _ _) = 42
-place_of (Divu _ _) = 43
-place_of (Mfhi _) = 44
-place_of (Mthi _) = 45
-place_of (Mflo _) = 46
-place_of (Mtlo _) = 47
+abbrev pub row_place : Inst → ℕ
+row_place (Sll _ _ _) = 0
+row_place (Srl _ _ _) = 1
+row_place (Sra _ _ _) = 2
+row_place (Sllv _ _ _) = 3
+row_place (Srlv _ _ _) = 4
+row_place (Srav _ _ _) = 5
+row_place (Jr _) = 6
+row_place (Jalr _ _) = 7
+row_place (Syscall _) = 8
+row_place (Add _ _ _) = 9
+row_place (Addu _ _ _) = 10
+row_place (Sub _ _ _) = 11
+row_place (Subu _ _ _) = 12
+row_place (And _ _ _) = 13
+row_place (Or _ _ _) = 14
+row_place (Xor _ _ _) = 15
+row_place (Nor _ _ _) = 16
+row_place (Slt _ _ _) = 17
+row_place (Sltu _ _ _) = 18
+row_place (Bltz _ _) = 19
+row_place (Bgez _ _) = 20
+row_place (J _) = 21
+row_place (Jal _) = 22
+row_place (Beq _ _ _) = 23
+row_place (Bne _ _ _) = 24
+row_place (Blez _ _) = 25
+row_place (Bgtz _ _) = 26
+row_place (Addi _ _ _) = 27
+row_place (Addiu _ _ _) = 28
+row_place (Slti _ _ _) = 29
+row_place (Sltiu _ _ _) = 30
+row_place (Andi _ _ _) = 31
+row_place (Ori _ _ _) = 32
+row_place (Xori _ _ _) = 33
+row_place (Lui _ _) = 34
+row_place (Mfc0 _ _) = 35
+row_place (Mtc0 _ _) = 36
+row_place Eret = 37
+row_place (Lw _ _ _) = 38
+row_place (Sw _ _ _) = 39
+row_place (Mult _ _) = 40
+row_place (Multu _ _) = 41
+row_place (Div _ _) = 42
+row_place (Divu _ _) = 43
+row_place (Mfhi _) = 44
+row_place (Mthi _) = 45
+row_place (Mflo _) = 46
+row_place (Mtlo _) = 47
 
 -- whether the words of a row name a special register: those of mfc0 and mtc0 do
 abbrev pub names_special : Row → Bool
@@ -165,5 +165,5 @@ Decodes row = (word : ℕ) → word < 2 ^ 32 → IsWordOf word row → IsSomeAnd
 
 -- the words of the rows are exactly those of the instructions: each instruction has its row, and no row has another word
 pub record AreInstructions (rows : List Row) : Type 0 where
-  pub encoded : (i : Inst) → InRange i → IsSomeAnd (slice_get rows (place_of i)) (HasRow i)
+  pub encoded : (i : Inst) → InRange i → IsSomeAnd (slice_get rows (row_place i)) (HasRow i)
   pub decoded : All Decodes rows

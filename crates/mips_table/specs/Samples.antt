@@ -2,7 +2,7 @@
 use Rattle.std.specs.Prelude.{◌≡◌, ℕ, ◌-◌, ◌^◌, ◌==◌, if◌then◌else◌, List, [], ◌∷◌, ◌++◌, length, replicate, take, drop, slice_index}
 use Rattle.mips_table.specs.declared.inst.Inst.TheVariants.{Syscall, Bne, J, Jr, Addi, Addiu, Andi, Ori, Lui, Srlv, Mfc0, Mtc0, Eret, Lw, Sw, Mult, Div, Mfhi, Mflo}
 use Rattle.mips_table.specs.Encoding.{encoding}
-use Rattle.mips_table.specs.Device.{Outside, sector_of}
+use Rattle.mips_table.specs.Device.{Environment, sector_of}
 use Rattle.mips_table.specs.Machine.{State}
 
 -- the words of a memory of one frame: these, and then zeros
@@ -35,7 +35,7 @@ abbrev pub busy : ℕ → ℕ
 busy n = if n == 0 then 3 else 0
 
 -- these lines and busy times, with a disk of eight sectors
-abbrev pub sampled : Outside
+abbrev pub sampled : Environment
 sampled = record { lines = lines; last = 5; busy = busy; count = 8 }
 
 -- the reset and an external interrupt are taken at steps 0 and 5, and what the special registers and pc are then
@@ -84,7 +84,7 @@ abbrev pub guarded_busy : ℕ → ℕ
 guarded_busy n = if n == 0 then 4 else 0
 
 -- these lines and busy times, with a disk of two sectors
-abbrev pub guarding_outside : Outside
+abbrev pub guarding_outside : Environment
 guarding_outside = record { lines = guarded_lines; last = 100; busy = guarded_busy; count = 2 }
 
 -- The log after 165 steps, cause, edata and epc by row; what the user read and wrote; and what the sector holds: the word

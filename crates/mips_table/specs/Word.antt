@@ -19,8 +19,8 @@ abbrev pub code_word : ℕ → ℕ → ℕ
 code_word code funct = code * 2 ^ 6 + funct
 
 -- the fields of a word
-abbrev pub fields_of : ℕ → Fields
-fields_of word = record {
+abbrev pub word_fields : ℕ → Fields
+word_fields word = record {
   opcode = word / 2 ^ 26;
   rs = word / 2 ^ 21 % 2 ^ 5;
   rt = word / 2 ^ 16 % 2 ^ 5;

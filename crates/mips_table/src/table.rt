@@ -1,6 +1,6 @@
 // The rows of the instruction table.
 ghost use Rattle.std.specs.Prelude.{◌≡◌, IsTrue};
-ghost use Rattle.mips_table.specs.Rows.{rows_apart, names_apart, OneRow, AreInstructions, mnemonic_of};
+ghost use Rattle.mips_table.specs.Rows.{rows_apart, mnemonics_apart, OneRow, AreInstructions, mnemonic_of};
 
 use crate::inst::Inst;
 use crate::instruction_rows::rows;
@@ -49,7 +49,7 @@ macro_rules! mnemonics {
 pub fn mips32() -> Table<48>
     ensures words { IsTrue (rows_apart result.rows) }
     ensures one_row { OneRow result.rows }
-    ensures names { IsTrue (names_apart result.rows) }
+    ensures names { IsTrue (mnemonics_apart result.rows) }
     ensures instructions { AreInstructions result.rows }
 {
     rows!(table)

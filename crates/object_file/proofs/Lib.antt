@@ -1,3 +1,3 @@
 pub mod Steps
 pub mod Answers
-pub mod Whole
+pub mod EveryAnswer

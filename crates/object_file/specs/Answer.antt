@@ -3,13 +3,13 @@ use Rattle.std.specs.Prelude.{ℕ, ◌≡◌, ◌≢◌, ◌≤◌, ◌<◌, ◌
 use Rattle.std.specs.List.{concat}
 use Rattle.object_file.specs.declared.fault.ObjectFault.{ObjectFault}
 use Rattle.object_file.specs.declared.fault.ObjectFault.TheVariants.{Magic, Truncated, Trailing, Field, Memory}
-use Rattle.object_file.specs.Parts.{Parts}
+use Rattle.object_file.specs.Parts.{ObjectParts}
 use Rattle.cvm_words.specs.Bytes.{word}
 use Rattle.object_file.specs.Format.{pieces, spelling, IsInRange}
 
 -- the first pieces of an object are whole, and fewer bytes follow than its next piece has, which begins at `at`
 pub record EndsWithin (bytes : List ℕ) (at : ℕ) : Type 0 where
-  pub object : Parts
+  pub object : ObjectParts
   pub in_range : IsInRange object
   pub whole : ℕ
   pub left : List ℕ
@@ -28,7 +28,7 @@ IsOutOfRange (suc (suc (suc (suc field)))) value = ⊥
 
 -- the first fields of an object are whole, and the next one, which begins at `at`, has a number that may not stand there
 pub record HasWrongField (bytes : List ℕ) (at value : ℕ) : Type 0 where
-  pub object : Parts
+  pub object : ObjectParts
   pub in_range : IsInRange object
   pub whole : ℕ
   pub left : List ℕ
@@ -39,7 +39,7 @@ pub record HasWrongField (bytes : List ℕ) (at value : ℕ) : Type 0 where
 
 -- an object is whole, and bytes follow, from `at` on
 pub record GoesOnAt (bytes : List ℕ) (at : ℕ) : Type 0 where
-  pub object : Parts
+  pub object : ObjectParts
   pub in_range : IsInRange object
   pub left : List ℕ
   pub spelled : bytes ≡ spelling object ++ left
@@ -47,13 +47,13 @@ pub record GoesOnAt (bytes : List ℕ) (at : ℕ) : Type 0 where
   pub place : at ≡ length (spelling object)
 
 -- what is answered of bytes
-abbrev pub IsAnswer : List ℕ → Result Parts ObjectFault → Type 0
-IsAnswer bytes (Ok o) = IsInRange o × (bytes ≡ spelling o)
-IsAnswer bytes (Err Magic) = (4 ≤ length bytes) × (take 4 bytes ≢ codes "CVMO")
-IsAnswer bytes (Err (Truncated at)) = EndsWithin bytes at
-IsAnswer bytes (Err (Field at value)) = HasWrongField bytes at value
-IsAnswer bytes (Err (Trailing at)) = GoesOnAt bytes at
-IsAnswer bytes (Err Memory) = ⊥
+abbrev pub IsObjectAnswer : List ℕ → Result ObjectParts ObjectFault → Type 0
+IsObjectAnswer bytes (Ok o) = IsInRange o × (bytes ≡ spelling o)
+IsObjectAnswer bytes (Err Magic) = (4 ≤ length bytes) × (take 4 bytes ≢ codes "CVMO")
+IsObjectAnswer bytes (Err (Truncated at)) = EndsWithin bytes at
+IsObjectAnswer bytes (Err (Field at value)) = HasWrongField bytes at value
+IsObjectAnswer bytes (Err (Trailing at)) = GoesOnAt bytes at
+IsObjectAnswer bytes (Err Memory) = ⊥
 
 -- the number that is printed for a fault of an object that is linked
 abbrev pub object_fault_number : ObjectFault → ℕ
@@ -80,12 +80,12 @@ object_fault_value (Field at value) = Some value
 object_fault_value Memory = None
 
 -- an object may also be answered by want of memory, a fault may not
-abbrev pub Gives : Result Parts ObjectFault → Result Parts ObjectFault → Type 0
+abbrev pub Gives : Result ObjectParts ObjectFault → Result ObjectParts ObjectFault → Type 0
 Gives result (Ok o) = MatchResult result (λ p. p ≡ o) (λ e. e ≡ Memory)
 Gives result (Err fault) = result ≡ Err fault
 
 -- what holds unless memory ran out
-abbrev pub UnlessMemory : Result Parts ObjectFault → Type 0 → Type 0
+abbrev pub UnlessMemory : Result ObjectParts ObjectFault → Type 0 → Type 0
 UnlessMemory (Ok o) P = P
 UnlessMemory (Err Magic) P = P
 UnlessMemory (Err (Truncated at)) P = P

@@ -2,6 +2,6 @@
 use Rattle.std.specs.Prelude.{ℕ, List}
 
 -- a source, byte by byte, and the words that it was compiled to
-pub record Parts : Type 0 where
+pub record ObjectParts : Type 0 where
   pub source : List ℕ
   pub words : List ℕ

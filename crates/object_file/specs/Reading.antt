@@ -2,10 +2,10 @@
 use Rattle.std.specs.Prelude.{ℕ, ◌≡◌, ◌+◌, ◌*◌, ◌||◌, List, [], ◌∷◌, length, take, drop, codes, nat_lt, Result, Ok, Err, if◌then◌else◌}
 use Rattle.std.specs.Str.{bytes_eq}
 use Rattle.byteorder.specs.Endian.{little_number}
-use Rattle.cvm_words.specs.Bytes.{words_of}
+use Rattle.cvm_words.specs.Bytes.{words_of_bytes}
 use Rattle.object_file.specs.declared.fault.ObjectFault.{ObjectFault}
 use Rattle.object_file.specs.declared.fault.ObjectFault.TheVariants.{Magic, Truncated, Trailing, Field}
-use Rattle.object_file.specs.Parts.{Parts}
+use Rattle.object_file.specs.Parts.{ObjectParts}
 
 -- a step, and then another by its value
 infixl 10 ◌>>=◌
@@ -49,11 +49,11 @@ header_of bytes = do
   parts_at n.0 k.0 k.1
 
 -- the object of two parts
-unfoldable pub object_of : List ℕ × List ℕ → Parts
-object_of parts = record { source = parts.0; words = words_of parts.1 }
+unfoldable pub object_of : List ℕ × List ℕ → ObjectParts
+object_of parts = record { source = parts.0; words = words_of_bytes parts.1 }
 
 -- the object that bytes spell, or the first fault
-unfoldable pub answer : List ℕ → Result Parts ObjectFault
+unfoldable pub answer : List ℕ → Result ObjectParts ObjectFault
 answer bytes = do
   parts ← header_of bytes
   Ok (object_of parts)

@@ -19,9 +19,9 @@ pub struct Object {
 }
 
 impl Model for Object {
-    ghost use Rattle.object_file.specs.Parts.{Parts};
+    ghost use Rattle.object_file.specs.Parts.{ObjectParts};
 
-    ghost Value = { Parts };
+    ghost Value = { ObjectParts };
 
     ghost view = { λ o. record { source = o.source.items; words = o.words.items } };
 }

@@ -2,9 +2,9 @@
 
 ghost use Rattle.std.specs.Prelude.{◌≡◌, ◌+◌, ◌*◌, ◌≤◌, ◌<◌, ◌%◌, ℕ, List, length, slice_index, Result, IfOk, Ok, Err};
 ghost use Rattle.object_file.specs.declared.fault.ObjectFault.{ObjectFault};
-ghost use Rattle.object_file.specs.Parts.{Parts};
-ghost use Rattle.object_file.specs.Answer.{IsAnswer, Gives, UnlessMemory};
-ghost use Rattle.cvm_words.specs.Bytes.{words_of};
+ghost use Rattle.object_file.specs.Parts.{ObjectParts};
+ghost use Rattle.object_file.specs.Answer.{IsObjectAnswer, Gives, UnlessMemory};
+ghost use Rattle.cvm_words.specs.Bytes.{words_of_bytes};
 ghost use Rattle.object_file.specs.Reading.{Comes, mark_at, number_at, parts_at, header_of, object_of};
 
 use crate::fault::ObjectFault;
@@ -20,9 +20,9 @@ use std::alloc::{AllocError, Global};
 /// object, for its source and its words, and for nothing else.
 pub fn read(alloc: Global, bytes: &[u8]) -> Result<Object, ObjectFault>
     // What is answered is so of the bytes.
-    ensures answer { UnlessMemory result (IsAnswer bytes.now result) }
+    ensures answer { UnlessMemory result (IsObjectAnswer bytes.now result) }
     // And what is so of the bytes is answered.
-    ensures only { (answer : Result Parts ObjectFault) → IsAnswer bytes.now answer → Gives result answer }
+    ensures only { (answer : Result ObjectParts ObjectFault) → IsObjectAnswer bytes.now answer → Gives result answer }
 {
     let (source, words) = parts(bytes)?;
     Ok(Object {
@@ -33,8 +33,8 @@ pub fn read(alloc: Global, bytes: &[u8]) -> Result<Object, ObjectFault>
 
 /// A law: of each list of bytes there is one answer.
 pub fn bytes_have_one_answer()
-    ensures some { (bytes : List ℕ) → ((i : ℕ) → slice_index bytes i < 256) → (answer : Result Parts ObjectFault) × IsAnswer bytes answer }
-    ensures one { (bytes : List ℕ) (a b : Result Parts ObjectFault) → IsAnswer bytes a → IsAnswer bytes b → a ≡ b }
+    ensures some { (bytes : List ℕ) → ((i : ℕ) → slice_index bytes i < 256) → (answer : Result ObjectParts ObjectFault) × IsObjectAnswer bytes answer }
+    ensures one { (bytes : List ℕ) (a b : Result ObjectParts ObjectFault) → IsObjectAnswer bytes a → IsObjectAnswer bytes b → a ≡ b }
 {}
 
 // The bytes of the source and those of the words.

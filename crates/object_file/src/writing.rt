@@ -4,7 +4,7 @@ ghost use Rattle.std.specs.Prelude.{◌≡◌, ◌≤◌, ◌<◌, ◌^◌, ◌+
 ghost use Rattle.std.specs.List.{flat_map};
 ghost use Rattle.cvm_words.specs.Bytes.{word};
 ghost use Rattle.object_file.specs.Format.{spelling};
-ghost use Rattle.object_file.specs.Answer.{IsAnswer};
+ghost use Rattle.object_file.specs.Answer.{IsObjectAnswer};
 
 use crate::object::Object;
 use cvm_words::{push_word, push_words};
@@ -18,7 +18,7 @@ pub fn write(alloc: Global, object: &Object) -> Result<Vec<u8>, AllocError>
     requires source { length object.now.source ≤ 1048576 }
     requires words { length object.now.words ≤ 4177920 }
     ensures spelled { IfOk result (λ bytes. bytes.items ≡ spelling object.now) }
-    ensures read_back { IfOk result (λ bytes. IsAnswer bytes.items (Ok object.now)) }
+    ensures read_back { IfOk result (λ bytes. IsObjectAnswer bytes.items (Ok object.now)) }
 {
     let source_length = object.source.len();
     let word_count = object.words.len();

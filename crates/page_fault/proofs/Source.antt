@@ -7,15 +7,15 @@ use Rattle.mips_table.specs.Code.{Contents, Behind, World, Sound}
 use Rattle.masm.specs.Says.{Says, Gives, Reads, sayings}
 use Rattle.masm.specs.Blocks.{when_code}
 use Rattle.masm.specs.Laws.{From}
-use Rattle.page_model.specs.Paging.{IsFrame, Names}
-use Rattle.page_model.specs.Places.{Places, view}
+use Rattle.page_model.specs.Paging.{IsFrame, MapsTo}
+use Rattle.page_model.specs.Places.{Places, paged_view}
 use Rattle.swap_layer.specs.Code.{read_sector_code}
-use Rattle.swap_layer.specs.Laws.{Fetched}
+use Rattle.swap_layer.specs.Laws.{SectorFetched}
 use Rattle.frame_table.specs.View.{Sited, Ported, scratch}
 use Rattle.page_fault.specs.Code.{look_up_page_code, locate_words_code}
-use Rattle.page_fault.proofs.From.{from_straight, from_then, from_when, from_later, straight_then}
+use Rattle.page_fault.proofs.BlocksFrom.{from_straight, from_then, from_when, from_later, straight_then}
 use Rattle.page_fault.proofs.Basics.{Laws, const_is, names_own, kept_out, besides_same, besides_none, besides_on}
-use Rattle.page_fault.proofs.Parts.{PlaceAsked, Sourced}
+use Rattle.page_fault.proofs.BlockParts.{PlaceAsked, Sourced}
 
 -- what is said of the instructions that look at an entry e of page q: v tells whether it is valid, and a whether it isn't
 abbrev pub seen_says : Places → ℕ → ℕ → ℕ → ℕ → List Says
@@ -34,7 +34,7 @@ module _ (w : World) (f : Sound w) (laws : Laws w) (p : Places) (b : ℕ) (si : 
       let low = si.low in let first = si.first in let second = si.second in let third = si.third in let words = f.small in let inside = a.inside in let range = a.in_range in let sectors = pt.sectors in let page = a.page in let small = a.small in
       straight_then w laws.runs laws.straight (look_up_page_code p 25) _ (seen_says p q (c1.memory (p.tables + q)) 0 1) _ c1 d1 _ refl a.idle
       (λ n. (refl, (const_is (4 * p.tables), (omega arith, (omega arith, ((omega arith, omega arith, refl), (refl, (refl, (refl, (omega arith, (refl, tt)))))))))))
-      (λ n. from_then w laws.runs (when_code 25 read_sector_code) (when_code 24 (Sll 1 21 12 ∷ [])) (b + 8 + 1) (1 + 1) _ d1 (Fetched q (sayings n (look_up_page_code p 25) (seen_says p q (c1.memory (p.tables + q)) 0 1) c1) d1) _
+      (λ n. from_then w laws.runs (when_code 25 read_sector_code) (when_code 24 (Sll 1 21 12 ∷ [])) (b + 8 + 1) (1 + 1) _ d1 (SectorFetched q (sayings n (look_up_page_code p 25) (seen_says p q (c1.memory (p.tables + q)) 0 1) c1) d1) _
       (from_when w laws.runs laws.whens 25 read_sector_code (b + 8) _ d1 _ (omega arith) a.idle
       (λ ne. laws.fetches b q _ d1 pt.disk a.page (omega arith) a.idle)
       (λ z. absurd (omega arith)))
@@ -45,7 +45,7 @@ module _ (w : World) (f : Sound w) (laws : Laws w) (p : Places) (b : ℕ) (si : 
         from = k.from;
         place = inr refl;
         apart = inr (omega arith);
-        words = λ i li. k.words i li ∙ sym (laws.shows.gone (view p c1.memory d1.sectors) q i gone);
+        words = λ i li. k.words i li ∙ sym (laws.shows.gone (paged_view p c1.memory d1.sectors) q i gone);
         memory = λ x lx. k.memory x lx;
         index = k.regs 17 (omega arith) ∙ a.index;
         frame = k.regs 18 (omega arith) ∙ a.frame;
@@ -61,7 +61,7 @@ module _ (w : World) (f : Sound w) (laws : Laws w) (p : Places) (b : ℕ) (si : 
   stands_in : e / 2048 % 2 ≡ 1 → From w (locate_words_code p) (10 + ((0 + 1) + (1 + 1))) c1 d1 (Sourced p q h w c1 d1)
   stands_in val =
       let low = si.low in let first = si.first in let second = si.second in let third = si.third in let words = f.small in let inside = a.inside in let range = a.in_range in let page = a.page in let small = a.small in
-      let own : Names e (e / 4096) = names_own e val in
+      let own : MapsTo e (e / 4096) = names_own e val in
       let in' : IsFrame p.layout (e / 4096) = a.named (e / 4096) own in
       let lo : p.layout.zeros ≤ e / 4096 = in'.0 in
       let hi : e / 4096 ≤ p.layout.zeros + p.layout.frames = in'.1 in
@@ -82,7 +82,7 @@ module _ (w : World) (f : Sound w) (laws : Laws w) (p : Places) (b : ℕ) (si : 
           from = refl;
           place = inl (omega arith);
           apart = ⊎_elim (λ l. inl (omega arith)) (λ l. inr (omega arith)) (either (e / 4096) g other);
-          words = λ i li. sym (laws.shows.valid (view p c1.memory d1.sectors) q (e / 4096) i own);
+          words = λ i li. sym (laws.shows.valid (paged_view p c1.memory d1.sectors) q (e / 4096) i own);
           memory = λ x lx. refl;
           index = a.index;
           frame = a.frame;

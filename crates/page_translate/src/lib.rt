@@ -9,7 +9,7 @@
 #![tactic(auto)]
 
 ghost use Rattle.std.specs.Prelude.{◌≡◌, ◌+◌, ◌*◌, ◌/◌, ◌%◌, IfSome};
-ghost use Rattle.mips_table.specs.Machine.{entry_address as address_of_entry, translated, is_valid as is_valid_entry, is_protected as is_protected_entry};
+ghost use Rattle.mips_table.specs.Machine.{pte_address as address_of_entry, translated, is_valid as is_valid_entry, is_protected as is_protected_entry};
 
 use mips_table::{IS_PROTECTED, IS_VALID};
 

@@ -7,7 +7,7 @@ use Rattle.masm.specs.Says.{Gives, Widens, Reads, Writes, Asks}
 use Rattle.masm.proofs.Routines.{from_straight, from_then, from_later, straight_then}
 use Rattle.pcb_layer.specs.Code.{save_registers_code, restore_registers_code, find_control_block_code, save_context_code, save_user_code, load_registers_code, restore_user_code}
 use Rattle.pcb_layer.specs.declared.blocks.TheConstants.{SAVE_SPECIAL, RESTORE_SPECIAL}
-use Rattle.pcb_layer.specs.Laws.{Saved, Restored, IsBeside, Kept, UserSaved, UserRestored, SavesRegisters, RestoresRegisters, KeepsUser, SavesUser, RestoresUser}
+use Rattle.pcb_layer.specs.Laws.{Saved, Restored, IsBeside, InControlBlock, UserSaved, UserRestored, SavesRegisters, RestoresRegisters, KeepsUser, SavesUser, RestoresUser}
 use Rattle.pcb_layer.proofs.Basics.{put_same, put_other}
 use Rattle.pcb_layer.proofs.Registers.{SavedTo, LoadedTo, CopiedTo, saves, loads, copies}
 
@@ -43,11 +43,11 @@ module _ (w : World) (f : Sound w) where
       from_later w save_user_code (5 + (62 + 6)) 73 c d _ _ (omega arith) (λ c d k. k)
       (straight_then w f find_control_block_code (save_context_code 31 ++ SAVE_SPECIAL) (Reads current_at u ∷ Gives (u - 1) ∷ Gives (256 * (u - 1)) ∷ Gives 0xc000 ∷ Gives (4 * block_at u) ∷ []) (62 + 6) c d _ refl idle
       (λ n. ((refl, omega arith, e), (omega arith, (omega arith, (refl, (omega arith, tt))))))
-      (λ n. from_then w (save_context_code 31) SAVE_SPECIAL 62 6 (found u c) d (CopiedTo (block_at u) 31 (found u c) d) (Kept u c d)
+      (λ n. from_then w (save_context_code 31) SAVE_SPECIAL 62 6 (found u c) d (CopiedTo (block_at u) 31 (found u c) d) (InControlBlock u c d)
       (copies w f (block_at u) 31 (omega arith) (omega arith) (omega arith) may.free (found u c) d refl idle)
       (λ c1 d1 k.
       let base : c1.regs 31 ≡ 4 * block_at u = k.regs 31 (omega arith) in
-      from_straight w f SAVE_SPECIAL (Asks ∷ Writes (block_at u) (c.special EPC) ∷ Gives c.hi ∷ Writes (block_at u + 33) c.hi ∷ Gives c.lo ∷ Writes (block_at u + 34) c.lo ∷ []) c1 d1 (Kept u c d) refl (ap (λ d. d.pending) k.behind ∙ idle)
+      from_straight w f SAVE_SPECIAL (Asks ∷ Writes (block_at u) (c.special EPC) ∷ Gives c.hi ∷ Writes (block_at u + 33) c.hi ∷ Gives c.lo ∷ Writes (block_at u + 34) c.lo ∷ []) c1 d1 (InControlBlock u c d) refl (ap (λ d. d.pending) k.behind ∙ idle)
       (λ m.
       let m1 = put c1.memory (block_at u) (c.special EPC) in
       let m2 = put m1 (block_at u + 33) c.hi in (
@@ -108,7 +108,7 @@ saves_user w saving keeping may u c d free is idle =
     let some = is.some in let most = is.most in let inside = is.inside in
     from_later w (save_registers_code 31 ++ save_user_code) (31 + 73) 104 c d _ _ (omega arith) (λ c d k. k)
     (from_then w (save_registers_code 31) save_user_code 31 73 c d (Saved c d) (UserSaved u c d) (saving (omega arith) may c d idle)
-    (λ c1 d1 s. from_later w save_user_code 73 73 c1 d1 (Kept u c1 d1) (UserSaved u c d) (omega arith)
+    (λ c1 d1 s. from_later w save_user_code 73 73 c1 d1 (InControlBlock u c1 d1) (UserSaved u c d) (omega arith)
     (λ c' d' k. record {
       pc = k.pc ∙ ap (λ g. g EPC) s.special;
       registers = λ r h. k.registers r h ∙ s.words r h;

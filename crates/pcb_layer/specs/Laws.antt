@@ -58,7 +58,7 @@ abbrev pub IsBeside : ℕ → ℕ → Type 0
 IsBeside u x = (x < block_at u) ⊎ (block_at u + BLOCK_LO < x) ⊎ (x ≡ block_at u + BLOCK_SIZE)
 
 -- user u's control block holds epc, hi, lo, and as registers what stands in the save area; all else but SCRATCH and BLOCK is as before
-pub record Kept (u : ℕ) (c0 : Contents) (d0 : Behind) (c : Contents) (d : Behind) : Type 0 where
+pub record InControlBlock (u : ℕ) (c0 : Contents) (d0 : Behind) (c : Contents) (d : Behind) : Type 0 where
   pub pc : c.memory (block_at u) ≡ c0.special EPC
   pub registers : (r : ℕ) → IsRegister r → c.memory (block_at u + r) ≡ c0.memory (saved_at r)
   pub high : c.memory (block_at u + BLOCK_HI) ≡ c0.hi
@@ -103,7 +103,7 @@ RestoresRegisters w = HasSaveArea w → (c : Contents) (d : Behind) → d.pendin
 
 -- what is saved goes to the current user's control block
 abbrev pub KeepsUser : World → Type 0
-KeepsUser w = (u : ℕ) (c : Contents) (d : Behind) → MayKeep w u → IsCurrent w u c → d.pending ≡ Idle → From w save_user_code 73 c d (Kept u c d)
+KeepsUser w = (u : ℕ) (c : Contents) (d : Behind) → MayKeep w u → IsCurrent w u c → d.pending ≡ Idle → From w save_user_code 73 c d (InControlBlock u c d)
 
 -- both
 abbrev pub SavesUser : World → Type 0

@@ -10,7 +10,7 @@ use Rattle.cvm_model.specs.Cvm.{first_flat}
 use Rattle.user_c0.specs.Image.{image_words}
 use Rattle.user_c0.specs.Events.{Event, step, call, other, replies, calls, others, untrapped, answer_of, answers}
 use Rattle.user_c0.specs.Program.{EndsBy, steps_of}
-use Rattle.user_c0.specs.Users.{HasCome, UsersGoOn, IntsAreTold}
+use Rattle.user_c0.specs.Users.{UserHasCome, UsersGoOn, IntsAreTold}
 use Rattle.kernel_theorems.specs.UserRuns.{after, told}
 use Rattle.program_systems.specs.Coming.{CallsNext, CallsCome, EndsNext, EndsCome}
 use Rattle.program_systems.specs.Asking.{BringsAndEnds, AskedAndEnded, ProgramsAskAndEnd}
@@ -48,11 +48,11 @@ module _ (ends : EndsCome) (u : CUnit) (n value answer : ℕ) (b : BringsAndEnds
   seen : prog u (answers es) n ≡ record { arguments = pos value ∷ []; ending = done }
   seen = ap (λ given. prog u given n) its_answers ∙ b.ends
 
-  its_end : (g : Flat) → HasCome u es g → EndsNext u es g n
+  its_end : (g : Flat) → UserHasCome u es g → EndsNext u es g n
   its_end g come = ends u es g n b.program come (others_call r.events (Some word) r.others_are) (subst (λ (p : Seen). HasEnded p.ending) (sym seen) tt)
       (ap (λ (p : Seen). length p.arguments) seen ∙ sym (ap length its_replies))
 
-  by_end : (g : Flat) → HasCome u es g → (e : EndsNext u es g n) → e.traps.edata ≡ 76
+  by_end : (g : Flat) → UserHasCome u es g → (e : EndsNext u es g n) → e.traps.edata ≡ 76
   by_end g come e = subst (λ (p : Seen). EndsBy p.ending e.traps.edata) seen e.ends
 
   few : (g : Flat) (e : EndsNext u es g n) → r.steps + e.steps ≤ steps_of n
@@ -68,7 +68,7 @@ asked : EndsCome → IntsAreTold → (u : CUnit) (n value answer : ℕ) → Brin
 asked ends ints u n value answer b less f r =
     let t = ints (pos answer) (record { sfits = omega (arith, less) }) in
     let word = cast_unsigned w32 (pos answer) in
-    let come : HasCome u (r.events ++ call (Some (cast_unsigned w32 (pos answer))) ∷ []) (told (after (suc r.steps) f) answer) = r.answered (cast_unsigned w32 (pos answer)) t.0 in
+    let come : UserHasCome u (r.events ++ call (Some (cast_unsigned w32 (pos answer))) ∷ []) (told (after (suc r.steps) f) answer) = r.answered (cast_unsigned w32 (pos answer)) t.0 in
     let e : EndsNext u (r.events ++ call (Some (cast_unsigned w32 (pos answer))) ∷ []) (told (after (suc r.steps) f) answer) n =
     its_end ends u n value answer b f r (cast_unsigned w32 (pos answer)) t.0 t.1 (told (after (suc r.steps) f) answer) come in
     record {

@@ -4,17 +4,17 @@ use Rattle.std.proofs.Common.{◌≡◌, ◌⊎◌, ℕ, zero, suc, ◌+◌, ◌
 use Rattle.mips_table.specs.Arith.{signed}
 use Rattle.mips_table.specs.declared.cause.Cause.{Cause}
 use Rattle.mips_table.specs.declared.cause.Cause.TheVariants.{Reset, External, FetchAlign, FetchFault, Illegal, Overflow, Syscall, DataAlign, DataFault}
-use Rattle.mips_table.specs.Flat.{Flat, VStep, Next as Goes, Trap, vstep}
-use Rattle.mips_table.specs.Machine.{number_of}
+use Rattle.mips_table.specs.Flat.{Flat, VStep, Goes, Trap, vstep}
+use Rattle.mips_table.specs.Machine.{cause_number}
 use Rattle.c0_tree.specs.Tree.{CUnit}
 use Rattle.c0_meaning.specs.UserProgram.{prog}
 use Rattle.c0_meaning.specs.RunLaws.{HasEnded}
 use Rattle.cvm_model.specs.Cvm.{first_flat}
 use Rattle.cvm_model.specs.Invariant.{machine_after}
 use Rattle.user_c0.specs.Image.{image_words}
-use Rattle.user_c0.specs.Events.{CALL, Event, step, call, other, replies, calls, others, untrapped, answer_of, answers}
+use Rattle.user_c0.specs.Events.{CALL_CAUSE, Event, step, call, other, replies, calls, others, untrapped, answer_of, answers}
 use Rattle.user_c0.specs.Program.{EndsBy, steps_of}
-use Rattle.user_c0.specs.Users.{HasCome, UsersGoOn, IsProgram, IsCallOf, ProgramsTrap, TrapsAreKnown, IsDue, ProgramsStay}
+use Rattle.user_c0.specs.Users.{UserHasCome, UsersGoOn, IsProgram, IsTrapCall, ProgramsTrap, TrapsAreKnown, IsDue, ProgramsStay}
 use Rattle.kernel_theorems.specs.UserRuns.{after, IsGoes, TrapsAfter}
 use Rattle.program_systems.specs.Coming.{ComesToTrap, ProgramsCome, CallsNext, CallsCome, EndsNext, EndsCome, ComesToCall, FirstCallsCome}
 
@@ -61,7 +61,7 @@ one_more f g m cause e r =
 
 module _ (go : UsersGoOn) (stay : ProgramsStay) (u : CUnit) (n : ℕ) (p : IsProgram u) where
   -- by its next step
-  by_step : (es : List Event) (f : Flat) → HasCome u es f → others es ≡ [] → IsDue u es n
+  by_step : (es : List Event) (f : Flat) → UserHasCome u es f → others es ≡ [] → IsDue u es n
       → ((g : Flat) → vstep f ≡ Goes g → ComesToTrap u (es ++ step ∷ []) g n) → (v : VStep) → vstep f ≡ v → ComesToTrap u es f n
   by_step es f c none due rest (Trap g cause edata) e =
       record { steps = 0; few = omega arith; cause = cause; traps = at_once f g cause edata e; events = es; come = c; replies_are = refl; others_are = none; count = omega arith }
@@ -77,13 +77,13 @@ module _ (go : UsersGoOn) (stay : ProgramsStay) (u : CUnit) (n : ℕ) (p : IsPro
         cause = r.cause;
         traps = one_more f g r.steps r.cause e r.traps;
         events = r.events;
-        come = subst (λ h. HasCome u r.events h) (sym (front r.steps f g e)) r.come;
+        come = subst (λ h. UserHasCome u r.events h) (sym (front r.steps f g e)) r.come;
         replies_are = r.replies_are ∙ replies_step es;
         others_are = r.others_are;
         count = omega (arith, more, count);
       }
 
-  come : (d : ℕ) (es : List Event) (f : Flat) → HasCome u es f → others es ≡ [] → IsDue u es n → steps_of n ≤ untrapped es + d → ComesToTrap u es f n
+  come : (d : ℕ) (es : List Event) (f : Flat) → UserHasCome u es f → others es ≡ [] → IsDue u es n → steps_of n ≤ untrapped es + d → ComesToTrap u es f n
   come zero es f c none due enough =
       by_step es f c none due (λ g e. absurd (let under = stay.stay u es f g n p c e none due in omega (arith, under, enough))) (vstep f) refl
   come (suc d) es f c none due enough = by_step es f c none due
@@ -94,7 +94,7 @@ pub programs_come : UsersGoOn → ProgramsStay → ProgramsCome
 programs_come go stay u es f n p c none due = come go stay u n p (steps_of n) es f c none due (omega arith)
 
 -- THE FIRST CALL
-is_syscall : (cause : Cause) → number_of cause ≡ 6 → cause ≡ Syscall
+is_syscall : (cause : Cause) → cause_number cause ≡ 6 → cause ≡ Syscall
 is_syscall Reset e = absurd (omega (arith, e))
 is_syscall External e = absurd (omega (arith, e))
 is_syscall FetchAlign e = absurd (omega (arith, e))
@@ -118,10 +118,10 @@ module _ (go : UsersGoOn) (trap : ProgramsTrap) (known : TrapsAreKnown) (u : CUn
   its_trap : vstep (after r.steps f) ≡ Trap (after (suc r.steps) f) r.cause r.traps.edata
   its_trap = r.traps.traps
 
-  calls_next : (a : ℤ) → IsCallOf (after r.steps f) a (number_of r.cause) r.traps.edata → CallsNext u es f n a
+  calls_next : (a : ℤ) → IsTrapCall (after r.steps f) a (cause_number r.cause) r.traps.edata → CallsNext u es f n a
   calls_next a is =
       let t : TrapsAfter f r.steps Syscall = called f r.steps r.cause (is_syscall r.cause is.cause_is) r.traps in
-      let e : vstep (after r.steps f) ≡ Trap (after (suc r.steps) f) Syscall CALL = (called f r.steps r.cause (is_syscall r.cause is.cause_is) r.traps).traps ∙ ap (λ d. Trap (after (suc r.steps) f) Syscall d) is.edata_is in
+      let e : vstep (after r.steps f) ≡ Trap (after (suc r.steps) f) Syscall CALL_CAUSE = (called f r.steps r.cause (is_syscall r.cause is.cause_is) r.traps).traps ∙ ap (λ d. Trap (after (suc r.steps) f) Syscall d) is.edata_is in
       record {
         steps = r.steps;
         few = r.few;
@@ -136,15 +136,15 @@ module _ (go : UsersGoOn) (trap : ProgramsTrap) (known : TrapsAreKnown) (u : CUn
         answered = λ x small. go.answered u r.events (after r.steps f) (after (suc r.steps) f) x small r.come e;
       }
 
-  is_call : (a : ℤ) → slice_get (prog u (answers es) n).arguments (calls es) ≡ Some a → IsCallOf (after r.steps f) a (number_of r.cause) r.traps.edata
+  is_call : (a : ℤ) → slice_get (prog u (answers es) n).arguments (calls es) ≡ Some a → IsTrapCall (after r.steps f) a (cause_number r.cause) r.traps.edata
   is_call a has =
       known.next_call u r.events (after r.steps f) (after (suc r.steps) f) r.cause r.traps.edata p r.come r.traps.traps n a
       (subst (λ rs. slice_get (prog u (map answer_of rs) n).arguments (length rs) ≡ Some a) (sym r.replies_are) has)
 
-  ends_next : (number_of r.cause ≡ 6) × EndsBy (prog u (answers es) n).ending r.traps.edata → EndsNext u es f n
+  ends_next : (cause_number r.cause ≡ 6) × EndsBy (prog u (answers es) n).ending r.traps.edata → EndsNext u es f n
   ends_next is = record { steps = r.steps; few = r.few; traps = called f r.steps r.cause (is_syscall r.cause is.0) r.traps; ends = is.1 }
 
-  is_end : HasEnded (prog u (answers es) n).ending → length (prog u (answers es) n).arguments ≡ calls es → (number_of r.cause ≡ 6) × EndsBy (prog u (answers es) n).ending r.traps.edata
+  is_end : HasEnded (prog u (answers es) n).ending → length (prog u (answers es) n).arguments ≡ calls es → (cause_number r.cause ≡ 6) × EndsBy (prog u (answers es) n).ending r.traps.edata
   is_end over count =
       let z = known.next_end u r.events (after r.steps f) (after (suc r.steps) f) r.cause r.traps.edata p r.come r.traps.traps n
       (subst (λ rs. HasEnded (prog u (map answer_of rs) n).ending) (sym r.replies_are) over)

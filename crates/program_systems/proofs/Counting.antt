@@ -3,7 +3,7 @@ use Rattle.std.specs.Prelude.{option_map}
 use Rattle.std.proofs.Common.{◌≡◌, ℕ, zero, suc, ◌<◌, ◌≤◌, List, [], ◌∷◌, Option, Some, None, refl, sym, ap, subst, arith, ⊎_elim}
 use Rattle.std.proofs.lemmas.Bool.{cases_lt}
 use Rattle.mips_table.specs.declared.cause.Cause.{Cause}
-use Rattle.mips_table.specs.Flat.{Flat, VStep, Next as Goes, Trap, vstep}
+use Rattle.mips_table.specs.Flat.{Flat, VStep, Goes, Trap, vstep}
 use Rattle.cvm_model.specs.Invariant.{machine_after}
 use Rattle.kernel_theorems.specs.UserRuns.{after, IsGoes, TrapsAfter, told}
 use Rattle.program_systems.specs.Counts.{TrapsThrough, step_more, counted, steps_below, CountsTell}

@@ -9,7 +9,7 @@ use Rattle.cvm_model.specs.Kernel.{Core}
 use Rattle.cvm_model.specs.Primitives.{user_of, with_user, with_register, no_flat}
 use Rattle.cvm_model.specs.Invariant.{Dispatch, with_machine}
 use Rattle.user_c0.specs.Events.{Event, call, answer_of}
-use Rattle.user_c0.specs.Users.{HasCome, UsersGoOn, IntsAreTold}
+use Rattle.user_c0.specs.Users.{UserHasCome, UsersGoOn, IntsAreTold}
 use Rattle.kernel_theorems.specs.Registers.{set_in}
 use Rattle.program_systems.specs.Dispatches.{CallsIn, DispatchesAnswer}
 
@@ -35,17 +35,17 @@ module _ (before at : Core) (g : Flat) (left : at ≡ with_machine before g) (so
 
 module _ (go : UsersGoOn) (tell : IntsAreTold) (u : CUnit) (es : List Event) (before : Core) (d : Dispatch) where
   answered : (a : ℤ) → CallsIn u es before d → FitsSigned w32 a → d.after.users ≡ set_in d.before.users d.before.current 2 a
-      → HasCome u (es ++ call (Some (cast_unsigned w32 a)) ∷ []) (user_of d.after.users before.current) × (answer_of (Some (cast_unsigned w32 a)) ≡ a)
+      → UserHasCome u (es ++ call (Some (cast_unsigned w32 a)) ∷ []) (user_of d.after.users before.current) × (answer_of (Some (cast_unsigned w32 a)) ≡ a)
   answered a c fits set =
       let told = tell a fits in (
-        subst (λ f. HasCome u (es ++ call (Some (cast_unsigned w32 a)) ∷ []) f) (sym (set_so before d.before c.calls.after c.calls.left c.some c.few d.after.users a set))
+        subst (λ f. UserHasCome u (es ++ call (Some (cast_unsigned w32 a)) ∷ []) f) (sym (set_so before d.before c.calls.after c.calls.left c.some c.few d.after.users a set))
             (go.answered u es (user_of before.users before.current) c.calls.after (cast_unsigned w32 a) told.0 c.come c.calls.stepped),
         told.1,
       )
 
-  unanswered : CallsIn u es before d → d.after.users ≡ d.before.users → HasCome u (es ++ call None ∷ []) (user_of d.after.users before.current)
+  unanswered : CallsIn u es before d → d.after.users ≡ d.before.users → UserHasCome u (es ++ call None ∷ []) (user_of d.after.users before.current)
   unanswered c same =
-      subst (λ f. HasCome u (es ++ call None ∷ []) f) (sym (left_so before d.before c.calls.after c.calls.left c.some c.few d.after.users same))
+      subst (λ f. UserHasCome u (es ++ call None ∷ []) f) (sym (left_so before d.before c.calls.after c.calls.left c.some c.few d.after.users same))
       (go.calls u es (user_of before.users before.current) c.calls.after c.come c.calls.stepped)
 
 pub dispatches_answer : UsersGoOn → IntsAreTold → DispatchesAnswer

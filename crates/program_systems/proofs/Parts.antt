@@ -8,7 +8,7 @@ use Rattle.std.proofs.lemmas.List.{get_or_append_left, get_or-append_right, set-
 use Rattle.mips_table.specs.declared.cause.Cause.{Cause}
 use Rattle.mips_table.specs.declared.cause.Cause.TheVariants.{Illegal}
 use Rattle.mips_table.specs.Processor.{Cpu, Access, Move, Ran, Loaded, Stored, Trapped, Privileged, with_loaded, move}
-use Rattle.mips_table.specs.Flat.{Flat, VStep, Next as Goes, Trap, flat_access, word_at, answered, vstep}
+use Rattle.mips_table.specs.Flat.{Flat, VStep, Goes, Trap, flat_access, word_at, after_move, vstep}
 use Rattle.kernel_theorems.specs.UserRuns.{told}
 use Rattle.program_systems.specs.Counts.{step_more, counted, steps_below}
 use Rattle.program_systems.proofs.Counting.{none_told, mapped}
@@ -76,13 +76,13 @@ module _ (low : List ℕ) (first size : ℕ) where
     Agrees (PartTraps q cause edata) v = (v ≡ Trap (whole q) cause edata) × (length (low ++ q.words) ≡ size)
     Agrees Stops v = Unit {0}
 
-    answers_agree : (p : Part) (m : Move) → length (low ++ p.words) ≡ size → Agrees (part_answer p m) (answered (whole p) m)
+    answers_agree : (p : Part) (m : Move) → length (low ++ p.words) ≡ size → Agrees (part_answer p m) (after_move (whole p) m)
     answers_agree p (Ran c) long = (refl, long)
     answers_agree p (Loaded c register address) long = (ap (λ w. Goes (record { cpu = with_loaded c register w; words = low ++ p.words })) (word_is p (address / 4)), long)
     answers_agree p (Stored c address value) long = by (nat_lt (address / 4) first) refl
       where
         by : (b : Bool) → nat_lt (address / 4) first ≡ b
-            → Agrees (if b then Stops else PartGoes (record { cpu = c; words = slice_set p.words (address / 4 - first) value })) (answered (whole p) (Stored c address value))
+            → Agrees (if b then Stops else PartGoes (record { cpu = c; words = slice_set p.words (address / 4 - first) value })) (after_move (whole p) (Stored c address value))
         by true e = tt
         by false e =
             let is = set_is p (address / 4) value e in
@@ -94,7 +94,7 @@ module _ (low : List ℕ) (first size : ℕ) where
     steps_agree p long =
         let same : move (flat_access (low ++ p.words)) p.cpu (word_at (low ++ p.words) p.cpu.pc) ≡ move (access_of size) p.cpu (word_in p (p.cpu.pc / 4)) =
         ap₂ (λ (n w : ℕ). move (access_of n) p.cpu w) long (word_is p (p.cpu.pc / 4)) in
-        subst (λ (m : Move). Agrees (part_step p) (answered (whole p) m)) (sym same) (answers_agree p (move (access_of size) p.cpu (word_in p (p.cpu.pc / 4))) long)
+        subst (λ (m : Move). Agrees (part_step p) (after_move (whole p) m)) (sym same) (answers_agree p (move (access_of size) p.cpu (word_in p (p.cpu.pc / 4))) long)
 
     by_part : (k : ℕ) (s : PartStep) (v : VStep) → Agrees s v → (answers steps : List ℕ) → part_counted s answers (part_steps k) ≡ Some steps
         → ((q : Part) (given made : List ℕ) → length (low ++ q.words) ≡ size → part_steps k q given ≡ Some made → steps_below k (whole q) given ≡ Some made)

@@ -13,9 +13,9 @@ use Rattle.c0_tree.specs.Tree as tree
 use Rattle.c0_meaning.specs.Ty.{ty_of, int, same_ty, is_scalar}
 use Rattle.c0_meaning.specs.Ty as types
 use Rattle.c0_meaning.specs.Env.{Env, typed_of, shape_of, signature_of}
-use Rattle.c0_meaning.specs.Expression.{is_place, target}
+use Rattle.c0_meaning.specs.Expression.{is_lvalue, target}
 use Rattle.c0_meaning.specs.Words.{words, all_words}
-use Rattle.c0_meaning.specs.Limits.{frame, locals_of, is_asm, is_main, first_number}
+use Rattle.c0_meaning.specs.Limits.{words_of_frame, locals_of, is_asm, is_main, first_number}
 use Rattle.c0_meaning.specs.TypedState.{types_of}
 use Rattle.c0_meaning.specs.TypeAt.{type_at, field_type, element, env_in}
 use Rattle.c0_meaning.specs.Bare.{bare_ty, bare_expr, bare_stmt, bare_stmts, bare_decl, bare_struct, bare_body, bare_function, bare}
@@ -26,7 +26,7 @@ use Rattle.c0_expr_code.specs.Scope.{Scope, is_free_of_calls, are_free_of_calls,
 use Rattle.c0_expr_code.specs.Code.{field_made, index_made, target_spot, at_place, only_value, on_spot, unary_made, binary_made, made, constant_code, register_of}
 use Rattle.c0_expr_code.specs.Test.{plain_test, unary_test, binary_test, test_code}
 use Rattle.c0_stmt_code.specs.Code.{Links, callee_index, skip, stored_code, assigned_code, args_code, otherwise, otherwise_at, stmt_code, stmts_code, is_calling, are_calling, register_entry, frame_entry, exit_code, body_code, function_code}
-use Rattle.c0_unit.specs.Code.{fault_exits, scope, links, functions_code, words_of, starts_from, function_starts, functions_at, code_words, routines_code, program_words}
+use Rattle.c0_unit.specs.Code.{fault_exits, scope, links, functions_code, words_of_functions, starts_from, function_starts, functions_at, code_words, routines_code, program_words}
 use Rattle.c0_types.specs.Front.{IsUnitAs}
 use Rattle.user_c0.specs.Image.{ROOM, map_of, laid, parts, image_words}
 use Rattle.kernel_theorems.specs.Text.{MeansProgram}
@@ -81,7 +81,7 @@ env_bare u f = λ i. record {
 }
 
 -- EXPRESSIONS
-is_place_bare : (e : CExpr) → is_place (bare_expr e) ≡ is_place e
+is_place_bare : (e : CExpr) → is_lvalue (bare_expr e) ≡ is_lvalue e
 is_place_bare (num s n) = refl
 is_place_bare _ = refl
 
@@ -192,7 +192,7 @@ functions_bare : (u : CUnit) (starts : List ℕ) (fs : List CFunction) → funct
 functions_bare u starts [] = refl
 functions_bare u starts (f ∷ fs) = λ j. function_bare u (links starts) f j ++ functions_bare u starts fs j
 
-lengths_bare : (u : CUnit) (fs : List CFunction) → words_of (bare u) (map bare_function fs) ≡ words_of u fs
+lengths_bare : (u : CUnit) (fs : List CFunction) → words_of_functions (bare u) (map bare_function fs) ≡ words_of_functions u fs
 lengths_bare u [] = refl
 lengths_bare u (f ∷ fs) = λ j. length (function_bare u (links []) f j) ∷ lengths_bare u fs j
 

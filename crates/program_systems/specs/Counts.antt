@@ -3,7 +3,7 @@
 -- how many they are at most.
 use Rattle.std.specs.Prelude.{◌≡◌, ℕ, zero, suc, List, [], ◌∷◌, Option, Some, None, option_map}
 use Rattle.mips_table.specs.declared.cause.Cause.{Cause}
-use Rattle.mips_table.specs.Flat.{Flat, VStep, Next as Goes, Trap, vstep}
+use Rattle.mips_table.specs.Flat.{Flat, VStep, Goes, Trap, vstep}
 use Rattle.c0_tree.specs.Tree.{CUnit}
 use Rattle.c0_meaning.specs.Bare.{bare}
 use Rattle.user_c0.specs.Image.{image_words}

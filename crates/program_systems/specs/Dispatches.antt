@@ -6,14 +6,14 @@ use Rattle.c0_tree.specs.Tree.{CUnit}
 use Rattle.cvm_model.specs.Kernel.{Core}
 use Rattle.cvm_model.specs.Primitives.{user_of}
 use Rattle.cvm_model.specs.Invariant.{Dispatch, IsTrapOf}
-use Rattle.user_c0.specs.Events.{CALL, Event, call, answer_of}
-use Rattle.user_c0.specs.Users.{HasCome}
+use Rattle.user_c0.specs.Events.{CALL_CAUSE, Event, call, answer_of}
+use Rattle.user_c0.specs.Users.{UserHasCome}
 use Rattle.kernel_theorems.specs.Registers.{set_in}
 
 -- a program that has come to its machine calls in this dispatch, from the state before
 pub record CallsIn (u : CUnit) (es : List Event) (before : Core) (d : Dispatch) : Type 0 where
-  pub come : HasCome u es (user_of before.users before.current)
-  pub calls : IsTrapOf before Syscall CALL d.before
+  pub come : UserHasCome u es (user_of before.users before.current)
+  pub calls : IsTrapOf before Syscall CALL_CAUSE d.before
   pub some : 1 ≤ before.current
   pub few : before.current ≤ length before.users
 
@@ -21,6 +21,6 @@ pub record CallsIn (u : CUnit) (es : List Event) (before : Core) (d : Dispatch) 
 -- changes no machine it is the call without an answer
 pub record DispatchesAnswer : Type 0 where
   pub answered : (u : CUnit) (es : List Event) (before : Core) (d : Dispatch) (a : ℤ) → CallsIn u es before d → FitsSigned w32 a → d.after.users ≡ set_in d.before.users d.before.current 2 a
-      → HasCome u (es ++ call (Some (cast_unsigned w32 a)) ∷ []) (user_of d.after.users before.current) × (answer_of (Some (cast_unsigned w32 a)) ≡ a)
+      → UserHasCome u (es ++ call (Some (cast_unsigned w32 a)) ∷ []) (user_of d.after.users before.current) × (answer_of (Some (cast_unsigned w32 a)) ≡ a)
   pub unanswered : (u : CUnit) (es : List Event) (before : Core) (d : Dispatch) → CallsIn u es before d → d.after.users ≡ d.before.users
-      → HasCome u (es ++ call None ∷ []) (user_of d.after.users before.current)
+      → UserHasCome u (es ++ call None ∷ []) (user_of d.after.users before.current)

@@ -8,13 +8,13 @@ use Rattle.c0_tree.specs.Tree.{CUnit}
 use Rattle.c0_meaning.specs.Operators.{faulted, stuck}
 use Rattle.c0_meaning.specs.ProgramLaws.{ArgumentsStay}
 use Rattle.c0_meaning.specs.RunLaws.{HasEnded}
-use Rattle.c0_meaning.specs.UserProgram.{Ending, done, failed, not_yet, Seen, prog}
+use Rattle.c0_meaning.specs.UserProgram.{ProgramEnding, done, failed, not_yet, Seen, prog}
 use Rattle.cvm_model.specs.Cvm.{first_flat}
 use Rattle.cvm_model.specs.Journal.{replay}
 use Rattle.kernel_theorems.specs.Text.{MeansProgram}
 use Rattle.user_c0.specs.Image.{image_words}
 use Rattle.user_c0.specs.Events.{SYSCALL, Event, call, other, journal_of, replies, calls, answer_of, answers}
-use Rattle.user_c0.specs.Program.{EndsBy, Follows}
+use Rattle.user_c0.specs.Program.{EndsBy, FollowsMain}
 use Rattle.user_c0.specs.Summing.{summing, SumsAreTold}
 use Rattle.user_c0.proofs.Follow.{replies_join}
 use Rattle.cvm_shell.specs.Programs.{LinkedPrograms, BootedProgramsRun}
@@ -22,7 +22,7 @@ use Rattle.program_theorems.specs.SummingText.{text}
 use Rattle.program_theorems.specs.Summing.{TellsSum, SumsAreTraced}
 
 module _ (told : SumsAreTold) (stay : ArgumentsStay) where
-  over : (end : Ending) (edata : ℕ) → EndsBy end edata → HasEnded end
+  over : (end : ProgramEnding) (edata : ℕ) → EndsBy end edata → HasEnded end
   over done edata h = tt
   over (failed (faulted f)) edata h = tt
   over (failed stuck) edata h = absurd h
@@ -53,7 +53,7 @@ module _ (told : SumsAreTold) (stay : ArgumentsStay) where
     answered_so : (es before rest : List Event) → es ≡ before ++ rest → length (answers es) ≡ calls before + calls rest
     answered_so es before rest e = length-map (replies es) answer_of ∙ ap length (ap replies e ∙ replies_join before rest) ∙ length-append (replies before) (replies rest)
 
-    pub tells : (es : List Event) → Follows u (first_flat (image_words u)) es → TellsSum u es
+    pub tells : (es : List Event) → FollowsMain u (first_flat (image_words u)) es → TellsSum u es
     tells es w = record { asks = asks; ends = ends }
       where
         asks : (before after : List Event) (reply : Option ℕ) (f : Flat) → es ≡ before ++ (call reply ∷ after)

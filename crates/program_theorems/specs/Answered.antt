@@ -3,7 +3,7 @@ use Rattle.std.specs.Prelude.{◌≡◌, ℕ, List}
 use Rattle.schedule_file.specs.Rows.{Rows}
 use Rattle.kernel_linker.specs.Accept.{ImageSystem}
 use Rattle.cvm_model.specs.JournalWords.{IsOrdinary}
-use Rattle.user_c0.specs.Events.{Event, journal_of, IsAnswered}
+use Rattle.user_c0.specs.Events.{Event, journal_of, IsAnsweredJournal}
 use Rattle.cvm_shell.specs.declared.exit_status.Status.{Status}
 use Rattle.cvm_shell.specs.declared.boot.Session.{Session}
 use Rattle.cvm_shell.specs.Host.{Host}
@@ -18,4 +18,4 @@ BootedAreOrdinary = (words : List (List ℕ)) (session : Session) (s : ImageSyst
 -- A LAW: so a trace whose journal is made of steps, calls with what they were answered, and other traps is answered
 abbrev pub TracesAreAnswered : Type 0
 TracesAreAnswered = (words : List (List ℕ)) (session : Session) (u : ℕ) (s : ImageSystem) (rows : Rows) (before : List (List ℕ)) (old new : Host) (status : Status)
-    → IsHonest words session s rows before old new → (a : IsolatedTrace session u s rows before old new status) → (es : List Event) → a.entries ≡ journal_of es → IsAnswered a.entries
+    → IsHonest words session s rows before old new → (a : IsolatedTrace session u s rows before old new status) → (es : List Event) → a.entries ≡ journal_of es → IsAnsweredJournal a.entries

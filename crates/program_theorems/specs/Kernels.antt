@@ -6,7 +6,7 @@ use Rattle.cvm_model.specs.Cvm.{System, dispatch_of}
 use Rattle.cvm_model.specs.Invariant.{Dispatch, dispatches_of}
 use Rattle.cvm_model.specs.Journal.{changes_of, journal}
 use Rattle.kernel_linker.specs.Accept.{ImageSystem}
-use Rattle.user_c0.specs.Events.{SYSCALL, CALL, Event, journal_of, IsAnswered}
+use Rattle.user_c0.specs.Events.{SYSCALL, CALL_CAUSE, Event, journal_of, IsAnsweredJournal}
 use Rattle.cvm_shell.specs.declared.exit_status.Status.{Status}
 use Rattle.cvm_shell.specs.declared.boot.Session.{Session}
 use Rattle.cvm_shell.specs.Host.{Host}
@@ -23,8 +23,8 @@ changed_by y n u d = changes_of u (dispatch_of y n d.cause d.edata d.before).cal
 
 -- A DISPATCH ANSWERS user u: where this user calls it sets nothing of it but register 2, once at most; and else it changes nothing of it
 pub record Answers (y : System) (n u : ℕ) (d : Dispatch) : Type 0 where
-  pub calls : d.before.current ≡ u → d.cause ≡ SYSCALL → d.edata ≡ CALL → IsReply (changed_by y n u d)
-  pub others : (d.before.current ≡ u → d.cause ≡ SYSCALL → d.edata ≡ CALL → ⊥) → changed_by y n u d ≡ []
+  pub calls : d.before.current ≡ u → d.cause ≡ SYSCALL → d.edata ≡ CALL_CAUSE → IsReply (changed_by y n u d)
+  pub others : (d.before.current ≡ u → d.cause ≡ SYSCALL → d.edata ≡ CALL_CAUSE → ⊥) → changed_by y n u d ≡ []
 
 -- each of these does
 abbrev pub AnswersUser : System → (n u : ℕ) → List Dispatch → Type 0
@@ -36,4 +36,5 @@ pub record KernelsAnswer : Type 0 where
   pub journals : (y : System) (n u : ℕ) (lines : ℕ → ℕ) (k : ℕ) → AnswersUser y n u (dispatches_of y lines n k) → (es : List Event) × (journal y lines n u k ≡ journal_of es)
   pub traces : (words : List (List ℕ)) (session : Session) (u : ℕ) (s : ImageSystem) (rows : Rows) (before : List (List ℕ)) (old new : Host) (status : Status)
       → IsHonest words session s rows before old new → (a : IsolatedTrace session u s rows before old new status)
-      → AnswersUser (booted s rows) a.units u (dispatches_of (booted s rows) (lines_met session s rows old before) a.units a.turns) → IsAnswered a.entries
+      → AnswersUser (booted s rows) a.units u (dispatches_of (booted s rows) (lines_met session s rows old before) a.units a.turns)
+          → IsAnsweredJournal a.entries

@@ -10,7 +10,7 @@ use Rattle.kernel_linker.specs.Accept.{ImageSystem}
 use Rattle.cvm_model.specs.Cvm.{first_flat}
 use Rattle.cvm_model.specs.Journal.{replay}
 use Rattle.user_c0.specs.Image.{image_words}
-use Rattle.user_c0.specs.Events.{SYSCALL, Event, call, other, journal_of, IsAnswered, calls}
+use Rattle.user_c0.specs.Events.{SYSCALL, Event, call, other, journal_of, IsAnsweredJournal, calls}
 use Rattle.cvm_shell.specs.declared.exit_status.Status.{Status}
 use Rattle.cvm_shell.specs.declared.boot.Session.{Session}
 use Rattle.cvm_shell.specs.Host.{Host}
@@ -41,4 +41,4 @@ pub record TellsSum (program : CUnit) (es : List Event) : Type 0 where
 -- A LAW: each trace of such a user whose calls its kernel answers prints such a journal
 abbrev pub SumsAreTraced : Type 0
 SumsAreTraced = (layer : Map → List ℕ → List ℕ) (session : Session) (u : ℕ) (s : ImageSystem) (rows : Rows) (before : List (List ℕ)) (old new : Host) (status : Status)
-    (a : IsolatedTrace session u s rows before old new status) (program : CUnit) → HasSum layer s u program → (answered : IsAnswered a.entries) → TellsSum program answered.events
+    (a : IsolatedTrace session u s rows before old new status) (program : CUnit) → HasSum layer s u program → (answered : IsAnsweredJournal a.entries) → TellsSum program answered.events

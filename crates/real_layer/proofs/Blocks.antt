@@ -4,16 +4,16 @@ use Rattle.std.specs.Prelude.{◌==◌, if◌then◌else◌}
 use Rattle.std.proofs.lemmas.Bool.{cond-true, cond-false, cases_eq}
 use Rattle.mips_table.specs.declared.inst.Inst.{Inst}
 use Rattle.mips_table.specs.Encoding.{encoding}
-use Rattle.mips_table.specs.Device.{Outside}
+use Rattle.mips_table.specs.Device.{Environment}
 use Rattle.mips_table.specs.Machine.{State, Done, come_to, coming, latched, run}
 use Rattle.mips_table.specs.Fits.{NamesSector}
-use Rattle.mips_table.specs.Code.{World, Sound, Configuration, Steps}
-use Rattle.mips_table.specs.Simulation.{configuration_of, Quiet, Holds, Serves, Simulates, MachineSimulates}
+use Rattle.mips_table.specs.Code.{World, Sound, CodeState, Steps}
+use Rattle.mips_table.specs.Simulation.{configuration_of, Quiet, MemoryHolds, DiskServes, Simulates, MachineSimulates}
 use Rattle.layer_map.specs.Map.{memory_words}
 use Rattle.masm.specs.Standing.{placed, BlockStands}
 use Rattle.cvm_model.specs.Stands.{Site, is_own}
-use Rattle.layer_contract.specs.Layer.{Inside, due, EndsNamed}
-use Rattle.real_layer.specs.Runs.{Standing, Calm, kept_words, block_program, block_world, Makes, BlocksRun}
+use Rattle.layer_contract.specs.Layer.{Inside, command_due, EndsNamed}
+use Rattle.real_layer.specs.Runs.{Standing, Calm, kept_words, block_program, block_world, MakesRun, BlocksRun}
 
 -- the word of an instruction of a placed block
 word_of : (n : ℕ) (is : List Inst) (k : ℕ) (i : Inst) → placed n is k ≡ Some i → n ≤ k → slice_index (map encoding is) (k - n) ≡ encoding i
@@ -60,11 +60,11 @@ kept_behind y memory k le lt =
     ∙ ap (λ b. if b then Some (slice_index memory k) else None) (lt-ltb k (length memory) lt)
 
 -- the command that an instruction's step ends
-named_by : (x : Outside) (y : Site) (s after : State) → coming x (latched x s) ≡ Done after → NamesSector (y.map.users * y.map.params.pages) after.device.pending → EndsNamed x y.map s
-unfolding due
+named_by : (x : Environment) (y : Site) (s after : State) → coming x (latched x s) ≡ Done after → NamesSector (y.map.users * y.map.params.pages) after.device.pending → EndsNamed x y.map s
+unfolding command_due
 named_by x y s after e h = subst (λ o. NamesSector (y.map.users * y.map.params.pages) (come_to o).device.pending) (sym e) h
 
-module _ (stands : (n : ℕ) (is : List Inst) → BlockStands n is) (x : Outside) (y : Site) (s : State) (n : ℕ) (is : List Inst) (at : Standing y n is) (c : Calm x y s) where
+module _ (stands : (n : ℕ) (is : List Inst) → BlockStands n is) (x : Environment) (y : Site) (s : State) (n : ℕ) (is : List Inst) (at : Standing y n is) (c : Calm x y s) where
   pub sound : Sound (block_world x y s n is)
   sound = record {
     small = c.small;
@@ -81,17 +81,17 @@ module _ (stands : (n : ℕ) (is : List Inst) → BlockStands n is) (x : Outside
         kept_is y s.memory k (omega arith) long (at.kept k low top) (c.stays k (omega arith) (at.kept k low top)) ∙ ap Some word;
   }
 
-  pub holds : Holds (block_world x y s n is) s.memory
+  pub holds : MemoryHolds (block_world x y s n is) s.memory
   holds = record { size = refl; kept = λ k v e. ⊎_elim (λ h. c.stays k h.0 h.1 ∙ h.2) (λ h. h) (kept_by y s.memory k v e) }
 
-  pub serves : Serves x (block_world x y s n is) s.device
+  pub serves : DiskServes x (block_world x y s n is) s.device
   serves = record { count = c.sectors; named = subst (NamesSector (y.map.users * y.map.params.pages)) (sym c.idle) tt }
 
   -- a quiet machine is inside
   inside_of : (t : State) → Quiet x t → Inside t
   inside_of t q = record { on = q.on; mode = q.mode; sr = q.sr; no_reset = q.no_reset }
 
-  pub makes : MachineSimulates → (t : Configuration) (steps : ℕ) → Steps (block_world x y s n is) steps (configuration_of s) t → Makes x y n is steps s t
+  pub makes : MachineSimulates → (t : CodeState) (steps : ℕ) → Steps (block_world x y s n is) steps (configuration_of s) t → MakesRun x y n is steps s t
   makes simulates t steps r =
       let w : World = block_world x y s n is in
       let m : Simulates x w steps s = simulates x (block_program y s.memory n is) s steps t sound c.quiet holds serves r in

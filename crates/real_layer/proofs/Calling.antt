@@ -10,25 +10,25 @@ use Rattle.mips_table.specs.declared.inst.Inst.{Inst}
 use Rattle.mips_table.specs.declared.inst.Inst.TheVariants.{Jr}
 use Rattle.mips_table.specs.Arith.{signed}
 use Rattle.mips_table.specs.Flat.{Flat}
-use Rattle.mips_table.specs.Device.{Idle, Outside}
+use Rattle.mips_table.specs.Device.{Idle, Environment}
 use Rattle.mips_table.specs.Machine.{LOG_ROOM, State, run, Console, log_has_room}
 use Rattle.mips_table.specs.Fits.{IsWord}
-use Rattle.mips_table.specs.Code.{Contents, Behind, World, Sound, Configuration, at_with, Reaches}
+use Rattle.mips_table.specs.Code.{Contents, Behind, World, Sound, CodeState, at_with, Reaches}
 use Rattle.masm.specs.Laws.{From, ReturnRuns}
 use Rattle.layer_map.specs.Map.{Map, layer_words, current_at, hand_at, memory_words}
-use Rattle.page_model.specs.Paging.{PagesStand}
-use Rattle.page_model.specs.Places.{layout_of, places_of, view}
+use Rattle.page_model.specs.Paging.{PagingInvariant}
+use Rattle.page_model.specs.Places.{page_layout, places_of, paged_view}
 use Rattle.cvm_model.specs.Kernel.{flat, Core}
-use Rattle.cvm_model.specs.Primitives.{Call, ConPut, ConGet, Given, prim, is_good, granted, refused, unchanged, primitive_number, units_of}
+use Rattle.cvm_model.specs.Primitives.{KernelCall, ConPut, ConGet, Given, prim, is_good, granted, refused, unchanged, primitive_number, units_of}
 use Rattle.cvm_model.specs.Cvm.{Running, run_steps}
 use Rattle.cvm_model.specs.Paged.{pages_by}
-use Rattle.cvm_model.specs.Stands.{Site, input_room, CoreFits, Stands, is_own}
+use Rattle.cvm_model.specs.Stands.{Site, input_room, CoreFits, RunningRelation, is_own}
 use Rattle.layer_contract.specs.Layer.{Inside, InCode, given, Returned, ComesBack}
 use Rattle.cvm_primitives.specs.Blocks.{BlocksHold}
 use Rattle.real_layer.specs.Image.{returning, routine_at, image_site, IsMade}
 use Rattle.real_layer.specs.Runs.{Calm, kept_words, block_world}
 use Rattle.real_layer.proofs.Shown.{IsKernels, Order, order_of, behind, word_is, stood, layer_inside}
-use Rattle.real_layer.proofs.Ways.{way_from}
+use Rattle.real_layer.proofs.EntryToEntry.{way_from}
 use Rattle.real_layer.proofs.Arrivals.{Below, Arrives, contents}
 use Rattle.real_layer.proofs.Exits.{Tools, not_user, Routed, arrives_in}
 use Rattle.real_layer.proofs.Leaving.{free_own}
@@ -37,7 +37,7 @@ use Rattle.real_layer.proofs.Fitting.{HasWord, prim_fits}
 -- what a call leaves, of either kind of primitive
 pub record Came (y : Site) (g : Given) (c0 : Contents) (d0 : Behind) (c : Contents) (d : Behind) : Type 0 where
   pub answer : flat (λ _. 0) g.answer ≡ c.regs 2 ∷ []
-  pub pages : PagesStand (layout_of y.map) (pages_by y.map.params.pages g.users) (view (places_of y.map) c.memory d.sectors)
+  pub pages : PagingInvariant (page_layout y.map) (pages_by y.map.params.pages g.users) (paged_view (places_of y.map) c.memory d.sectors)
   pub blocks : BlocksHold g.users c.memory
   pub log : d.log ≡ g.console.log
   pub input : d.input ≡ g.console.input
@@ -48,10 +48,10 @@ pub record Came (y : Site) (g : Given) (c0 : Contents) (d0 : Behind) (c : Conten
   pub idle : d.pending ≡ Idle
 
 -- of a console
-input_shrinks : (most : ℕ) (call : Call) (users : List Flat) (o : Console) → length (prim most call users o).console.input ≤ length o.input
+input_shrinks : (most : ℕ) (call : KernelCall) (users : List Flat) (o : Console) → length (prim most call users o).console.input ≤ length o.input
 input_shrinks most call users o = cond_both (is_good most users call) (granted users o call) (unchanged users o (refused call) 0 0) (λ g. length g.console.input ≤ length o.input) (λ _. by call) (λ _. omega arith)
   where
-    by : (call : Call) → length (granted users o call).console.input ≤ length o.input
+    by : (call : KernelCall) → length (granted users o call).console.input ≤ length o.input
     by (ConPut w) = cond_both (log_has_room o.log) (record o { log = o.log ++ cast_unsigned w32 w ∷ [] }) o (λ (k : Console). length k.input ≤ length o.input) (λ _. omega arith) (λ _. omega arith)
     by ConGet = omega (arith, length-drop 1 o.input)
     by other = omega arith
@@ -82,7 +82,7 @@ module _ (m : Map) (sizes code : List ℕ) (made : IsMade m sizes code) where
   own_hand memory = free_own y memory hand_at (let l = layer_inside m (order_of m made.range) in omega arith) refl
 
   -- THE RETURN: the machine is at the return address, and stands for what the call comes to
-  module _ (z : Tools) (x : Outside) (s : State) (c : Core) (call : Call) (st : Stands x y s Running c) (i : Inside s) (word : HasWord call) where
+  module _ (z : Tools) (x : Environment) (s : State) (c : Core) (call : KernelCall) (st : RunningRelation x y s Running c) (i : Inside s) (word : HasWord call) where
     abbrev g : Given
     g = given y c call
 
@@ -147,15 +147,15 @@ module _ (m : Map) (sizes code : List ℕ) (made : IsMade m sizes code) where
         let there : slice_index s.cpu.regs 31 ≡ 4 * to = omega arith in
         let got = f.by at (contents s) (behind s) (b.runs.front w at body (Jr 31 ∷ []) r.block) (refl, refl) in
         let e : Came y g (contents s) (behind s) got.0 got.1 = got.2.0 in
-        let u : Configuration = at_with to got.0 got.1 in
+        let u : CodeState = at_with to got.0 got.1 in
         let reaches : Reaches w (steps + 1) (at_with at (contents s) (behind s)) u =
         returns w r.sound at steps to (contents s) (behind s) got.0 got.1 r.block got.3 (e.regs 31 (omega arith) (omega arith) ∙ there) e.idle in
         let a : Arrives x y (steps + 1) s1 u = arrives_in m sizes code made z n (returning body) x s r (steps + 1) u e.idle reaches in
         let t : State = run x s1 a.steps in
-        let at2 : t.cpu.pc / 4 ≡ to = ap (λ (v : Configuration). v.at) a.there in
+        let at2 : t.cpu.pc / 4 ≡ to = ap (λ (v : CodeState). v.at) a.there in
         let aligned = a.calm.quiet.aligned in
         let within = a.within in
-        let q : Returned x y g c s t = returned t a.calm (a.size ∙ r.enters.size) (omega arith) (subst (λ (v : Configuration). Came y g (contents s) (behind s) v.contents v.behind) (sym a.there) e) in (
+        let q : Returned x y g c s t = returned t a.calm (a.size ∙ r.enters.size) (omega arith) (subst (λ (v : CodeState). Came y g (contents s) (behind s) v.contents v.behind) (sym a.there) e) in (
           record {
             comes = record {
               steps = 1 + a.steps;
@@ -173,5 +173,5 @@ module _ (m : Map) (sizes code : List ℕ) (made : IsMade m sizes code) where
                 absurd (omega arith))
                 (cases_lt j 1);
           },
-          subst (λ (v : State). X (contents v)) (sym (b.sum x s 1 a.steps)) (subst (λ (v : Configuration). X v.contents) (sym a.there) got.2.1),
+          subst (λ (v : State). X (contents v)) (sym (b.sum x s 1 a.steps)) (subst (λ (v : CodeState). X v.contents) (sym a.there) got.2.1),
         )

@@ -2,10 +2,10 @@
 use Rattle.std.proofs.Common.{◌≡◌, ◌≢◌, ℕ, ◌+◌, ◌*◌, ◌/◌, ◌%◌, ◌<◌, ◌≤◌, false, Some, List, [], ◌∷◌, length, slice_index, refl, sym, ap, ◌∙◌, subst, ⊎_elim, inr, true≢false, arith}
 use Rattle.mips_table.specs.declared.inst.Inst.{Inst}
 use Rattle.mips_table.specs.declared.inst.Inst.TheVariants.{J, Sw}
-use Rattle.mips_table.specs.Device.{Idle, Outside}
+use Rattle.mips_table.specs.Device.{Idle, Environment}
 use Rattle.mips_table.specs.Machine.{State, step, run}
 use Rattle.mips_table.specs.Fits.{StaysFitting}
-use Rattle.mips_table.specs.Code.{Behind, World, Sound, Configuration, at_with, CodeAt, Reaches}
+use Rattle.mips_table.specs.Code.{Behind, World, Sound, CodeState, at_with, CodeAt, Reaches}
 use Rattle.mips_table.specs.Borders.{PowerEnds}
 use Rattle.masm.specs.Standing.{placed}
 use Rattle.layer_map.specs.Map.{Map}
@@ -15,11 +15,11 @@ use Rattle.cvm_model.specs.declared.kernel_fault.KernelFault.{KernelFault}
 use Rattle.cvm_model.specs.declared.kernel_fault.KernelFault.TheVariants.{NullUse, Bounds, DivZero, StackOut, BadUser}
 use Rattle.cvm_model.specs.declared.row.Next.TheVariants.{Fault}
 use Rattle.cvm_model.specs.Cvm.{Status, Running, Faulted, leave_steps}
-use Rattle.cvm_model.specs.Stands.{Site, Stands, runs_user}
+use Rattle.cvm_model.specs.Stands.{Site, RunningRelation, runs_user}
 use Rattle.layer_contract.specs.declared.entry.Entry.TheVariants.{Fault as Exit}
-use Rattle.layer_contract.specs.Layer.{Inside, IsAt, Comes, IsEntry, Rested, Exits}
+use Rattle.layer_contract.specs.Layer.{Inside, IsAtEntry, ComesBy, IsEntry, Rested, Exits}
 use Rattle.trap_entry.specs.Code.{exit_with_code}
-use Rattle.trap_entry.specs.Laws.{ComesTo, Passed, ExitsWith}
+use Rattle.trap_entry.specs.Laws.{RunComesTo, PassedOver, ExitsWith}
 use Rattle.real_layer.specs.Image.{routine, routine_at, image_site, IsMade}
 use Rattle.real_layer.specs.Premises.{Premises}
 use Rattle.real_layer.specs.Runs.{Standing, Calm, block_world}
@@ -52,7 +52,7 @@ module _ (m : Map) (sizes code : List ℕ) (made : IsMade m sizes code) where
   y = image_site m sizes code
 
   -- a machine that stands, inside and at a word, is calm
-  pub calm_of : (x : Outside) (s : State) (status : Status) (c : Core) → Stands x y s status c → Inside s → s.cpu.pc % 4 ≡ 0 → Calm x y s
+  pub calm_of : (x : Environment) (s : State) (status : Status) (c : Core) → RunningRelation x y s status c → Inside s → s.cpu.pc % 4 ≡ 0 → Calm x y s
   calm_of x s status c st i aligned =
       let o : Order m = order_of m made.range in
       let globals = o.globals in let heap = o.heap in let stack = o.stack in let tables = o.tables in let counts = o.counts in let zeros = o.zeros in
@@ -68,7 +68,7 @@ module _ (m : Map) (sizes code : List ℕ) (made : IsMade m sizes code) where
       }
 
   -- a machine whose words and ports show the same as one that stands follows it
-  pub follows_same : (x : Outside) (s t : State) (c : Core) → Stands x y s Running c → Calm x y t → length t.memory ≡ length s.memory → words_of t ≡ words_of s → Follows x y s t
+  pub follows_same : (x : Environment) (s t : State) (c : Core) → RunningRelation x y s Running c → Calm x y t → length t.memory ≡ length s.memory → words_of t ≡ words_of s → Follows x y s t
   follows_same x s t c st k size same =
       let o : Order m = order_of m made.range in
       let globals = o.globals in let heap = o.heap in let stack = o.stack in let tables = o.tables in let counts = o.counts in let zeros = o.zeros in
@@ -83,7 +83,7 @@ module _ (m : Map) (sizes code : List ℕ) (made : IsMade m sizes code) where
       }
 
   -- what a state is that stands at an entry, and the state after the entry's jump
-  pub record Routed (k : ℕ) (is : List Inst) (x : Outside) (s : State) : Type 0 where
+  pub record Routed (k : ℕ) (is : List Inst) (x : Environment) (s : State) : Type 0 where
     pub calm : Calm x y s
     pub enters : Enters x y (routine_at m k) s
     pub stands : Standing y (routine_at m k) is
@@ -92,7 +92,7 @@ module _ (m : Map) (sizes code : List ℕ) (made : IsMade m sizes code) where
     pub low : 2063 ≤ routine_at m k
     pub high : routine_at m k + length is ≤ 12288
 
-  pub routed : Tools → (k : ℕ) (is : List Inst) (x : Outside) (s : State) (c : Core) → k < 15 → routine m k ≡ is → Stands x y s Running c → Inside s → s.cpu.pc ≡ 4 * (2048 + k) → Routed k is x s
+  pub routed : Tools → (k : ℕ) (is : List Inst) (x : Environment) (s : State) (c : Core) → k < 15 → routine m k ≡ is → RunningRelation x y s Running c → Inside s → s.cpu.pc ≡ 4 * (2048 + k) → Routed k is x s
   routed z k is x s c lt same st i pc =
       let n : ℕ = routine_at m k in
       let b : Below = z.below in
@@ -111,7 +111,7 @@ module _ (m : Map) (sizes code : List ℕ) (made : IsMade m sizes code) where
       }
 
   -- the run of the routine
-  pub arrives_in : Tools → (k : ℕ) (is : List Inst) (x : Outside) (s : State) → (r : Routed k is x s) → (most : ℕ) (t : Configuration) → t.behind.pending ≡ Idle
+  pub arrives_in : Tools → (k : ℕ) (is : List Inst) (x : Environment) (s : State) → (r : Routed k is x s) → (most : ℕ) (t : CodeState) → t.behind.pending ≡ Idle
       → Reaches (block_world x y (run x s 1) (routine_at m k) is) most (at_with (routine_at m k) (contents s) (behind s)) t → Arrives x y most (run x s 1) t
   arrives_in z k is x s r most t idle reaches =
       let low = r.low in let high = r.high in
@@ -119,12 +119,12 @@ module _ (m : Map) (sizes code : List ℕ) (made : IsMade m sizes code) where
       (subst (λ u. Reaches (block_world x y (run x s 1) (routine_at m k) is) most u t) (sym r.enters.there) reaches)
 
   -- the machine is off with this word, and stands for the same core
-  pub record OffWith (x : Outside) (c : Core) (v : ℕ) (t : State) : Type 0 where
+  pub record OffWith (x : Environment) (c : Core) (v : ℕ) (t : State) : Type 0 where
     pub off : t.off ≡ Some v
-    pub stands : (status : Status) → (status ≡ Running → ⊥) → Stands x y t status c
+    pub stands : (status : Status) → (status ≡ Running → ⊥) → RunningRelation x y t status c
 
   -- it is where its words and ports show at the last store what they showed at the entry
-  pub off_with : Tools → (x : Outside) (s : State) (c : Core) → Stands x y s Running c → Inside s → (s2 t : State) (v : ℕ) → Calm x y s2 → length s2.memory ≡ length s.memory → words_of s2 ≡ words_of s → behind s2 ≡ behind s
+  pub off_with : Tools → (x : Environment) (s : State) (c : Core) → RunningRelation x y s Running c → Inside s → (s2 t : State) (v : ℕ) → Calm x y s2 → length s2.memory ≡ length s.memory → words_of s2 ≡ words_of s → behind s2 ≡ behind s
       → t.off ≡ Some v → Left x s2 t → OffWith x c v t
   off_with z x s c st i s2 t v k size words same off l =
       let sh : Shown y c (words_of s) (behind s) = shown z.alikes x y s Running c made.range st (not_user s i) in
@@ -146,33 +146,33 @@ module _ (m : Map) (sizes code : List ℕ) (made : IsMade m sizes code) where
       }
 
   -- from the entry of routine k to a store of v to the power port, in at most so many steps before it: the machine is off
-  pub comes_off : Tools → PowerEnds → (k : ℕ) (is : List Inst) (x : Outside) (s : State) (c : Core) → Stands x y s Running c → Inside s → (r : Routed k is x s) → (steps at rt v : ℕ) (Q : State → Type 0)
-      → (g : ComesTo (block_world x y (run x s 1) (routine_at m k) is) steps (routine_at m k) at (Sw rt 0 0xf008) (contents s) (behind s) (λ c' d'. Passed (contents s) (behind s) c' d' × (c'.regs rt ≡ v)))
-      → steps + 2 ≤ leave_steps → ((t : State) → OffWith x c v t → Q t) → Comes x y IsEntry leave_steps s Q
+  pub comes_off : Tools → PowerEnds → (k : ℕ) (is : List Inst) (x : Environment) (s : State) (c : Core) → RunningRelation x y s Running c → Inside s → (r : Routed k is x s) → (steps at rt v : ℕ) (Q : State → Type 0)
+      → (g : RunComesTo (block_world x y (run x s 1) (routine_at m k) is) steps (routine_at m k) at (Sw rt 0 0xf008) (contents s) (behind s) (λ c' d'. PassedOver (contents s) (behind s) c' d' × (c'.regs rt ≡ v)))
+      → steps + 2 ≤ leave_steps → ((t : State) → OffWith x c v t → Q t) → ComesBy x y IsEntry leave_steps s Q
   comes_off z ends k is x s c st i r steps at rt v Q g le q =
       let b : Below = z.below in
       let n : ℕ = routine_at m k in
       let low = r.low in let high = r.high in
       let s1 : State = run x s 1 in
-      let u : Configuration = at_with at g.contents g.behind in
-      let p : Passed (contents s) (behind s) g.contents g.behind = g.done.0 in
+      let u : CodeState = at_with at g.contents g.behind in
+      let p : PassedOver (contents s) (behind s) g.contents g.behind = g.done.0 in
       let idle : g.behind.pending ≡ Idle = ap (λ (d : Behind). d.pending) p.behind ∙ r.calm.idle in
       let a : Arrives x y steps s1 u = arrives_in z k is x s r steps u idle g.reaches in
       let s2 : State = run x s1 a.steps in
-      let at2 : s2.cpu.pc / 4 ≡ at = ap (λ (u : Configuration). u.at) a.there in
+      let at2 : s2.cpu.pc / 4 ≡ at = ap (λ (u : CodeState). u.at) a.there in
       let aligned = a.calm.quiet.aligned in
       let inside = (b.stands n is).inside at (Sw rt 0 0xf008) g.stands in
       let from = inside.0 in let to = inside.1 in
       let o : Off z.words b.stands x y s2 n is r.stands a.calm v (step x s2) =
-      powers z.words b.stands x y s2 n is r.stands a.calm ends rt 0xf008 v (ap (placed n is) at2 ∙ g.stands) refl (ap (λ (u : Configuration). u.contents.regs rt) a.there ∙ g.done.1) in
+      powers z.words b.stands x y s2 n is r.stands a.calm ends rt 0xf008 v (ap (placed n is) at2 ∙ g.stands) refl (ap (λ (u : CodeState). u.contents.regs rt) a.there ∙ g.done.1) in
       let off : OffWith x c v (step x s2) =
-      off_with z x s c st i s2 (step x s2) v a.calm (a.size ∙ r.enters.size) (ap (λ (u : Configuration). u.contents.memory) a.there ∙ p.memory) (ap (λ (u : Configuration). u.behind) a.there ∙ p.behind) o.off o.stays in
+      off_with z x s c st i s2 (step x s2) v a.calm (a.size ∙ r.enters.size) (ap (λ (u : CodeState). u.contents.memory) a.there ∙ p.memory) (ap (λ (u : CodeState). u.behind) a.there ∙ p.behind) o.off o.stays in
       comes_by b x y s n steps leave_steps u Q r.enters a (single b.none x y n (n + length is) s2 (inr (omega arith, omega arith)) a.calm (omega arith) (omega arith) o.stays.device o.stays.memory) (q (step x s2) off) le
 
   pub exits : Tools → PowerEnds → ((w : World) → Sound w → ExitsWith w) → Exits y
   exits z ends exit x s c f ne at = by f ne at
     where
-      one : (f : KernelFault) → 1 ≤ power_of f → power_of f ≤ 4 → routine m (9 + power_of f) ≡ exit_with_code (power_of f) → IsAt x y (Exit (power_of f)) c s → Comes x y IsEntry leave_steps s (Rested x y (Fault f) c)
+      one : (f : KernelFault) → 1 ≤ power_of f → power_of f ≤ 4 → routine m (9 + power_of f) ≡ exit_with_code (power_of f) → IsAtEntry x y (Exit (power_of f)) c s → ComesBy x y IsEntry leave_steps s (Rested x y (Fault f) c)
       one f some few is at =
           let v : ℕ = power_of f in
           let r : Routed (9 + v) (exit_with_code v) x s = routed z (9 + v) (exit_with_code v) x s c (omega arith) is at.stands at.inside (at.pc ∙ omega arith) in
@@ -180,7 +180,7 @@ module _ (m : Map) (sizes code : List ℕ) (made : IsMade m sizes code) where
           (exit (block_world x y (run x s 1) (routine_at m (9 + v)) (exit_with_code v)) r.sound v (routine_at m (9 + v)) (contents s) (behind s) (omega arith) r.block r.calm.idle) (omega arith)
           (λ t off. record { rests = off.off; stands = off.stands (Faulted f) (λ q. absurd (cc)) })
 
-      by : (f : KernelFault) → f ≢ BadUser → IsAt x y (Exit (power_of f)) c s → Comes x y IsEntry leave_steps s (Rested x y (Fault f) c)
+      by : (f : KernelFault) → f ≢ BadUser → IsAtEntry x y (Exit (power_of f)) c s → ComesBy x y IsEntry leave_steps s (Rested x y (Fault f) c)
       by NullUse ne at = one NullUse (omega arith) (omega arith) (listed m).null at
       by Bounds ne at = one Bounds (omega arith) (omega arith) (listed m).bounds at
       by DivZero ne at = one DivZero (omega arith) (omega arith) (listed m).zero_divisor at

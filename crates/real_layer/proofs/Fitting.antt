@@ -8,11 +8,11 @@ use Rattle.std.proofs.lemmas.List.Elements.{All-set, All-append, All-replicate, 
 use Rattle.mips_table.specs.Machine.{Console}
 use Rattle.mips_table.specs.Flat.{Flat}
 use Rattle.mips_table.specs.Fits.{IsWord, CpuFits}
-use Rattle.cvm_model.specs.Primitives.{Call, VmGet, VmSet, VmSize, VmResize, VmWord, VmPut, VmCopy, ConPut, ConGet, ConLeft, Given, no_flat, user_of, with_user, pages_of, with_register, resized, with_word, with_words, is_within, is_place, overlap, is_good, granted, unchanged, refused, prim}
+use Rattle.cvm_model.specs.Primitives.{KernelCall, VmGet, VmSet, VmSize, VmResize, VmWord, VmPut, VmCopy, ConPut, ConGet, ConLeft, Given, no_flat, user_of, with_user, pages_of, with_register, resized, with_word, with_words, is_within, is_address, ranges_overlap, is_good, granted, unchanged, refused, prim}
 use Rattle.cvm_model.specs.Stands.{UserFits}
 
 -- the value of a call is a word
-abbrev pub HasWord : Call → Type 0
+abbrev pub HasWord : KernelCall → Type 0
 HasWord (VmSet u r v) = IsWord (cast_unsigned w32 v)
 HasWord (VmPut u a v) = IsWord (cast_unsigned w32 v)
 HasWord other = Unit {0}
@@ -33,7 +33,7 @@ tail : (b c : Bool) → (b && c) ≡ true → c ≡ true
 tail true c e = e
 tail false c e = absurd (cc)
 
-placed : (f : Flat) (z : ℤ) (n : ℕ) → is_place f z n ≡ true → nat_abs z + 4 * n ≤ 4096 * pages_of f
+placed : (f : Flat) (z : ℤ) (n : ℕ) → is_address f z n ≡ true → nat_abs z + 4 * n ≤ 4096 * pages_of f
 placed f (pos a) n e = leb-true (a + 4 * n) (4096 * pages_of f) (tail (a % 4 == 0) (nat_le (a + 4 * n) (4096 * pages_of f)) e)
 placed f (negsuc a) n e = absurd (cc)
 
@@ -89,7 +89,7 @@ five true false c d e h = absurd (cc)
 five false b c d e h = absurd (cc)
 
 module _ (most : ℕ) (users : List Flat) (o : Console) (all : All (UserFits most) users) where
-  granted_fits : (call : Call) → HasWord call → is_good most users call ≡ true → Fit most users (granted users o call)
+  granted_fits : (call : KernelCall) → HasWord call → is_good most users call ≡ true → Fit most users (granted users o call)
   granted_fits (VmGet u r) w e = (refl, all)
   granted_fits (VmSet u r v) w e =
       let p = and_parts (is_within 1 (length users) u) (is_within 1 32 r) e in
@@ -103,13 +103,13 @@ module _ (most : ℕ) (users : List Flat) (o : Console) (all : All (UserFits mos
       replaces most users (nat_abs u) (resized (user_of users (nat_abs u)) (nat_abs pages)) all (resized_fits most (user_of users (nat_abs u)) (nat_abs pages) (one_fits most users (nat_abs u) all a.0 a.1) b.1)
   granted_fits (VmWord u a) w e = (refl, all)
   granted_fits (VmPut u a v) w e =
-      let p = and_parts (is_within 1 (length users) u) (is_place (user_of users (nat_abs u)) a 1) e in
+      let p = and_parts (is_within 1 (length users) u) (is_address (user_of users (nat_abs u)) a 1) e in
       let q = within 1 (length users) u p.0 in
       replaces most users (nat_abs u) (with_word (user_of users (nat_abs u)) (nat_abs a) (cast_unsigned w32 v)) all
       (word_fits most (user_of users (nat_abs u)) (nat_abs a) (cast_unsigned w32 v) (one_fits most users (nat_abs u) all q.0 q.1) w)
   granted_fits (VmCopy u a v b (pos n)) w e =
       let f : Flat = user_of users (nat_abs v) in
-      let p = five (is_within 1 (length users) u) (is_within 1 (length users) v) (is_place (user_of users (nat_abs u)) a n) (is_place f b n) (not (nat_abs u == nat_abs v && overlap (nat_abs a) (nat_abs b) n)) e in
+      let p = five (is_within 1 (length users) u) (is_within 1 (length users) v) (is_address (user_of users (nat_abs u)) a n) (is_address f b n) (not (nat_abs u == nat_abs v && ranges_overlap (nat_abs a) (nat_abs b) n)) e in
       let r = within 1 (length users) u p.0 in let q = within 1 (length users) v p.1 in
       let place = placed f b n p.3 in
       let fits : UserFits most f = one_fits most users (nat_abs v) all q.0 q.1 in
@@ -124,5 +124,5 @@ module _ (most : ℕ) (users : List Flat) (o : Console) (all : All (UserFits mos
   granted_fits ConGet w e = (refl, all)
   granted_fits ConLeft w e = (refl, all)
 
-  pub prim_fits : (call : Call) → HasWord call → Fit most users (prim most call users o)
+  pub prim_fits : (call : KernelCall) → HasWord call → Fit most users (prim most call users o)
   prim_fits call w = cond_both (is_good most users call) (granted users o call) (unchanged users o (refused call) 0 0) (Fit most users) (λ e. granted_fits call w e) (λ _. (refl, all))

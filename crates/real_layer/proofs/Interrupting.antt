@@ -6,17 +6,17 @@ use Rattle.mips_table.specs.declared.cause.Cause.{Cause}
 use Rattle.mips_table.specs.declared.cause.Cause.TheVariants as causes
 use Rattle.mips_table.specs.Processor.{Cpu}
 use Rattle.mips_table.specs.Flat.{Flat}
-use Rattle.mips_table.specs.Device.{Outside, settled, counted}
-use Rattle.mips_table.specs.Machine.{number_of, State, Interrupt, latched, coming, cleared, interrupted, taken, ended, step}
+use Rattle.mips_table.specs.Device.{Environment, settled, disk_counted}
+use Rattle.mips_table.specs.Machine.{cause_number, State, Interrupt, latched, coming, cleared, interrupted, taken, step_ended, step}
 use Rattle.mips_table.specs.Simulation.{Quiet}
 use Rattle.mips_table.specs.Borders.{Taken, InterruptsAreTaken}
 use Rattle.layer_map.specs.Map.{block_at}
-use Rattle.page_model.specs.Paging.{Layout, Paged, PagesStand}
+use Rattle.page_model.specs.Paging.{PageLayout, Paged, PagingInvariant}
 use Rattle.cvm_model.specs.Kernel.{Core}
 use Rattle.cvm_model.specs.Primitives.{no_flat, user_of, with_user, pages_of, register_of}
 use Rattle.cvm_model.specs.Paged.{pages_by}
 use Rattle.cvm_model.specs.Stands.{Site, block_cpu}
-use Rattle.layer_contract.specs.Users.{Premises, IsTakenAt, UsersAreInterrupted}
+use Rattle.layer_contract.specs.Users.{UserStepPremises, IsTakenAt, UsersAreInterrupted}
 use Rattle.cvm_primitives.specs.Blocks.{IsOneOf, BlocksHold, word_of}
 use Rattle.real_layer.proofs.Shown.{block_reg}
 
@@ -82,7 +82,7 @@ same_words users v f from to same u = ⊎_elim
     (cases_eq (u - 1) (v - 1))
 
 -- pages of users with the same words
-pub pages_same : (l : Layout) (per : ℕ) (a : Paged) (users others : List Flat) → ((u : ℕ) → (user_of others u).words ≡ (user_of users u).words) → PagesStand l (pages_by per users) a → PagesStand l (pages_by per others) a
+pub pages_same : (l : PageLayout) (per : ℕ) (a : Paged) (users others : List Flat) → ((u : ℕ) → (user_of others u).words ≡ (user_of users u).words) → PagingInvariant l (pages_by per users) a → PagingInvariant l (pages_by per others) a
 pages_same l per a users others same p = record {
   pages = λ q lt live i in_page. p.pages q lt (ap (λ ws. nat_lt (q % per) (length ws / 1024)) (sym (same (q / per + 1))) ∙ live) i in_page ∙ ap (λ ws. slice_index ws (1024 * (q % per) + i)) (sym (same (q / per + 1)));
   dead = λ q lt dead. p.dead q lt (ap (λ ws. nat_lt (q % per) (length ws / 1024)) (sym (same (q / per + 1))) ∙ dead);
@@ -96,7 +96,7 @@ pages_same l per a users others same p = record {
 }
 
 -- THE BEGINNING: the handler's first state, by the cause, edata and epc
-pub record Began (x : Outside) (s t : State) (cause edata epc : ℕ) : Type 0 where
+pub record Began (x : Environment) (s t : State) (cause edata epc : ℕ) : Type 0 where
   pub quiet : Quiet x t
   pub special : t.special ≡ taken s.special cause edata epc
   pub cpu : t.cpu ≡ record s.cpu { pc = 0 }
@@ -120,17 +120,17 @@ cleared_input causes.Reset s = refl
 cleared_input causes.External s = refl
 cleared_input other s = refl
 
-pub began : InterruptsAreTaken → UsersAreInterrupted → (x : Outside) (y : Site) (s before : State) (c : Core) (cause : Cause) (edata epc : ℕ) → s.off ≡ None → Premises x y s c → coming x (latched x s) ≡ Interrupt before cause edata epc → Began x s (step x s) (number_of cause) edata epc
+pub began : InterruptsAreTaken → UsersAreInterrupted → (x : Environment) (y : Site) (s before : State) (c : Core) (cause : Cause) (edata epc : ℕ) → s.off ≡ None → UserStepPremises x y s c → coming x (latched x s) ≡ Interrupt before cause edata epc → Began x s (step x s) (cause_number cause) edata epc
 began takes users x y s before c cause edata epc on p e =
     let t : Taken x s before cause edata epc = takes x s before cause edata epc p.back.stands.fits on e in
     let h : IsTakenAt x s before cause = users x y s c before cause edata epc p e in
-    let is : step x s ≡ ended (interrupted (latched x s) cause edata epc) = t.is ∙ ap (λ (b : State). ended (interrupted b cause edata epc)) h.state in
+    let is : step x s ≡ step_ended (interrupted (latched x s) cause edata epc) = t.is ∙ ap (λ (b : State). step_ended (interrupted b cause edata epc)) h.state in
     record {
       quiet = t.quiet;
       special = ap (λ (z : State). z.special) is;
       cpu = t.cpu;
       memory = t.memory;
-      device = ap (λ (z : State). z.device) is ∙ ap counted (cleared_device cause (latched x s)) ∙ ap (λ q. settled q s.device) p.back.stands.idle;
+      device = ap (λ (z : State). z.device) is ∙ ap disk_counted (cleared_device cause (latched x s)) ∙ ap (λ q. settled q s.device) p.back.stands.idle;
       log = ap (λ (z : State). z.log) is ∙ cleared_log cause (latched x s);
       input = ap (λ (z : State). z.input) is ∙ cleared_input cause (latched x s);
     }

@@ -9,17 +9,17 @@ use Rattle.mips_table.specs.declared.cause.Cause.TheVariants as causes
 use Rattle.mips_table.specs.Arith.{signed}
 use Rattle.mips_table.specs.Processor.{Cpu}
 use Rattle.mips_table.specs.Flat.{Flat}
-use Rattle.mips_table.specs.Device.{Device, Outside}
+use Rattle.mips_table.specs.Device.{Device, Environment}
 use Rattle.mips_table.specs.declared.special.TheConstants.{ECA, EPC, EDATA, PTL}
-use Rattle.mips_table.specs.Machine.{number_of, State, Interrupt, latched, coming, step, run}
+use Rattle.mips_table.specs.Machine.{cause_number, State, Interrupt, latched, coming, step, run}
 use Rattle.mips_table.specs.Turns.{is_on, in_user, is_handled, handled}
 use Rattle.mips_table.specs.Fits.{IsWord}
-use Rattle.mips_table.specs.Code.{Behind, World, Sound, Configuration, at_with, Reaches}
+use Rattle.mips_table.specs.Code.{Behind, World, Sound, CodeState, at_with, Reaches}
 use Rattle.mips_table.specs.Simulation.{configuration_of, behind_of}
 use Rattle.mips_table.specs.Borders.{InterruptsAreTaken}
 use Rattle.layer_map.specs.Map.{Map, current_at, block_at, memory_words}
-use Rattle.page_model.specs.Paging.{PagesStand}
-use Rattle.page_model.specs.Places.{layout_of, places_of, view}
+use Rattle.page_model.specs.Paging.{PagingInvariant}
+use Rattle.page_model.specs.Places.{page_layout, places_of, paged_view}
 use Rattle.page_fault.specs.Code.{handle_page_code}
 use Rattle.page_model.specs.Laws.{AlikesStand}
 use Rattle.pcb_layer.specs.Laws.{MaySave, MayKeep, IsCurrent, IsBeside}
@@ -28,16 +28,16 @@ use Rattle.cvm_model.specs.Kernel.{Core}
 use Rattle.cvm_model.specs.Primitives.{user_of, with_user, pages_of}
 use Rattle.cvm_model.specs.Cvm.{Running}
 use Rattle.cvm_model.specs.Paged.{pages_by}
-use Rattle.cvm_model.specs.Stands.{Site, IsUser, UserFits, RunsUser, Stands, is_own, runs_user}
-use Rattle.layer_contract.specs.Layer.{Back, Enters, with_epc}
-use Rattle.layer_contract.specs.Users.{Premises, IsTakenAt, UsersAreInterrupted}
+use Rattle.cvm_model.specs.Stands.{Site, IsUser, UserFits, RunsUser, RunningRelation, is_own, runs_user}
+use Rattle.layer_contract.specs.Layer.{InUserMode, Enters, with_epc}
+use Rattle.layer_contract.specs.Users.{UserStepPremises, IsTakenAt, UsersAreInterrupted}
 use Rattle.trap_entry.specs.Laws.{IsHandled, IsUnsaved, UserEntered, EntersKernel}
 use Rattle.real_layer.specs.Image.{image_site, IsMade}
 use Rattle.real_layer.specs.Runs.{Calm, kept_words, block_world}
 use Rattle.real_layer.proofs.Shown.{Order, order_of, words_of, behind, word_is, user_fits, pages_agree, stood, layer_inside}
 use Rattle.real_layer.proofs.Blocks.{sound}
 use Rattle.real_layer.proofs.Placed.{linked_length}
-use Rattle.real_layer.proofs.Ways.{way}
+use Rattle.real_layer.proofs.EntryToEntry.{way}
 use Rattle.real_layer.proofs.Arrivals.{Below, Arrives, contents, arrives, stands_at}
 use Rattle.real_layer.proofs.Exits.{Tools, not_user}
 use Rattle.real_layer.proofs.Leaving.{free_own, signed_pos}
@@ -65,7 +65,7 @@ user_on s e = left_true _ _ e
 pub user_mode : (s : State) → runs_user s ≡ true → in_user s ≡ true
 user_mode s e = right_true _ _ e
 
-pub number_small : (cause : Cause) → number_of cause < 9
+pub number_small : (cause : Cause) → cause_number cause < 9
 number_small causes.Reset = omega arith
 number_small causes.External = omega arith
 number_small causes.FetchAlign = omega arith
@@ -77,7 +77,7 @@ number_small causes.DataAlign = omega arith
 number_small causes.DataFault = omega arith
 
 -- an interrupt that is a handled fault, and one that isn't
-pub is_handled_by : (s before : State) (cause : Cause) (edata epc : ℕ) → IsHandled (number_of cause) edata (slice_index s.special PTL) → is_handled s (Interrupt before cause edata epc) ≡ true
+pub is_handled_by : (s before : State) (cause : Cause) (edata epc : ℕ) → IsHandled (cause_number cause) edata (slice_index s.special PTL) → is_handled s (Interrupt before cause edata epc) ≡ true
 is_handled_by s before causes.FetchFault edata epc h = lt-ltb _ _ h.1
 is_handled_by s before causes.DataFault edata epc h = lt-ltb _ _ h.1
 is_handled_by s before causes.Reset edata epc h = absurd (⊎_elim (λ e. absurd (cc)) (λ e. absurd (cc)) h.0)
@@ -88,7 +88,7 @@ is_handled_by s before causes.Overflow edata epc h = absurd (⊎_elim (λ e. abs
 is_handled_by s before causes.Syscall edata epc h = absurd (⊎_elim (λ e. absurd (omega arith)) (λ e. absurd (omega arith)) h.0)
 is_handled_by s before causes.DataAlign edata epc h = absurd (⊎_elim (λ e. absurd (omega arith)) (λ e. absurd (omega arith)) h.0)
 
-pub not_handled : (x : Outside) (s before : State) (cause : Cause) (edata epc : ℕ) → runs_user s ≡ true → coming x (latched x s) ≡ Interrupt before cause edata epc → handled x s ≡ false → IsHandled (number_of cause) edata (slice_index s.special PTL) → ⊥
+pub not_handled : (x : Environment) (s before : State) (cause : Cause) (edata epc : ℕ) → runs_user s ≡ true → coming x (latched x s) ≡ Interrupt before cause edata epc → handled x s ≡ false → IsHandled (cause_number cause) edata (slice_index s.special PTL) → ⊥
 unfolding handled
 not_handled x s before cause edata epc user e calm h =
     true≢false (sym (ap₂ (λ a b. a && b) (user_on s user) (ap₂ (λ a b. a && b) (user_mode s user) (ap (is_handled s) e ∙ is_handled_by s before cause edata epc h))) ∙ calm)
@@ -98,14 +98,14 @@ module _ (m : Map) (sizes code : List ℕ) (made : IsMade m sizes code) where
   y = image_site m sizes code
 
   -- what the laws of users ask
-  pub premises : (x : Outside) (s : State) (c : Core) → Back x y c s → Premises x y s c
+  pub premises : (x : Environment) (s : State) (c : Core) → InUserMode x y c s → UserStepPremises x y s c
   premises x s c b =
       let o : Order m = order_of m made.range in
       let globals = o.globals in let heap = o.heap in let stack = o.stack in let tables = o.tables in let counts = o.counts in let zeros = o.zeros in
       record { range = made.range; linked = omega (arith, linked_length m sizes code made); back = b }
 
   -- the (handler m sizes code made)s first state is calm
-  pub begins_calm : (x : Outside) (s t : State) (c : Core) (cause edata epc : ℕ) → Stands x y s Running c → Began x s t cause edata epc → Calm x y t
+  pub begins_calm : (x : Environment) (s t : State) (c : Core) (cause edata epc : ℕ) → RunningRelation x y s Running c → Began x s t cause edata epc → Calm x y t
   begins_calm x s t c cause edata epc st b =
       let o : Order m = order_of m made.range in
       let globals = o.globals in let heap = o.heap in let stack = o.stack in let tables = o.tables in let counts = o.counts in let zeros = o.zeros in
@@ -132,7 +132,7 @@ module _ (m : Map) (sizes code : List ℕ) (made : IsMade m sizes code) where
   abbrev kept_flat : Core → ℕ → Flat
   kept_flat c epc = record (user_of c.users c.current) { cpu = record (user_of c.users c.current).cpu { pc = epc } }
 
-  module _ (x : Outside) (s t t2 : State) (c : Core) (cause edata epc : ℕ) (st : Stands x y s Running c) (runs : RunsUser m s c) (user : runs_user s ≡ true) (b : Began x s t cause edata epc)
+  module _ (x : Environment) (s t t2 : State) (c : Core) (cause edata epc : ℕ) (st : RunningRelation x y s Running c) (runs : RunsUser m s c) (user : runs_user s ≡ true) (b : Began x s t cause edata epc)
       (e : UserEntered c.current (contents t) (behind t) (contents t2) (behind t2)) (long : memory_words m ≤ length s.memory) where
     -- the words in which the two states agree
     same_word : (k : ℕ) → IsBeside c.current k → IsUnsaved k → k < length s.memory → words_of t2 k ≡ slice_index s.memory k
@@ -183,7 +183,7 @@ module _ (m : Map) (sizes code : List ℕ) (made : IsMade m sizes code) where
             (λ k low top. same_word k (⊎_elim (λ less. inl (omega arith)) (λ le. inr (inl (omega arith))) (cases_lt u c.current)) (inr (omega arith)) (omega arith))
             (block_from s.memory u (user_of c.users u) (st.users.sizes u is) (st.users.blocks u is (ap (λ b. runs_user s && b) (ne_eqb u c.current ne) ∙ none (runs_user s)))))
 
-    kept_stands : AlikesStand → Calm x y t2 → length t2.memory ≡ length s.memory → IsWord epc → Stands x y t2 Running (with_epc c epc)
+    kept_stands : AlikesStand → Calm x y t2 → length t2.memory ≡ length s.memory → IsWord epc → RunningRelation x y t2 Running (with_epc c epc)
     kept_stands alikes k size word =
         let f : Flat = kept_flat c epc in
         let o : Order m = order_of m made.range in
@@ -212,8 +212,8 @@ module _ (m : Map) (sizes code : List ℕ) (made : IsMade m sizes code) where
         refl
         (record {
           blocks = blocks_from (with_user c.users c.current f) (words_of t2) (λ u is. let from = is.0 in let to = is.1 in in_block u (from, omega arith));
-          pages = subst (λ (d : Behind). PagesStand (layout_of m) (pages_by m.params.pages (with_user c.users c.current f)) (view (places_of m) (words_of t2) d.sectors)) (sym sectors)
-              (pages_same (layout_of m) m.params.pages (view (places_of m) (words_of t2) (behind s).sectors) c.users (with_user c.users c.current f) (same_words c.users c.current f some one refl)
+          pages = subst (λ (d : Behind). PagingInvariant (page_layout m) (pages_by m.params.pages (with_user c.users c.current f)) (paged_view (places_of m) (words_of t2) d.sectors)) (sym sectors)
+              (pages_same (page_layout m) m.params.pages (paged_view (places_of m) (words_of t2) (behind s).sectors) c.users (with_user c.users c.current f) (same_words c.users c.current f some one refl)
               (pages_agree alikes m (pages_by m.params.pages c.users) (slice_index s.memory) (words_of t2) (behind s).sectors o
               (λ j why lt. ⊎_elim (λ z. low j (omega arith)) (λ h. high j (omega arith) (omega arith)) why) st.pages));
           log = ap (λ (d : Behind). d.log) sectors ∙ st.log;
@@ -226,14 +226,14 @@ module _ (m : Map) (sizes code : List ℕ) (made : IsMade m sizes code) where
   pub keeps : Tools → InterruptsAreTaken → UsersAreInterrupted → ((w : World) → Sound w → EntersKernel w) → Enters y
   keeps z takes interrupts law x s before c cause edata epc back comes calm =
       let b : Below = z.below in
-      let st : Stands x y s Running c = back.stands in
-      let p : Premises x y s c = premises x s c back in
+      let st : RunningRelation x y s Running c = back.stands in
+      let p : UserStepPremises x y s c = premises x s c back in
       let runs : RunsUser m s c = st.users.runs back.user in
       let on : s.off ≡ None = is_on_none s (user_on s back.user) in
-      let g : Began x s (step x s) (number_of cause) edata epc = began takes interrupts x y s before c cause edata epc on p comes in
+      let g : Began x s (step x s) (cause_number cause) edata epc = began takes interrupts x y s before c cause edata epc on p comes in
       let h : IsTakenAt x s before cause = interrupts x y s c before cause edata epc p comes in
       let t : State = step x s in
-      let k : Calm x y t = begins_calm x s t c (number_of cause) edata epc st g in
+      let k : Calm x y t = begins_calm x s t c (cause_number cause) edata epc st g in
       let w : World = block_world x y t 0 (handler m sizes code made) in
       let f : Sound w = sound b.stands x y t 0 (handler m sizes code made) (handler_placed m sizes code made) k in
       let o : Order m = order_of m made.range in
@@ -247,28 +247,28 @@ module _ (m : Map) (sizes code : List ℕ) (made : IsMade m sizes code) where
       let free : MaySave w = λ q is. let low = is.0 in let top = is.1 in free_variable m sizes code made t.memory (saved_at q) (omega arith) (omega arith) in
       let keep : MayKeep w c.current = record { system = refl; free = λ q lt. free_block t.memory c.current q some (omega arith) (omega arith) } in
       let current : IsCurrent w c.current (contents t) = record { some = some; most = omega arith; current = word_is t current_at (omega arith) ∙ ap (λ w. slice_index w current_at) g.memory ∙ st.users.current refl; inside = omega arith } in
-      let eca : slice_index t.special ECA ≡ number_of cause = ap (λ sp. slice_index sp ECA) g.special in
+      let eca : slice_index t.special ECA ≡ cause_number cause = ap (λ sp. slice_index sp ECA) g.special in
       let edata' : slice_index t.special EDATA ≡ edata = ap (λ sp. slice_index sp EDATA) g.special in
       let ptl : slice_index t.special PTL ≡ slice_index s.special PTL = ap (λ sp. slice_index sp PTL) g.special in
-      let small : number_of cause < 9 = number_small cause in
+      let small : cause_number cause < 9 = number_small cause in
       let nine : length t.special ≡ 9 = g.quiet.fits.special.size in
       let word : IsWord epc = subst IsWord (ap (λ sp. slice_index sp EPC) g.special) (All-get_or IsWord t.special EPC 0 (omega arith) g.quiet.fits.special.each) in
       let unhandled : IsHandled (slice_index t.special ECA) (slice_index t.special EDATA) (slice_index t.special PTL) → ⊥ = λ is.
       not_handled x s before cause edata epc back.user comes calm (subst (λ a. IsHandled a edata (slice_index s.special PTL)) eca (subst (λ d. IsHandled (slice_index t.special ECA) d (slice_index s.special PTL)) edata' (subst (IsHandled (slice_index t.special ECA) (slice_index t.special EDATA)) ptl is))) in
       let r = law w f (places_of m) (handle_page_code (places_of m)) c.current 0 (contents t) (behind t) (page_length (places_of m)) free keep current ((b.stands 0 (handler m sizes code made)).stands w) (omega arith) (λ e. h.later (sym eca ∙ e)) unhandled k.idle in
-      let u : Configuration = at_with 0x4000 r.0 r.1 in
+      let u : CodeState = at_with 0x4000 r.0 r.1 in
       let reaches : Reaches w 124 (configuration_of t) u = subst (λ v. Reaches w 124 v u) (sym (stands_at t 0 pc)) r.3 in
       let a : Arrives x y 124 t u = arrives b.blocks x y t u 0 (handler m sizes code made) 124 (handler_placed m sizes code made) (inl (omega (arith, handler_end m sizes code made))) k (ap (λ (d : Behind). d.pending) r.2.behind ∙ k.idle) reaches in
       let t2 : State = run x t a.steps in
       let within = a.within in
-      let e : UserEntered c.current (contents t) (behind t) (contents t2) (behind t2) = subst (λ (v : Configuration). UserEntered c.current (contents t) (behind t) v.contents v.behind) (sym a.there) r.2 in
+      let e : UserEntered c.current (contents t) (behind t) (contents t2) (behind t2) = subst (λ (v : CodeState). UserEntered c.current (contents t) (behind t) v.contents v.behind) (sym a.there) r.2 in
       record {
         steps = a.steps;
         within = omega arith;
         way = way b.sum x y a.steps t a.between;
         there = record {
-          at = at_dispatch m sizes code made x t2 (with_epc c epc) a.calm (ap (λ (v : Configuration). v.at) a.there)
-              (kept_stands x s t t2 c (number_of cause) edata epc st runs back.user g e long z.alikes a.calm (a.size ∙ size) word);
-          arguments = (ap signed (e.cause ∙ eca) ∙ signed_pos (number_of cause) (omega arith), (ap signed (e.edata ∙ edata'), (ap signed e.user ∙ signed_pos c.current (omega arith), tt)));
+          at = at_dispatch m sizes code made x t2 (with_epc c epc) a.calm (ap (λ (v : CodeState). v.at) a.there)
+              (kept_stands x s t t2 c (cause_number cause) edata epc st runs back.user g e long z.alikes a.calm (a.size ∙ size) word);
+          arguments = (ap signed (e.cause ∙ eca) ∙ signed_pos (cause_number cause) (omega arith), (ap signed (e.edata ∙ edata'), (ap signed e.user ∙ signed_pos c.current (omega arith), tt)));
         };
       }

@@ -10,23 +10,23 @@ use Rattle.real_layer.specs.declared.routines.Routines.{Routines}
 use Rattle.page_model.specs.Places.{places_of}
 use Rattle.trap_entry.specs.Code.{act_on_answer_code, exit_with_code}
 use Rattle.cvm_primitives.specs.RegisterCode.{vm_get_code, vm_set_code, vm_size_code, con_put_code, con_get_code, con_left_code}
-use Rattle.real_layer.specs.Image.{returning, joined, entries, entries_end, routines}
+use Rattle.real_layer.specs.Image.{returning, code_joined, entries, entries_end, routines}
 use Rattle.real_layer.specs.Laid.{jumps_from, Lays, memory_routines}
 
-joined-append : (xs ys : List (List Inst)) → joined (xs ++ ys) ≡ joined xs ++ joined ys
+joined-append : (xs ys : List (List Inst)) → code_joined (xs ++ ys) ≡ code_joined xs ++ code_joined ys
 joined-append [] ys = refl
-joined-append (is ∷ xs) ys = ap (λ l. is ++ l) (joined-append xs ys) ∙ sym (append_assoc is (joined xs) (joined ys))
+joined-append (is ∷ xs) ys = ap (λ l. is ++ l) (joined-append xs ys) ∙ sym (append_assoc is (code_joined xs) (code_joined ys))
 
-jumps-append : (n : ℕ) (xs ys : List (List Inst)) → jumps_from n (xs ++ ys) ≡ jumps_from n xs ++ jumps_from (n + length (joined xs)) ys
+jumps-append : (n : ℕ) (xs ys : List (List Inst)) → jumps_from n (xs ++ ys) ≡ jumps_from n xs ++ jumps_from (n + length (code_joined xs)) ys
 jumps-append n [] ys = ap (λ k. jumps_from k ys) (sym (add-zero n))
 jumps-append n (is ∷ xs) ys =
-    let far : n + length is + length (joined xs) ≡ n + length (is ++ joined xs) = omega (arith, length-append is (joined xs)) in
+    let far : n + length is + length (code_joined xs) ≡ n + length (is ++ code_joined xs) = omega (arith, length-append is (code_joined xs)) in
     ap (λ l. J ((entries_end + n) % 2 ^ 26) ∷ l) (jumps-append (n + length is) xs ys ∙ ap (λ k. jumps_from (n + length is) xs ++ jumps_from k ys) far)
 
 pub lays_more : (a b c : Routines) (xs ys : List (List Inst)) → Lays a b xs → Lays b c ys → Lays a c (xs ++ ys)
 lays_more a b c xs ys p q =
-    let far : length b.words.items ≡ length a.words.items + length (joined xs) =
-    ap length p.words ∙ length-append a.words.items (map encoding (joined xs)) ∙ ap (λ k. length a.words.items + k) (length-map (joined xs) encoding) in
+    let far : length b.words.items ≡ length a.words.items + length (code_joined xs) =
+    ap length p.words ∙ length-append a.words.items (map encoding (code_joined xs)) ∙ ap (λ k. length a.words.items + k) (length-map (code_joined xs) encoding) in
     let jumps : jumps_from (length a.words.items) (xs ++ ys) ≡ jumps_from (length a.words.items) xs ++ jumps_from (length b.words.items) ys =
     jumps-append (length a.words.items) xs ys ∙ ap (λ k. jumps_from (length a.words.items) xs ++ jumps_from k ys) (sym far) in
     let x = map encoding (jumps_from (length a.words.items) xs) in
@@ -34,8 +34,8 @@ lays_more a b c xs ys p q =
     record {
       entries = q.entries ∙ ap (λ l. l ++ y) p.entries ∙ append_assoc a.entries.items x y
           ∙ ap (λ l. a.entries.items ++ l) (sym (ap (map encoding) jumps ∙ map-append encoding (jumps_from (length a.words.items) xs) (jumps_from (length b.words.items) ys)));
-      words = q.words ∙ ap (λ l. l ++ map encoding (joined ys)) p.words ∙ append_assoc a.words.items (map encoding (joined xs)) (map encoding (joined ys))
-          ∙ ap (λ l. a.words.items ++ l) (sym (ap (map encoding) (joined-append xs ys) ∙ map-append encoding (joined xs) (joined ys)));
+      words = q.words ∙ ap (λ l. l ++ map encoding (code_joined ys)) p.words ∙ append_assoc a.words.items (map encoding (code_joined xs)) (map encoding (code_joined ys))
+          ∙ ap (λ l. a.words.items ++ l) (sym (ap (map encoding) (joined-append xs ys) ∙ map-append encoding (code_joined xs) (code_joined ys)));
     }
 
 -- the jumps to a layer's routines are its entries
@@ -47,8 +47,8 @@ pub all_entries : (a b : Routines) (m : Map) → a.entries.items ≡ [] → a.wo
 all_entries a b m e w p = p.entries ∙ ap (λ l. l ++ map encoding (jumps_from (length a.words.items) (routines m))) e
     ∙ ap (λ l. map encoding (jumps_from (length l) (routines m))) w ∙ ap (map encoding) (jumps_are_entries m)
 
-pub all_words : (a b : Routines) (m : Map) → a.words.items ≡ [] → Lays a b (routines m) → b.words.items ≡ map encoding (joined (routines m))
-all_words a b m w p = p.words ∙ ap (λ l. l ++ map encoding (joined (routines m))) w
+pub all_words : (a b : Routines) (m : Map) → a.words.items ≡ [] → Lays a b (routines m) → b.words.items ≡ map encoding (code_joined (routines m))
+all_words a b m w p = p.words ∙ ap (λ l. l ++ map encoding (code_joined (routines m))) w
 
 pub on_ok : {T E : Type 0} (r : Result T E) (P Q : Type 0) → (P → Q) → OnOk r P → OnOk r Q
 on_ok (Ok x) P Q f p = f p

@@ -12,27 +12,27 @@ use Rattle.mips_table.specs.declared.inst.Inst.{Inst}
 use Rattle.mips_table.specs.declared.inst.Inst.TheVariants.{Eret}
 use Rattle.mips_table.specs.Arith.{signed}
 use Rattle.mips_table.specs.Processor.{Cpu}
-use Rattle.mips_table.specs.Device.{Idle, Outside}
+use Rattle.mips_table.specs.Device.{Idle, Environment}
 use Rattle.mips_table.specs.declared.special.TheConstants.{SR, ESR, EPC, PTO, PTL, MODE, EMODE}
 use Rattle.mips_table.specs.Machine.{State, left, step, run}
 use Rattle.mips_table.specs.Fits.{IsWord, CpuFits}
-use Rattle.mips_table.specs.Code.{Behind, World, Sound, Configuration, at_with}
+use Rattle.mips_table.specs.Code.{Behind, World, Sound, CodeState, at_with}
 use Rattle.mips_table.specs.Borders.{EretLeaves, PowerEnds}
 use Rattle.masm.specs.Standing.{placed}
 use Rattle.layer_map.specs.Map.{Map, current_at, block_at, memory_words}
-use Rattle.page_model.specs.Paging.{PagesStand}
-use Rattle.page_model.specs.Places.{layout_of, places_of, view}
+use Rattle.page_model.specs.Paging.{PagingInvariant}
+use Rattle.page_model.specs.Places.{page_layout, places_of, paged_view}
 use Rattle.cvm_model.specs.Kernel.{Core}
 use Rattle.cvm_model.specs.Primitives.{user_of}
 use Rattle.cvm_model.specs.declared.kernel_fault.KernelFault.TheVariants.{BadUser}
 use Rattle.cvm_model.specs.declared.row.Next.TheVariants.{User, Halt, Fault}
 use Rattle.cvm_model.specs.Cvm.{Running, Halted, Faulted, next_of, leave_steps}
 use Rattle.cvm_model.specs.Paged.{pages_by}
-use Rattle.cvm_model.specs.Stands.{Site, IsUser, UserFits, Stands, is_own, runs_user}
-use Rattle.layer_contract.specs.Layer.{Inside, Comes, IsEntry, Rested, Leaves}
+use Rattle.cvm_model.specs.Stands.{Site, IsUser, UserFits, RunningRelation, is_own, runs_user}
+use Rattle.layer_contract.specs.Layer.{Inside, ComesBy, IsEntry, Rested, Leaves}
 use Rattle.cvm_primitives.specs.Blocks.{BlocksHold}
 use Rattle.trap_entry.specs.Code.{return_to_user_code, act_on_answer_code}
-use Rattle.trap_entry.specs.Laws.{ComesTo, UserReady, MayGo, LeavesToUser, LeavesForGood, LeavesBadly}
+use Rattle.trap_entry.specs.Laws.{RunComesTo, UserReady, MayGo, LeavesToUser, LeavesForGood, LeavesBadly}
 use Rattle.real_layer.specs.Image.{routine_at, image_site, IsMade}
 use Rattle.real_layer.specs.Runs.{Calm, kept_words, block_world}
 use Rattle.real_layer.proofs.Shown.{Shown, Order, order_of, words_of, behind, word_is, cpu_is, user_fits, blocks_agree, pages_agree, shown, stood}
@@ -121,7 +121,7 @@ module _ (m : Map) (sizes code : List ℕ) (made : IsMade m sizes code) where
   is = act_on_answer_code (places_of m) m.users m.params.pages
 
   -- the state behind the eret, from that at it
-  module _ (z : Tools) (x : Outside) (s : State) (c : Core) (u : ℕ) (st : Stands x y s Running c) (i : Inside s) (user : IsUser c u) where
+  module _ (z : Tools) (x : Environment) (s : State) (c : Core) (u : ℕ) (st : RunningRelation x y s Running c) (i : Inside s) (user : IsUser c u) where
     user_stands : (s2 t : State) → Calm x y s2 → length s2.memory ≡ length s.memory → UserReady (places_of m) m.params.pages u (contents s) (behind s) (contents s2) (behind s2) → t.off ≡ s2.off → t.special ≡ left s2.special
         → t.cpu ≡ record s2.cpu { pc = slice_index s2.special EPC } → Left x s2 t → Rested x y (User u) c t
     user_stands s2 t k size g off special cpu l =
@@ -155,7 +155,7 @@ module _ (m : Map) (sizes code : List ℕ) (made : IsMade m sizes code) where
               refl
               (record {
                 blocks = blocks_agree c.users (words_of s) (words_of t) (omega arith) (λ j low top. at j (λ e. absurd (omega arith))) sh.blocks;
-                pages = subst (λ (d : Behind). PagesStand (layout_of m) (pages_by m.params.pages c.users) (view (places_of m) (words_of t) d.sectors)) (sym same)
+                pages = subst (λ (d : Behind). PagingInvariant (page_layout m) (pages_by m.params.pages c.users) (paged_view (places_of m) (words_of t) d.sectors)) (sym same)
                     (pages_agree z.alikes m (pages_by m.params.pages c.users) (words_of s) (words_of t) (behind s).sectors o (λ j why lt. at j (λ e. ⊎_elim (λ h. absurd (omega arith)) (λ h. absurd (omega arith)) why)) sh.pages);
                 log = ap (λ (d : Behind). d.log) same ∙ sh.log;
                 input = ap (λ (d : Behind). d.input) same ∙ sh.input;
@@ -174,7 +174,7 @@ module _ (m : Map) (sizes code : List ℕ) (made : IsMade m sizes code) where
               });
         }
 
-    to_user : EretLeaves → ((w : World) → Sound w → LeavesToUser w) → (r : Routed m sizes code made 14 is x s) → slice_index s.cpu.regs 2 ≡ u → Comes x y IsEntry leave_steps s (Rested x y (User u) c)
+    to_user : EretLeaves → ((w : World) → Sound w → LeavesToUser w) → (r : Routed m sizes code made 14 is x s) → slice_index s.cpu.regs 2 ≡ u → ComesBy x y IsEntry leave_steps s (Rested x y (User u) c)
     to_user leaves law r answer =
         let b : Below = z.below in
         let n : ℕ = routine_at m 14 in
@@ -200,19 +200,19 @@ module _ (m : Map) (sizes code : List ℕ) (made : IsMade m sizes code) where
           inside = omega arith;
           free = free_own y s1.memory current_at (omega arith) refl;
         } in
-        let g : ComesTo w 67 n (n + 6 + length (return_to_user_code (places_of m) m.params.pages)) Eret (contents s) (behind s) (UserReady (places_of m) m.params.pages u (contents s) (behind s)) =
+        let g : RunComesTo w 67 n (n + 6 + length (return_to_user_code (places_of m) m.params.pages)) Eret (contents s) (behind s) (UserReady (places_of m) m.params.pages u (contents s) (behind s)) =
         law w r.sound (places_of m) m.users m.params.pages u n (contents s) (behind s) may r.block answer r.calm.idle in
-        let e : Configuration = at_with (n + 6 + length (return_to_user_code (places_of m) m.params.pages)) g.contents g.behind in
+        let e : CodeState = at_with (n + 6 + length (return_to_user_code (places_of m) m.params.pages)) g.contents g.behind in
         let idle : g.behind.pending ≡ Idle = ap (λ (d : Behind). d.pending) g.done.behind ∙ r.calm.idle in
         let a : Arrives x y 67 s1 e = arrives_in m sizes code made z 14 is x s r 67 e idle g.reaches in
         let s2 : State = run x s1 a.steps in
-        let at2 : s2.cpu.pc / 4 ≡ n + 6 + length (return_to_user_code (places_of m) m.params.pages) = ap (λ (u : Configuration). u.at) a.there in
+        let at2 : s2.cpu.pc / 4 ≡ n + 6 + length (return_to_user_code (places_of m) m.params.pages) = ap (λ (u : CodeState). u.at) a.there in
         let aligned = a.calm.quiet.aligned in
         let inside = (b.stands n is).inside (n + 6 + length (return_to_user_code (places_of m) m.params.pages)) Eret g.stands in
         let from = inside.0 in let to = inside.1 in
         let gone : Gone z.words b.stands x y s2 n is r.stands a.calm (step x s2) = goes z.words b.stands x y s2 n is r.stands a.calm leaves (ap (placed n is) at2 ∙ g.stands) in
         let ready : UserReady (places_of m) m.params.pages u (contents s) (behind s) (contents s2) (behind s2) =
-        subst (λ (v : Configuration). UserReady (places_of m) m.params.pages u (contents s) (behind s) v.contents v.behind) (sym a.there) g.done in
+        subst (λ (v : CodeState). UserReady (places_of m) m.params.pages u (contents s) (behind s) v.contents v.behind) (sym a.there) g.done in
         comes_by b x y s n 67 leave_steps e (Rested x y (User u) c) r.enters a (single b.none x y n (n + length is) s2 (inr (omega arith, omega arith)) a.calm (omega arith) (omega arith) gone.stays.device gone.stays.memory)
         (user_stands s2 (step x s2) a.calm (a.size ∙ size) ready gone.off gone.special gone.cpu gone.stays) (omega arith)
 
@@ -227,17 +227,17 @@ module _ (m : Map) (sizes code : List ℕ) (made : IsMade m sizes code) where
       let w : World = block_world x y (run x s 1) n is in
       let regs = at.stands.fits.cpu.regs in
       ⊎_elim
-      (λ e. subst (λ q. Comes x y IsEntry leave_steps s (Rested x y (next_of m.users (signed q)) c)) (sym e)
+      (λ e. subst (λ q. ComesBy x y IsEntry leave_steps s (Rested x y (next_of m.users (signed q)) c)) (sym e)
       (let g = good w r.sound (places_of m) m.users m.params.pages n (contents s) (behind s) r.block e r.calm.idle in
       comes_off m sizes code made z ends 14 is x s c at.stands at.inside r 2 (n + 2) 0 0 (Rested x y Halt c)
       (record { contents = g.contents; behind = g.behind; done = (g.done, g.done.regs 0 (λ e. absurd (omega arith)) (λ e. absurd (omega arith)) ∙ regs.none); reaches = g.reaches; stands = g.stands }) (omega arith)
       (λ t off. record { rests = off.off; stands = off.stands Halted (λ q. absurd (cc)) })))
       (λ ne. ⊎_elim
-      (λ past. subst (λ q. Comes x y IsEntry leave_steps s (Rested x y q c)) (sym (bad_answer m.users v few small past))
+      (λ past. subst (λ q. ComesBy x y IsEntry leave_steps s (Rested x y q c)) (sym (bad_answer m.users v few small past))
       (let g = bad w r.sound (places_of m) m.users m.params.pages n (contents s) (behind s) few r.block past small r.calm.idle in
       comes_off m sizes code made z ends 14 is x s c at.stands at.inside r 6 (n + 8 + length (return_to_user_code (places_of m) m.params.pages)) 8 5 (Rested x y (Fault BadUser) c) g (omega arith)
       (λ t off. record { rests = off.off; stands = off.stands (Faulted BadUser) (λ q. absurd (cc)) })))
-      (λ within. subst (λ q. Comes x y IsEntry leave_steps s (Rested x y q c)) (sym (word_answer m.users v few small (omega arith) within))
+      (λ within. subst (λ q. ComesBy x y IsEntry leave_steps s (Rested x y q c)) (sym (word_answer m.users v few small (omega arith) within))
       (to_user z x s c v at.stands at.inside (omega arith, omega arith) erets to r refl))
       (cases_lt m.users v))
       (cases_eq v 0)

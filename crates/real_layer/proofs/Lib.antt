@@ -1,6 +1,6 @@
 pub mod Blocks
 pub mod Shown
-pub mod Ways
+pub mod EntryToEntry
 pub mod Arrivals
 pub mod Ranges
 pub mod Placed

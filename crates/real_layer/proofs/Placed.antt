@@ -15,14 +15,14 @@ use Rattle.trap_entry.specs.Code.{act_on_answer_code, exit_with_code}
 use Rattle.cvm_primitives.specs.RegisterCode.{vm_get_code, vm_set_code, vm_size_code, con_put_code, con_get_code, con_left_code}
 use Rattle.cvm_primitives.specs.Code.{vm_word_code, vm_put_code, vm_copy_code, vm_resize_code}
 use Rattle.cvm_model.specs.Stands.{Site, is_own}
-use Rattle.real_layer.specs.Image.{returning, interrupt_code, routines, joined, routine, routine_at, entries, filled, variables, block_words, blocks, second_code, image_site, IsMade}
+use Rattle.real_layer.specs.Image.{returning, interrupt_code, routines, code_joined, routine, routine_at, entries, zero_padded, variables, block_words, blocks, second_code, image_site, IsMade}
 use Rattle.real_layer.specs.Runs.{Standing}
 use Rattle.real_layer.proofs.Ranges.{all_in, handler_fits, routines_fit}
 
-filled_length : (n : ℕ) (ws : List ℕ) → length ws ≤ n → length (filled n ws) ≡ n
+filled_length : (n : ℕ) (ws : List ℕ) → length ws ≤ n → length (zero_padded n ws) ≡ n
 filled_length n ws le = length-append ws (replicate (n - length ws) 0) ∙ omega (arith, length-replicate {A = ℕ} (n - length ws) 0)
 
-pub filled_word : (n : ℕ) (ws : List ℕ) (k : ℕ) → k < length ws → slice_index (filled n ws) k ≡ slice_index ws k
+pub filled_word : (n : ℕ) (ws : List ℕ) (k : ℕ) → k < length ws → slice_index (zero_padded n ws) k ≡ slice_index ws k
 filled_word n ws k lt = get_or_append_left ws (replicate (n - length ws) 0) 0 k lt
 
 -- a memory of four parts, with more behind them
@@ -92,7 +92,7 @@ pub listed : (m : Map) → Listed m
 unfolding routines
 listed m = record { get = refl; set = refl; size = refl; resize = refl; word = refl; put = refl; copy = refl; con_put = refl; con_get = refl; con_left = refl; null = refl; bounds = refl; zero_divisor = refl; stack = refl; leave = refl }
 
-pub routines_length : (m : Map) → length (joined (routines m)) ≤ 10225
+pub routines_length : (m : Map) → length (code_joined (routines m)) ≤ 10225
 unfolding routines
 routines_length m = omega arith
 
@@ -119,32 +119,32 @@ module _ (m : Map) (sizes code : List ℕ) (made : IsMade m sizes code) where
   site = image_site m sizes code
 
   abbrev pub first_words : List ℕ
-  first_words = filled 1024 (map encoding (interrupt_code m))
+  first_words = zero_padded 1024 (map encoding (interrupt_code m))
 
   abbrev pub second_words : List ℕ
-  second_words = filled 10240 (map encoding (second_code m))
+  second_words = zero_padded 10240 (map encoding (second_code m))
 
   second_length : length (second_code m) ≤ 10240
-  second_length = let r = routines_length m in omega (arith, length-append (entries m) (joined (routines m)), entries_length m)
+  second_length = let r = routines_length m in omega (arith, length-append (entries m) (code_joined (routines m)), entries_length m)
 
   pub first_size : length first_words ≡ 1024
   first_size = filled_length 1024 (map encoding (interrupt_code m)) (omega (arith, length-map (interrupt_code m) encoding, handler_length m))
 
-  pub variables_size : length (filled 1024 (variables m)) ≡ 1024
+  pub variables_size : length (zero_padded 1024 (variables m)) ≡ 1024
   variables_size = filled_length 1024 (variables m) (omega arith)
 
   pub second_size : length second_words ≡ 10240
   second_size = filled_length 10240 (map encoding (second_code m)) (omega (arith, length-map (second_code m) encoding, second_length))
 
-  pub blocks_size : length (filled 4096 (blocks sizes)) ≡ 4096
+  pub blocks_size : length (zero_padded 4096 (blocks sizes)) ≡ 4096
   blocks_size = let users = made.users in let few = made.range.users in filled_length 4096 (blocks sizes) (omega (arith, blocks_length sizes))
 
   pub linked_length : length site.linked ≡ 16384 + m.code_words
-  linked_length = memory_length first_words (filled 1024 (variables m)) second_words (filled 4096 (blocks sizes)) code first_size variables_size second_size blocks_size ∙ ap (λ n. 16384 + n) made.whole
+  linked_length = memory_length first_words (zero_padded 1024 (variables m)) second_words (zero_padded 4096 (blocks sizes)) code first_size variables_size second_size blocks_size ∙ ap (λ n. 16384 + n) made.whole
 
   -- an instruction of the second part
   second_word : (j : ℕ) → j < length (second_code m) → slice_index site.linked (2048 + j) ≡ encoding (get_or (second_code m) j Eret)
-  second_word j lt = in_third first_words (filled 1024 (variables m)) second_words (filled 4096 (blocks sizes)) code first_size variables_size second_size blocks_size j (omega (arith, second_length))
+  second_word j lt = in_third first_words (zero_padded 1024 (variables m)) second_words (zero_padded 4096 (blocks sizes)) code first_size variables_size second_size blocks_size j (omega (arith, second_length))
       ∙ filled_word 10240 (map encoding (second_code m)) j (omega (arith, length-map (second_code m) encoding)) ∙ word_at (second_code m) j lt
 
   -- the handler stands at word 0
@@ -152,19 +152,19 @@ module _ (m : Map) (sizes code : List ℕ) (made : IsMade m sizes code) where
   handler_stands = record {
     range = all_in (interrupt_code m) (handler_fits m made.range);
     inside = omega (arith, linked_length, handler_length m);
-    linked = λ i lt. let z : 0 + i ≡ i = omega arith in ap (slice_index site.linked) z ∙ in_first first_words (filled 1024 (variables m)) second_words (filled 4096 (blocks sizes)) code first_size variables_size second_size blocks_size i (omega (arith, handler_length m))
+    linked = λ i lt. let z : 0 + i ≡ i = omega arith in ap (slice_index site.linked) z ∙ in_first first_words (zero_padded 1024 (variables m)) second_words (zero_padded 4096 (blocks sizes)) code first_size variables_size second_size blocks_size i (omega (arith, handler_length m))
         ∙ filled_word 1024 (map encoding (interrupt_code m)) i (omega (arith, length-map (interrupt_code m) encoding));
     kept = λ k from to. not_own_low m k (omega (arith, handler_length m));
   }
 
   -- routine k
   abbrev before : ℕ → ℕ
-  before k = length (joined (take k (routines m)))
+  before k = length (code_joined (take k (routines m)))
 
-  before_fits : (k : ℕ) → k < 15 → before k + length (routine m k) ≤ length (joined (routines m))
+  before_fits : (k : ℕ) → k < 15 → before k + length (routine m k) ≤ length (code_joined (routines m))
   before_fits k lt = length-flat_map-take (λ is. is) (routines m) k [] (omega (arith, routines_count m))
 
-  routine_inst : (k i : ℕ) (d : Inst) → k < 15 → i < length (routine m k) → get_or (joined (routines m)) (before k + i) d ≡ get_or (routine m k) i d
+  routine_inst : (k i : ℕ) (d : Inst) → k < 15 → i < length (routine m k) → get_or (code_joined (routines m)) (before k + i) d ≡ get_or (routine m k) i d
   routine_inst k i d lt less = get_or-flat_map (λ is. is) (routines m) k i [] d (omega (arith, routines_count m)) less
 
   -- it ends before the control blocks
@@ -176,13 +176,13 @@ module _ (m : Map) (sizes code : List ℕ) (made : IsMade m sizes code) where
       let fits = before_fits k lt in
       let total = routines_length m in
       record {
-        range = λ i d less. subst InRange (routine_inst k i d lt less) (all_in (joined (routines m)) (routines_fit m made.range) (before k + i) d (omega arith));
+        range = λ i d less. subst InRange (routine_inst k i d lt less) (all_in (code_joined (routines m)) (routines_fit m made.range) (before k + i) d (omega arith));
         inside = omega (arith, linked_length);
         linked = λ i less.
             let there : 2063 + before k + i ≡ 2048 + (15 + (before k + i)) = omega arith in
             let past : 15 + (before k + i) - 15 ≡ before k + i = omega arith in
-            ap (slice_index site.linked) there ∙ second_word (15 + (before k + i)) (omega (arith, length-append (entries m) (joined (routines m)), entries_length m))
-            ∙ ap encoding (get_or-append_right (entries m) (joined (routines m)) 15 (15 + (before k + i)) Eret (entries_length m) (omega arith) ∙ ap (λ n. get_or (joined (routines m)) n Eret) past ∙ routine_inst k i Eret lt less)
+            ap (slice_index site.linked) there ∙ second_word (15 + (before k + i)) (omega (arith, length-append (entries m) (code_joined (routines m)), entries_length m))
+            ∙ ap encoding (get_or-append_right (entries m) (code_joined (routines m)) 15 (15 + (before k + i)) Eret (entries_length m) (omega arith) ∙ ap (λ n. get_or (code_joined (routines m)) n Eret) past ∙ routine_inst k i Eret lt less)
             ∙ sym (word_at (routine m k) i less);
         kept = λ j from to. not_own_high m j (omega arith) (omega arith);
       }
@@ -201,7 +201,7 @@ module _ (m : Map) (sizes code : List ℕ) (made : IsMade m sizes code) where
             let there : 2048 + k + 0 ≡ 2048 + k = omega arith in
             let same : 0 + k ≡ k = omega arith in
             subst (λ i. slice_index site.linked (2048 + k + i) ≡ slice_index (encoding (J (routine_at m k)) ∷ []) i) z
-            (ap (slice_index site.linked) there ∙ second_word k (omega (arith, length-append (entries m) (joined (routines m)), entries_length m))
-            ∙ ap encoding (get_or_append_left (entries m) (joined (routines m)) Eret k (omega (arith, entries_length m)) ∙ get_or-map-range_with_len (λ k. J (routine_at m k)) 0 15 k k Eret lt same));
+            (ap (slice_index site.linked) there ∙ second_word k (omega (arith, length-append (entries m) (code_joined (routines m)), entries_length m))
+            ∙ ap encoding (get_or_append_left (entries m) (code_joined (routines m)) Eret k (omega (arith, entries_length m)) ∙ get_or-map-range_with_len (λ k. J (routine_at m k)) 0 15 k k Eret lt same));
         kept = λ j from to. not_own_high m j (omega arith) (omega arith);
       }

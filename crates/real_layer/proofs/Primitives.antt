@@ -5,22 +5,22 @@ use Rattle.std.proofs.lemmas.Bool.{and_parts, cases_lt}
 use Rattle.mips_table.specs.declared.inst.Inst.{Inst}
 use Rattle.mips_table.specs.Arith.{signed}
 use Rattle.mips_table.specs.Flat.{Flat}
-use Rattle.mips_table.specs.Device.{Outside}
+use Rattle.mips_table.specs.Device.{Environment}
 use Rattle.mips_table.specs.Machine.{LOG, State, run, Console}
 use Rattle.mips_table.specs.Code.{Contents, Behind, World, Sound}
 use Rattle.masm.specs.Laws.{From, ReturnRuns}
 use Rattle.layer_map.specs.Map.{Map, current_at, tables_at, memory_words}
-use Rattle.page_model.specs.Paging.{Names, PagesStand}
-use Rattle.page_model.specs.Places.{layout_of, places_of, view}
+use Rattle.page_model.specs.Paging.{MapsTo, PagingInvariant}
+use Rattle.page_model.specs.Places.{page_layout, places_of, paged_view}
 use Rattle.page_fault.specs.Code.{handle_page_code}
 use Rattle.page_fault.specs.Asked.{MapsAreSited}
 use Rattle.cvm_model.specs.Kernel.{Core}
-use Rattle.cvm_model.specs.Primitives.{Call, VmGet, VmSet, VmSize, VmResize, VmWord, VmPut, VmCopy, ConPut, ConGet, ConLeft, Given, prim, primitive_number, units_of, user_of, pages_of, is_within, is_good}
+use Rattle.cvm_model.specs.Primitives.{KernelCall, VmGet, VmSet, VmSize, VmResize, VmWord, VmPut, VmCopy, ConPut, ConGet, ConLeft, Given, prim, primitive_number, units_of, user_of, pages_of, is_within, is_good}
 use Rattle.cvm_model.specs.Cvm.{Running, run_steps}
 use Rattle.cvm_model.specs.Paged.{pages_by}
-use Rattle.cvm_model.specs.Stands.{Site, UserFits, Stands}
+use Rattle.cvm_model.specs.Stands.{Site, UserFits, RunningRelation}
 use Rattle.layer_contract.specs.Layer.{Inside, BusyWithin, InCode, PrimitiveCalled, given, ComesBack, PrimitivesAnswer}
-use Rattle.cvm_primitives.specs.Blocks.{IsOneOf, console_of, Entered, Left}
+use Rattle.cvm_primitives.specs.Blocks.{IsOneOf, console_of, EnteredOnBlocks, LeftByCall}
 use Rattle.cvm_primitives.specs.RegisterCode.{vm_get_code, vm_set_code, vm_size_code, con_put_code, con_get_code, con_left_code}
 use Rattle.cvm_primitives.specs.RegisterLaws.{RegistersAnswer, get_call, set_call, size_call, put_call}
 use Rattle.cvm_primitives.specs.Code.{vm_word_code, vm_put_code, vm_copy_code, vm_resize_code}
@@ -79,7 +79,7 @@ module _ (m : Map) (sizes code : List ℕ) (made : IsMade m sizes code) where
   abbrev y : Site
   y = image_site m sizes code
 
-  module _ (z : Routines) (x : Outside) (longest : ℕ) (s : State) (c : Core) (busy : BusyWithin x longest) (st : Stands x y s Running c) (i : Inside s) where
+  module _ (z : Routines) (x : Environment) (longest : ℕ) (s : State) (c : Core) (busy : BusyWithin x longest) (st : RunningRelation x y s Running c) (i : Inside s) where
     abbrev users : List Flat
     users = c.users
 
@@ -106,7 +106,7 @@ module _ (m : Map) (sizes code : List ℕ) (made : IsMade m sizes code) where
       long = let size = r.enters.size in let all = st.memory in omega arith
 
       -- the primitives that use no page
-      registers_entered : Entered w users (contents s) (behind s)
+      registers_entered : EnteredOnBlocks w users (contents s) (behind s)
       registers_entered =
           let globals = o.globals in let heap = o.heap in let stack = o.stack in let tables = o.tables in let counts = o.counts in let zeros = o.zeros in let most = o.most in
           let count : length users ≡ m.users = st.whole.users in
@@ -126,16 +126,16 @@ module _ (m : Map) (sizes code : List ℕ) (made : IsMade m sizes code) where
             idle = st.idle;
           }
 
-      registers_came : (call : Call) (c1 : Contents) (d1 : Behind) → Left users (prim m.params.pages call users (console_of (behind s))) (contents s) (behind s) c1 d1 → Came y (given y c call) (contents s) (behind s) c1 d1
+      registers_came : (call : KernelCall) (c1 : Contents) (d1 : Behind) → LeftByCall users (prim m.params.pages call users (console_of (behind s))) (contents s) (behind s) c1 d1 → Came y (given y c call) (contents s) (behind s) c1 d1
       registers_came call c1 d1 l =
           let globals = o.globals in let heap = o.heap in let stack = o.stack in let tables = o.tables in let counts = o.counts in let zeros = o.zeros in
           let count : length users ≡ m.users = st.whole.users in
           let few : m.users ≤ 64 = made.range.users in
-          let left : Left users (given y c call) (contents s) (behind s) c1 d1 = subst (λ q. Left users (prim m.params.pages call users q) (contents s) (behind s) c1 d1) console l in
+          let left : LeftByCall users (given y c call) (contents s) (behind s) c1 d1 = subst (λ q. LeftByCall users (prim m.params.pages call users q) (contents s) (behind s) c1 d1) console l in
           record {
             answer = left.answer;
-            pages = subst (λ q. PagesStand (layout_of m) (pages_by m.params.pages (given y c call).users) (view (places_of m) c1.memory q)) (sym left.sectors)
-                (pages_same (layout_of m) m.params.pages (view (places_of m) c1.memory (behind s).sectors) users (given y c call).users left.flats
+            pages = subst (λ q. PagingInvariant (page_layout m) (pages_by m.params.pages (given y c call).users) (paged_view (places_of m) c1.memory q)) (sym left.sectors)
+                (pages_same (page_layout m) m.params.pages (paged_view (places_of m) c1.memory (behind s).sectors) users (given y c call).users left.flats
                 (pages_agree z.tools.alikes m (pages_by m.params.pages users) (words_of s) c1.memory (behind s).sectors o (λ j why lt. left.words j (⊎_elim (λ e. inl (omega arith)) (λ h. inr (omega arith)) why)) sh.pages));
             blocks = left.blocks;
             log = left.log;
@@ -184,7 +184,7 @@ module _ (m : Map) (sizes code : List ℕ) (made : IsMade m sizes code) where
             regs = regs;
           }
 
-      memory_came : (call : Call) (c1 : Contents) (d1 : Behind) → CallLeft (places_of m) m.params.pages users (prim m.params.pages call users (console_of (behind s))) (contents s) (behind s) c1 d1 → Came y (given y c call) (contents s) (behind s) c1 d1
+      memory_came : (call : KernelCall) (c1 : Contents) (d1 : Behind) → CallLeft (places_of m) m.params.pages users (prim m.params.pages call users (console_of (behind s))) (contents s) (behind s) c1 d1 → Came y (given y c call) (contents s) (behind s) c1 d1
       memory_came call c1 d1 l =
           let globals = o.globals in let heap = o.heap in let stack = o.stack in let tables = o.tables in
           let count : length users ≡ m.users = st.whole.users in
@@ -213,20 +213,20 @@ module _ (m : Map) (sizes code : List ℕ) (made : IsMade m sizes code) where
       worth g = omega arith
 
     -- a call by its law: it comes back
-    by_registers : (call other : Call) (k : ℕ) (body : List Inst) (steps : ℕ) → k < 10 → k ≡ primitive_number call → routine m k ≡ returning body → other ≡ call → HasWord call → s.cpu.pc ≡ 4 * (2048 + k)
+    by_registers : (call other : KernelCall) (k : ℕ) (body : List Inst) (steps : ℕ) → k < 10 → k ≡ primitive_number call → routine m k ≡ returning body → other ≡ call → HasWord call → s.cpu.pc ≡ 4 * (2048 + k)
         → InCode m (slice_index s.cpu.regs 31) → steps ≤ 598
-        → ((w : World) → Sound w → Entered w users (contents s) (behind s) → From w body steps (contents s) (behind s) (Left users (prim m.params.pages other users (console_of (behind s))) (contents s) (behind s)))
+        → ((w : World) → Sound w → EnteredOnBlocks w users (contents s) (behind s) → From w body steps (contents s) (behind s) (LeftByCall users (prim m.params.pages other users (console_of (behind s))) (contents s) (behind s)))
         → ComesBack x y longest c call s
     by_registers call other k body steps lt is listed same word pc back le law =
         let r : Routed m sizes code made k (returning body) x s = routed m sizes code made z.tools k (returning body) x s c (omega arith) listed st i pc in
         let w : World = block_world x y (run x s 1) (routine_at m k) (returning body) in
-        let f : From w body steps (contents s) (behind s) (Left users (prim m.params.pages call users (console_of (behind s))) (contents s) (behind s)) =
-        subst (λ q. From w body steps (contents s) (behind s) (Left users (prim m.params.pages q users (console_of (behind s))) (contents s) (behind s))) same (law w r.sound (registers_entered k (returning body) r)) in
+        let f : From w body steps (contents s) (behind s) (LeftByCall users (prim m.params.pages call users (console_of (behind s))) (contents s) (behind s)) =
+        subst (λ q. From w body steps (contents s) (behind s) (LeftByCall users (prim m.params.pages q users (console_of (behind s))) (contents s) (behind s))) same (law w r.sound (registers_entered k (returning body) r)) in
         (comes_back m sizes code made z.tools x s c call st i word (λ c'. Unit {0}) longest k body steps lt is back pc (few_steps k (returning body) r (given y c call) steps le) (λ w f. z.returns w f body) r
-        (from_on w body steps (contents s) (behind s) (Left users (prim m.params.pages call users (console_of (behind s))) (contents s) (behind s)) (λ c' d'. Came y (given y c call) (contents s) (behind s) c' d' × Unit {0}) (λ c' d' l. (registers_came k (returning body) r call c' d' l, tt)) f)).0
+        (from_on w body steps (contents s) (behind s) (LeftByCall users (prim m.params.pages call users (console_of (behind s))) (contents s) (behind s)) (λ c' d'. Came y (given y c call) (contents s) (behind s) c' d' × Unit {0}) (λ c' d' l. (registers_came k (returning body) r call c' d' l, tt)) f)).0
 
     -- with what else its law says of the end
-    by_memory : (X : Contents → Type 0) (call other : Call) (k : ℕ) (body : List Inst) → k < 10 → k ≡ primitive_number call → routine m k ≡ returning body → other ≡ call → HasWord call → s.cpu.pc ≡ 4 * (2048 + k) → InCode m (slice_index s.cpu.regs 31)
+    by_memory : (X : Contents → Type 0) (call other : KernelCall) (k : ℕ) (body : List Inst) → k < 10 → k ≡ primitive_number call → routine m k ≡ returning body → other ≡ call → HasWord call → s.cpu.pc ≡ 4 * (2048 + k) → InCode m (slice_index s.cpu.regs 31)
         → ((w : World) → Sound w → CallEntered w (places_of m) longest m.params.pages users (contents s) (behind s) → From w body (call_steps (places_of m) longest (prim m.params.pages other users (console_of (behind s)))) (contents s) (behind s)
         (λ c' d'. CallLeft (places_of m) m.params.pages users (prim m.params.pages other users (console_of (behind s))) (contents s) (behind s) c' d' × X c'))
         → (b : ComesBack x y longest c call s) × X (contents (run x s b.comes.steps))
@@ -273,10 +273,10 @@ module _ (m : Map) (sizes code : List ℕ) (made : IsMade m sizes code) where
         (subst (λ k. Fresh (places_of m) ((k - 1) * m.params.pages + pages_of (user_of users k)) (slice_index s.cpu.regs 21 - pages_of (user_of users k)) (contents t)) ru first) in
         λ i from to.
         let inside : (nat_abs u - 1) * m.params.pages + i < m.users * m.params.pages = page_below m.params.pages i (nat_abs u - 1) m.users (omega arith) (omega arith) in
-        subst (λ e. Names e (layout_of m).zeros) (word_is t (tables_at m + ((nat_abs u - 1) * m.params.pages + i)) (omega arith)) (second ((nat_abs u - 1) * m.params.pages + i) (omega arith) (omega arith))
+        subst (λ e. MapsTo e (page_layout m).zeros) (word_is t (tables_at m + ((nat_abs u - 1) * m.params.pages + i)) (omega arith)) (second ((nat_abs u - 1) * m.params.pages + i) (omega arith) (omega arith))
 
     -- a call on memory of which no more is asked
-    by_memory_alone : (call other : Call) (k : ℕ) (body : List Inst) → k < 10 → k ≡ primitive_number call → routine m k ≡ returning body → other ≡ call → HasWord call → s.cpu.pc ≡ 4 * (2048 + k) → InCode m (slice_index s.cpu.regs 31)
+    by_memory_alone : (call other : KernelCall) (k : ℕ) (body : List Inst) → k < 10 → k ≡ primitive_number call → routine m k ≡ returning body → other ≡ call → HasWord call → s.cpu.pc ≡ 4 * (2048 + k) → InCode m (slice_index s.cpu.regs 31)
         → ((w : World) → Sound w → CallEntered w (places_of m) longest m.params.pages users (contents s) (behind s) → From w body (call_steps (places_of m) longest (prim m.params.pages other users (console_of (behind s)))) (contents s) (behind s)
         (CallLeft (places_of m) m.params.pages users (prim m.params.pages other users (console_of (behind s))) (contents s) (behind s)))
         → ComesBack x y longest c call s
@@ -286,7 +286,7 @@ module _ (m : Map) (sizes code : List ℕ) (made : IsMade m sizes code) where
         (λ c' d'. CallLeft (places_of m) m.params.pages users (prim m.params.pages other users (console_of (behind s))) (contents s) (behind s) c' d' × Unit {0}) (λ c' d' l. (l, tt)) (law w f e))).0
 
     -- each call
-    answers : (call : Call) → PrimitiveCalled x y c call s → ComesBack x y longest c call s
+    answers : (call : KernelCall) → PrimitiveCalled x y c call s → ComesBack x y longest c call s
     answers (VmGet u q) p = by_registers (VmGet u q) (get_call (contents s)) 0 (vm_get_code (length users)) 14 (omega arith) refl (l.get ∙ ap (λ n. returning (vm_get_code n)) (sym count)) (ap₂ VmGet p.arguments.0 p.arguments.1.0) tt p.at.pc p.back (omega arith)
         (λ w f e. (z.registers w f m.params.pages users (contents s) (behind s) e).get)
     answers (VmSet u q v) p = by_registers (VmSet u q v) (set_call (contents s)) 1 (vm_set_code (length users)) 15 (omega arith) refl (l.set ∙ ap (λ n. returning (vm_set_code n)) (sym count))

@@ -7,7 +7,7 @@ use Rattle.mips_table.specs.declared.inst.Inst.TheVariants.{Sll, Srl, Jr, Addu, 
 use Rattle.mips_table.specs.Encoding.{InRange}
 use Rattle.layer_map.specs.Map.{Map, MapInRange}
 use Rattle.page_model.specs.Places.{Places, places_of}
-use Rattle.real_layer.specs.Image.{interrupt_code, routines, joined}
+use Rattle.real_layer.specs.Image.{interrupt_code, routines, code_joined}
 use Rattle.real_layer.proofs.Shown.{Order, order_of}
 
 abbrev three : ℕ → ℕ → ℕ → Bool
@@ -134,7 +134,7 @@ pub handler_fits : (m : Map) → MapInRange m → all_fit (interrupt_code m) ≡
 unfolding interrupt_code
 handler_fits m r = let h : Fields (places_of m) m.users m.params.pages = fields_of m r in simp (h.tables_high, h.tables_low, h.end_high, h.end_low, h.counts_high, h.counts_low, h.zeros_high, h.zeros_low, h.first_high, h.first_low, h.frames)
 
-pub routines_fit : (m : Map) → MapInRange m → all_fit (joined (routines m)) ≡ true
+pub routines_fit : (m : Map) → MapInRange m → all_fit (code_joined (routines m)) ≡ true
 unfolding routines
 routines_fit m r = let h : Fields (places_of m) m.users m.params.pages = fields_of m r in
     simp (h.tables_high, h.tables_low, h.end_high, h.end_low, h.counts_high, h.counts_low, h.zeros_high, h.zeros_low, h.first_high, h.first_low, h.fresh_high, h.fresh_low, h.frames, h.user_count, h.page_count, h.more)

@@ -9,19 +9,19 @@ use Rattle.mips_table.specs.declared.cause.Cause.{Cause}
 use Rattle.mips_table.specs.declared.cause.Cause.TheVariants as causes
 use Rattle.mips_table.specs.Decoding.{decoding}
 use Rattle.mips_table.specs.Processor.{Cpu}
-use Rattle.mips_table.specs.Device.{Device, Outside}
+use Rattle.mips_table.specs.Device.{Device, Environment}
 use Rattle.mips_table.specs.declared.special.TheConstants.{SR, ESR, ECA, EPC, EDATA, PTO, PTL, MODE, EMODE}
-use Rattle.mips_table.specs.Machine.{number_of, State, Interrupt, latched, coming, left, located, read_at, step, run}
+use Rattle.mips_table.specs.Machine.{cause_number, State, Interrupt, latched, coming, left, located, read_at, step, run}
 use Rattle.mips_table.specs.Turns.{handled}
 use Rattle.mips_table.specs.Fits.{IsWord}
-use Rattle.mips_table.specs.Code.{Behind, World, Sound, Configuration, at_with, CodeAt, Reaches}
+use Rattle.mips_table.specs.Code.{Behind, World, Sound, CodeState, at_with, CodeAt, Reaches}
 use Rattle.mips_table.specs.Simulation.{configuration_of, behind_of}
 use Rattle.mips_table.specs.Borders.{InterruptsAreTaken, EretLeaves}
 use Rattle.masm.specs.Standing.{placed}
 use Rattle.layer_map.specs.Map.{Map, current_at, hand_at, block_at, tables_at, frame_table_at, memory_words}
-use Rattle.page_model.specs.Paging.{IsUserFrame, PagesStand, Passes}
+use Rattle.page_model.specs.Paging.{IsUserFrame, PagingInvariant, IsAccessible}
 use Rattle.page_model.specs.Faults.{Handled, Brought as BroughtIn, UserStep, AtMost}
-use Rattle.page_model.specs.Places.{Places, count_at, layout_of, places_of, view}
+use Rattle.page_model.specs.Places.{Places, count_at, page_layout, places_of, paged_view}
 use Rattle.page_model.specs.Edits.{Alike}
 use Rattle.page_model.specs.Laws.{HandledPass, TwoFaultsSuffice}
 use Rattle.frame_table.specs.View.{Sited, Ported, names_hand}
@@ -33,18 +33,18 @@ use Rattle.cvm_model.specs.Kernel.{Core}
 use Rattle.cvm_model.specs.Primitives.{user_of, pages_of}
 use Rattle.cvm_model.specs.Cvm.{Running, page_steps}
 use Rattle.cvm_model.specs.Paged.{paged_of, pages_by}
-use Rattle.cvm_model.specs.Stands.{Site, UserFits, RunsUser, Stands, block_cpu, runs_user}
-use Rattle.layer_contract.specs.Layer.{Back, Brought, BusyWithin, Comes, IsEntry, Way, page_at, is_store, Settles, FaultsSettle}
+use Rattle.cvm_model.specs.Stands.{Site, UserFits, RunsUser, RunningRelation, block_cpu, runs_user}
+use Rattle.layer_contract.specs.Layer.{InUserMode, PageBrought, BusyWithin, ComesBy, IsEntry, Way, page_at, is_store, Settles, FaultsSettle}
 use Rattle.layer_contract.specs.Users.{UsersAreInterrupted, step_pages, AsksPage, FaultsAsk}
 use Rattle.trap_entry.specs.Code.{handler_code}
-use Rattle.trap_entry.specs.Laws.{ComesTo, IsHandled, IsUnsaved, FaultAsked, FaultDone, fault_eret_at, HandlesFaults}
+use Rattle.trap_entry.specs.Laws.{RunComesTo, IsHandled, IsUnsaved, FaultAsked, FaultDone, fault_eret_at, HandlesFaults}
 use Rattle.real_layer.specs.Image.{image_site, IsMade}
 use Rattle.real_layer.specs.Laws.{names_at, handled_steps, FaultsCost}
 use Rattle.real_layer.specs.Runs.{Calm, block_world}
 use Rattle.real_layer.proofs.Shown.{Order, order_of, words_of, behind, word_is, cpu_is, user_fits, words_alike, pages_agree, stood_with}
 use Rattle.real_layer.proofs.Blocks.{sound}
 use Rattle.real_layer.proofs.Placed.{linked_length}
-use Rattle.real_layer.proofs.Ways.{joins, way}
+use Rattle.real_layer.proofs.EntryToEntry.{joins, way}
 use Rattle.real_layer.proofs.Arrivals.{Below, Arrives, contents, arrives, stands_at}
 use Rattle.real_layer.proofs.Ends.{Left, single, Gone, goes, left_words, left_behind}
 use Rattle.real_layer.proofs.Exits.{Tools}
@@ -88,10 +88,10 @@ module _ (m : Map) (sizes code : List ℕ) (made : IsMade m sizes code) where
   y = image_site m sizes code
 
   -- the state behind the eret
-  module _ (z : Handlers) (x : Outside) (s t0 s2 t : State) (c : Core) (cause edata q : ℕ) (back : Back x y c s) (g : Began x s t0 cause edata s.cpu.pc) (k : Calm x y s2) (size : length s2.memory ≡ length s.memory)
+  module _ (z : Handlers) (x : Environment) (s t0 s2 t : State) (c : Core) (cause edata q : ℕ) (back : InUserMode x y c s) (g : Began x s t0 cause edata s.cpu.pc) (k : Calm x y s2) (size : length s2.memory ≡ length s.memory)
       (e : FaultDone (places_of m) (pages_by m.params.pages c.users) q (contents t0) (behind t0) (contents s2) (behind s2)) (off : t.off ≡ s2.off) (special : t.special ≡ left s2.special)
       (cpu : t.cpu ≡ record s2.cpu { pc = slice_index s2.special EPC }) (l : Left x s2 t) where
-    st : Stands x y s Running c
+    st : RunningRelation x y s Running c
     st = back.stands
 
     runs : RunsUser m s c
@@ -150,7 +150,7 @@ module _ (m : Map) (sizes code : List ℕ) (made : IsMade m sizes code) where
         }
 
     -- it is back
-    goes_back : Back x y c t
+    goes_back : InUserMode x y c t
     goes_back =
         let globals = o.globals in let heap = o.heap in let stack = o.stack in let tables = o.tables in let counts = o.counts in let zeros = o.zeros in
         let long : memory_words m ≤ length s.memory = st.memory in
@@ -170,8 +170,8 @@ module _ (m : Map) (sizes code : List ℕ) (made : IsMade m sizes code) where
                 linked = λ j lt own. ap (λ w. slice_index w j) l.memory ∙ k.stays j lt own;
               }) st.whole refl
               (record {
-                pages = subst (λ f. PagesStand (layout_of m) (pages_by m.params.pages c.users) (view (places_of m) f (behind t).sectors)) (sym words)
-                    (subst (λ (d : Behind). PagesStand (layout_of m) (pages_by m.params.pages c.users) (view (places_of m) (words_of s2) d.sectors)) (sym (left_behind x s2 t l)) e.stands);
+                pages = subst (λ f. PagingInvariant (page_layout m) (pages_by m.params.pages c.users) (paged_view (places_of m) f (behind t).sectors)) (sym words)
+                    (subst (λ (d : Behind). PagingInvariant (page_layout m) (pages_by m.params.pages c.users) (paged_view (places_of m) (words_of s2) d.sectors)) (sym (left_behind x s2 t l)) e.stands);
                 log = console_log;
                 input = console_input;
                 idle = ap (λ (d : Behind). d.pending) (left_behind x s2 t l) ∙ e.besides.idle;
@@ -187,34 +187,34 @@ module _ (m : Map) (sizes code : List ℕ) (made : IsMade m sizes code) where
         }
 
     -- and the page was brought in, as the two states show it
-    brought_in : q < m.users * m.params.pages → BroughtIn (layout_of m) q true (paged_of m s) (paged_of m t)
+    brought_in : q < m.users * m.params.pages → BroughtIn (page_layout m) q true (paged_of m s) (paged_of m t)
     brought_in lt =
         let globals = o.globals in let heap = o.heap in let stack = o.stack in let tables = o.tables in let counts = o.counts in let zeros = o.zeros in
         let long : memory_words m ≤ length s.memory = st.memory in
         let same : length t0.memory ≡ length s.memory = ap length g.memory in
         let all : length t.memory ≡ length s.memory = ap length l.memory ∙ size in
-        z.tools.alikes.brought (layout_of m) q true (paged_of m s) (view (places_of m) (words_of t0) (behind t0).sectors) (view (places_of m) (words_of s2) (behind s2).sectors) (paged_of m t) lt
-        (subst (λ (d : Device). Alike (layout_of m) (paged_of m s) (view (places_of m) (words_of t0) (behind_of d t0.log t0.input).sectors)) (sym g.device)
+        z.tools.alikes.brought (page_layout m) q true (paged_of m s) (paged_view (places_of m) (words_of t0) (behind t0).sectors) (paged_view (places_of m) (words_of s2) (behind s2).sectors) (paged_of m t) lt
+        (subst (λ (d : Device). Alike (page_layout m) (paged_of m s) (paged_view (places_of m) (words_of t0) (behind_of d t0.log t0.input).sectors)) (sym g.device)
         (words_alike m (slice_index s.memory) (words_of t0) (behind s).sectors o (λ j why less. word_is t0 j (omega arith) ∙ ap (λ w. slice_index w j) g.memory)))
-        (subst (λ (d : Device). Alike (layout_of m) (view (places_of m) (words_of s2) (behind s2).sectors) (view (places_of m) (slice_index t.memory) (behind_of d t.log t.input).sectors)) (sym l.device)
+        (subst (λ (d : Device). Alike (page_layout m) (paged_view (places_of m) (words_of s2) (behind s2).sectors) (paged_view (places_of m) (slice_index t.memory) (behind_of d t.log t.input).sectors)) (sym l.device)
         (words_alike m (words_of s2) (slice_index t.memory) (behind s2).sectors o (λ j why less. sym (word_is t j (omega arith)) ∙ ap (λ f. f j) words)))
         e.brought
 
   -- ONE FAULT: it is brought to its end for the same state
-  pub record FaultHandled (x : Outside) (longest : ℕ) (s : State) (c : Core) (q : ℕ) : Type 0 where
+  pub record FaultHandled (x : Environment) (longest : ℕ) (s : State) (c : Core) (q : ℕ) : Type 0 where
     pub steps : ℕ
     pub within : steps ≤ page_steps m longest - 1
     pub cost : steps ≤ handled_steps m longest s - 1
     pub few : names_at m s ≤ 4
     pub way : Way x y IsEntry steps (step x s)
-    pub back : Back x y c (run x (step x s) steps)
-    pub brought : BroughtIn (layout_of m) q true (paged_of m s) (paged_of m (run x (step x s) steps))
+    pub back : InUserMode x y c (run x (step x s) steps)
+    pub brought : BroughtIn (page_layout m) q true (paged_of m s) (paged_of m (run x (step x s) steps))
 
-  module _ (z : Handlers) (x : Outside) (longest : ℕ) (busy : BusyWithin x longest) (s : State) (c : Core) (back : Back x y c s) (a : AsksPage x y s c) where
+  module _ (z : Handlers) (x : Environment) (longest : ℕ) (busy : BusyWithin x longest) (s : State) (c : Core) (back : InUserMode x y c s) (a : AsksPage x y s c) where
     abbrev base : ℕ
     base = (c.current - 1) * m.params.pages
 
-    state : Stands x y s Running c
+    state : RunningRelation x y s Running c
     state = back.stands
 
     runs_it : RunsUser m s c
@@ -244,11 +244,11 @@ module _ (m : Map) (sizes code : List ℕ) (made : IsMade m sizes code) where
         let page = a.page in let ptl = runs_it.ptl in
         ap₂ (λ p u. nat_lt p (pages_of (user_of c.users u))) part.1 (ap (λ n. n + 1) part.0 ∙ again) ∙ lt-ltb (a.edata / 4096) (pages_of (user_of c.users c.current)) (omega arith)
 
-    first : Began x s (step x s) (number_of a.why) a.edata s.cpu.pc
+    first : Began x s (step x s) (cause_number a.why) a.edata s.cpu.pc
     first = began z.takes z.interrupts x y s (latched x s) c a.why a.edata s.cpu.pc (is_on_none s (user_on s back.user)) (premises m sizes code made x s c back) a.comes
 
     calm : Calm x y (step x s)
-    calm = begins_calm m sizes code made x s (step x s) c (number_of a.why) a.edata s.cpu.pc state first
+    calm = begins_calm m sizes code made x s (step x s) c (cause_number a.why) a.edata s.cpu.pc state first
 
     abbrev t0 : State
     t0 = step x s
@@ -288,7 +288,7 @@ module _ (m : Map) (sizes code : List ℕ) (made : IsMade m sizes code) where
           word = subst IsWord (ap (λ sp. slice_index sp EDATA) first.special) (All-get_or IsWord (step x s).special EDATA 0 (omega arith) first.quiet.fits.special.each);
           inside = page_inside;
           live = page_live;
-          stands = subst (λ (d : Device). PagesStand (layout_of m) (pages_by m.params.pages c.users) (view (places_of m) (words_of (step x s)) (behind_of d (step x s).log (step x s).input).sectors)) (sym first.device)
+          stands = subst (λ (d : Device). PagingInvariant (page_layout m) (pages_by m.params.pages c.users) (paged_view (places_of m) (words_of (step x s)) (behind_of d (step x s).log (step x s).input).sectors)) (sym first.device)
               (pages_agree z.tools.alikes m (pages_by m.params.pages c.users) (slice_index s.memory) (words_of (step x s)) (behind s).sectors order (λ j why less. word_is (step x s) j (omega arith) ∙ ap (λ w. slice_index w j) first.memory) state.pages);
           small = λ q lt. let here = word_is (step x s) (tables_at m + q) (omega arith) in let v = word_read (step x s).memory (tables_at m + q) first.quiet.fits.memory in omega arith;
           idle = calm.idle;
@@ -305,7 +305,7 @@ module _ (m : Map) (sizes code : List ℕ) (made : IsMade m sizes code) where
     eret_at = fault_eret_at 0 (places_of m) (handle_page_code (places_of m))
 
     -- with what it takes, and the most of that
-    to_eret : ComesTo w (swap_steps (places_of m) longest (contents (step x s)).memory + 85) 0 eret_at Eret (contents (step x s)) (behind (step x s)) (FaultDone (places_of m) (pages_by m.params.pages c.users) (base + a.edata / 4096) (contents (step x s)) (behind (step x s)))
+    to_eret : RunComesTo w (swap_steps (places_of m) longest (contents (step x s)).memory + 85) 0 eret_at Eret (contents (step x s)) (behind (step x s)) (FaultDone (places_of m) (pages_by m.params.pages c.users) (base + a.edata / 4096) (contents (step x s)) (behind (step x s)))
         × (swap_steps (places_of m) longest (contents (step x s)).memory ≤ fault_steps longest)
     to_eret =
         let p : Places = places_of m in
@@ -314,7 +314,7 @@ module _ (m : Map) (sizes code : List ℕ) (made : IsMade m sizes code) where
         let free : MaySave w = λ q is. let low = is.0 in let top = is.1 in free_variable m sizes code made (step x s).memory (saved_at q) (omega arith) (omega arith) in
         let at : CodeAt w 0 (handler_code p block.code) = subst (λ is. CodeAt w 0 (handler_code p is)) (sym b.1) ((z.tools.below.stands 0 (handler m sizes code made)).stands w) in
         let r = z.faults w sound_w p longest block (pages_by m.params.pages c.users) base a.edata 0 (contents (step x s)) (behind (step x s)) sited ported free at fault_is asked in (
-          subst (λ is. ComesTo w (swap_steps p longest (contents (step x s)).memory + 85) 0 (fault_eret_at 0 p is) Eret (contents (step x s)) (behind (step x s)) (FaultDone p (pages_by m.params.pages c.users) (base + a.edata / 4096) (contents (step x s)) (behind (step x s)))) b.1 r.0,
+          subst (λ is. RunComesTo w (swap_steps p longest (contents (step x s)).memory + 85) 0 (fault_eret_at 0 p is) Eret (contents (step x s)) (behind (step x s)) (FaultDone p (pages_by m.params.pages c.users) (base + a.edata / 4096) (contents (step x s)) (behind (step x s)))) b.1 r.0,
           r.1,
         )
 
@@ -324,7 +324,7 @@ module _ (m : Map) (sizes code : List ℕ) (made : IsMade m sizes code) where
         let globals = order.globals in let heap = order.heap in let stack = order.stack in let tables = order.tables in let counts = order.counts in let zeros = order.zeros in
         let all = state.memory in
         let size : length (step x s).memory ≡ length s.memory = ap length first.memory in
-        let range : IsUserFrame (layout_of m) (paged_of m s).hand = state.pages.hand in let r0 = range.0 in let r1 = range.1 in
+        let range : IsUserFrame (page_layout m) (paged_of m s).hand = state.pages.hand in let r0 = range.0 in let r1 = range.1 in
         let word : (j : ℕ) → j < memory_words m → words_of (step x s) j ≡ slice_index s.memory j = λ j lt. word_is (step x s) j (omega arith) ∙ ap (λ w. slice_index w j) first.memory in
         let hand : words_of (step x s) hand_at ≡ slice_index s.memory hand_at = word hand_at (omega arith) in
         let there : frame_table_at m + 8 * slice_index s.memory hand_at ≡ count_at (places_of m) (paged_of m s).hand = omega arith in
@@ -338,21 +338,21 @@ module _ (m : Map) (sizes code : List ℕ) (made : IsMade m sizes code) where
         let most = to_eret.1 in
         let names = same_names in
         let few : names_at m s ≤ 4 =
-        let hand : IsUserFrame (layout_of m) (paged_of m s).hand = state.pages.hand in
+        let hand : IsUserFrame (page_layout m) (paged_of m s).hand = state.pages.hand in
         let k = state.pages.counts (paged_of m s).hand hand in let f = state.pages.few (paged_of m s).hand hand in omega arith in
-        let u : Configuration = at_with eret_at g.contents g.behind in
+        let u : CodeState = at_with eret_at g.contents g.behind in
         let pc : (step x s).cpu.pc ≡ 4 * 0 = ap (λ (p : Cpu). p.pc) first.cpu in
         let reaches : Reaches w (swap_steps (places_of m) longest (contents (step x s)).memory + 85) (configuration_of (step x s)) u = subst (λ v. Reaches w (swap_steps (places_of m) longest (contents (step x s)).memory + 85) v u) (sym (stands_at (step x s) 0 pc)) g.reaches in
         let r : Arrives x y (swap_steps (places_of m) longest (contents (step x s)).memory + 85) (step x s) u =
         arrives b.blocks x y (step x s) u 0 is (swap_steps (places_of m) longest (contents (step x s)).memory + 85) (handler_placed m sizes code made) (inl (omega (arith, handler_end m sizes code made))) calm g.done.besides.idle reaches in
         let s2 : State = run x (step x s) r.steps in
-        let at2 : s2.cpu.pc / 4 ≡ eret_at = ap (λ (v : Configuration). v.at) r.there in
+        let at2 : s2.cpu.pc / 4 ≡ eret_at = ap (λ (v : CodeState). v.at) r.there in
         let aligned = r.calm.quiet.aligned in
         let inside = (b.stands 0 is).inside eret_at Eret g.stands in
         let from = inside.0 in let to = inside.1 in
         let gone : Gone z.tools.words b.stands x y s2 0 is (handler_placed m sizes code made) r.calm (step x s2) = goes z.tools.words b.stands x y s2 0 is (handler_placed m sizes code made) r.calm z.erets (ap (placed 0 is) at2 ∙ g.stands) in
         let done : FaultDone (places_of m) (pages_by m.params.pages c.users) (base + a.edata / 4096) (contents (step x s)) (behind (step x s)) (contents s2) (behind s2) =
-        subst (λ (v : Configuration). FaultDone (places_of m) (pages_by m.params.pages c.users) (base + a.edata / 4096) (contents (step x s)) (behind (step x s)) v.contents v.behind) (sym r.there) g.done in
+        subst (λ (v : CodeState). FaultDone (places_of m) (pages_by m.params.pages c.users) (base + a.edata / 4096) (contents (step x s)) (behind (step x s)) v.contents v.behind) (sym r.there) g.done in
         let size : length s2.memory ≡ length s.memory = r.size ∙ ap length first.memory in
         let there : run x (step x s) (r.steps + 1) ≡ step x s2 = b.sum x (step x s) r.steps 1 in
         let last = single b.none x y 0 (0 + length is) s2 (inl (omega (arith, handler_end m sizes code made))) r.calm (omega arith) (omega arith) gone.stays.device gone.stays.memory in
@@ -364,13 +364,13 @@ module _ (m : Map) (sizes code : List ℕ) (made : IsMade m sizes code) where
           cost = let e : swap_steps (places_of m) longest (contents (step x s)).memory ≡ names_at m s * (longest + 2707) + longest + 2805 = ap (λ n. n * (longest + 2707) + longest + 2805) names in omega arith;
           few = few;
           way = way b.sum x y (r.steps + 1) (step x s) (joins b.sum x y r.steps 1 (step x s) r.between last);
-          back = subst (Back x y c) (sym there) (goes_back z x s (step x s) s2 (step x s2) c (number_of a.why) a.edata q back first r.calm size done gone.off gone.special gone.cpu gone.stays);
-          brought = subst (λ v. BroughtIn (layout_of m) q true (paged_of m s) (paged_of m v)) (sym there)
-              (brought_in z x s (step x s) s2 (step x s2) c (number_of a.why) a.edata q back first r.calm size done gone.off gone.special gone.cpu gone.stays page_inside);
+          back = subst (InUserMode x y c) (sym there) (goes_back z x s (step x s) s2 (step x s2) c (cause_number a.why) a.edata q back first r.calm size done gone.off gone.special gone.cpu gone.stays);
+          brought = subst (λ v. BroughtIn (page_layout m) q true (paged_of m s) (paged_of m v)) (sym there)
+              (brought_in z x s (step x s) s2 (step x s2) c (cause_number a.why) a.edata q back first r.calm size done gone.off gone.special gone.cpu gone.stays page_inside);
         }
 
   -- what the law says of the page, from that it passes for a store and a read
-  told : (s t : State) (c : Core) (before : State) (why : Cause) (edata epc : ℕ) → ((store : Bool) → Passes (paged_of m t) (page_at m c edata) store) → Brought y c s t (Interrupt before why edata epc)
+  told : (s t : State) (c : Core) (before : State) (why : Cause) (edata epc : ℕ) → ((store : Bool) → IsAccessible (paged_of m t) (page_at m c edata) store) → PageBrought y c s t (Interrupt before why edata epc)
   told s t c before causes.DataFault edata epc h = h (is_store (decoding (read_at s (located s false s.cpu.pc))))
   told s t c before causes.FetchFault edata epc h = h false
   told s t c before causes.Reset edata epc h = tt
@@ -381,22 +381,22 @@ module _ (m : Map) (sizes code : List ℕ) (made : IsMade m sizes code) where
   told s t c before causes.Syscall edata epc h = tt
   told s t c before causes.DataAlign edata epc h = tt
 
-  module _ (z : Handlers) (x : Outside) (longest : ℕ) (busy : BusyWithin x longest) (c : Core) where
+  module _ (z : Handlers) (x : Environment) (longest : ℕ) (busy : BusyWithin x longest) (c : Core) where
     abbrev pages_step : UserStep
     pages_step = step_pages m c
 
     -- the page that a step asks for passes behind the fault
-    pub shown : (s t : State) (a : AsksPage x y s c) → Handled (layout_of m) (page_at m c a.edata) true (paged_of m s) (paged_of m t) → Brought y c s t (coming x (latched x s))
-    shown s t a h = subst (Brought y c s t) (sym a.comes) (told s t c (latched x s) a.why a.edata s.cpu.pc
-        (λ store. z.pass.passes (layout_of m) (page_at m c a.edata) store (paged_of m s) (paged_of m t) (z.pass.reads (layout_of m) (page_at m c a.edata) store (paged_of m s) (paged_of m t) h)))
+    pub shown : (s t : State) (a : AsksPage x y s c) → Handled (page_layout m) (page_at m c a.edata) true (paged_of m s) (paged_of m t) → PageBrought y c s t (coming x (latched x s))
+    shown s t a h = subst (PageBrought y c s t) (sym a.comes) (told s t c (latched x s) a.why a.edata s.cpu.pc
+        (λ store. z.pass.passes (page_layout m) (page_at m c a.edata) store (paged_of m s) (paged_of m t) (z.pass.reads (page_layout m) (page_at m c a.edata) store (paged_of m s) (paged_of m t) h)))
 
     -- one fault, and then what is left
-    one : (k : ℕ) (s : State) → Back x y c s → (a : AsksPage x y s c) → ((t : State) → Back x y c t → Handled (layout_of m) (page_at m c a.edata) a.store (paged_of m s) (paged_of m t) → Settles k x y (page_steps m longest - 1) c t)
-        → Comes x y IsEntry (page_steps m longest - 1) (step x s) (λ t. Back x y c t × Brought y c s t (coming x (latched x s)) × Settles k x y (page_steps m longest - 1) c t)
+    one : (k : ℕ) (s : State) → InUserMode x y c s → (a : AsksPage x y s c) → ((t : State) → InUserMode x y c t → Handled (page_layout m) (page_at m c a.edata) a.store (paged_of m s) (paged_of m t) → Settles k x y (page_steps m longest - 1) c t)
+        → ComesBy x y IsEntry (page_steps m longest - 1) (step x s) (λ t. InUserMode x y c t × PageBrought y c s t (coming x (latched x s)) × Settles k x y (page_steps m longest - 1) c t)
     one k s back a rest =
         let f : FaultHandled x longest s c (page_at m c a.edata) = fault_handled z x longest busy s c back a in
         let t : State = run x (step x s) f.steps in
-        let h : Handled (layout_of m) (page_at m c a.edata) true (paged_of m s) (paged_of m t) = f.brought.handled in
+        let h : Handled (page_layout m) (page_at m c a.edata) true (paged_of m s) (paged_of m t) = f.brought.handled in
         record {
           steps = f.steps;
           within = f.within;
@@ -404,26 +404,26 @@ module _ (m : Map) (sizes code : List ℕ) (made : IsMade m sizes code) where
           there = (
             f.back,
             shown s t a h,
-            rest t f.back (z.pass.reads (layout_of m) (page_at m c a.edata) a.store (paged_of m s) (paged_of m t) h),
+            rest t f.back (z.pass.reads (page_layout m) (page_at m c a.edata) a.store (paged_of m s) (paged_of m t) h),
           );
         }
 
-    ask : (s : State) → Back x y c s → handled x s ≡ true → AsksPage x y s c
+    ask : (s : State) → InUserMode x y c s → handled x s ≡ true → AsksPage x y s c
     ask s back h = z.ask x y s c (premises m sizes code made x s c back) h
 
     no_more : (s : State) (b : Bool) → handled x s ≡ b → (handled x s ≡ true → ⊥) → handled x s ≡ false
     no_more s true e h = absurd (h e)
     no_more s false e h = e
 
-    settle : (k : ℕ) (s : State) → Back x y c s → AtMost k (layout_of m) pages_step (paged_of m s) → Settles k x y (page_steps m longest - 1) c s
+    settle : (k : ℕ) (s : State) → InUserMode x y c s → AtMost k (page_layout m) pages_step (paged_of m s) → Settles k x y (page_steps m longest - 1) c s
     settle zero s back most = no_more s (handled x s) refl (λ h. let a = ask s back h in most (page_at m c a.edata) a.store a.asks)
     settle (suc k) s back most = λ h. let a = ask s back h in one k s back a (λ t b handled. settle k t b (most (page_at m c a.edata) a.store (paged_of m t) a.asks handled))
 
   pub settles : Handlers → FaultsSettle y
   settles z x longest s c busy back = λ h.
       let a : AsksPage x y s c = ask z x longest busy c s back h in
-      let hand : IsUserFrame (layout_of m) (paged_of m s).hand = back.stands.pages.hand in
-      settle z x longest busy c 2 s back (z.two (layout_of m) (step_pages m c) (paged_of m s) made.range.params.two_frames a.code_page a.data_page hand) h
+      let hand : IsUserFrame (page_layout m) (paged_of m s).hand = back.stands.pages.hand in
+      settle z x longest busy c 2 s back (z.two (page_layout m) (step_pages m c) (paged_of m s) made.range.params.two_frames a.code_page a.data_page hand) h
 
   pub costs : Handlers → FaultsCost y
   costs z x longest s c busy back h =

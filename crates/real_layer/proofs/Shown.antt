@@ -3,7 +3,7 @@ use Rattle.std.proofs.Common.{◌≡◌, ◌≢◌, ℕ, zero, suc, ◌+◌, ◌
 use Rattle.std.specs.Prelude.{◌==◌, if◌then◌else◌}
 use Rattle.std.proofs.lemmas.Bool.{cond-true, cond-false, eqb-false}
 use Rattle.std.proofs.lemmas.List.{ext_get_or, get_or-take, get_or-drop, length-append, length-take-le, length-drop}
-use Rattle.mips_table.specs.Device.{Idle, Outside, BUFFER, SECTOR, is_buffer}
+use Rattle.mips_table.specs.Device.{Idle, Environment, BUFFER, SECTOR, is_buffer}
 use Rattle.mips_table.specs.Machine.{State}
 use Rattle.mips_table.specs.Processor.{Cpu}
 use Rattle.mips_table.specs.Flat.{Flat}
@@ -11,8 +11,8 @@ use Rattle.mips_table.specs.Fits.{CpuFits, Fits}
 use Rattle.mips_table.specs.Code.{Behind}
 use Rattle.mips_table.specs.Simulation.{space, sectors_of, behind_of}
 use Rattle.layer_map.specs.Map.{Map, MapInRange, layer_words, current_at, hand_at, heap_used_at, stack_words_at, block_at, globals_at, heap_at, stack_at, tables_at, frame_table_at, zero_frame_at, memory_words}
-use Rattle.page_model.specs.Paging.{Pages, PagesStand}
-use Rattle.page_model.specs.Places.{layout_of, places_of, view}
+use Rattle.page_model.specs.Paging.{Pages, PagingInvariant}
+use Rattle.page_model.specs.Places.{page_layout, places_of, paged_view}
 use Rattle.page_model.specs.Edits.{Alike}
 use Rattle.page_model.specs.Laws.{AlikesStand}
 use Rattle.c0_meaning.specs.Value.{Location, Value, int as an_int, bool as a_bool, null, at, group, Values, empty, part}
@@ -21,7 +21,7 @@ use Rattle.cvm_model.specs.Kernel.{flat, flats, Core}
 use Rattle.cvm_model.specs.Primitives.{no_flat, user_of, pages_of, register_of}
 use Rattle.cvm_model.specs.Cvm.{Status, Running}
 use Rattle.cvm_model.specs.Paged.{pages_by}
-use Rattle.cvm_model.specs.Stands.{Site, IsUser, address_of, DataStands, CoreFits, UserFits, RunsUser, Stands, block_cpu, is_own, runs_user}
+use Rattle.cvm_model.specs.Stands.{Site, IsUser, address_of, DataStands, CoreFits, UserFits, RunsUser, RunningRelation, block_cpu, is_own, runs_user}
 use Rattle.cvm_primitives.specs.Blocks.{BlocksHold, word_of}
 
 -- a value has as many words as it says
@@ -40,7 +40,7 @@ mutual
 -- users, pages and console, as words and ports show them
 pub record Shown (y : Site) (c : Core) (words : ℕ → ℕ) (d : Behind) : Type 0 where
   pub blocks : BlocksHold c.users words
-  pub pages : PagesStand (layout_of y.map) (pages_by y.map.params.pages c.users) (view (places_of y.map) words d.sectors)
+  pub pages : PagingInvariant (page_layout y.map) (pages_by y.map.params.pages c.users) (paged_view (places_of y.map) words d.sectors)
   pub log : d.log ≡ c.console.log
   pub input : d.input ≡ c.console.input
   pub idle : d.pending ≡ Idle
@@ -145,7 +145,7 @@ blocks_agree users g h few same b = record {
 }
 
 -- words that agree from the page tables on, and at the hand, show the same of paging
-pub words_alike : (m : Map) (g h : ℕ → ℕ) (a : ℕ → ℕ → ℕ) → Order m → ((k : ℕ) → (k ≡ hand_at) ⊎ (tables_at m ≤ k) → k < memory_words m → h k ≡ g k) → Alike (layout_of m) (view (places_of m) g a) (view (places_of m) h a)
+pub words_alike : (m : Map) (g h : ℕ → ℕ) (a : ℕ → ℕ → ℕ) → Order m → ((k : ℕ) → (k ≡ hand_at) ⊎ (tables_at m ≤ k) → k < memory_words m → h k ≡ g k) → Alike (page_layout m) (paged_view (places_of m) g a) (paged_view (places_of m) h a)
 words_alike m g h a o same =
     let tables = o.tables in let counts = o.counts in let zeros = o.zeros in let whole = o.whole in
     record {
@@ -158,11 +158,11 @@ words_alike m g h a o same =
     }
 
 pub pages_agree : AlikesStand → (m : Map) (v : Pages) (g h : ℕ → ℕ) (a : ℕ → ℕ → ℕ) → Order m → ((k : ℕ) → (k ≡ hand_at) ⊎ (tables_at m ≤ k) → k < memory_words m → h k ≡ g k)
-    → PagesStand (layout_of m) v (view (places_of m) g a) → PagesStand (layout_of m) v (view (places_of m) h a)
-pages_agree alikes m v g h a o same p = alikes.stands (layout_of m) v (view (places_of m) g a) (view (places_of m) h a) p (words_alike m g h a o same)
+    → PagingInvariant (page_layout m) v (paged_view (places_of m) g a) → PagingInvariant (page_layout m) v (paged_view (places_of m) h a)
+pages_agree alikes m v g h a o same p = alikes.stands (page_layout m) v (paged_view (places_of m) g a) (paged_view (places_of m) h a) p (words_alike m g h a o same)
 
 -- what a state shows that stands and runs no user
-pub shown : AlikesStand → (x : Outside) (y : Site) (s : State) (status : Status) (c : Core) → MapInRange y.map → Stands x y s status c → runs_user s ≡ false → Shown y c (words_of s) (behind s)
+pub shown : AlikesStand → (x : Environment) (y : Site) (s : State) (status : Status) (c : Core) → MapInRange y.map → RunningRelation x y s status c → runs_user s ≡ false → Shown y c (words_of s) (behind s)
 shown alikes x y s status c range st none =
     let m : Map = y.map in
     let o : Order m = order_of m range in
@@ -181,7 +181,7 @@ shown alikes x y s status c range st none =
 
 -- what is known of a state that is to stand, beside what it shows: it fits, with the kernel's data and the words that stay as in a
 -- state s that stands
-pub record Follows (x : Outside) (y : Site) (s t : State) : Type 0 where
+pub record Follows (x : Environment) (y : Site) (s t : State) : Type 0 where
   pub fits : Fits x t
   pub no_reset : t.reset ≡ false
   pub size : length t.memory ≡ length s.memory
@@ -195,14 +195,14 @@ pub record InBlocks (t : State) (c : Core) : Type 0 where
 
 -- pages and console, as words and ports show them
 pub record ShownPages (y : Site) (c : Core) (words : ℕ → ℕ) (d : Behind) : Type 0 where
-  pub pages : PagesStand (layout_of y.map) (pages_by y.map.params.pages c.users) (view (places_of y.map) words d.sectors)
+  pub pages : PagingInvariant (page_layout y.map) (pages_by y.map.params.pages c.users) (paged_view (places_of y.map) words d.sectors)
   pub log : d.log ≡ c.console.log
   pub input : d.input ≡ c.console.input
   pub idle : d.pending ≡ Idle
 
 -- a state that follows one that stands, with the same data of the kernel, stands where it shows its users, pages and console
-pub stood_with : AlikesStand → (x : Outside) (y : Site) (s t : State) (status after : Status) (c c' : Core) → MapInRange y.map → Stands x y s status c → Follows x y s t → CoreFits y.map c' → c'.c0 ≡ c.c0
-    → ShownPages y c' (words_of t) (behind t) → InBlocks t c' → (after ≡ Running → slice_index t.memory current_at ≡ c'.current) → (runs_user t ≡ true → RunsUser y.map t c') → Stands x y t after c'
+pub stood_with : AlikesStand → (x : Environment) (y : Site) (s t : State) (status after : Status) (c c' : Core) → MapInRange y.map → RunningRelation x y s status c → Follows x y s t → CoreFits y.map c' → c'.c0 ≡ c.c0
+    → ShownPages y c' (words_of t) (behind t) → InBlocks t c' → (after ≡ Running → slice_index t.memory current_at ≡ c'.current) → (runs_user t ≡ true → RunsUser y.map t c') → RunningRelation x y t after c'
 stood_with alikes x y s t status after c c' range st f whole same sh blocks current runs =
     let m : Map = y.map in
     let o : Order m = order_of m range in
@@ -242,8 +242,8 @@ stood_with alikes x y s t status after c c' range st f whole same sh blocks curr
     }
 
 -- the same where no user runs
-pub stood : AlikesStand → (x : Outside) (y : Site) (s t : State) (status after : Status) (c c' : Core) → MapInRange y.map → Stands x y s status c → Follows x y s t → CoreFits y.map c' → c'.c0 ≡ c.c0
-    → Shown y c' (words_of t) (behind t) → (after ≡ Running → slice_index t.memory current_at ≡ c'.current) → (runs_user t ≡ true → RunsUser y.map t c') → Stands x y t after c'
+pub stood : AlikesStand → (x : Environment) (y : Site) (s t : State) (status after : Status) (c c' : Core) → MapInRange y.map → RunningRelation x y s status c → Follows x y s t → CoreFits y.map c' → c'.c0 ≡ c.c0
+    → Shown y c' (words_of t) (behind t) → (after ≡ Running → slice_index t.memory current_at ≡ c'.current) → (runs_user t ≡ true → RunsUser y.map t c') → RunningRelation x y t after c'
 stood alikes x y s t status after c c' range st f whole same sh current runs =
     let m : Map = y.map in
     let o : Order m = order_of m range in

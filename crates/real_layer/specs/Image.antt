@@ -46,8 +46,8 @@ routines m =
     ∷ act_on_answer_code p n per ∷ []
 
 -- lists of instructions one after the other
-abbrev pub joined : List (List Inst) → List Inst
-joined blocks = flat_map (λ is. is) blocks
+abbrev pub code_joined : List (List Inst) → List Inst
+code_joined blocks = flat_map (λ is. is) blocks
 
 -- the code of routine k
 abbrev pub routine : Map → ℕ → List Inst
@@ -59,15 +59,15 @@ entries_end = leave_at + 1
 
 -- routine k begins behind the entries and the routines before it
 abbrev pub routine_at : Map → ℕ → ℕ
-routine_at m k = entries_end + length (joined (take k (routines m)))
+routine_at m k = entries_end + length (code_joined (take k (routines m)))
 
 -- an entry is a jump to its routine
 abbrev pub entries : Map → List Inst
 entries m = map (λ k. J (routine_at m k)) (range_with_len 0 (entries_end - primitives_at))
 
 -- words with zeros behind them, so many in all
-abbrev pub filled : ℕ → List ℕ → List ℕ
-filled n words = words ++ replicate (n - length words) 0
+abbrev pub zero_padded : ℕ → List ℕ → List ℕ
+zero_padded n words = words ++ replicate (n - length words) 0
 
 -- the layer's variables from the current user on: current user, hand, words used of the heap, its size and first address, first
 -- address and size of the stack
@@ -84,14 +84,14 @@ blocks (pages ∷ sizes) = block_words pages ++ blocks sizes
 
 -- the entries, and the routines behind them
 abbrev pub second_code : Map → List Inst
-second_code m = entries m ++ joined (routines m)
+second_code m = entries m ++ code_joined (routines m)
 
 -- THE IMAGE of a layer made for a map, and for users of these sizes in pages: the handler up to the current user, variables, entries and routines up
 -- to the control blocks, and these
 abbrev pub layer_image : Map → List ℕ → List ℕ
 layer_image m sizes =
-    filled current_at (map encoding (interrupt_code m)) ++ (filled (variables_end - current_at) (variables m)
-    ++ (filled (block_at 1 - primitives_at) (map encoding (second_code m)) ++ filled (layer_words - block_at 1) (blocks sizes)))
+    zero_padded current_at (map encoding (interrupt_code m)) ++ (zero_padded (variables_end - current_at) (variables m)
+    ++ (zero_padded (block_at 1 - primitives_at) (map encoding (second_code m)) ++ zero_padded (layer_words - block_at 1) (blocks sizes)))
 
 -- the memory of a layer made for this map and these users, with a kernel's code behind it
 abbrev pub image_site : Map → (sizes code : List ℕ) → Site

@@ -9,7 +9,7 @@ use Rattle.page_fault.specs.Code.{handle_page_code}
 use Rattle.cvm_primitives.specs.Code.{vm_word_code, vm_put_code, vm_copy_code, vm_resize_code}
 use Rattle.cvm_primitives.specs.RegisterCode.{vm_get_code, vm_set_code, vm_size_code}
 use Rattle.real_layer.specs.declared.routines.Routines.{Routines}
-use Rattle.real_layer.specs.Image.{returning, joined, entries_end}
+use Rattle.real_layer.specs.Image.{returning, code_joined, entries_end}
 
 -- the jumps to routines, the first of which has so many words before it behind the entries
 abbrev pub jumps_from : ℕ → List (List Inst) → List Inst
@@ -19,7 +19,7 @@ jumps_from n (is ∷ rest) = J ((entries_end + n) % 2 ^ 26) ∷ jumps_from (n + 
 -- these routines are laid behind those that there are
 pub record Lays (old new : Routines) (more : List (List Inst)) : Type 0 where
   pub entries : new.entries.items ≡ old.entries.items ++ map encoding (jumps_from (length old.words.items) more)
-  pub words : new.words.items ≡ old.words.items ++ map encoding (joined more)
+  pub words : new.words.items ≡ old.words.items ++ map encoding (code_joined more)
 
 -- the primitives that use no page and not the console, for so many users
 abbrev pub register_routines : ℕ → List (List Inst)

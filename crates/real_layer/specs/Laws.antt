@@ -1,16 +1,16 @@
 -- The laws of a layer, of the memory that a layer's image makes with any kernel's code behind it.
 use Rattle.std.specs.Prelude.{◌≡◌, ℕ, ◌+◌, ◌-◌, ◌*◌, ◌<◌, ◌≤◌, ℤ, nat_abs, true, List, length}
-use Rattle.mips_table.specs.Device.{Outside}
+use Rattle.mips_table.specs.Device.{Environment}
 use Rattle.mips_table.specs.Machine.{State, latched, coming, step, run}
 use Rattle.mips_table.specs.Turns.{handled}
 use Rattle.layer_map.specs.Map.{Map, MapInRange}
-use Rattle.page_model.specs.Paging.{Names}
-use Rattle.page_model.specs.Places.{layout_of}
+use Rattle.page_model.specs.Paging.{MapsTo}
+use Rattle.page_model.specs.Places.{page_layout}
 use Rattle.cvm_model.specs.Kernel.{Core}
 use Rattle.cvm_model.specs.Primitives.{VmResize, user_of, pages_of, is_good}
 use Rattle.cvm_model.specs.Paged.{paged_of}
 use Rattle.cvm_model.specs.Stands.{Site}
-use Rattle.layer_contract.specs.Layer.{Linked, EntersFirst, Enters, Exits, Leaves, PrimitivesAnswer, FaultsSettle, Laws, IsEntry, Comes, Back, Brought, BusyWithin, PrimitiveCalled, ComesBack}
+use Rattle.layer_contract.specs.Layer.{Linked, EntersFirst, Enters, Exits, Leaves, PrimitivesAnswer, FaultsSettle, Laws, IsEntry, ComesBy, InUserMode, PageBrought, BusyWithin, PrimitiveCalled, ComesBack}
 use Rattle.real_layer.specs.Image.{layer_image, image_site, IsMade}
 
 -- the exits of the kernel's faults
@@ -35,11 +35,11 @@ ImageEnters = (m : Map) (sizes code : List ℕ) → IsMade m sizes code → Ente
 
 -- user u's pages from `old` up to `new` name the zero frame
 abbrev pub NameZeros : Map → (u old new : ℕ) → State → Type 0
-NameZeros m u old new t = (i : ℕ) → old ≤ i → i < new → Names ((paged_of m t).entry ((u - 1) * m.params.pages + i)) (layout_of m).zeros
+NameZeros m u old new t = (i : ℕ) → old ≤ i → i < new → MapsTo ((paged_of m t).entry ((u - 1) * m.params.pages + i)) (page_layout m).zeros
 
 -- GROWTH: a good vm_resize comes back with the pages by which the memory grew as the zero frame, as its code's law has them
 abbrev pub GrowsFresh : Site → Type 0
-GrowsFresh y = (x : Outside) (longest : ℕ) (s : State) (c : Core) (u n : ℤ) → BusyWithin x longest → PrimitiveCalled x y c (VmResize u n) s →
+GrowsFresh y = (x : Environment) (longest : ℕ) (s : State) (c : Core) (u n : ℤ) → BusyWithin x longest → PrimitiveCalled x y c (VmResize u n) s →
     is_good y.map.params.pages c.users (VmResize u n) ≡ true →
     (b : ComesBack x y longest c (VmResize u n) s) × NameZeros y.map (nat_abs u) (pages_of (user_of c.users (nat_abs u))) (nat_abs n) (run x s b.comes.steps)
 
@@ -62,8 +62,8 @@ handled_steps m longest s = names_at m s * (longest + 2707) + longest + 2892
 
 -- a handled fault takes no more, the step that meets it among them; and at most four pages name the frame at the hand
 abbrev pub FaultsCost : Site → Type 0
-FaultsCost y = (x : Outside) (longest : ℕ) (s : State) (c : Core) → BusyWithin x longest → Back x y c s → handled x s ≡ true →
-    (names_at y.map s ≤ 4) × Comes x y IsEntry (handled_steps y.map longest s - 1) (step x s) (λ t. Back x y c t × Brought y c s t (coming x (latched x s)))
+FaultsCost y = (x : Environment) (longest : ℕ) (s : State) (c : Core) → BusyWithin x longest → InUserMode x y c s → handled x s ≡ true →
+    (names_at y.map s ≤ 4) × ComesBy x y IsEntry (handled_steps y.map longest s - 1) (step x s) (λ t. InUserMode x y c t × PageBrought y c s t (coming x (latched x s)))
 
 -- the handled faults: they settle, and what one costs
 pub record FaultsHandled (y : Site) : Type 0 where

@@ -2,7 +2,7 @@
 ghost use Rattle.std.specs.Prelude.{◌≡◌, List, [], ◌∷◌, ◌++◌, map as each, replicate, IfOk, OnOk};
 ghost use Rattle.mips_table.specs.declared.inst.Inst.{Inst as Instruction};
 ghost use Rattle.mips_table.specs.Encoding.{encoding};
-ghost use Rattle.real_layer.specs.Image.{interrupt_code, filled, variables, block_words, blocks, second_code, layer_image};
+ghost use Rattle.real_layer.specs.Image.{interrupt_code, zero_padded, variables, block_words, blocks, second_code, layer_image};
 
 use crate::routines::lay_routines;
 use layer_map::{BLOCK_SIZE, CURRENT, LAYER_WORDS, Map, PRIMITIVES, VARIABLES_END};
@@ -35,7 +35,7 @@ fn put_zeros(words: &mut Vec<u32>, count: usize) -> Result<(), AllocError>
 
 // Appends a part, and zeros behind it, so many words in all.
 fn put_filled(words: &mut Vec<u32>, count: usize, part: &[u32]) -> Result<(), AllocError>
-    ensures { OnOk result (words.new.items ≡ words.old.items ++ filled count part.now) }
+    ensures { OnOk result (words.new.items ≡ words.old.items ++ zero_padded count part.now) }
 {
     words.extend_from_slice(part)?;
     put_zeros(words, count.saturating_sub(part.len()))

@@ -8,7 +8,7 @@ ghost use Rattle.trap_entry.specs.Code.{act_on_answer_code};
 ghost use Rattle.cvm_model.specs.declared.kernel_fault.KernelFault.TheVariants.{NullUse, Bounds, DivZero, StackOut};
 ghost use Rattle.cvm_primitives.specs.RegisterCode.{con_put_code, con_get_code, con_left_code};
 ghost use Rattle.cvm_primitives.specs.Code.{vm_word_code, vm_put_code, vm_copy_code, vm_resize_code};
-ghost use Rattle.real_layer.specs.Image.{returning, fault_exit, entries, joined, routines};
+ghost use Rattle.real_layer.specs.Image.{returning, fault_exit, entries, code_joined, routines};
 ghost use Rattle.real_layer.specs.Laid.{Lays, memory_routines, register_routines};
 
 use cvm_model::KernelFault;
@@ -94,7 +94,7 @@ impl Routines {
 /// The routines of a layer for a map, and its entries.
 pub fn lay_routines(alloc: Global, map: &Map) -> Result<Routines, AllocError>
     ensures entries { IfOk result (λ r. r.entries.items ≡ each encoding (entries map.now)) }
-    ensures words { IfOk result (λ r. r.words.items ≡ each encoding (joined (routines map.now))) }
+    ensures words { IfOk result (λ r. r.words.items ≡ each encoding (code_joined (routines map.now))) }
 {
     let mut laid = Routines {
         entries: Vec::new(alloc),

@@ -3,7 +3,7 @@ use Rattle.std.proofs.Common.{◌≡◌, ◌≢◌, ℕ, zero, suc, ◌+◌, ◌
 use Rattle.std.specs.Prelude.{◌==◌, bit_or, if◌then◌else◌}
 use Rattle.std.specs.List.{filter}
 use Rattle.std.specs.Int.Bits.{or_zero_r}
-use Rattle.mips_table.specs.Device.{Outside}
+use Rattle.mips_table.specs.Device.{Environment}
 use Rattle.mips_table.specs.Machine.{State}
 use Rattle.mips_table.specs.Turns.{turn_of, gathered}
 use Rattle.schedule_file.specs.declared.row.LineRow.{LineRow}
@@ -12,7 +12,7 @@ use Rattle.mips_machine.specs.Steps.{outside_of}
 use Rattle.run_bounds.specs.Lines.{count_below, are_some, steps_with_lines, LinesAreFew, RaisedLinesAreFew}
 use Rattle.run_bounds.proofs.Counts.{same_below, none_below, one_apart}
 
-module _ (x : Outside) (s : State) where
+module _ (x : Environment) (s : State) where
   none_or : (b : Bool) (n : ℕ) → n ≡ 0 → cond b n 0 ≡ 0
   none_or true n e = e
   none_or false n e = refl

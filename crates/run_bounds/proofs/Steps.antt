@@ -4,12 +4,12 @@ use Rattle.std.specs.Prelude.{bit_or, pos}
 use Rattle.std.proofs.Math.Nat.{suc-mul, mul-le-mul_left}
 use Rattle.mips_table.specs.Arith.{signed}
 use Rattle.c0_tree.specs.Tree.{CUnit}
-use Rattle.c0_meaning.specs.World.{total, Meaning}
+use Rattle.c0_meaning.specs.World.{total, PrimitiveMeaning}
 use Rattle.c0_meaning.specs.Execution.{run_within}
 use Rattle.c0_meaning.specs.Execution as c0_run
 use Rattle.c0_meaning.specs.RunLaws.{PrimitivesAlone, StaysWithin, cost_of}
 use Rattle.c0_meaning.specs.PrimitiveCalls.{PrimitiveCall, cost_made}
-use Rattle.cvm_model.specs.Kernel.{Core, Changes, KernelMeaning, End, Answers, Faults, NotYet, DispatchOutcome}
+use Rattle.cvm_model.specs.Kernel.{Core, Changes, KernelMeaning, DispatchEnd, Answers, Faults, NotYet, DispatchOutcome}
 use Rattle.cvm_model.specs.KernelMeaning.{Machines, kernel_primitive, setting_of, machines_of, outcome_of, kernel_meaning}
 use Rattle.cvm_model.specs.Cvm.{System, Cvm, Status, Running, Halted, Faulted, Begin, Steps, Traps, Interrupts, begin, begun, cvm, map_of, turn, turn_by, turn_steps, reset_steps, page_steps, enter_steps, leave_steps, run_steps, dispatch_of, dispatches, after_dispatch}
 use Rattle.cvm_model.specs.declared.row.Row.{Row}
@@ -19,7 +19,7 @@ use Rattle.cvm_model.specs.Systems.{UsePages}
 use Rattle.run_bounds.specs.Steps.{DispatchesUsePages, steps_for, BoundsAreSmall}
 
 -- the pages of calls are no more than their units
-made_few : {W E : Type 0} (meaning : Meaning W E) (made : List PrimitiveCall) (world : W) → (cost_made meaning made world).pages ≤ (cost_made meaning made world).primitive
+made_few : {W E : Type 0} (meaning : PrimitiveMeaning W E) (made : List PrimitiveCall) (world : W) → (cost_made meaning made world).pages ≤ (cost_made meaning made world).primitive
 made_few meaning [] world = omega arith
 made_few meaning (call ∷ rest) world =
     let r = meaning call.number call.args world in
@@ -82,7 +82,7 @@ module _ (y : System) (u : CUnit) (is : y.boot.meaning ≡ kernel_meaning u y.bo
   few_units : (cause edata : ℕ) (at : Core) → (dispatch_of y n cause edata at).units ≤ n
   few_units cause edata at = subst (λ (m : KernelMeaning). (m.dispatch n at (pos cause) (signed edata) (pos at.current)).units ≤ n) (sym is) (law u y.boot.params n at (pos cause) (signed edata) (pos at.current)).0
 
-  by_outcome : (k : ℕ) (c : Cvm) (cause edata : ℕ) (at : Core) (pending : ℕ) → At k c → (o : DispatchOutcome) → o.units ≤ n → o.pages ≤ p → (e : End) → AtAll (suc k) (after_dispatch y c k cause edata at.current pending o e)
+  by_outcome : (k : ℕ) (c : Cvm) (cause edata : ℕ) (at : Core) (pending : ℕ) → At k c → (o : DispatchOutcome) → o.units ≤ n → o.pages ≤ p → (e : DispatchEnd) → AtAll (suc k) (after_dispatch y c k cause edata at.current pending o e)
   by_outcome k c cause edata at pending h o units few = by
     where
       sum : (r : Row) → c.bound + (turn_steps (map_of y.boot) y.longest + (enter_steps + leave_steps + run_steps (map_of y.boot) y.longest o.units o.pages)) ≤ steps_for y (suc k) (length (c.rows ++ r ∷ [])) n p
@@ -91,7 +91,7 @@ module _ (y : System) (u : CUnit) (is : y.boot.meaning ≡ kernel_meaning u y.bo
           (enter_steps + leave_steps + run_steps (map_of y.boot) y.longest o.units o.pages)
           (let less = run_less o.units n o.pages p (page_steps (map_of y.boot) y.longest) units few in omega (arith, less)) h)
 
-      by : (e : End) → AtAll (suc k) (after_dispatch y c k cause edata at.current pending o e)
+      by : (e : DispatchEnd) → AtAll (suc k) (after_dispatch y c k cause edata at.current pending o e)
       by (Answers a) = sum _
       by (Faults f) = sum _
       by NotYet = tt
@@ -125,7 +125,7 @@ module _ (y : System) (n : ℕ) (lines : ℕ → ℕ) where
   Few k None = Unit {0}
   Few k (Some c) = length c.rows ≤ k
 
-  few_dispatch : (k : ℕ) (c : Cvm) (cause edata : ℕ) (at : Core) (pending : ℕ) → length c.rows ≤ k → (o : DispatchOutcome) (e : End) → Few (suc k) (after_dispatch y c k cause edata at.current pending o e)
+  few_dispatch : (k : ℕ) (c : Cvm) (cause edata : ℕ) (at : Core) (pending : ℕ) → length c.rows ≤ k → (o : DispatchOutcome) (e : DispatchEnd) → Few (suc k) (after_dispatch y c k cause edata at.current pending o e)
   few_dispatch k c cause edata at pending h o (Answers a) = one_more_row k c.rows _ h
   few_dispatch k c cause edata at pending h o (Faults f) = one_more_row k c.rows _ h
   few_dispatch k c cause edata at pending h o NotYet = tt

@@ -3,9 +3,9 @@ use Rattle.std.proofs.Common.{◌≡◌, ℕ, zero, suc, ◌+◌, ◌≤◌, Boo
 use Rattle.std.specs.Prelude.{bit_or, ◌==◌, if◌then◌else◌}
 use Rattle.mips_table.specs.declared.cause.Cause.{Cause}
 use Rattle.mips_table.specs.declared.cause.Cause.TheVariants as causes
-use Rattle.mips_table.specs.Machine.{number_of}
-use Rattle.mips_table.specs.Flat.{VStep, Next as Goes, Trap, vstep}
-use Rattle.cvm_model.specs.Kernel.{Core, End, Answers, Faults, NotYet}
+use Rattle.mips_table.specs.Machine.{cause_number}
+use Rattle.mips_table.specs.Flat.{VStep, Goes, Trap, vstep}
+use Rattle.cvm_model.specs.Kernel.{Core, DispatchEnd, Answers, Faults, NotYet}
 use Rattle.cvm_model.specs.Primitives.{user_of}
 use Rattle.cvm_model.specs.Cvm.{System, Cvm, Status, Running, Halted, Faulted, Interrupts, user_step, begun, cvm, turn, turn_by, dispatch_of, after_dispatch}
 use Rattle.cvm_model.specs.Invariant.{Dispatch, made_by, of_begin, of_status, of_turn, dispatches_of, IsTrap}
@@ -17,7 +17,7 @@ use Rattle.run_bounds.specs.Lines.{are_some, turns_with_lines, LinesTakenAreFew}
 abbrev some : ℕ → ℕ
 some n = if are_some n then 1 else 0
 
-is_trap : (c : Cause) → IsTrap c → (number_of c == 1) ≡ false
+is_trap : (c : Cause) → IsTrap c → (cause_number c == 1) ≡ false
 is_trap causes.Reset h = absurd h
 is_trap causes.External h = absurd h
 is_trap causes.FetchAlign h = refl
@@ -43,7 +43,7 @@ module _ (y : System) (lines : ℕ → ℕ) (n : ℕ) where
 
   -- a dispatch, which leaves so many pending
   after : (k cause edata : ℕ) (past : List Dispatch) (c : Cvm) (at : Core) (pending : ℕ) → lines_taken past + (if cause == 1 then 1 else 0) + some pending ≤ turns_with_lines lines (suc k)
-      → (e : End) → At (suc k) (past ++ made_by y n k cause edata at (dispatch_of y n cause edata at) ∷ []) (after_dispatch y c k cause edata at.current pending (dispatch_of y n cause edata at) e)
+      → (e : DispatchEnd) → At (suc k) (past ++ made_by y n k cause edata at (dispatch_of y n cause edata at) ∷ []) (after_dispatch y c k cause edata at.current pending (dispatch_of y n cause edata at) e)
   after k cause edata past c at pending h (Answers a) = let l = lines_join past (made_by y n k cause edata at (dispatch_of y n cause edata at)) in omega (arith, l, h)
   after k cause edata past c at pending h (Faults f) = let l = lines_join past (made_by y n k cause edata at (dispatch_of y n cause edata at)) in omega (arith, l, h)
   after k cause edata past c at pending h NotYet = tt
@@ -76,7 +76,7 @@ module _ (y : System) (lines : ℕ → ℕ) (n : ℕ) where
   stepped k past c (Goes f) t h =
       subst (λ p. At (suc (suc k)) p (begun y n (suc k) c (user_step c.core (Goes f)))) (sym (append_none past)) (let g = grows (suc k) in omega (arith, g, h))
   stepped k past c (Trap f cause edata) t h =
-      after (suc k) (number_of cause) edata past c _ 0 (not_taken (suc k) past c (number_of cause == 1) (is_trap cause t) h) (dispatch_of y n (number_of cause) edata _).end
+      after (suc k) (cause_number cause) edata past c _ 0 (not_taken (suc k) past c (cause_number cause == 1) (is_trap cause t) h) (dispatch_of y n (cause_number cause) edata _).end
 
   begins : (k : ℕ) (past : List Dispatch) (c : Cvm) → lines_taken past + some c.pending ≤ turns_with_lines lines (suc k) → (b : Bool) → (bit_or c.pending (lines (suc k)) == 0) ≡ b
       → let v = if b then user_step c.core (vstep (user_of c.core.users c.core.current)) else Interrupts 1 (bit_or c.pending (lines (suc k))) c.core 0 in

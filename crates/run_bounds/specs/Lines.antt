@@ -1,8 +1,8 @@
 -- How many turns of a run take lines.
 use Rattle.std.specs.Prelude.{◌≡◌, ℕ, zero, suc, ◌+◌, ◌≤◌, ◌==◌, Bool, not, if◌then◌else◌, Some, length}
-use Rattle.mips_table.specs.Device.{Outside}
+use Rattle.mips_table.specs.Device.{Environment}
 use Rattle.mips_table.specs.Machine.{State}
-use Rattle.mips_table.specs.Turns.{lines_of}
+use Rattle.mips_table.specs.Turns.{lines_of_turn}
 use Rattle.schedule_file.specs.Rows.{Rows}
 use Rattle.mips_machine.specs.Steps.{outside_of}
 use Rattle.cvm_model.specs.Cvm.{System, Cvm, cvm}
@@ -23,16 +23,16 @@ abbrev pub turns_with_lines : (ℕ → ℕ) → ℕ → ℕ
 turns_with_lines lines turns = count_below (λ k. are_some (lines k)) turns
 
 -- how many steps there are, from a moment on, at which lines are raised
-abbrev pub steps_with_lines : Outside → (time steps : ℕ) → ℕ
+abbrev pub steps_with_lines : Environment → (time steps : ℕ) → ℕ
 steps_with_lines x time steps = count_below (λ t. are_some (x.lines (time + t))) steps
 
 -- FEW TURNS HAVE LINES: the lines of a step belong to one turn
 abbrev pub LinesAreFew : Type 0
-LinesAreFew = (x : Outside) (s : State) (turns : ℕ) → turns_with_lines (lines_of x s) turns ≤ steps_with_lines x s.time (suc x.last)
+LinesAreFew = (x : Environment) (s : State) (turns : ℕ) → turns_with_lines (lines_of_turn x s) turns ≤ steps_with_lines x s.time (suc x.last)
 
 -- and a step at which some are raised has a `line` row of the schedule
 abbrev pub RaisedLinesAreFew : Type 0
-RaisedLinesAreFew = (rows : Rows) (count : ℕ) (s : State) (turns : ℕ) → turns_with_lines (lines_of (outside_of rows count) s) turns ≤ length rows.lines
+RaisedLinesAreFew = (rows : Rows) (count : ℕ) (s : State) (turns : ℕ) → turns_with_lines (lines_of_turn (outside_of rows count) s) turns ≤ length rows.lines
 
 -- EACH DISPATCH THAT TAKES LINES has a turn that has some: so many are made in k turns at most
 abbrev pub LinesTakenAreFew : Type 0

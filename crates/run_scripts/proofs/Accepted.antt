@@ -11,9 +11,9 @@ use Rattle.cvm_words.specs.Bytes.{word}
 use Rattle.real_layer.specs.Image.{layer_image}
 use Rattle.c0_tree.specs.Tree.{CUnit}
 use Rattle.c0_tree.specs.declared.primitive.Program.{Program}
-use Rattle.c0_types.specs.Front.{IsAnswer}
+use Rattle.c0_types.specs.Front.{IsFrontAnswer}
 use Rattle.c0_types.specs.declared.source_fault.SourceFault.{SourceFault}
-use Rattle.boot_image.specs.Parts.{Parts as Image}
+use Rattle.boot_image.specs.Parts.{ImageParts as Image}
 use Rattle.boot_image.specs.Format.{IsInRange, fields, spelling}
 use Rattle.boot_image.specs.Reading.{answer as image_of, AnswersAreSpelled}
 use Rattle.boot_image.specs.declared.fault.ImageFault.{ImageFault}
@@ -24,11 +24,11 @@ use Rattle.kernel_linker.specs.Open.{◌>>=◌, open_answer}
 use Rattle.kernel_linker.specs.Linked.{linked, sizes_of}
 use Rattle.kernel_linker.specs.declared.fault.AcceptFault.{AcceptFault}
 use Rattle.kernel_linker.specs.declared.fault.LinkFault.{LinkFault}
-use Rattle.object_file.specs.Parts.{Parts as Object}
+use Rattle.object_file.specs.Parts.{ObjectParts as Object}
 use Rattle.schedule_file.specs.Rows.{Rows}
 use Rattle.schedule_file.specs.Schedule.{schedule_of}
 use Rattle.schedule_file.specs.declared.fault.ScheduleFault.{ScheduleFault}
-use Rattle.sample_maker.specs.Parts.{Parts as Sampled}
+use Rattle.sample_maker.specs.Parts.{SampleParts as Sampled}
 use Rattle.sample_maker.specs.Sample.{sample_of, user_count, base_of}
 use Rattle.sample_maker.specs.Source.{pattern, filled, filled_byte}
 use Rattle.saved_file.specs.declared.fault.SaveFault.{SaveFault}
@@ -71,7 +71,7 @@ pub record IsAccepted (s : ImageSystem) (rows : Rows) : Type 0 where
   pub image : Image
   pub in_range : IsInRange image
   pub front : Result CUnit SourceFault
-  pub answers : IsAnswer image.source front
+  pub answers : IsFrontAnswer image.source front
   pub due : ◌≡◌ {A = Result ImageSystem AcceptFault} (Ok s) (accept_answer layer_image image front)
   pub text : List ℕ
   pub valid : schedule_of text ≡ Ok rows

@@ -2,9 +2,9 @@
 use Rattle.std.specs.Prelude.{⊤, Option, Some, None, slice_set, if◌then◌else◌}
 use Rattle.std.proofs.Common.{◌≡◌, ℕ, zero, suc, ◌+◌, ◌<◌, ◌≤◌, length, Bool, true, false, List, [], ◌∷◌, ◌++◌, refl, sym, ap, ◌∙◌, subst, arith, get_or-set_other}
 use Rattle.cvm_outside.specs.Told.{with_sector}
-use Rattle.mips_table.specs.Device.{Outside as Around, Pending, Idle, Reading, Writing}
+use Rattle.mips_table.specs.Device.{Environment, Pending, Idle, Reading, Writing}
 use Rattle.mips_table.specs.Machine.{State}
-use Rattle.mips_machine.specs.Steps.{before_count, due, due_if}
+use Rattle.mips_machine.specs.Steps.{before_count, script_of_step, due_if}
 use Rattle.page_model.specs.Paging.{Pages}
 use Rattle.sector_disk.specs.Ports.{transfer_script}
 use Rattle.layer_contract.specs.Starts.{Beyond}
@@ -14,7 +14,7 @@ use Rattle.boot_turns.specs.StepScript.{entry_script}
 use Rattle.boot_run.specs.LoadScript.{load_script, page_script as load_page}
 use Rattle.boot_run.specs.Loading.{words_of_page}
 use Rattle.cvm_outside.specs.Outside.{Outside, Drive}
-use Rattle.cvm_outside.specs.Script.{Call, Printed, Read, Wrote, Got, Stored, Who, TheDisk, Performs, done, breaks, goes_on, Does, Fails, IsQuiet, scripts}
+use Rattle.cvm_outside.specs.Script.{Call, Printed, Read, Wrote, Got, Stored, Who, TheDisk, Performs, done, breaks, goes_on, CallDone, CallFailed, WritesNoSector, scripts}
 use Rattle.cvm_outside.proofs.Putting.{scripts-none, scripts-suc, unwritten}
 use Rattle.boot_run.specs.Closing.{closing_script}
 use Rattle.run_scripts.specs.Faults.{KeepsBehind, Stand, AfterDisk, in_load, in_transfer, in_rows, in_report, AfterSink}
@@ -63,14 +63,14 @@ module _ (held : ℕ) where
     beyond = λ j le. get_or-set_other ss q j words [] (λ same. absurd (omega (arith, lt, le, same)));
   }
 
-  torn_behind : (c : Call) (rest : List Call) (ss : List (List ℕ)) (old new : Outside) → WritesBelow held (c ∷ rest) → Fails c old new → old.disk.sectors ≡ Some ss → KeepsBehind held ss new
+  torn_behind : (c : Call) (rest : List Call) (ss : List (List ℕ)) (old new : Outside) → WritesBelow held (c ∷ rest) → CallFailed c old new → old.disk.sectors ≡ Some ss → KeepsBehind held ss new
   torn_behind (Printed t) rest ss old new w f s = same_behind ss old new (ap (λ (o : Outside). o.disk.sectors) f.2) s
   torn_behind (Read q) rest ss old new w f s = same_behind ss old new (ap (λ (o : Outside). o.disk.sectors) f.1) s
   torn_behind (Wrote q ws) rest ss old new w f s = put_behind ss q f.1.0 old new w.0 (ap (λ (o : Outside). o.disk.sectors) f.1.1) s
   torn_behind (Got n) rest ss old new w f s = same_behind ss old new (ap (λ (o : Outside). o.disk.sectors) f.2) s
   torn_behind (Stored n bs) rest ss old new w f s = same_behind ss old new (ap (λ (o : Outside). o.disk.sectors) f.3) s
 
-  more_behind : (c : Call) (rest : List Call) (ss : List (List ℕ)) (old mid : Outside) → WritesBelow held (c ∷ rest) → Does c old mid → old.disk.sectors ≡ Some ss → WritesBelow held rest × KeepsBehind held ss mid
+  more_behind : (c : Call) (rest : List Call) (ss : List (List ℕ)) (old mid : Outside) → WritesBelow held (c ∷ rest) → CallDone c old mid → old.disk.sectors ≡ Some ss → WritesBelow held rest × KeepsBehind held ss mid
   more_behind (Printed t) rest ss old mid w d s = (w, same_behind ss old mid (ap (λ (o : Outside). o.disk.sectors) d.1) s)
   more_behind (Read q) rest ss old mid w d s = (w, same_behind ss old mid (ap (λ (o : Outside). o.disk.sectors) d.0) s)
   more_behind (Wrote q ws) rest ss old mid w d s = (w.1, put_behind ss q ws old mid w.0 (ap (λ (o : Outside). o.disk.sectors) d.0) s)
@@ -101,8 +101,8 @@ torn_transfer (Writing zero q) buffer ss mid new s (breaks c rest _ _ f) =
     record { sectors = slice_set ss q f.1.0; are = ap (λ (o : Outside). o.disk.sectors) f.1.1 ∙ ap (λ (o : Option (List (List ℕ))). with_sector o q f.1.0) s; torn = (f.1.0, refl) }
 torn_transfer (Writing zero q) buffer ss mid new s (goes_on c rest _ at _ _ d p) = absurd (not_none at new TheDisk p)
 
-torn_due : (x : Around) (s : State) (mid new : Outside) → s.off ≡ None → mid.disk.sectors ≡ Some s.device.sectors → Performs (due x s) mid new (Some TheDisk) → TornTo new (Torn x s)
-unfolding due
+torn_due : (x : Environment) (s : State) (mid new : Outside) → s.off ≡ None → mid.disk.sectors ≡ Some s.device.sectors → Performs (script_of_step x s) mid new (Some TheDisk) → TornTo new (Torn x s)
+unfolding script_of_step
 torn_due x s mid new on e p =
     torn_transfer (before_count x s).pending (before_count x s).buffer s.device.sectors mid new e
     (subst (λ (o : Option ℕ). Performs (due_if x s o) mid new (Some TheDisk)) on p)
@@ -126,6 +126,6 @@ module _ (count : TurnLaws) (r : Run) (held : ℕ) (before : List (List ℕ)) (s
       record { sectors = h.sectors; are = h.are; beyond = torn t h.sectors (on_before count r t lt) h.torn }
   disk_behind pages torn R p old new e (in_rows u t k mid v lt less s n q w) =
       stand_behind (suc t) new (omega (arith, lt))
-      (unwritten (entry_script r p u t (length (p.shown t) + k)) mid new (Some TheDisk) (of_row IsQuiet quiet r p u t (length (p.shown t) + k)) q ∙ s)
+      (unwritten (entry_script r p u t (length (p.shown t) + k)) mid new (Some TheDisk) (of_row WritesNoSector quiet r p u t (length (p.shown t) + k)) q ∙ s)
   disk_behind pages torn R p old new e (in_report mid g s n h q w) =
-      stand_behind (steps_made r) new (omega arith) (unwritten (closing_script r p) mid new (Some TheDisk) (of_report IsQuiet quiet r.view r p (steps_made r)) q ∙ s)
+      stand_behind (steps_made r) new (omega arith) (unwritten (closing_script r p) mid new (Some TheDisk) (of_report WritesNoSector quiet r.view r p (steps_made r)) q ∙ s)

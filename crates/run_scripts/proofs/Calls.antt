@@ -9,7 +9,7 @@ use Rattle.cvm_shell.specs.declared.boot.Session.{Session}
 use Rattle.cvm_shell.specs.Command.{Command, IsCommand, save, resume, save_session}
 use Rattle.cvm_shell.specs.Plan.{Plan}
 use Rattle.cvm_outside.specs.Outside.{Outside}
-use Rattle.cvm_outside.specs.Script.{Call, Printed, Read, Wrote, Got, Stored, Who, Performs, done, breaks, goes_on, asks}
+use Rattle.cvm_outside.specs.Script.{Call, Printed, Read, Wrote, Got, Stored, Who, Performs, done, breaks, goes_on, disk_calls}
 use Rattle.boot_turns.specs.Runs.{Run, Past, steps_made, has_ended, cvm_at}
 use Rattle.cvm_shell.specs.Boot.{booted, sectors_needed}
 use Rattle.boot_turns.specs.StepScript.{steps_script}
@@ -173,7 +173,7 @@ pub plain_stays : (a : List Call) (old new : Outside) (b : Option Who) → Plain
 plain_stays a old new b h p n = files_stay None a old new b (subst (NamedBy None) (sym h.puts) tt) p n (none_named n)
 
 -- THE DISK stays where none of its calls is made
-pub disk_stays : (a : List Call) (old new : Outside) (b : Option Who) → asks a ≡ 0 → Performs a old new b → new.disk ≡ old.disk
+pub disk_stays : (a : List Call) (old new : Outside) (b : Option Who) → disk_calls a ≡ 0 → Performs a old new b → new.disk ≡ old.disk
 disk_stays a old new b h (done _) = refl
 disk_stays a old new b h (breaks (Printed t) rest _ _ f) = ap (λ (o : Outside). o.disk) f.2
 disk_stays a old new b h (breaks (Read q) rest _ _ f) = absurd (omega (arith, h))
@@ -187,11 +187,11 @@ disk_stays a old new b h (goes_on (Got m) rest _ mid _ _ d p) = disk_stays rest 
 disk_stays a old new b h (goes_on (Stored m bs) rest _ mid _ _ d p) = disk_stays rest mid new b h p ∙ ap (λ (o : Outside). o.disk) d.3
 
 pub quiet_plan : (words : List (List ℕ)) (p : Plan) (at : Outside) (script : List Call) (due : Status) → ((c : Command) → IsCommand words c → Loads c → ⊥) → Outcome words p → PlanAsks p at script due →
-    asks script ≡ 0
-quiet_plan words p at script due never (is_none n) a = ap asks a.0
-quiet_plan words p at script due never (is_refused d k r f) a = ap asks a.0
+    disk_calls script ≡ 0
+quiet_plan words p at script due never (is_none n) a = ap disk_calls a.0
+quiet_plan words p at script due never (is_refused d k r f) a = ap disk_calls a.0
 quiet_plan words p at script due never (is_booted d k l session s rows) a = absurd (never d k l)
 quiet_plan words p at script due never (saved_so d k s rows) a = absurd (never (save d) k tt)
 quiet_plan words p at script due never (is_resumed d k s rows machine) a = absurd (never (resume d) k tt)
-quiet_plan words p at script due never (is_put d k name bytes e) a = ap asks a.0
-quiet_plan words p at script due never (is_told d k text) a = ap asks a.0
+quiet_plan words p at script due never (is_put d k name bytes e) a = ap disk_calls a.0
+quiet_plan words p at script due never (is_told d k text) a = ap disk_calls a.0

@@ -1,6 +1,6 @@
 -- That the machine goes on, and with enough steps a run is done.
 use Rattle.std.proofs.Common.{◌≡◌, ◌⊎◌, inl, inr, ℕ, ◌≤◌, Bool, true, refl, ap, ◌∙◌, arith}
-use Rattle.mips_table.specs.Turns.{TurnLaws, IsEnd, is_end}
+use Rattle.mips_table.specs.Turns.{TurnLaws, IsTurnEnd, is_end}
 use Rattle.cvm_model.specs.Cvm.{Status as CvmStatus, Running, Halted, Faulted}
 use Rattle.cvm_shell.specs.declared.exit_status.Status.{Status}
 use Rattle.cvm_shell.specs.declared.exit_status.Status.TheVariants.{Done, KernelFault}
@@ -24,12 +24,12 @@ ended_status Halted = inl refl
 ended_status (Faulted f) = inr refl
 
 -- the first end is found within steps that are enough
-ended_within : TurnLaws → (r : Run) (t : ℕ) → IsEnd r.around r.first r.turns t → t ≤ r.steps → has_ended r ≡ true
+ended_within : TurnLaws → (r : Run) (t : ℕ) → IsTurnEnd r.around r.first r.turns t → t ≤ r.steps → has_ended r ≡ true
 ended_within count r t e le =
     let at : steps_made r ≡ t = count.ends r.around r.first r.turns r.steps t e le in
     ap (is_end r.around r.first r.turns) at ∙ e.here
 
-pub run_done : TurnLaws → (r : Run) (p : Past) (t : ℕ) → IsEnd r.around r.first r.turns t → t ≤ r.steps → (run_status r p ≡ Done) ⊎ (run_status r p ≡ KernelFault)
+pub run_done : TurnLaws → (r : Run) (p : Past) (t : ℕ) → IsTurnEnd r.around r.first r.turns t → t ≤ r.steps → (run_status r p ≡ Done) ⊎ (run_status r p ≡ KernelFault)
 run_done count r p t e le =
     let at : run_status r p ≡ status_of true (cvm_at r p (steps_made r)).status = ap (λ (b : Bool). status_of b (cvm_at r p (steps_made r)).status) (ended_within count r t e le) in
     by (ended_status (cvm_at r p (steps_made r)).status) at

@@ -9,11 +9,11 @@ use Rattle.mips_table.specs.declared.inst.Inst.{Inst}
 use Rattle.mips_table.specs.declared.inst.Inst.TheVariants.{Mfc0, Mtc0, Eret}
 use Rattle.mips_table.specs.Decoding.{decoding}
 use Rattle.mips_table.specs.Processor.{Cpu, Move, Ran, Loaded, Stored, Trapped, Privileged, is_aligned, move}
-use Rattle.mips_table.specs.Device.{Outside, POWER, port_write}
+use Rattle.mips_table.specs.Device.{Environment, POWER, port_write}
 use Rattle.mips_table.specs.Machine.{State, LOG, INPUT, Interrupt, interrupted, cleared, come_to, after_read, after_read_at, port_written, written, written_at, log_has_room, in_system, located, privileged, moved, fetch, fetched, access, coming}
 
 -- it stays whatever is written to one of these parts
-pub record Stays (x : Outside) (P : State → Type 0) : Type 0 where
+pub record Stays (x : Environment) (P : State → Type 0) : Type 0 where
   pub cpu : (s : State) (c : Cpu) → P s → P (record s { cpu = c })
   pub special : (s : State) (words : List ℕ) → P s → P (record s { special = words })
   pub memory : (s : State) (words : List ℕ) → P s → P (record s { memory = words })
@@ -24,7 +24,7 @@ pub record Stays (x : Outside) (P : State → Type 0) : Type 0 where
   pub reset : (s : State) → P s → P (record s { reset = false })
   pub off : (s : State) (power : Option ℕ) → P s → P (record s { off = power })
 
-module _ (x : Outside) (P : State → Type 0) (stays : Stays x P) where
+module _ (x : Environment) (P : State → Type 0) (stays : Stays x P) where
   -- A WORD that is written or read
   port_stays : (s : State) (k value : ℕ) → P s → P (port_written x s k value)
   port_stays s k value h = by (k == POWER) (k == LOG) (log_has_room s.log)

@@ -6,7 +6,7 @@ use Rattle.std.specs.Io.KnownBytes.{append_known}
 use Rattle.cvm_outside.specs.Told.{IsCutOff, retold}
 use Rattle.cvm_outside.specs.Numbering.{called}
 use Rattle.cvm_outside.specs.Outside.{Outside, Output, Drive, counts}
-use Rattle.cvm_outside.specs.Script.{Call, Who, TheSink, TheDisk, TheShelf, Performs, asks, stored}
+use Rattle.cvm_outside.specs.Script.{Call, Who, TheSink, TheDisk, TheShelf, Performs, disk_calls, sectors_after}
 use Rattle.cvm_outside.specs.ScriptLaws.{ScriptsTell, ScriptsStore, ScriptsBlame, ScriptsCount}
 use Rattle.cvm_outside.proofs.Parts.{append_known-nil}
 use Rattle.kernel_linker.specs.Accept.{ImageSystem}
@@ -94,7 +94,7 @@ called_by blame count old mid disk a at q =
     let c = count a mid at None q in
     record {
       faults = (blame a mid at None q TheDisk).same (λ e. cc) ∙ ap (λ (d : Drive). d.faults) disk;
-      calls = c.calls ∙ ap (λ (n : ℕ). called n (counts mid.disk)) c.which ∙ ap (λ (d : Drive). called (asks a) (counts d)) disk;
+      calls = c.calls ∙ ap (λ (n : ℕ). called n (counts mid.disk)) c.which ∙ ap (λ (d : Drive). called (disk_calls a) (counts d)) disk;
     }
 
 -- OF A RUN that words ask for, from where its files were got
@@ -121,7 +121,7 @@ module _ (tell : ScriptsTell) (store : ScriptsStore) (law : RunLaws) (words : Li
   calls_disk : AllOf TheDisk (load_of session s rows)
   calls_disk = load_calls_disk (pages_loaded session.start (booted s rows)) (sectors_needed session s rows)
 
-  makes : stored (load_of session s rows) before ≡ r.first.device.sectors
+  makes : sectors_after (load_of session s rows) before ≡ r.first.device.sectors
   makes = loads_store_the_start law words plan session s rows before old a
 
   stays : (t : ℕ) → t ≤ steps_made r → Beyond held before (state_at r t).device.sectors
@@ -223,7 +223,7 @@ module _ (blame : ScriptsBlame) (tell : ScriptsTell) (store : ScriptsStore) (cou
   silent : Tells load [] []
   silent = mute tell store law words plan session s rows before old h.mid a two.0 two.1
 
-  made : stored load before ≡ run.first.device.sectors
+  made : sectors_after load before ≡ run.first.device.sectors
   made = makes tell store law words plan session s rows before old h.mid a two.0 two.1
 
   behind : (t : ℕ) → t ≤ steps_made run → Beyond (sectors_needed session s rows) before (state_at run t).device.sectors

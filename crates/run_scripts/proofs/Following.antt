@@ -29,7 +29,7 @@ use Rattle.layer_contract.specs.Follows.{Follows, MadeFor, site_of}
 use Rattle.layer_contract.specs.Layer.{Laws, Linked, site_with}
 use Rattle.real_layer.specs.Image.{layer_image}
 use Rattle.real_layer.specs.Laws.{ImageLaws, ImageLinked}
-use Rattle.unit_runs.specs.Placed.{StandsAt, CodeStands}
+use Rattle.unit_runs.specs.Placed.{CodeStandsAt, CodeStands}
 use Rattle.unit_runs.specs.Runs.{IsLinked, UnitsCallsFollow, UnitsRunOverLayers}
 use Rattle.unit_runs.proofs.FirstCore.{same_sizes}
 use Rattle.kernel_linker.specs.Accept.{ImageSystem}
@@ -68,7 +68,7 @@ same_exit Bounds = refl
 same_exit DivZero = refl
 same_exit StackOut = refl
 
-as_piece : (u : CUnit) (first k : ℕ) (piece : List _) → StandsIn u first k piece → StandsAt (unit_code u first) k piece
+as_piece : (u : CUnit) (first k : ℕ) (piece : List _) → StandsIn u first k piece → CodeStandsAt (unit_code u first) k piece
 as_piece u first k piece s = (s.before, s.after, s.is, s.from, s.behind)
 
 code_stands : UnitsStand → (u : CUnit) (p : Places) (y : Site) → IsChecked u → ArePlacesOf u p → IsLinked u y → CodeStands u p y (unit_code u (dispatch_number u))

@@ -12,7 +12,7 @@ use Rattle.cvm_shell.specs.Boot.{booted, sectors_needed}
 use Rattle.cvm_shell.specs.Saves.{saved_row}
 use Rattle.cvm_outside.specs.Told.{retold}
 use Rattle.cvm_outside.specs.Outside.{Outside}
-use Rattle.cvm_outside.specs.Script.{Call, Printed, Stored, Who, Performs, stored}
+use Rattle.cvm_outside.specs.Script.{Call, Printed, Stored, Who, Performs, sectors_after}
 use Rattle.boot_turns.specs.Runs.{Run, Past, IsPast, state_at, steps_made, has_ended, cvm_at}
 use Rattle.boot_turns.specs.StepScript.{steps_script}
 use Rattle.boot_run.specs.Closing.{opening_script, closing_script}
@@ -102,11 +102,11 @@ module _ (law : ScriptLaws) (files : FileLaws) (words : List (List ℕ)) (c : Sa
         (tells_both load (opening_script r.view r.system) [] [] (text_at r p 0)
         (quiet_load (pages_loaded (save_session c).start (booted s rows)) (sectors_needed (save_session c) s rows) []) (opening_tells r its p is)) steps)
 
-    front_leaves : stored front before ≡ (state_at r (steps_made r)).device.sectors
+    front_leaves : sectors_after front before ≡ (state_at r (steps_made r)).device.sectors
     front_leaves =
         let all : 0 + steps_made r ≡ steps_made r = omega arith in
         stored-append load (steps_script r p 0 (steps_made r)) before
-        ∙ ap (stored (steps_script r p 0 (steps_made r))) (loads_store_the_start law.runs words _ (save_session c) s rows before old a)
+        ∙ ap (sectors_after (steps_script r p 0 (steps_made r))) (loads_store_the_start law.runs words _ (save_session c) s rows before old a)
         ∙ steps_leave law.runs.count r p 0 (steps_made r) (omega arith) ∙ ap (λ (i : ℕ). (state_at r i).device.sectors) all
 
     front_plain : Plain front
@@ -121,8 +121,8 @@ module _ (law : ScriptLaws) (files : FileLaws) (words : List (List ℕ)) (c : Sa
         tells_both front put [] (text_at r p (steps_made r)) (text_at r p (steps_made r) ++ saved_row) front_tells
         (record { text = saved_row; told = ap (λ (l : List ℕ). Some l) (append-nil saved_row); is = refl })
 
-    saved_leaves : stored (front ++ put) before ≡ (state_at r (steps_made r)).device.sectors
-    saved_leaves = stored-append front put before ∙ quiet_stores put tt (stored front before) ∙ front_leaves
+    saved_leaves : sectors_after (front ++ put) before ≡ (state_at r (steps_made r)).device.sectors
+    saved_leaves = stored-append front put before ∙ quiet_stores put tt (sectors_after front before) ∙ front_leaves
 
     saved_file : (mid new : Outside) → Performs (front ++ put) mid new None → new.shelf.file c.file ≡ retold (mid.shelf.file c.file) (saved_bytes r p)
     saved_file mid new q =

@@ -2,7 +2,7 @@
 use Rattle.std.specs.Prelude.{Some, not, nat_lt, ◌||◌, ◌==◌}
 use Rattle.std.proofs.Common.{◌≡◌, ℕ, zero, suc, ◌<◌, ◌≤◌, Bool, true, false, List, [], ◌++◌, length, refl, sym, ap, ◌∙◌, subst, arith, append-nil}
 use Rattle.std.proofs.lemmas.Bool.{cond-true, cond-false, le-ltb}
-use Rattle.mips_table.specs.Device.{Outside}
+use Rattle.mips_table.specs.Device.{Environment}
 use Rattle.mips_table.specs.Machine.{State, run}
 use Rattle.mips_table.specs.Turns.{in_user, is_on, rests, turn_of, complete, is_end}
 use Rattle.cvm_model.specs.Cvm.{Cvm}
@@ -41,7 +41,7 @@ or_left true b e = refl
 or_left false b e = absurd (cc)
 
 -- at the first end all turns that began are complete
-all_there : (x : Outside) (s : State) (k t : ℕ) → is_end x s k t ≡ true → ((j : ℕ) → j < t → is_end x s k j ≡ false) → complete x s t ≡ turn_of x s t
+all_there : (x : Environment) (s : State) (k t : ℕ) → is_end x s k t ≡ true → ((j : ℕ) → j < t → is_end x s k j ≡ false) → complete x s t ≡ turn_of x s t
 all_there x s k zero e before = refl
 all_there x s k (suc t) e before = by (rests (run x s (suc t))) refl
   where

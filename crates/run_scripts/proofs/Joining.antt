@@ -2,7 +2,7 @@
 use Rattle.std.specs.Prelude.{if◌then◌else◌}
 use Rattle.std.proofs.Common.{◌≡◌, ℕ, suc, ◌+◌, ◌-◌, ◌<◌, ◌≤◌, Bool, true, List, [], ◌++◌, length, drop, sym, ap, ap₂, ◌∙◌, subst, arith, append-nil, append_assoc}
 use Rattle.mips_table.specs.Turns.{TurnLaws}
-use Rattle.mips_machine.specs.Steps.{due}
+use Rattle.mips_machine.specs.Steps.{script_of_step}
 use Rattle.cvm_model.specs.Cvm.{Cvm, Status, Running, UnitsDontMatter}
 use Rattle.cvm_model.specs.Text.{rows_text}
 use Rattle.cvm_outside.specs.Script.{Call}
@@ -38,10 +38,10 @@ module _ (count : TurnLaws) (r : Run) (k a : ℕ) (few : k ≤ r.turns) (less : 
   module _ (p o : Past) (same : (t : ℕ) → t ≤ steps_made (cut r k a) → cvm_at (cut r k a) o t ≡ cvm_at r p t) where
     step_same : (t : ℕ) → t < steps_made (cut r k a) → step_script (cut r k a) o t ≡ step_script r p t
     step_same t lt =
-        let rows : Cvm → Cvm → List Call = λ c d. due r.around (state_at r t) ++ prints (rows_text (drop (length c.rows) d.rows)) in
-        ap (λ (v : View). due r.around (state_at r t) ++ rows_script v (cut r k a) o t) boot
+        let rows : Cvm → Cvm → List Call = λ c d. script_of_step r.around (state_at r t) ++ prints (rows_text (drop (length c.rows) d.rows)) in
+        ap (λ (v : View). script_of_step r.around (state_at r t) ++ rows_script v (cut r k a) o t) boot
         ∙ ap₂ rows (same t (omega (arith, lt))) (same (suc t) (omega (arith, lt)))
-        ∙ sym (ap (λ (v : View). due r.around (state_at r t) ++ rows_script v r p t) boot)
+        ∙ sym (ap (λ (v : View). script_of_step r.around (state_at r t) ++ rows_script v r p t) boot)
 
     steps_same : steps_script (cut r k a) o 0 (steps_made (cut r k a)) ≡ steps_script r p 0 (steps_made (cut r k a))
     steps_same = scripts-same (λ i. step_script (cut r k a) o (0 + i)) (λ i. step_script r p (0 + i)) (steps_made (cut r k a))

@@ -1,4 +1,4 @@
-mod Same
+mod EqualTraces
 pub mod Keeps
 pub mod Joins
 pub mod Whole

@@ -2,10 +2,10 @@
 use Rattle.std.specs.Prelude.{Option, Some, None, ◌==◌, if◌then◌else◌}
 use Rattle.std.proofs.Common.{ℕ, zero, suc, ◌+◌, ◌-◌, ◌/◌, ◌%◌, Bool, true, false, List, [], ◌∷◌, ◌++◌, length, drop, sym, subst}
 use Rattle.layer_map.specs.Map.{Map}
-use Rattle.mips_table.specs.Device.{Outside, Pending, Idle, Reading, Writing}
+use Rattle.mips_table.specs.Device.{Environment, Pending, Idle, Reading, Writing}
 use Rattle.mips_table.specs.Flat.{Flat}
 use Rattle.mips_table.specs.Machine.{State}
-use Rattle.mips_machine.specs.Steps.{before_count, due, due_if}
+use Rattle.mips_machine.specs.Steps.{before_count, script_of_step, due_if}
 use Rattle.page_model.specs.Paging.{Pages}
 use Rattle.cvm_model.specs.Cvm.{System, Cvm, Status, Running, Halted, Faulted, map_of}
 use Rattle.cvm_model.specs.Kernel.{JournalEntry, Put}
@@ -95,8 +95,8 @@ module _ (P : List Call → Type 0) (c : Closed P) where
     of_transfer (Writing zero q) buffer = write q buffer
     of_transfer (Writing (suc n) q) buffer = c.none
 
-    of_due : (x : Outside) (s : State) → P (due x s)
-    unfolding due
+    of_due : (x : Environment) (s : State) → P (script_of_step x s)
+    unfolding script_of_step
     of_due x s = by s.off
       where
         by : (o : Option ℕ) → P (due_if x s o)
@@ -104,11 +104,11 @@ module _ (P : List Call → Type 0) (c : Closed P) where
         by (Some word) = c.none
 
     pub of_steps : (r : Run) (p : Past) (t n : ℕ) → P (steps_script r p t n)
-    of_steps r p t n = of_scripts (λ i. step_script r p (t + i)) n (λ i. c.both (due r.around (state_at r (t + i))) (rows_script r.view r p (t + i)) (of_due r.around (state_at r (t + i))) (of_rows r.view r p (t + i)))
+    of_steps r p t n = of_scripts (λ i. step_script r p (t + i)) n (λ i. c.both (script_of_step r.around (state_at r (t + i))) (rows_script r.view r p (t + i)) (of_due r.around (state_at r (t + i))) (of_rows r.view r p (t + i)))
 
     pub of_untold : (r : Run) → P (untold_steps r)
-    of_untold r = of_scripts (λ t. due r.around (state_at r t) ++ Printed None ∷ []) (steps_made r)
-        (λ t. c.both (due r.around (state_at r t)) (Printed None ∷ []) (of_due r.around (state_at r t)) (c.print None))
+    of_untold r = of_scripts (λ t. script_of_step r.around (state_at r t) ++ Printed None ∷ []) (steps_made r)
+        (λ t. c.both (script_of_step r.around (state_at r t)) (Printed None ∷ []) (of_due r.around (state_at r t)) (c.print None))
 
     pub of_load : (pages : Pages) (held : ℕ) → P (load_script pages held)
     of_load pages held = of_scripts (load_page pages) held (λ q. of_if (pages.live q) (Wrote q (words_of_page pages q) ∷ []) (write q _))

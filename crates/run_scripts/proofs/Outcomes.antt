@@ -6,17 +6,17 @@ use Rattle.layer_map.specs.declared.params.Params.{Params}
 use Rattle.c0_tree.specs.Tree.{CUnit}
 use Rattle.c0_tree.specs.declared.primitive.Program.{Program}
 use Rattle.c0_types.specs.declared.source_fault.SourceFault.{SourceFault}
-use Rattle.boot_image.specs.Parts.{Parts as Image}
+use Rattle.boot_image.specs.Parts.{ImageParts as Image}
 use Rattle.boot_image.specs.Format.{spelling}
 use Rattle.kernel_linker.specs.Accept.{ImageSystem}
 use Rattle.kernel_linker.specs.Open.{open_answer}
 use Rattle.kernel_linker.specs.declared.fault.AcceptFault.{AcceptFault}
 use Rattle.kernel_linker.specs.declared.fault.LinkFault.{LinkFault}
-use Rattle.object_file.specs.Parts.{Parts as Object}
+use Rattle.object_file.specs.Parts.{ObjectParts as Object}
 use Rattle.schedule_file.specs.Rows.{Rows}
 use Rattle.schedule_file.specs.Schedule.{schedule_of}
 use Rattle.schedule_file.specs.declared.fault.ScheduleFault.{ScheduleFault}
-use Rattle.sample_maker.specs.Parts.{Parts as Sampled}
+use Rattle.sample_maker.specs.Parts.{SampleParts as Sampled}
 use Rattle.sample_maker.specs.Sample.{sample_of}
 use Rattle.saved_file.specs.declared.fault.SaveFault.{SaveFault}
 use Rattle.saved_file.specs.declared.fault.SaveFault.TheVariants.{SaveTooLarge as FileTooLarge}

@@ -5,7 +5,7 @@ use Rattle.std.specs.Io.KnownBytes.{append_known}
 use Rattle.std.proofs.Common.{◌≡◌, ℕ, List, [], ◌∷◌, ◌++◌, ap, ◌∙◌, subst}
 use Rattle.cvm_outside.specs.Told.{retold}
 use Rattle.cvm_outside.specs.Outside.{Outside, Drive, Output}
-use Rattle.cvm_outside.specs.Script.{Call, Printed, Stored, Performs, done as all_done, goes_on, stored}
+use Rattle.cvm_outside.specs.Script.{Call, Printed, Stored, Performs, done as all_done, goes_on, sectors_after}
 use Rattle.cvm_outside.specs.ScriptLaws.{ScriptsBlame, ScriptsTell, ScriptsStore, PrintedBy}
 use Rattle.run_scripts.proofs.Keys.{RunLaws}
 use Rattle.run_scripts.proofs.Tells.{Tells}
@@ -33,10 +33,10 @@ says_text tell a old mid new before after h k p = record {
 }
 
 -- the sectors
-pub leaves_sectors : ScriptsStore → (a : List Call) (old mid new : Outside) (before after : List (List ℕ)) → old.disk.sectors ≡ Some before → stored a before ≡ after → mid.disk ≡ old.disk →
+pub leaves_sectors : ScriptsStore → (a : List Call) (old mid new : Outside) (before after : List (List ℕ)) → old.disk.sectors ≡ Some before → sectors_after a before ≡ after → mid.disk ≡ old.disk →
     Performs a mid new None → new.disk.sectors ≡ Some after
 leaves_sectors store a old mid new before after e s k p =
-    store a mid new p ∙ ap (λ (d : Drive). option_map (stored a) d.sectors) k ∙ ap (option_map (stored a)) e ∙ ap (λ (x : List (List ℕ)). Some x) s
+    store a mid new p ∙ ap (λ (d : Drive). option_map (sectors_after a) d.sectors) k ∙ ap (option_map (sectors_after a)) e ∙ ap (λ (x : List (List ℕ)). Some x) s
 
 -- a file, and a row behind it
 pub file_then_row : (name bytes row : List ℕ) (old new : Outside) → Performs (Stored name bytes ∷ Printed (Some row) ∷ []) old new None →

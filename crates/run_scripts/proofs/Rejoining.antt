@@ -13,7 +13,7 @@ use Rattle.cvm_shell.specs.Plan.{Plan, resumes, wanted_by}
 use Rattle.cvm_shell.specs.declared.boot.Session.{Session}
 use Rattle.cvm_shell.specs.Boot.{sectors_needed}
 use Rattle.cvm_outside.specs.Outside.{Outside}
-use Rattle.cvm_outside.specs.Script.{Who, Performs, stored}
+use Rattle.cvm_outside.specs.Script.{Who, Performs, sectors_after}
 use Rattle.boot_turns.specs.Runs.{Run, Past, IsPast, state_at, turns_at, steps_made, cvm_at}
 use Rattle.boot_run.specs.SavedRuns.{IsDisk}
 use Rattle.cvm_shell.specs.SessionRuns.{run_of}
@@ -125,8 +125,8 @@ module _ (law : ScriptLaws) (c d : Save) (words : List (List ℕ)) (s : ImageSys
         let z : Performs (rest_script r p (steps_made q)) h.mid new None = subst (λ (b : Option Who). Performs (rest_script r p (steps_made q)) h.mid new b) n j.0 in
         let t : Says (text_at r p (steps_made q)) (whole_text r p) old new =
         says_text law.tell (rest_script r p (steps_made q)) old h.mid new (text_at r p (steps_made q)) (whole_text r p) (rest_tells r its p past (steps_made q) no_later_made) k.1 z in
-        let leaves : stored (rest_script r p (steps_made q)) left ≡ (state_at r (steps_made r)).device.sectors =
-        ap (stored (rest_script r p (steps_made q))) left_there ∙ rest_leaves law.runs.count r p (steps_made q) no_later_made in
+        let leaves : sectors_after (rest_script r p (steps_made q)) left ≡ (state_at r (steps_made r)).device.sectors =
+        ap (sectors_after (rest_script r p (steps_made q))) left_there ∙ rest_leaves law.runs.count r p (steps_made q) no_later_made in
         record {
           past = p;
           is_past = past;

@@ -4,13 +4,13 @@ use Rattle.std.proofs.Common.{◌≡◌, ◌≢◌, ℕ, ◌+◌, ◌-◌, ◌�
 use Rattle.mips_table.specs.Machine.{State}
 use Rattle.mips_table.specs.Turns.{TurnLaws}
 use Rattle.mips_machine.specs.Saved.{SavedOnce}
-use Rattle.mips_machine.specs.Steps.{due}
+use Rattle.mips_machine.specs.Steps.{script_of_step}
 use Rattle.kernel_linker.specs.Accept.{ImageSystem}
 use Rattle.schedule_file.specs.Rows.{Rows}
 use Rattle.cvm_shell.specs.declared.boot.Session.{Session}
 use Rattle.cvm_shell.specs.Command.{resume, save_session}
 use Rattle.cvm_shell.specs.Plan.{resumes}
-use Rattle.cvm_outside.specs.Script.{Call, Printed, Read, Wrote, Got, Stored, Who, Performs, IsQuiet, stored}
+use Rattle.cvm_outside.specs.Script.{Call, Printed, Read, Wrote, Got, Stored, Who, Performs, WritesNoSector, sectors_after}
 use Rattle.cvm_outside.specs.ScriptLaws.{ScriptsBlame, ScriptsStore}
 use Rattle.boot_turns.specs.Runs.{Run, state_at, steps_made, has_ended}
 use Rattle.cvm_shell.specs.SessionRuns.{run_of}
@@ -34,7 +34,7 @@ one_run once session s rows words size sectors r q g h =
     h.is ∙ ap₂ made same.0 same.1 ∙ sym g.is
 
 -- ITS SCRIPT leaves the machine's sectors
-reads_quietly : (a : List Call) → AreReads a → IsQuiet a
+reads_quietly : (a : List Call) → AreReads a → WritesNoSector a
 reads_quietly [] h = tt
 reads_quietly (Read q ∷ a) h = reads_quietly a h
 reads_quietly (Printed None ∷ a) h = reads_quietly a h
@@ -43,10 +43,10 @@ reads_quietly (Wrote q ws ∷ a) h = absurd h
 reads_quietly (Got n ∷ a) h = absurd h
 reads_quietly (Stored n bs ∷ a) h = absurd h
 
-untold_leaves : TurnLaws → (r : Run) → stored (untold_steps r) r.first.device.sectors ≡ (state_at r (steps_made r)).device.sectors
+untold_leaves : TurnLaws → (r : Run) → sectors_after (untold_steps r) r.first.device.sectors ≡ (state_at r (steps_made r)).device.sectors
 untold_leaves count r =
-    stored_scripts (λ t. due r.around (state_at r t) ++ Printed None ∷ []) (λ t. (state_at r t).device.sectors) (steps_made r)
-    (λ t lt. stored-append (due r.around (state_at r t)) (Printed None ∷ []) (state_at r t).device.sectors ∙ step_stores r t (on_before count r t lt))
+    stored_scripts (λ t. script_of_step r.around (state_at r t) ++ Printed None ∷ []) (λ t. (state_at r t).device.sectors) (steps_made r)
+    (λ t lt. stored-append (script_of_step r.around (state_at r t)) (Printed None ∷ []) (state_at r t).device.sectors ∙ step_stores r t (on_before count r t lt))
 
 -- where it comes to no end its steps are spent
 all_spent : (made budget steps now then_ : ℕ) → made ≡ budget → budget ≡ steps - now → then_ ≡ now → steps ≤ then_ + made
@@ -69,9 +69,9 @@ resumes_go_on blame store count once words d s rows machine left old new status 
     let p : Performs (untold_steps t.run ++ t.report) h.mid new None =
     subst (λ (x : List Call). Performs x h.mid new None) t.script_is (subst (λ (b : Option Who). Performs h.script h.mid new b) n h.performs) in
     let from : t.run.first.device.sectors ≡ left = ap (λ (q : Run). q.first.device.sectors) t.goes_on.is ∙ t.goes_on.over in
-    let leaves : stored (untold_steps t.run ++ t.report) left ≡ (state_at t.run (steps_made t.run)).device.sectors =
-    stored-append (untold_steps t.run) t.report left ∙ quiet_stores t.report (reads_quietly t.report t.is_report.0) (stored (untold_steps t.run) left)
-    ∙ ap (stored (untold_steps t.run)) (sym from) ∙ untold_leaves count t.run in
+    let leaves : sectors_after (untold_steps t.run ++ t.report) left ≡ (state_at t.run (steps_made t.run)).device.sectors =
+    stored-append (untold_steps t.run) t.report left ∙ quiet_stores t.report (reads_quietly t.report t.is_report.0) (sectors_after (untold_steps t.run) left)
+    ∙ ap (sectors_after (untold_steps t.run)) (sym from) ∙ untold_leaves count t.run in
     record {
       run = t.run;
       goes_on = t.goes_on;

@@ -9,16 +9,16 @@ use Rattle.std.proofs.lemmas.List.{length-append}
 use Rattle.std.proofs.Math.Seq.{take-append_seam, take-append-add}
 use Rattle.cvm_outside.specs.Told.{AppendsPart}
 use Rattle.cvm_outside.specs.Outside.{Outside, Output}
-use Rattle.cvm_outside.specs.Script.{Call, Read, Who, TheSink, TheDisk, Performs, IsQuiet, scripts, spoken, stored}
+use Rattle.cvm_outside.specs.Script.{Call, Read, Who, TheSink, TheDisk, Performs, WritesNoSector, scripts, spoken, sectors_after}
 use Rattle.cvm_outside.specs.ScriptLaws.{ScriptsTell, ScriptsStore, PrintedBy}
 use Rattle.cvm_outside.proofs.Parts.{append_known-append}
 use Rattle.cvm_outside.proofs.Follow.{both}
 use Rattle.cvm_outside.proofs.Putting.{unwritten}
 use Rattle.layer_map.specs.Map.{Map}
-use Rattle.mips_table.specs.Device.{Outside as Around, Pending, Idle, Reading, Writing}
+use Rattle.mips_table.specs.Device.{Environment, Pending, Idle, Reading, Writing}
 use Rattle.mips_table.specs.Machine.{State}
-use Rattle.mips_table.specs.Turns.{IsEnd, complete, is_end, is_on, end_within}
-use Rattle.mips_machine.specs.Steps.{before_count, due, due_if}
+use Rattle.mips_table.specs.Turns.{IsTurnEnd, complete, is_end, is_on, end_within}
+use Rattle.mips_machine.specs.Steps.{before_count, script_of_step, due_if}
 use Rattle.sector_disk.specs.Ports.{transfer_script}
 use Rattle.cvm_model.specs.Cvm.{System, Cvm, Status, Running, Halted, Faulted, map_of}
 use Rattle.cvm_model.specs.Kernel.{JournalEntry, Put, parts_of}
@@ -63,10 +63,10 @@ module _ (tell : ScriptsTell) (store : ScriptsStore) (old : Outside) where
       subst (λ (m : Option (List ℕ)). IfSome m (PrintedBy None mid.sink.text at.sink.text)) w.told (tell a mid at None p)
       ∙ ap (λ (o : Option (List ℕ)). append_known o w.text) h ∙ append_known-append old.sink.text t w.text ∙ ap (append_known old.sink.text) (sym w.is)
 
-  pub more : (a : List Call) (mid at : Outside) (t u : List ℕ) (ss zz : List (List ℕ)) → Stands old mid t ss → Performs a mid at None → Tells a t u → stored a ss ≡ zz → Stands old at u zz
+  pub more : (a : List Call) (mid at : Outside) (t u : List ℕ) (ss zz : List (List ℕ)) → Stands old mid t ss → Performs a mid at None → Tells a t u → sectors_after a ss ≡ zz → Stands old at u zz
   more a mid at t u ss zz k p w e = record {
     text_is = text_more a mid at t u k.text_is p w;
-    are = store a mid at p ∙ ap (option_map (stored a)) k.are ∙ ap (λ (x : List (List ℕ)). Some x) e;
+    are = store a mid at p ∙ ap (option_map (sectors_after a)) k.are ∙ ap (λ (x : List (List ℕ)). Some x) e;
   }
 
   -- where it breaks off: the text up to there, whose front is a part, and the first of what it would tell
@@ -95,8 +95,8 @@ disk_transfer (Reading (suc n) q) buffer = tt
 disk_transfer (Writing zero q) buffer = (refl, tt)
 disk_transfer (Writing (suc n) q) buffer = tt
 
-disk_due : (x : Around) (s : State) → AllOf TheDisk (due x s)
-unfolding due
+disk_due : (x : Environment) (s : State) → AllOf TheDisk (script_of_step x s)
+unfolding script_of_step
 disk_due x s = by s.off
   where
     by : (o : Option ℕ) → AllOf TheDisk (due_if x s o)
@@ -196,7 +196,7 @@ module _ (r : Run) (k : Known r) (p : Past) (is : IsPast r p) where
           absurd (clash (is_end r.around r.first (suc (turns_at r t)) e) here (no_end (suc (turns_at r t)) e (omega (arith, before, lt)) (omega (arith, few))))
       by e here most (inr later) = let few = turns_up_to k.count r (suc t) e later in omega (arith, few, most, less)
 
-  ends_turn : (t : ℕ) → t < steps_made r → turns_at r t < turns_at r (suc t) → (turns_at r (suc t) ≡ suc (turns_at r t)) × IsEnd r.around r.first (turns_at r (suc t)) (suc t)
+  ends_turn : (t : ℕ) → t < steps_made r → turns_at r t < turns_at r (suc t) → (turns_at r (suc t) ≡ suc (turns_at r t)) × IsTurnEnd r.around r.first (turns_at r (suc t)) (suc t)
   ends_turn t lt less = (
     one_turn t lt less,
     record {
@@ -223,14 +223,14 @@ module _ (r : Run) (k : Known r) (p : Past) (is : IsPast r p) where
         more tell store old (steps_script r p t n) mid at (text_at r p t) (text_at r p (t + n)) (state_at r t).device.sectors (state_at r (t + n)).device.sectors h q
         (steps_tell r k p is t n le) (steps_leave k.count r p t n le)
 
-    due_done : (t : ℕ) (mid at : Outside) → t < steps_made r → At t mid → Performs (due r.around (state_at r t)) mid at None → Stands old at (text_at r p t) (state_at r (suc t)).device.sectors
+    due_done : (t : ℕ) (mid at : Outside) → t < steps_made r → At t mid → Performs (script_of_step r.around (state_at r t)) mid at None → Stands old at (text_at r p t) (state_at r (suc t)).device.sectors
     due_done t mid at lt h q =
-        more tell store old (due r.around (state_at r t)) mid at (text_at r p t) (text_at r p t) (state_at r t).device.sectors (state_at r (suc t)).device.sectors h q
-        (silent (due r.around (state_at r t)) (text_at r p t) (quiet_due r.around (state_at r t))) (step_stores r t (on_before k.count r t lt))
+        more tell store old (script_of_step r.around (state_at r t)) mid at (text_at r p t) (text_at r p t) (state_at r t).device.sectors (state_at r (suc t)).device.sectors h q
+        (silent (script_of_step r.around (state_at r t)) (text_at r p t) (quiet_due r.around (state_at r t))) (step_stores r t (on_before k.count r t lt))
 
     -- THE SINK FAILED in a step
     step_unsaid : (R : Type 0) (t : ℕ) (mid new : Outside) → t < steps_made r → At t mid → Performs (step_script r p t) mid new (Some TheSink) → AfterSink R r p old new
-    step_unsaid R t mid new lt h q = by (part (due r.around (state_at r t)) (rows_script r.view r p t) mid new TheSink q)
+    step_unsaid R t mid new lt h q = by (part (script_of_step r.around (state_at r t)) (rows_script r.view r p t) mid new TheSink q)
       where
         w : Tells (step_script r p t) (text_at r p t) (text_at r p (suc t))
         w = step_tells r k p is t lt
@@ -239,21 +239,21 @@ module _ (r : Run) (k : Known r) (p : Past) (is : IsPast r p) where
         grows e =
             let none : w.text ≡ [] = no_more (text_at r p t) w.text (e ∙ w.is) in
             silent_stays (step_script r p t) mid new
-            (loud_both (due r.around (state_at r t)) (rows_script r.view r p t) (loud_disk (due r.around (state_at r t)) (disk_due r.around (state_at r t))) (loud_rows r.view r p t))
+            (loud_both (script_of_step r.around (state_at r t)) (rows_script r.view r p t) (loud_disk (script_of_step r.around (state_at r t)) (disk_due r.around (state_at r t))) (loud_rows r.view r p t))
             (w.told ∙ ap (λ (l : List ℕ). Some l) none) q
 
-        by : Broken (due r.around (state_at r t)) (rows_script r.view r p t) mid new TheSink → AfterSink R r p old new
-        by (in_first z) = absurd (not_disk (blames TheDisk (due r.around (state_at r t)) mid new TheSink (disk_due r.around (state_at r t)) z))
+        by : Broken (script_of_step r.around (state_at r t)) (rows_script r.view r p t) mid new TheSink → AfterSink R r p old new
+        by (in_first z) = absurd (not_disk (blames TheDisk (script_of_step r.around (state_at r t)) mid new TheSink (disk_due r.around (state_at r t)) z))
         by (in_second at z rows) =
             fault.in_rows t lt grows (rows_end_turn t lt r.view grows)
-            (unwritten (rows_script r.view r p t) at new (Some TheSink) (of_rows IsQuiet quiet r.view r p t) rows ∙ (due_done t mid at lt h z).are)
+            (unwritten (rows_script r.view r p t) at new (Some TheSink) (of_rows WritesNoSector quiet r.view r p t) rows ∙ (due_done t mid at lt h z).are)
             (broken_within tell store old (step_script r p t) mid new TheSink (text_at r p t) [] (text_at r p t) (text_at r p (suc t)) [] (text_at r p (suc t)) h.text_is q w (sym (append-nil (text_at r p t))) (sym (append-nil (text_at r p (suc t)))))
 
     -- THE DISK FAILED in a step, with its calls counted from where the load began
     abbrev Counting : Outside → Type 0
     Counting begin = (a : List Call) (at : Outside) → Performs a begin at None → CalledBy a old at
 
-    entries_unread : (R : Type 0) (load : List Call) (begin : Outside) → Counting begin → (u t : ℕ) (at new : Outside) → Performs (up_to_step r load p t ++ due r.around (state_at r t)) begin at None → r.view ≡ Trace u → 1 ≤ u → u ≤ length r.system.boot.users → t < steps_made r →
+    entries_unread : (R : Type 0) (load : List Call) (begin : Outside) → Counting begin → (u t : ℕ) (at new : Outside) → Performs (up_to_step r load p t ++ script_of_step r.around (state_at r t)) begin at None → r.view ≡ Trace u → 1 ≤ u → u ≤ length r.system.boot.users → t < steps_made r →
         Stands old at (text_by (Trace u) r p t) (state_at r (suc t)).device.sectors → Performs (rows_script (Trace u) r p t) at new (Some TheDisk) → AfterDisk R r load p old new
     entries_unread R load begin count u t at new reached v some most lt h q = by (part (reads_of r p u t (length (p.shown t) + w.number)) (prints (row_behind (p.shown (suc t)) (length (p.shown t) + w.number))) w.mid new TheDisk w.breaks_off)
       where
@@ -286,30 +286,30 @@ module _ (r : Run) (k : Known r) (p : Past) (is : IsPast r p) where
         stand : Stand r (suc t) w.mid
         stand =
             unwritten (scripts (λ i. entry_script r p u t (length (p.shown t) + i)) w.number) at w.mid None
-            (of_scripts IsQuiet quiet (λ i. entry_script r p u t (length (p.shown t) + i)) w.number (λ i. of_row IsQuiet quiet r p u t (length (p.shown t) + i))) w.before ∙ h.are
+            (of_scripts WritesNoSector quiet (λ i. entry_script r p u t (length (p.shown t) + i)) w.number (λ i. of_row WritesNoSector quiet r p u t (length (p.shown t) + i))) w.before ∙ h.are
 
         by : Broken (reads_of r p u t (length (p.shown t) + w.number)) (prints (row_behind (p.shown (suc t)) (length (p.shown t) + w.number))) w.mid new TheDisk → AfterDisk R r load p old new
         by (in_first z) =
             in_rows u t w.number w.mid v lt less stand
             (count (up_to_row r load p u t w.number) w.mid
-            (both (up_to_step r load p t ++ due r.around (state_at r t)) (scripts (λ i. entry_script r p u t (length (p.shown t) + i)) w.number) begin at w.mid None reached w.before)) w.breaks_off (ap (λ (o : Output). o.text) (sink_stays (reads_of r p u t (length (p.shown t) + w.number)) w.mid new (Some TheDisk) (disk_reads r p u t (length (p.shown t) + w.number)) z) ∙ printed)
+            (both (up_to_step r load p t ++ script_of_step r.around (state_at r t)) (scripts (λ i. entry_script r p u t (length (p.shown t) + i)) w.number) begin at w.mid None reached w.before)) w.breaks_off (ap (λ (o : Output). o.text) (sink_stays (reads_of r p u t (length (p.shown t) + w.number)) w.mid new (Some TheDisk) (disk_reads r p u t (length (p.shown t) + w.number)) z) ∙ printed)
         by (in_second late z put) =
             absurd (not_disk (sym (blames TheSink (prints (row_behind (p.shown (suc t)) (length (p.shown t) + w.number))) late new TheDisk (sink_prints (row_behind (p.shown (suc t)) (length (p.shown t) + w.number))) put)))
 
     step_undone : (R : Type 0) (load : List Call) (begin : Outside) → Counting begin → (t : ℕ) (mid new : Outside) → Performs (up_to_step r load p t) begin mid None → t < steps_made r → At t mid → Performs (step_script r p t) mid new (Some TheDisk) → AfterDisk R r load p old new
-    step_undone R load begin count t mid new reached lt h q = by (part (due r.around (state_at r t)) (rows_script r.view r p t) mid new TheDisk q)
+    step_undone R load begin count t mid new reached lt h q = by (part (script_of_step r.around (state_at r t)) (rows_script r.view r p t) mid new TheDisk q)
       where
-        of_view : (v : View) → r.view ≡ v → SeesUser v (length r.system.boot.users) → (at : Outside) → Performs (up_to_step r load p t ++ due r.around (state_at r t)) begin at None →
+        of_view : (v : View) → r.view ≡ v → SeesUser v (length r.system.boot.users) → (at : Outside) → Performs (up_to_step r load p t ++ script_of_step r.around (state_at r t)) begin at None →
             Stands old at (text_by v r p t) (state_at r (suc t)).device.sectors → Performs (rows_script v r p t) at new (Some TheDisk) → AfterDisk R r load p old new
         of_view Boot e see at before s rows =
             let x : List ℕ = rows_text (drop (length (cvm_at r p t).rows) (cvm_at r p (suc t)).rows) in
             absurd (not_disk (sym (blames TheSink (prints x) at new TheDisk (sink_prints x) rows)))
         of_view (Trace u) e see at before s rows = entries_unread R load begin count u t at new before e see.0 see.1 lt s rows
 
-        by : Broken (due r.around (state_at r t)) (rows_script r.view r p t) mid new TheDisk → AfterDisk R r load p old new
+        by : Broken (script_of_step r.around (state_at r t)) (rows_script r.view r p t) mid new TheDisk → AfterDisk R r load p old new
         by (in_first z) =
-            in_transfer t mid lt h.are (count (up_to_step r load p t) mid reached) z (ap (λ (o : Output). o.text) (sink_stays (due r.around (state_at r t)) mid new (Some TheDisk) (disk_due r.around (state_at r t)) z) ∙ h.text_is)
-        by (in_second at z rows) = of_view r.view refl k.user at (both (up_to_step r load p t) (due r.around (state_at r t)) begin mid at None reached z) (due_done t mid at lt h z) rows
+            in_transfer t mid lt h.are (count (up_to_step r load p t) mid reached) z (ap (λ (o : Output). o.text) (sink_stays (script_of_step r.around (state_at r t)) mid new (Some TheDisk) (disk_due r.around (state_at r t)) z) ∙ h.text_is)
+        by (in_second at z rows) = of_view r.view refl k.user at (both (up_to_step r load p t) (script_of_step r.around (state_at r t)) begin mid at None reached z) (due_done t mid at lt h z) rows
 
     -- and in steps
     pub steps_unsaid : (R : Type 0) (t n : ℕ) (mid new : Outside) → t + n ≤ steps_made r → At t mid → Performs (steps_script r p t n) mid new (Some TheSink) → AfterSink R r p old new
@@ -334,7 +334,7 @@ module _ (r : Run) (k : Known r) (p : Past) (is : IsPast r p) where
 
     pub report_unsaid : (R : Type 0) (mid new : Outside) → R → has_ended r ≡ true → At (steps_made r) mid → Performs (closing_script r p) mid new (Some TheSink) → AfterSink R r p old new
     report_unsaid R mid new g e h q =
-        fault.in_report g (unwritten (closing_script r p) mid new (Some TheSink) (of_report IsQuiet quiet r.view r p (steps_made r)) q ∙ h.are)
+        fault.in_report g (unwritten (closing_script r p) mid new (Some TheSink) (of_report WritesNoSector quiet r.view r p (steps_made r)) q ∙ h.are)
         (broken_within tell store old (closing_script r p) mid new TheSink (text_at r p (steps_made r)) [] (text_at r p (steps_made r)) (ended_text r.view r p (steps_made r)) [] (whole_text r p) h.text_is q
         (closing_tells r k p is e) (sym (append-nil (text_at r p (steps_made r)))) (whole_is e))
 
@@ -422,7 +422,7 @@ module _ (r : Run) (k : Known r) (p : Past) (is : IsPast r p) where
         by (in_second at z w) = end at (counted at z) (steps_left 0 mid at (omega arith) h z) (has_ended r) refl w
 
     -- OF A LOAD, that calls the disk alone and makes the start
-    module _ (load : List Call) (before : List (List ℕ)) (disk : AllOf TheDisk load) (mute : Tells load [] []) (makes : stored load before ≡ r.first.device.sectors) where
+    module _ (load : List Call) (before : List (List ℕ)) (disk : AllOf TheDisk load) (mute : Tells load [] []) (makes : sectors_after load before ≡ r.first.device.sectors) where
       pub loaded : (mid at : Outside) → Stands old mid [] before → Performs load mid at None → Stands old at [] r.first.device.sectors
       loaded mid at h q = more tell store old load mid at [] [] before r.first.device.sectors h q mute makes
 
@@ -437,7 +437,7 @@ module _ (r : Run) (k : Known r) (p : Past) (is : IsPast r p) where
           more tell store old (load ++ opening_script r.view r.system) mid at [] (text_at r p 0) before r.first.device.sectors h q
           (tells_both load (opening_script r.view r.system) [] [] (text_at r p 0) mute (opening_tells r k p is))
           (stored-append load (opening_script r.view r.system) before
-          ∙ quiet_stores (opening_script r.view r.system) (of_opening IsQuiet quiet r.view r.system) (stored load before) ∙ makes)
+          ∙ quiet_stores (opening_script r.view r.system) (of_opening WritesNoSector quiet r.view r.system) (sectors_after load before) ∙ makes)
 
       opening_calls_sink : (v : View) → AllOf TheSink (opening_script v r.system)
       opening_calls_sink Boot = tt
@@ -449,7 +449,7 @@ module _ (r : Run) (k : Known r) (p : Past) (is : IsPast r p) where
           by : (v : View) → r.view ≡ v → Performs (opening_script v r.system) at new (Some TheSink) → AfterSink R r p old new
           by Boot v z = absurd (not_none at new TheSink z)
           by (Trace u) v z =
-              fault.in_opening u v (unwritten (opening_script r.view r.system) at new (Some TheSink) (of_opening IsQuiet quiet r.view r.system) q ∙ h.are)
+              fault.in_opening u v (unwritten (opening_script r.view r.system) at new (Some TheSink) (of_opening WritesNoSector quiet r.view r.system) q ∙ h.are)
               (broken_within tell store old (opening_script r.view r.system) at new TheSink [] [] [] (text_at r p 0) [] (text_at r p 0) h.text_is q (opening_tells r k p is) refl (sym (append-nil (text_at r p 0))))
 
       -- THE WHOLE RUN

@@ -3,7 +3,7 @@ use Rattle.std.specs.Prelude.{Option, Some, None, if◌then◌else◌}
 use Rattle.std.proofs.Common.{◌≡◌, ◌⊎◌, inl, inr, ℕ, ◌+◌, Bool, true, false, List, [], ◌∷◌, ◌++◌, refl, sym, ap, ◌∙◌, subst, arith, append-nil}
 use Rattle.cvm_outside.specs.Told.{IsCutOff, retold}
 use Rattle.cvm_outside.specs.Outside.{Outside}
-use Rattle.cvm_outside.specs.Script.{Call, Printed, Read, Wrote, Got, Stored, Who, TheSink, TheDisk, TheShelf, Performs, done as all_done, breaks, goes_on, Does, Fails, spoken, stored}
+use Rattle.cvm_outside.specs.Script.{Call, Printed, Read, Wrote, Got, Stored, Who, TheSink, TheDisk, TheShelf, Performs, done as all_done, breaks, goes_on, CallDone, CallFailed, spoken, sectors_after}
 use Rattle.cvm_outside.specs.ScriptLaws.{ScriptsTell, ScriptsStore}
 use Rattle.cvm_model.specs.Cvm.{Status as CvmStatus, Running, Halted, Faulted}
 use Rattle.boot_turns.specs.declared.answers.View.{View}
@@ -42,11 +42,11 @@ plain_spares a old new h p = spares_by a old new (Some TheShelf) h.gets h.puts p
 
 -- THE FILE AND THE ROW: the put fails, or the row behind it, or none
 data Leaves (name bytes row : List ℕ) (at new : Outside) : Option Who → Type 0 where
-  unput : Fails (Stored name bytes) at new → Leaves name bytes row at new (Some TheShelf)
-  unsaid : (mid : Outside) → Does (Stored name bytes) at mid → Fails (Printed (Some row)) mid new → Leaves name bytes row at new (Some TheSink)
+  unput : CallFailed (Stored name bytes) at new → Leaves name bytes row at new (Some TheShelf)
+  unsaid : (mid : Outside) → CallDone (Stored name bytes) at mid → CallFailed (Printed (Some row)) mid new → Leaves name bytes row at new (Some TheSink)
   all : Leaves name bytes row at new None
 
-row_leaves : (name bytes row : List ℕ) (at mid new : Outside) (b : Option Who) → Does (Stored name bytes) at mid → Performs (Printed (Some row) ∷ []) mid new b → Leaves name bytes row at new b
+row_leaves : (name bytes row : List ℕ) (at mid new : Outside) (b : Option Who) → CallDone (Stored name bytes) at mid → Performs (Printed (Some row) ∷ []) mid new b → Leaves name bytes row at new b
 row_leaves name bytes row at mid new b d (breaks c rest _ _ f) = unsaid mid d f
 row_leaves name bytes row at mid new b d (goes_on c rest _ end _ _ e p) = subst (Leaves name bytes row at new) (sym (nothing_blames end new b p)) all
 
@@ -62,15 +62,15 @@ not_left name bytes row at new b all e = cc
 -- the sink failed in the row
 record Unsaid (name bytes row : List ℕ) (at new : Outside) : Type 0 where
   pub mid : Outside
-  pub does : Does (Stored name bytes) at mid
-  pub fails : Fails (Printed (Some row)) mid new
+  pub does : CallDone (Stored name bytes) at mid
+  pub fails : CallFailed (Printed (Some row)) mid new
 
 when_unsaid : (name bytes row : List ℕ) (at new : Outside) (b : Option Who) → Leaves name bytes row at new b → b ≡ Some TheSink → Unsaid name bytes row at new
 when_unsaid name bytes row at new b (unput f) e = absurd (cc)
 when_unsaid name bytes row at new b (unsaid mid d f) e = record { mid = mid; does = d; fails = f }
 when_unsaid name bytes row at new b all e = absurd (cc)
 
-when_unput : (name bytes row : List ℕ) (at new : Outside) (b : Option Who) → Leaves name bytes row at new b → b ≡ Some TheShelf → Fails (Stored name bytes) at new
+when_unput : (name bytes row : List ℕ) (at new : Outside) (b : Option Who) → Leaves name bytes row at new b → b ≡ Some TheShelf → CallFailed (Stored name bytes) at new
 when_unput name bytes row at new b (unput f) e = f
 when_unput name bytes row at new b (unsaid mid d f) e = absurd (cc)
 when_unput name bytes row at new b all e = absurd (cc)
@@ -79,7 +79,7 @@ no_text : (text : List ℕ) → Some [] ≡ Some text → text ≡ []
 no_text text e = cc
 
 module _ (r : Run) (k : Known r) (p : Past) (is : IsPast r p) (tell : ScriptsTell) (store : ScriptsStore) (old : Outside) (load : List Call) (before : List (List ℕ)) (disk : AllOf TheDisk load)
-    (mute : Tells load [] []) (makes : stored load before ≡ r.first.device.sectors) (v : r.view ≡ Boot) (uncalled : Plain load) (name : List ℕ) where
+    (mute : Tells load [] []) (makes : sectors_after load before ≡ r.first.device.sectors) (v : r.view ≡ Boot) (uncalled : Plain load) (name : List ℕ) where
   -- a boot prints nothing before its first step
   starts_empty : text_at r p 0 ≡ []
   starts_empty =

@@ -3,9 +3,9 @@ use Rattle.std.proofs.Common.{◌≡◌, ℕ, suc, ◌-◌, ◌<◌, ◌≤◌, 
 use Rattle.std.specs.Prelude.{is_some, ◌&&◌, ◌≢◌}
 use Rattle.std.specs.List.{flat_map}
 use Rattle.cvm_words.specs.Bytes.{word}
-use Rattle.mips_table.specs.Device.{Outside}
+use Rattle.mips_table.specs.Device.{Environment}
 use Rattle.mips_table.specs.Machine.{State, run}
-use Rattle.mips_table.specs.Turns.{in_user, IsEnd, SumLaws}
+use Rattle.mips_table.specs.Turns.{in_user, IsTurnEnd, SumLaws}
 use Rattle.mips_machine.specs.Saved.{saved}
 use Rattle.mips_machine.specs.Steps.{outside_of}
 use Rattle.schedule_file.specs.Rows.{Rows}
@@ -16,7 +16,7 @@ use Rattle.cvm_model.specs.Text.{rows_text}
 use Rattle.layer_contract.specs.Layer.{Rests}
 use Rattle.layer_contract.specs.Follows.{loaded}
 use Rattle.boot_turns.specs.Premises.{StartsFrom}
-use Rattle.boot_turns.specs.TurnEnds.{RestsAfter, IsOver}
+use Rattle.boot_turns.specs.TurnEnds.{RestsAfter, TurnIsOver}
 use Rattle.boot_turns.specs.Runs.{Run, Past, IsPast, state_at, turns_at, steps_made, lines_met, cvm_at}
 use Rattle.saved_file.specs.Answer.{answer, SavedIsReadBack}
 use Rattle.boot_run.specs.SavedRuns.{SavedAt}
@@ -39,7 +39,7 @@ module _ (sums : SumLaws) (r : Run) (k : Known r) (p : Past) (is : IsPast r p) (
   now_is : IsCvm r.system (lines_met r) (turns_at r (steps_made r)) (cvm_at r p (steps_made r))
   now_is = is.turns (turns_at r (steps_made r)) (omega arith)
 
-  over : IsOver r.around r.system r.first r.turns (steps_made r) (cvm_at r p (steps_made r))
+  over : TurnIsOver r.around r.system r.first r.turns (steps_made r) (cvm_at r p (steps_made r))
   over = k.machines.ends r.turns r.steps (cvm_at r p (steps_made r)) now_is left.0
 
   pub all_turns : turns_at r (steps_made r) ≡ suc few
@@ -58,8 +58,8 @@ module _ (sums : SumLaws) (r : Run) (k : Known r) (p : Past) (is : IsPast r p) (
   on : (state_at r (steps_made r)).off ≡ None
   on = on_of (state_at r (steps_made r)).off (in_user (state_at r (steps_made r))) runs
 
-  first_end : IsEnd r.around r.first (suc few) (steps_made r)
-  first_end = subst (λ (i : ℕ). IsEnd r.around r.first i (steps_made r)) some (k.count.found r.around r.first r.turns r.steps left.0)
+  first_end : IsTurnEnd r.around r.first (suc few) (steps_made r)
+  first_end = subst (λ (i : ℕ). IsTurnEnd r.around r.first i (steps_made r)) some (k.count.found r.around r.first r.turns r.steps left.0)
 
   pub saved_at : SavedAt r.around r.system r.first (suc few) r.steps (saved_words r p) (state_at r (steps_made r)).device.sectors (rows_text (cvm_at r p (steps_made r)).rows)
   saved_at =
@@ -88,7 +88,7 @@ pub record FileLaws : Type 0 where
 
 module _ (law : FileLaws) (s : ImageSystem) (rows : Rows) (count : ℕ) (old : List (List ℕ)) (late held : ℕ)
     (starts : StartsFrom (IsTypedState s.unit) (outside_of rows count) (booted s rows) (loaded (booted s rows) old) late held) where
-  abbrev x : Outside
+  abbrev x : Environment
   x = outside_of rows count
 
   abbrev y : System
@@ -113,5 +113,5 @@ module _ (law : FileLaws) (s : ImageSystem) (rows : Rows) (count : ℕ) (old : L
       taken_up (r.turns - 1) r.steps turns (saved_words r p) _ _
       (subst (λ (z : State). SavedAt x y z (suc (r.turns - 1)) r.steps (saved_words r p) (state_at r (steps_made r)).device.sectors (rows_text (cvm_at r p (steps_made r)).rows)) first
       (subst (λ (w : System). SavedAt x w r.first (suc (r.turns - 1)) r.steps (saved_words r p) (state_at r (steps_made r)).device.sectors (rows_text (cvm_at r p (steps_made r)).rows)) system
-      (subst (λ (o : Outside). SavedAt o r.system r.first (suc (r.turns - 1)) r.steps (saved_words r p) (state_at r (steps_made r)).device.sectors (rows_text (cvm_at r p (steps_made r)).rows)) around a)))
+      (subst (λ (o : Environment). SavedAt o r.system r.first (suc (r.turns - 1)) r.steps (saved_words r p) (state_at r (steps_made r)).device.sectors (rows_text (cvm_at r p (steps_made r)).rows)) around a)))
       (omega (arith, some, more)) bits limit

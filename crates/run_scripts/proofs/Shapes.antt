@@ -5,7 +5,7 @@ use Rattle.cvm_outside.specs.Told.{TOO_LONG}
 use Rattle.cvm_shell.specs.Command.{Command, IsCommand, save, resume}
 use Rattle.cvm_shell.specs.Plan.{Plan, bad_words}
 use Rattle.cvm_outside.specs.Outside.{Outside}
-use Rattle.cvm_outside.specs.Script.{Call, Who, TheShelf, Performs, done as all_done, breaks, goes_on, asks}
+use Rattle.cvm_outside.specs.Script.{Call, Who, TheShelf, Performs, done as all_done, breaks, goes_on, disk_calls}
 use Rattle.cvm_shell.specs.Ends.{done, no_file, no_memory, GetsFor, all, up_to, Wants, files_of, gets}
 use Rattle.run_scripts.specs.Shapes.{PlansHaveShape, OthersStay, NothingIsLoaded, GetsComeFirst, EndsLong, were_got, ungot, wanting, file_put, puts_in}
 use Rattle.run_scripts.proofs.Calls.{shape_of, files_stay, disk_stays, quiet_plan}
@@ -22,7 +22,7 @@ gets_put : (names : List (List ℕ)) → puts_in (gets names) ≡ []
 gets_put [] = refl
 gets_put (n ∷ names) = gets_put names
 
-gets_ask : (names : List (List ℕ)) → asks (gets names) ≡ 0
+gets_ask : (names : List (List ℕ)) → disk_calls (gets names) ≡ 0
 gets_ask [] = refl
 gets_ask (n ∷ names) = gets_ask names
 

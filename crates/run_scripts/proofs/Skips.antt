@@ -6,13 +6,13 @@ use Rattle.std.proofs.lemmas.Bool.{cases_lt, eqb-true}
 use Rattle.mips_table.specs.declared.special.TheConstants.{SR}
 use Rattle.mips_table.specs.declared.cause.Cause.TheVariants.{Reset, External}
 use Rattle.mips_table.specs.Processor.{move}
-use Rattle.mips_table.specs.Device.{Outside}
+use Rattle.mips_table.specs.Device.{Environment}
 use Rattle.mips_table.specs.Machine.{State, Interrupt, come_to, moved, fetch, fetched, access, coming, latched, if_on, step, run}
-use Rattle.mips_table.specs.Turns.{is_on, in_user, handled, begins, rests, turn_of, complete, is_end, end_within, IsEnd, TurnLaws}
+use Rattle.mips_table.specs.Turns.{is_on, in_user, handled, begins_turn, rests, turn_of, complete, is_end, end_within, IsTurnEnd, TurnLaws}
 use Rattle.run_scripts.proofs.Effects.{Stays, coming_stays}
 
 -- NO EFFECT of an instruction latches the reset, and where it is latched the step takes it
-clear_stays : (x : Outside) → Stays x (λ s. s.reset ≡ false)
+clear_stays : (x : Environment) → Stays x (λ s. s.reset ≡ false)
 clear_stays x = record {
   cpu = λ s c e. e;
   special = λ s words e. e;
@@ -25,7 +25,7 @@ clear_stays x = record {
   off = λ s power e. e;
 }
 
-coming_clears : (x : Outside) (s : State) → (come_to (coming x s)).reset ≡ false
+coming_clears : (x : Environment) (s : State) → (come_to (coming x s)).reset ≡ false
 coming_clears x s = by s.reset refl
   where
     by : (b : Bool) → s.reset ≡ b → (come_to (coming x s)).reset ≡ false
@@ -33,11 +33,11 @@ coming_clears x s = by s.reset refl
         moved x (fetched s) (move (access s) s.cpu (fetch s)))).reset) e
     by false e = coming_stays x (λ t. t.reset ≡ false) (clear_stays x) s e
 
-step_clears : (x : Outside) (s : State) → s.off ≡ None → (step x s).reset ≡ false
+step_clears : (x : Environment) (s : State) → s.off ≡ None → (step x s).reset ≡ false
 unfolding step
 step_clears x s on = ap (λ (o : Option ℕ). (if_on x s o).reset) on ∙ coming_clears x (latched x s)
 
-off_stays : (x : Outside) (s : State) (word : ℕ) → s.off ≡ Some word → step x s ≡ s
+off_stays : (x : Environment) (s : State) (word : ℕ) → s.off ≡ Some word → step x s ≡ s
 unfolding step
 off_stays x s word off = ap (λ (o : Option ℕ). if_on x s o) off
 
@@ -52,8 +52,8 @@ never_off : (on begun : Bool) → on ≡ false → (on && begun) ≡ true → �
 never_off true begun e h = true≢false e
 never_off false begun e h = true≢false (sym h)
 
-begins_rests : (x : Outside) (s : State) (t : ℕ) → begins x (run x s (suc t)) ≡ true → rests (run x s (suc t)) ≡ true
-unfolding begins rests
+begins_rests : (x : Environment) (s : State) (t : ℕ) → begins_turn x (run x s (suc t)) ≡ true → rests (run x s (suc t)) ≡ true
+unfolding begins_turn rests
 begins_rests x s t h = by (run x s t).off refl
   where
     by : (o : Option ℕ) → (run x s t).off ≡ o → rests (run x s (suc t)) ≡ true
@@ -67,16 +67,16 @@ begins_rests x s t h = by (run x s t).off refl
 only_zero : (k : ℕ) → k ≤ 0 → 0 ≡ k
 only_zero k le = omega (arith, le)
 
-module _ (count : TurnLaws) (x : Outside) (s : State) where
+module _ (count : TurnLaws) (x : Environment) (s : State) where
   next_turn : (t : ℕ) → turn_of x s (suc t) ≤ complete x s t + 1
-  next_turn zero = by (begins x (run x s 0))
+  next_turn zero = by (begins_turn x (run x s 0))
     where
       by : (b : Bool) → (if b then 1 else 0) ≤ 0 + 1
       by true = omega arith
       by false = omega arith
-  next_turn (suc t) = by (begins x (run x s (suc t))) refl (next_turn t)
+  next_turn (suc t) = by (begins_turn x (run x s (suc t))) refl (next_turn t)
     where
-      by : (b : Bool) → begins x (run x s (suc t)) ≡ b → turn_of x s (suc t) ≤ complete x s t + 1 →
+      by : (b : Bool) → begins_turn x (run x s (suc t)) ≡ b → turn_of x s (suc t) ≤ complete x s t + 1 →
           (if b then suc (turn_of x s (suc t)) else turn_of x s (suc t)) ≤ complete x s (suc t) + 1
       by true e h =
           let all : complete x s (suc t) ≡ turn_of x s (suc t) = ap (λ (b : Bool). if b then turn_of x s (suc t) else complete x s t) (begins_rests x s t e) in
@@ -122,7 +122,7 @@ module _ (count : TurnLaws) (x : Outside) (s : State) where
       (λ (lt : end_within x s n b < end_within x s k a). absurd (sooner lt (is_end x s n (end_within x s n b)) refl)) (λ ge. ge)
       (cases_lt (end_within x s n b) (end_within x s k a))
     where
-      first : IsEnd x s k (end_within x s k a)
+      first : IsTurnEnd x s k (end_within x s k a)
       first = count.found x s k a e
 
       sooner : end_within x s n b < end_within x s k a → (o : Bool) → is_end x s n (end_within x s n b) ≡ o → ⊥

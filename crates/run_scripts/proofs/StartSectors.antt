@@ -16,25 +16,25 @@ use Rattle.boot_run.proofs.PageLemmas.{page_or, written_is}
 use Rattle.boot_run.proofs.UserPages.{dead_past}
 use Rattle.cvm_shell.specs.declared.boot.StartPoint.{StartPoint}
 use Rattle.cvm_shell.specs.declared.boot.StartPoint.TheVariants.{Loaded, Rom}
-use Rattle.cvm_outside.specs.Script.{Call, Wrote, scripts, stored}
+use Rattle.cvm_outside.specs.Script.{Call, Wrote, scripts, sectors_after}
 use Rattle.cvm_outside.proofs.Putting.{scripts-none, scripts-suc}
 use Rattle.cvm_shell.specs.Boot.{held_of, start_of}
 use Rattle.boot_run.specs.LoadScript.{load_script, page_script}
 use Rattle.cvm_shell.specs.SessionRuns.{pages_loaded}
 use Rattle.run_scripts.proofs.Stores.{stored-append}
 
-page_stores : (p : Pages) (q : ℕ) (ss : List (List ℕ)) → stored (page_script p q) ss ≡ with_page p ss q
+page_stores : (p : Pages) (q : ℕ) (ss : List (List ℕ)) → sectors_after (page_script p q) ss ≡ with_page p ss q
 page_stores p q ss = by (p.live q)
   where
-    by : (b : Bool) → stored (if b then Wrote q (words_of_page p q) ∷ [] else []) ss ≡ (if b then slice_set ss q (words_of_page p q) else ss)
+    by : (b : Bool) → sectors_after (if b then Wrote q (words_of_page p q) ∷ [] else []) ss ≡ (if b then slice_set ss q (words_of_page p q) else ss)
     by true = refl
     by false = refl
 
-load_stores : (p : Pages) (n : ℕ) (ss : List (List ℕ)) → stored (load_script p n) ss ≡ written p n ss
-load_stores p zero ss = ap (λ (l : List Call). stored l ss) (scripts-none (page_script p))
+load_stores : (p : Pages) (n : ℕ) (ss : List (List ℕ)) → sectors_after (load_script p n) ss ≡ written p n ss
+load_stores p zero ss = ap (λ (l : List Call). sectors_after l ss) (scripts-none (page_script p))
 load_stores p (suc n) ss =
-    ap (λ (l : List Call). stored l ss) (scripts-suc (page_script p) n) ∙ stored-append (scripts (page_script p) n) (page_script p n) ss
-    ∙ ap (stored (page_script p n)) (load_stores p n ss) ∙ page_stores p n (written p n ss)
+    ap (λ (l : List Call). sectors_after l ss) (scripts-suc (page_script p) n) ∙ stored-append (scripts (page_script p) n) (page_script p n) ss
+    ∙ ap (sectors_after (page_script p n)) (load_stores p n ss) ∙ page_stores p n (written p n ss)
 
 module _ (y : System) (some : 1 ≤ y.boot.params.pages) where
   abbrev per : ℕ
@@ -100,6 +100,6 @@ module _ (y : System) (some : 1 ≤ y.boot.params.pages) where
       (cases_lt q first))
       (λ q ge. of_disk old q ge)
 
-  pub load_makes : (p : StartPoint) (old : List (List ℕ)) → held_of p y ≤ length old → stored (load_script (pages_loaded p y) (held_of p y)) old ≡ (start_of p y old).device.sectors
+  pub load_makes : (p : StartPoint) (old : List (List ℕ)) → held_of p y ≤ length old → sectors_after (load_script (pages_loaded p y) (held_of p y)) old ≡ (start_of p y old).device.sectors
   load_makes Loaded old le = load_stores (user_pages y) (user_sectors y) old ∙ loaded_are old le
   load_makes Rom old le = load_stores (rom_pages y) (rom_sectors y) old ∙ rom_are old le

@@ -21,11 +21,11 @@ use Rattle.real_layer.specs.Image.{layer_image}
 use Rattle.boot_turns.specs.Premises.{StartsFrom}
 use Rattle.boot_turns.specs.Rom.{own_rom, rom_loaded, rom_sectors}
 use Rattle.boot_turns.specs.RomStarts.{RomStarts}
-use Rattle.boot_image.specs.Parts.{Parts as Image}
+use Rattle.boot_image.specs.Parts.{ImageParts as Image}
 use Rattle.schedule_file.specs.Rows.{Rows, lines_at, busy_of, longest}
-use Rattle.kernel_linker.specs.Accept.{ImageSystem, accept_answer, stored, ◌>>=◌}
+use Rattle.kernel_linker.specs.Accept.{ImageSystem, accept_answer, words_match, ◌>>=◌}
 use Rattle.kernel_linker.specs.Linked.{linked, pages_for, sizes_of, map_for}
-use Rattle.kernel_linker.specs.Laws.{Fits, SpelledImagesFit}
+use Rattle.kernel_linker.specs.Laws.{ImageFits, SpelledImagesFit}
 use Rattle.kernel_linker.specs.Sources.{IsOfImage, AcceptedAreOfImages}
 use Rattle.kernel_linker.specs.declared.fault.AcceptFault.{AcceptFault}
 use Rattle.boot_run.proofs.Premises.{RowsFit}
@@ -54,7 +54,7 @@ linked_words i s (Err f) e = absurd (cc)
 linked_words i s (Ok u) e =
     let made : List ℕ = linked layer_image u i.params (sizes_of i.users) in
     let t : ImageSystem = record { params = i.params; unit = u; words = linked layer_image u i.params (sizes_of i.users); users = i.users } in
-    subst (λ (y : ImageSystem). y.words ≡ linked layer_image y.unit y.params (sizes_of y.users)) (behind (stored i made) t s e) refl
+    subst (λ (y : ImageSystem). y.words ≡ linked layer_image y.unit y.params (sizes_of y.users)) (behind (words_match i made) t s e) refl
 
 joined : (u : CUnit) (p : Params) (users : List (List ℕ)) → linked layer_image u p (sizes_of users) ≡ layer_image (map_for u p (length users)) (sizes_of users) ++ unit_words u
 unfolding linked
@@ -67,7 +67,7 @@ module _ (law : UnitLaws) (spelled : SpelledImagesFit) (of_images : AcceptedAreO
   whole : (s : ImageSystem) (rows : Rows) → IsAccepted s rows → IsWhole s
   whole s rows a =
       let of : IsOfImage a.image s = of_images layer_image a.image a.front s a.answers a.due in
-      let fits : Fits a.image = spelled a.image a.in_range.spelled in
+      let fits : ImageFits a.image = spelled a.image a.in_range.spelled in
       record {
         checked = checked a.image.source s.unit of.unit;
         params = subst ParamsInRange (sym of.params) fits.params;

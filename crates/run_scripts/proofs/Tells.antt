@@ -4,9 +4,9 @@ use Rattle.std.proofs.Common.{◌≡◌, ℕ, zero, suc, ◌+◌, ◌-◌, ◌/�
 use Rattle.std.proofs.lemmas.List.{take_all, take_more, length-append}
 use Rattle.std.proofs.Math.Seq.{take-append_seam, drop-append_seam}
 use Rattle.layer_map.specs.Map.{Map}
-use Rattle.mips_table.specs.Device.{Outside, Pending, Idle, Reading, Writing}
+use Rattle.mips_table.specs.Device.{Environment, Pending, Idle, Reading, Writing}
 use Rattle.mips_table.specs.Machine.{State}
-use Rattle.mips_machine.specs.Steps.{before_count, due, due_if}
+use Rattle.mips_machine.specs.Steps.{before_count, script_of_step, due_if}
 use Rattle.cvm_model.specs.Cvm.{Cvm, map_of}
 use Rattle.cvm_model.specs.Kernel.{JournalEntry, Put}
 use Rattle.cvm_model.specs.Paged.{paged_of}
@@ -69,8 +69,8 @@ quiet_transfer (Reading (suc n) q) buffer = refl
 quiet_transfer (Writing zero q) buffer = refl
 quiet_transfer (Writing (suc n) q) buffer = refl
 
-pub quiet_due : (x : Outside) (s : State) → spoken (due x s) ≡ Some []
-unfolding due
+pub quiet_due : (x : Environment) (s : State) → spoken (script_of_step x s) ≡ Some []
+unfolding script_of_step
 quiet_due x s = by s.off
   where
     by : (o : Option ℕ) → spoken (due_if x s o) ≡ Some []
@@ -161,8 +161,8 @@ module _ (r : Run) (k : Known r) (p : Past) (is : IsPast r p) where
   -- A STEP, and steps
   pub step_tells : (t : ℕ) → t < steps_made r → Tells (step_script r p t) (text_at r p t) (text_at r p (suc t))
   step_tells t lt =
-      tells_both (due r.around (state_at r t)) (rows_script r.view r p t) (text_at r p t) (text_at r p t) (text_at r p (suc t))
-      (silent (due r.around (state_at r t)) (text_at r p t) (quiet_due r.around (state_at r t))) (rows_tell t lt)
+      tells_both (script_of_step r.around (state_at r t)) (rows_script r.view r p t) (text_at r p t) (text_at r p t) (text_at r p (suc t))
+      (silent (script_of_step r.around (state_at r t)) (text_at r p t) (quiet_due r.around (state_at r t))) (rows_tell t lt)
 
   pub steps_tell : (t n : ℕ) → t + n ≤ steps_made r → Tells (steps_script r p t n) (text_at r p t) (text_at r p (t + n))
   steps_tell t n le =

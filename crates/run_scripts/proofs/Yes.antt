@@ -11,20 +11,20 @@ use Rattle.cvm_outside.specs.ScriptLaws.{ScriptsBlame}
 use Rattle.cvm_outside.proofs.Parts.{append_known-nil}
 use Rattle.layer_map.specs.Map.{Map}
 use Rattle.c0_tree.specs.Tree.{CUnit}
-use Rattle.c0_types.specs.Front.{IsAnswer}
+use Rattle.c0_types.specs.Front.{IsFrontAnswer}
 use Rattle.c0_types.specs.declared.source_fault.SourceFault.{SourceFault}
 use Rattle.c0_types.specs.declared.source_fault.SourceFault.TheVariants.{Reading, Typing}
 use Rattle.bound_check.specs.Chains.{IsLongest}
 use Rattle.bound_check.specs.Text.{names_text}
 use Rattle.bound_check.specs.Kept.{LongestIsKept}
-use Rattle.object_file.specs.Answer.{IsAnswer as IsObject}
-use Rattle.object_file.specs.Parts.{Parts as Object}
+use Rattle.object_file.specs.Answer.{IsObjectAnswer as IsObject}
+use Rattle.object_file.specs.Parts.{ObjectParts as Object}
 use Rattle.object_file.specs.declared.fault.ObjectFault.{ObjectFault}
-use Rattle.boot_image.specs.Parts.{Parts as Image}
+use Rattle.boot_image.specs.Parts.{ImageParts as Image}
 use Rattle.real_layer.specs.Image.{layer_image}
 use Rattle.cvm_model.specs.KernelMeaning.{kernel_meaning}
 use Rattle.kernel_linker.specs.Linked.{linked, sizes_of}
-use Rattle.kernel_linker.specs.Accept.{ImageSystem, ◌>>=◌, stored, accept_answer}
+use Rattle.kernel_linker.specs.Accept.{ImageSystem, ◌>>=◌, words_match, accept_answer}
 use Rattle.kernel_linker.specs.Open.{open_answer}
 use Rattle.kernel_linker.specs.Laws.{OpenedUnitsAreTheirSources}
 use Rattle.kernel_linker.specs.declared.fault.AcceptFault.{AcceptFault}
@@ -47,7 +47,7 @@ use Rattle.run_scripts.proofs.OneCommand.{one_command}
 
 -- that a source, and an object's bytes, have one answer
 abbrev pub OneAnswer : Type 0
-OneAnswer = (source : List ℕ) (a b : Result CUnit SourceFault) → IsAnswer source a → IsAnswer source b → a ≡ b
+OneAnswer = (source : List ℕ) (a b : Result CUnit SourceFault) → IsFrontAnswer source a → IsFrontAnswer source b → a ≡ b
 
 abbrev pub OneObject : Type 0
 OneObject = (bytes : List ℕ) (a b : Result Object ObjectFault) → IsObject bytes a → IsObject bytes b → a ≡ b
@@ -123,13 +123,13 @@ opened_room stack (Ok u) text rest h e = (u, refl, says_room stack u text rest h
 opened_room stack (Err f) text rest h e = absurd h
 
 told_room : OneObject → OpenedUnitsAreTheirSources → (stack : ℕ) (bytes : List ℕ) (o : Object) (told : Told) (text rest : List ℕ) → IsObject bytes (Ok o) → told ≡ Ok text → text ≡ codes "yes " ++ rest → TellsObject stack bytes told
-    → (u : CUnit) × IsAnswer o.source (Ok u) × Roomy stack u
+    → (u : CUnit) × IsFrontAnswer o.source (Ok u) × Roomy stack u
 told_room read law stack bytes o told text rest is e yes_there (no_object f other) = absurd cc
 told_room read law stack bytes o told text rest is e yes_there (has_object p front tale other of h) =
     let (u, opened, room) = opened_room stack (open_answer p front) text rest (subst (TellsOpened stack (open_answer p front)) e h) yes_there in
     let same : p ≡ o = let d = read bytes (Ok p) (Ok o) other is in cc in
     let found : front ≡ Ok u = law p front u opened in
-    (u, subst (λ (x : Object). IsAnswer x.source (Ok u)) same (subst (IsAnswer p.source) found of), room)
+    (u, subst (λ (x : Object). IsFrontAnswer x.source (Ok u)) same (subst (IsFrontAnswer p.source) found of), room)
 
 -- the file of the words
 told_bytes : (file : Option (List ℕ)) (bytes other : List ℕ) → file ≡ Some bytes → Tells file other → other ≡ bytes
@@ -174,7 +174,7 @@ begun (Err r) old new script due b before rest stood print asks p =
     absurd (not_refused r more e)
 
 room_of : OneObject → OpenedUnitsAreTheirSources → (words : List (List ℕ)) (source : List ℕ) (stack : ℕ) (old new mid : Outside) (y : SaysYes words source stack old new) (p : Plan) (script : List Call) (due : Status) (b : Option Who) →
-    mid.sink ≡ old.sink → Got (old.shelf.file y.check.object) (AfterChecked y.check.stack) p → PlanAsks p mid script due → Performs script mid new b → (u : CUnit) × IsAnswer y.object.source (Ok u) × Roomy y.check.stack u
+    mid.sink ≡ old.sink → Got (old.shelf.file y.check.object) (AfterChecked y.check.stack) p → PlanAsks p mid script due → Performs script mid new b → (u : CUnit) × IsFrontAnswer y.object.source (Ok u) × Roomy y.check.stack u
 room_of read law words source stack old new mid y p script due b same (long bytes t many) asks q =
     let (more, e) = said_yes (refusal_text refusal.too_long) mid new b y.before y.rest (ap (λ (o : Output). o.text) same ∙ y.before_told) y.printed (subst (λ (a : List Call). Performs a mid new b) asks.0 q) in
     absurd (not_refused refusal.too_long more e)
@@ -192,13 +192,13 @@ accepted_unit : (layer : Map → List ℕ → List ℕ) (i : Image) (front : Res
 unfolding accept_answer
 accepted_unit layer i (Err f) s e = absurd cc
 accepted_unit layer i (Ok u) s e =
-    ap (λ (x : ImageSystem). Ok x.unit) (through (stored i (linked layer u i.params (sizes_of i.users))) (record { params = i.params; unit = u; words = linked layer u i.params (sizes_of i.users); users = i.users }) s e)
+    ap (λ (x : ImageSystem). Ok x.unit) (through (words_match i (linked layer u i.params (sizes_of i.users))) (record { params = i.params; unit = u; words = linked layer u i.params (sizes_of i.users); users = i.users }) s e)
 
-system_unit : OneAnswer → (source : List ℕ) (stack : ℕ) (s : ImageSystem) (u : CUnit) → IsAnswer source (Ok u) → HasStack source stack s → s.unit ≡ u
+system_unit : OneAnswer → (source : List ℕ) (stack : ℕ) (s : ImageSystem) (u : CUnit) → IsFrontAnswer source (Ok u) → HasStack source stack s → s.unit ≡ u
 system_unit one source stack s u is has =
     let (front, of, e) = has.accepted in
     let mine : front ≡ Ok s.unit = accepted_unit layer_image has.image front s e in
-    let theirs : front ≡ Ok u = one source front (Ok u) (subst (λ (x : List ℕ). IsAnswer x front) has.source_is of) is in
+    let theirs : front ≡ Ok u = one source front (Ok u) (subst (λ (x : List ℕ). IsFrontAnswer x front) has.source_is of) is in
     let same : Ok s.unit ≡ Ok u = sym mine ∙ theirs in
     cc
 
@@ -219,7 +219,7 @@ yes_suffices blame one read opened law words source stack s old new status (done
     let (u, is, room) = room_of read opened words source stack old new h.mid y h.plan h.script h.due h.blamed (mid_disk blame words old new status h).1
     (its_plan words old.shelf.file y.check y.asked h.plan h.is_plan.comes) h.asks h.performs in
     let enough : y.check.stack ≤ s.params.stack = subst (λ (n : ℕ). n ≤ s.params.stack) y.stack_is has.enough in
-    never_out law y.check.stack u s room (system_unit one source stack s u (subst (λ (x : List ℕ). IsAnswer x (Ok u)) (sym y.source_is) is) has) enough
+    never_out law y.check.stack u s room (system_unit one source stack s u (subst (λ (x : List ℕ). IsFrontAnswer x (Ok u)) (sym y.source_is) is) has) enough
 yes_suffices blame one read opened law words source stack s old new status (no_file c i f t) y has =
     absurd (not_nothing old.sink.text y.before y.rest y.before_told (sym (ap (λ (o : Output). o.text) (gets_print (files_of c) old new (Some TheShelf) f)) ∙ y.printed))
 yes_suffices blame one read opened law words source stack s old new status (no_memory c i w) y has =

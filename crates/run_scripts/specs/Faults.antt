@@ -4,8 +4,8 @@ use Rattle.std.specs.Io.KnownBytes.{append_known}
 use Rattle.cvm_outside.specs.Told.{retold, IsCutOff}
 use Rattle.cvm_outside.specs.Numbering.{called}
 use Rattle.schedule_file.specs.Rows.{Rows}
-use Rattle.mips_table.specs.Turns.{IsEnd}
-use Rattle.mips_machine.specs.Steps.{due}
+use Rattle.mips_table.specs.Turns.{IsTurnEnd}
+use Rattle.mips_machine.specs.Steps.{script_of_step}
 use Rattle.cvm_model.specs.Cvm.{Running}
 use Rattle.cvm_model.specs.Text.{rows_text, start_row, journal_rows, open_journal_rows, end_text}
 use Rattle.layer_contract.specs.Starts.{Beyond}
@@ -17,7 +17,7 @@ use Rattle.cvm_shell.specs.declared.exit_status.Status.TheVariants.{StepLimit, D
 use Rattle.cvm_shell.specs.declared.boot.Session.{Session}
 use Rattle.cvm_shell.specs.Command.{Save, IsSave, save_session}
 use Rattle.cvm_shell.specs.Plan.{boots, saves}
-use Rattle.cvm_outside.specs.Script.{Call, TheDisk, TheShelf, Performs, asks, scripts}
+use Rattle.cvm_outside.specs.Script.{Call, TheDisk, TheShelf, Performs, disk_calls, scripts}
 use Rattle.cvm_outside.specs.Outside.{Outside, counts}
 use Rattle.boot_turns.specs.Runs.{Run, Past, IsPast, state_at, turns_at, steps_made, has_ended, cvm_at}
 use Rattle.boot_turns.specs.StepScript.{entry_script, steps_script}
@@ -58,7 +58,7 @@ closed_by (Trace u) r p =
 -- no call of the disk failed up to here, and there are as many as this script makes
 pub record CalledBy (script : List Call) (old at : Outside) : Type 0 where
   pub faults : at.disk.faults ≡ old.disk.faults
-  pub calls : at.disk.calls ≡ called (asks script) (counts old.disk)
+  pub calls : at.disk.calls ≡ called (disk_calls script) (counts old.disk)
 
 -- the script up to a step, and up to the row of an entry of that step
 abbrev pub up_to_step : Run → (load : List Call) → Past → (t : ℕ) → List Call
@@ -66,7 +66,7 @@ up_to_step r load p t = load ++ opening_script r.view r.system ++ steps_script r
 
 abbrev pub up_to_row : Run → (load : List Call) → Past → (u t k : ℕ) → List Call
 up_to_row r load p u t k =
-    up_to_step r load p t ++ due r.around (state_at r t) ++ scripts (λ i. entry_script r p u t (length (p.shown t) + i)) k
+    up_to_step r load p t ++ script_of_step r.around (state_at r t) ++ scripts (λ i. entry_script r p u t (length (p.shown t) + i)) k
 
 -- THE DISK FAILED in the load, with nothing printed; in the transfer that was due in a step, with exactly the text before that step; in the read of a
 -- word that was copied to the user of a trace, with exactly the rows before that word's; or in the report, where there is one, with its end row and the
@@ -74,7 +74,7 @@ up_to_row r load p u t k =
 pub data AfterDisk (Reports : Type 0) (r : Run) (load : List Call) (p : Past) (old new : Outside) : Type 0 where
   in_load : (mid : Outside) → mid.disk ≡ old.disk → Performs load mid new (Some TheDisk) → HasPrinted old new [] → AfterDisk Reports r load p old new
   in_transfer : (t : ℕ) (mid : Outside) → t < steps_made r → Stand r t mid → CalledBy (up_to_step r load p t) old mid →
-      Performs (due r.around (state_at r t)) mid new (Some TheDisk) → HasPrinted old new (text_at r p t) → AfterDisk Reports r load p old new
+      Performs (script_of_step r.around (state_at r t)) mid new (Some TheDisk) → HasPrinted old new (text_at r p t) → AfterDisk Reports r load p old new
   in_rows : (u t k : ℕ) (mid : Outside) → r.view ≡ Trace u → t < steps_made r → length (p.shown t) + k < length (p.shown (suc t)) → Stand r (suc t) mid →
       CalledBy (up_to_row r load p u t k) old mid → Performs (entry_script r p u t (length (p.shown t) + k)) mid new (Some TheDisk) →
       HasPrinted old new (start_row u (first_of r.system u) ++ open_journal_rows (take (length (p.shown t) + k) (p.shown (suc t)))) →
@@ -85,7 +85,7 @@ pub data AfterDisk (Reports : Type 0) (r : Run) (load : List Call) (p : Past) (o
 
 -- the rows of a step are of a boot those of one turn, which that step completes: its end is the first moment at which so many turns are complete
 abbrev pub EndsTurn : View → Run → ℕ → Type 0
-EndsTurn Boot r t = (turns_at r (suc t) ≡ suc (turns_at r t)) × IsEnd r.around r.first (turns_at r (suc t)) (suc t)
+EndsTurn Boot r t = (turns_at r (suc t) ≡ suc (turns_at r t)) × IsTurnEnd r.around r.first (turns_at r (suc t)) (suc t)
 EndsTurn (Trace u) r t = ⊤
 
 -- THE SINK FAILED in the first row of a trace, before any step; in the rows of a step, which has some; or in the end row or the report, where there is one

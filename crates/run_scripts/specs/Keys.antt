@@ -8,7 +8,7 @@ use Rattle.boot_turns.specs.Premises.{StartsFrom}
 use Rattle.kernel_linker.specs.Accept.{ImageSystem}
 use Rattle.cvm_shell.specs.declared.boot.Session.{Session}
 use Rattle.cvm_shell.specs.Plan.{Plan}
-use Rattle.cvm_outside.specs.Script.{Call, spoken, stored}
+use Rattle.cvm_outside.specs.Script.{Call, spoken, sectors_after}
 use Rattle.cvm_outside.specs.Outside.{Outside}
 use Rattle.boot_turns.specs.Runs.{Run, Past, IsPast, state_at, steps_made, cvm_at}
 use Rattle.cvm_shell.specs.Boot.{booted, sectors_needed, steps_before}
@@ -54,11 +54,11 @@ ScriptsTellTheText = OfRuns (λ r load before held. (p : Past) → IsPast r p �
 
 abbrev pub ScriptsStoreTheSectors : Type 0
 ScriptsStoreTheSectors =
-    OfRuns (λ r load before held. (p : Past) → IsPast r p → stored (run_script r load p) before ≡ (state_at r (steps_made r)).device.sectors)
+    OfRuns (λ r load before held. (p : Past) → IsPast r p → sectors_after (run_script r load p) before ≡ (state_at r (steps_made r)).device.sectors)
 
 -- the load alone makes the start
 abbrev pub LoadsStoreTheStart : Type 0
-LoadsStoreTheStart = OfRuns (λ r load before held. stored load before ≡ r.first.device.sectors)
+LoadsStoreTheStart = OfRuns (λ r load before held. sectors_after load before ≡ r.first.device.sectors)
 
 -- the sectors behind the run's are as before; and an end is one of the abstract run
 abbrev pub SectorsBehindStay : Type 0

@@ -3,7 +3,7 @@ use Rattle.std.specs.Prelude.{ℕ, List}
 use Rattle.layer_map.specs.declared.params.Params.{Params}
 
 -- the source and the schedule byte by byte, the parameters, and the words of each user
-pub record Parts : Type 0 where
+pub record SampleParts : Type 0 where
   pub source : List ℕ
   pub params : Params
   pub users : List (List ℕ)

@@ -5,7 +5,7 @@ use Rattle.layer_map.specs.declared.params.Params.{Params}
 use Rattle.schedule_file.specs.declared.row.Row.{Row}
 use Rattle.schedule_file.specs.declared.row.Row.TheVariants.{Line, Busy}
 use Rattle.schedule_file.specs.Spelling.{spelling}
-use Rattle.sample_maker.specs.Parts.{Parts}
+use Rattle.sample_maker.specs.Parts.{SampleParts}
 use Rattle.sample_maker.specs.Program.{program_words}
 use Rattle.sample_maker.specs.Source.{pattern, filled}
 
@@ -50,6 +50,6 @@ abbrev pub schedule_of : ℕ → List ℕ
 schedule_of number = rows_text (map line_row (range_with_len 1 40)) ++ rows_text (map (busy_row number) (range_with_len 0 100))
 
 -- the sample of a number
-unfoldable pub sample_of : ℕ → Parts
+unfoldable pub sample_of : ℕ → SampleParts
 sample_of number =
     record { source = source_of number; params = params_of number; users = users_of number; schedule = schedule_of number }

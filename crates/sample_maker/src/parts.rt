@@ -19,9 +19,9 @@ pub struct Sample {
 
 impl Model for Sample {
     ghost use Rattle.std.specs.Prelude.{map};
-    ghost use Rattle.sample_maker.specs.Parts.{Parts};
+    ghost use Rattle.sample_maker.specs.Parts.{SampleParts};
 
-    ghost Value = { Parts };
+    ghost Value = { SampleParts };
 
     ghost view = { λ s. record { source = s.source.items; params = s.params; users = map (λ u. u.items) s.users.items; schedule = s.schedule.items } };
 }

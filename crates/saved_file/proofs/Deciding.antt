@@ -3,18 +3,18 @@ use Rattle.std.proofs.Common.{◌≡◌, ℕ, ◌*◌, ◌≤◌, Bool, true, fa
 use Rattle.std.specs.List.{AllByRecursion}
 use Rattle.std.proofs.lemmas.Bool.{lt-ltb, le-ltb, cond-true, cond-false, cases_lt}
 use Rattle.saved_file.specs.Tests.{Test, tried, all_tried, ◌>>=◌}
-use Rattle.saved_file.specs.Answer.{Passes, Fails, FailsFirst}
+use Rattle.saved_file.specs.Answer.{TestPasses, TestFails, FailsFirst}
 use Rattle.saved_file.specs.declared.fault.SaveFault.{SaveFault}
 use Rattle.saved_file.specs.declared.fault.SaveFault.TheVariants.{Truncated}
 
 -- a test of a file of so many whole words is passed, or it isn't and this is answered
 abbrev pub Comes : ℕ → Test → Result (Unit {0}) SaveFault → Type 0
-Comes n t (Ok x) = Passes n t
-Comes n t (Err e) = Fails n t e
+Comes n t (Ok x) = TestPasses n t
+Comes n t (Err e) = TestFails n t e
 
 -- the same of tests in a row
 abbrev pub AllCome : ℕ → List Test → Result (Unit {0}) SaveFault → Type 0
-AllCome n ts (Ok x) = AllByRecursion (Passes n) ts
+AllCome n ts (Ok x) = AllByRecursion (TestPasses n) ts
 AllCome n ts (Err e) = FailsFirst n ts e
 
 looked_at : (n : ℕ) (t : Test) → t.takes ≤ n → (b : Bool) → t.wrong ≡ b → Comes n t (if b then Err t.fault else Ok tt)
@@ -39,13 +39,13 @@ pub all_so : (n : ℕ) (ts : List Test) → AllCome n ts (all_tried n ts)
 all_so n [] = tt
 all_so n (t ∷ ts) = first_so n t ts (tried n t) (all_tried n ts) (tried_so n t) (all_so n ts)
 
-tried_passes : (n : ℕ) (t : Test) → Passes n t → tried n t ≡ Ok tt
+tried_passes : (n : ℕ) (t : Test) → TestPasses n t → tried n t ≡ Ok tt
 unfolding tried
 tried_passes n t p =
     cond-false {A = Result (Unit {0}) SaveFault} (nat_lt n t.takes) (Err (Truncated (4 * n))) (if t.wrong then Err t.fault else Ok tt) (le-ltb n t.takes p.0)
     ∙ cond-false {A = Result (Unit {0}) SaveFault} t.wrong (Err t.fault) (Ok tt) p.1
 
-tried_fails : (n : ℕ) (t : Test) (e : SaveFault) → Fails n t e → tried n t ≡ Err e
+tried_fails : (n : ℕ) (t : Test) (e : SaveFault) → TestFails n t e → tried n t ≡ Err e
 unfolding tried
 tried_fails n t e (inl h) =
     cond-true {A = Result (Unit {0}) SaveFault} (nat_lt n t.takes) (Err (Truncated (4 * n))) (if t.wrong then Err t.fault else Ok tt) (lt-ltb n t.takes h.0)
@@ -58,11 +58,11 @@ tried_fails n t e (inr h) =
 goes_on : (n : ℕ) (ts : List Test) (r : Result (Unit {0}) SaveFault) → r ≡ Ok tt → (r >>= λ done. all_tried n ts) ≡ all_tried n ts
 goes_on n ts r is = ap (λ (q : Result (Unit {0}) SaveFault). q >>= λ done. all_tried n ts) is
 
-pub all_passed : (n : ℕ) (ts : List Test) → AllByRecursion (Passes n) ts → all_tried n ts ≡ Ok tt
+pub all_passed : (n : ℕ) (ts : List Test) → AllByRecursion (TestPasses n) ts → all_tried n ts ≡ Ok tt
 all_passed n [] h = refl
 all_passed n (t ∷ ts) h = goes_on n ts (tried n t) (tried_passes n t h.0) ∙ all_passed n ts h.1
 
-pub all_failed : (n : ℕ) (before : List Test) (t : Test) (behind : List Test) (e : SaveFault) → AllByRecursion (Passes n) before → Fails n t e → all_tried n (before ++ t ∷ behind) ≡ Err e
+pub all_failed : (n : ℕ) (before : List Test) (t : Test) (behind : List Test) (e : SaveFault) → AllByRecursion (TestPasses n) before → TestFails n t e → all_tried n (before ++ t ∷ behind) ≡ Err e
 all_failed n [] t behind e h f = ap (λ (q : Result (Unit {0}) SaveFault). q >>= λ done. all_tried n behind) (tried_fails n t e f)
 all_failed n (b ∷ before) t behind e h f = goes_on n (before ++ t ∷ behind) (tried n b) (tried_passes n b h.0) ∙ all_failed n before t behind e h.1 f
 

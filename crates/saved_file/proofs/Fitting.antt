@@ -6,10 +6,10 @@ use Rattle.std.proofs.lemmas.List.Elements.{recursion_from_All}
 use Rattle.cvm_words.specs.Bytes.{word}
 use Rattle.cvm_words.proofs.BytesOfWords.{length-words, words_of-words}
 use Rattle.mips_table.specs.Machine.{LOG_ROOM}
-use Rattle.mips_machine.specs.Saved.{MARK, joined}
+use Rattle.mips_machine.specs.Saved.{MARK, from_halves}
 use Rattle.saved_file.specs.Resumable.{Wanted, CanBeResumed, memory_word, is_left_out, size_at}
 use Rattle.saved_file.specs.Tests.{Test, tests, each, is_outside, field, whole, linked_test, size_test, turns_test}
-use Rattle.saved_file.specs.Answer.{Passes, answer, AnswersAreResumable, ResumablesAreAnswered}
+use Rattle.saved_file.specs.Answer.{TestPasses, answer, AnswersAreResumable, ResumablesAreAnswered}
 use Rattle.saved_file.proofs.Deciding.{not_above}
 use Rattle.saved_file.proofs.Words.{words_length, answered, answer_words}
 
@@ -39,35 +39,35 @@ not_wrong : (free : Bool) (a b : ℕ) → (free ≡ false → a ≡ b) → (if f
 not_wrong true a b same = refl
 not_wrong false a b same = cond-true (nat_eq a b) false true (eq-eqb a b (same refl))
 
-front_row : (n : ℕ) (a b : List Test) → AllByRecursion (Passes n) (a ++ b) → AllByRecursion (Passes n) a
+front_row : (n : ℕ) (a b : List Test) → AllByRecursion (TestPasses n) (a ++ b) → AllByRecursion (TestPasses n) a
 front_row n [] b h = tt
 front_row n (t ∷ a) b h = (h.0, front_row n a b h.1)
 
-behind_row : (n : ℕ) (a b : List Test) → AllByRecursion (Passes n) (a ++ b) → AllByRecursion (Passes n) b
+behind_row : (n : ℕ) (a b : List Test) → AllByRecursion (TestPasses n) (a ++ b) → AllByRecursion (TestPasses n) b
 behind_row n [] b h = h
 behind_row n (t ∷ a) b h = behind_row n a b h.1
 
-rows : (n : ℕ) (a b : List Test) → AllByRecursion (Passes n) a → AllByRecursion (Passes n) b → AllByRecursion (Passes n) (a ++ b)
+rows : (n : ℕ) (a b : List Test) → AllByRecursion (TestPasses n) a → AllByRecursion (TestPasses n) b → AllByRecursion (TestPasses n) (a ++ b)
 rows n [] b h g = g
 rows n (t ∷ a) b h g = (h.0, rows n a b h.1 g)
 
 -- a test by its number, of those that are passed in a row
-each_at : (n : ℕ) (f : ℕ → Test) (i k j : ℕ) → AllByRecursion (Passes n) (each f i k) → i ≤ j → j < i + k → Passes n (f j)
+each_at : (n : ℕ) (f : ℕ → Test) (i k j : ℕ) → AllByRecursion (TestPasses n) (each f i k) → i ≤ j → j < i + k → TestPasses n (f j)
 unfolding each
 each_at n f i zero j h le lt = absurd (omega (arith, le, lt))
 each_at n f i (suc k) j h le lt =
     elim (cases_lt i j) [
       | inl more ↦ each_at n f (suc i) k j h.1 (omega (arith, more)) (omega (arith, lt))
-      | inr less ↦ let same : i ≡ j = omega (arith, le, less) in subst (λ (m : ℕ). Passes n (f m)) same h.0
+      | inr less ↦ let same : i ≡ j = omega (arith, le, less) in subst (λ (m : ℕ). TestPasses n (f m)) same h.0
     ]
 
-each_of : (n : ℕ) (f : ℕ → Test) (i k : ℕ) → ((j : ℕ) → i ≤ j → j < i + k → Passes n (f j)) → AllByRecursion (Passes n) (each f i k)
+each_of : (n : ℕ) (f : ℕ → Test) (i k : ℕ) → ((j : ℕ) → i ≤ j → j < i + k → TestPasses n (f j)) → AllByRecursion (TestPasses n) (each f i k)
 unfolding each
 each_of n f i zero h = tt
 each_of n f i (suc k) h = (h i (omega arith) (omega arith), each_of n f (suc i) k (λ j le lt. h j (omega (arith, le)) (omega (arith, lt))))
 
 -- the words of a file that passes all tests, of so many bytes at least
-pub fitting : (w : Wanted) (bytes : ℕ) (words : List ℕ) → AllByRecursion (Passes (length words)) (tests w bytes words) → 4 * length words ≤ bytes → CanBeResumed w words
+pub fitting : (w : Wanted) (bytes : ℕ) (words : List ℕ) → AllByRecursion (TestPasses (length words)) (tests w bytes words) → 4 * length words ≤ bytes → CanBeResumed w words
 fitting w bytes words h enough =
     let mark = in_range MARK MARK (slice_index words 0) h.0.1 in
     let form = in_range 1 1 (slice_index words 1) h.1.0.1 in
@@ -79,7 +79,7 @@ fitting w bytes words h enough =
     let esr = in_range 0 1 (slice_index words 43) h.1.1.1.1.1.1.1.0.1 in
     let mode = in_range 1 1 (slice_index words 49) h.1.1.1.1.1.1.1.1.0.1 in
     let emode = in_range 0 1 (slice_index words 50) h.1.1.1.1.1.1.1.1.1.0.1 in
-    let commands = not_above (joined (slice_index words 3) (slice_index words 4)) (joined (slice_index words 52) (slice_index words 53)) h.1.1.1.1.1.1.1.1.1.1.0.1 in
+    let commands = not_above (from_halves (slice_index words 3) (slice_index words 4)) (from_halves (slice_index words 52) (slice_index words 53)) h.1.1.1.1.1.1.1.1.1.1.0.1 in
     let taken = in_range 0 (length w.inputs) (slice_index words 54) h.1.1.1.1.1.1.1.1.1.1.1.0.1 in
     let log = in_range 0 LOG_ROOM (slice_index words 55) h.1.1.1.1.1.1.1.1.1.1.1.1.0.1 in
     let ends = h.1.1.1.1.1.1.1.1.1.1.1.1.1.0 in
@@ -115,11 +115,11 @@ fitting w bytes words h enough =
       turns = let last = behind_row (length words) sizes (turns_test w.frames w.turns words ∷ []) behind in not_above w.turns (slice_index words 5) last.0.1;
     }
 
-field_passed : (words : List ℕ) (place least most : ℕ) → place < length words → least ≤ slice_index words place → slice_index words place ≤ most → Passes (length words) (field words place least most)
+field_passed : (words : List ℕ) (place least most : ℕ) → place < length words → least ≤ slice_index words place → slice_index words place ≤ most → TestPasses (length words) (field words place least most)
 field_passed words place least most there low high = (omega (arith, there), not_outside least most (slice_index words place) low high)
 
 -- and the other way round
-pub passed : (w : Wanted) (words : List ℕ) → All (λ n. n < 2 ^ 32) words → CanBeResumed w words → AllByRecursion (Passes (length words)) (tests w (4 * length words) words)
+pub passed : (w : Wanted) (words : List ℕ) → All (λ n. n < 2 ^ 32) words → CanBeResumed w words → AllByRecursion (TestPasses (length words)) (tests w (4 * length words) words)
 passed w words bits c =
     let a = c.saved in
     let n : length words ≡ 1080 + slice_index words 55 + 1024 * w.frames = a.whole in
@@ -153,7 +153,7 @@ passed w words bits c =
                       (
                         field_passed words 50 0 1 (omega (arith, there)) (omega arith) (omega (arith, emode)),
                         (
-                          (omega (arith, there), le-ltb (joined (slice_index words 3) (slice_index words 4)) (joined (slice_index words 52) (slice_index words 53)) a.commands),
+                          (omega (arith, there), le-ltb (from_halves (slice_index words 3) (slice_index words 4)) (from_halves (slice_index words 52) (slice_index words 53)) a.commands),
                           (
                             field_passed words 54 0 (length w.inputs) (omega (arith, there)) (omega arith) a.taken,
                             (
@@ -191,4 +191,4 @@ pub resumables : ResumablesAreAnswered answer
 resumables w words bits c =
     let four : length (flat_map word words) ≡ 4 * length words = length-words words in
     answer_words w (flat_map word words) words (sym (words_of-words words (recursion_from_All (λ n. n < 2 ^ 32) words bits)))
-    (subst (λ (m : ℕ). AllByRecursion (Passes (length words)) (tests w m words)) (sym four) (passed w words bits c))
+    (subst (λ (m : ℕ). AllByRecursion (TestPasses (length words)) (tests w m words)) (sym four) (passed w words bits c))

@@ -2,7 +2,7 @@
 use Rattle.std.proofs.Common.{◌≡◌, ℕ, zero, suc, ◌+◌, ◌-◌, ◌/◌, ◌%◌, ◌^◌, ◌≤◌, ◌<◌, List, [], ◌∷◌, ◌++◌, All, length, drop, slice_index, refl, sym, ap, subst, ◌∙◌, arith}
 use Rattle.std.proofs.lemmas.List.{length-append, length-drop}
 use Rattle.std.proofs.lemmas.List.Elements.{All-nil, All-cons, All-append, All-drop}
-use Rattle.mips_table.specs.Device.{Outside}
+use Rattle.mips_table.specs.Device.{Environment}
 use Rattle.mips_table.specs.Fits.{IsWord}
 use Rattle.mips_table.specs.Machine.{State}
 use Rattle.mips_machine.specs.Saved.{MARK, two_words, head, saved, CanBeSaved, AreSaved, SavedIsAccepted}
@@ -70,7 +70,7 @@ two : (n : ℕ) → n < 2 ^ 64 → Are (two_words n)
 two n small = first (omega arith) (first (omega (arith, small)) none)
 
 -- the words are words
-bits : (x : Outside) (w : Wanted) (s : State) (turns user : ℕ) → IsOfRun x w s turns user → Are (saved w.inputs s turns user)
+bits : (x : Environment) (w : Wanted) (s : State) (turns user : ℕ) → IsOfRun x w s turns user → Are (saved w.inputs s turns user)
 bits x w s turns user r =
     let f = r.fits in
     let time = r.time in
@@ -89,7 +89,7 @@ bits x w s turns user r =
     (join sector (join (two s.device.commands (omega (arith, time, commands))) counts))))))))
     (join (list s.log f.console.logged) (join (list s.device.buffer f.device.buffer.each) (list s.memory f.memory)))
 
-can_resume : SavedIsAccepted → (x : Outside) (w : Wanted) (s : State) (turns user : ℕ) → IsOfRun x w s turns user → CanBeResumed w (saved w.inputs s turns user)
+can_resume : SavedIsAccepted → (x : Environment) (w : Wanted) (s : State) (turns user : ℕ) → IsOfRun x w s turns user → CanBeResumed w (saved w.inputs s turns user)
 can_resume accepted x w s turns user r =
     let a : AreSaved (length s.memory) w.inputs (saved w.inputs s turns user) = accepted x w.inputs s turns user r.fits r.steady r.can r.mode in
     let at = memory_at w.inputs s turns user r.can a in

@@ -1,8 +1,8 @@
 -- What is answered of the bytes of a file.
 use Rattle.std.specs.Prelude.{◌≡◌, ℕ, ◌*◌, ◌^◌, ◌<◌, ◌≤◌, ◌⊎◌, true, false, All, List, ◌∷◌, ◌++◌, length, slice_index, Result, Ok, Err}
 use Rattle.std.specs.List.{flat_map, AllByRecursion}
-use Rattle.cvm_words.specs.Bytes.{word, words_of}
-use Rattle.mips_table.specs.Device.{Outside}
+use Rattle.cvm_words.specs.Bytes.{word, words_of_bytes}
+use Rattle.mips_table.specs.Device.{Environment}
 use Rattle.mips_table.specs.Fits.{Fits}
 use Rattle.mips_table.specs.declared.special.TheConstants.{MODE}
 use Rattle.mips_table.specs.Machine.{State}
@@ -14,12 +14,12 @@ use Rattle.saved_file.specs.declared.fault.SaveFault.{SaveFault}
 use Rattle.saved_file.specs.declared.fault.SaveFault.TheVariants.{Truncated, Memory}
 
 -- a test is passed by a file of so many whole words
-abbrev pub Passes : ℕ → Test → Type 0
-Passes n t = (t.takes ≤ n) × (t.wrong ≡ false)
+abbrev pub TestPasses : ℕ → Test → Type 0
+TestPasses n t = (t.takes ≤ n) × (t.wrong ≡ false)
 
 -- it isn't, and this is answered: a word that is looked at isn't whole, or the fault of the test stands
-abbrev pub Fails : ℕ → Test → SaveFault → Type 0
-Fails n t e = ((n < t.takes) × (e ≡ Truncated (4 * n))) ⊎ ((t.takes ≤ n) × (t.wrong ≡ true) × (e ≡ t.fault))
+abbrev pub TestFails : ℕ → Test → SaveFault → Type 0
+TestFails n t e = ((n < t.takes) × (e ≡ Truncated (4 * n))) ⊎ ((t.takes ≤ n) × (t.wrong ≡ true) × (e ≡ t.fault))
 
 -- the first of the tests that a file of so many whole words doesn't pass, and what is answered there
 pub record FailsFirst (n : ℕ) (ts : List Test) (e : SaveFault) : Type 0 where
@@ -27,17 +27,18 @@ pub record FailsFirst (n : ℕ) (ts : List Test) (e : SaveFault) : Type 0 where
   pub test : Test
   pub behind : List Test
   pub are : ts ≡ before ++ test ∷ behind
-  pub passed : AllByRecursion (Passes n) before
-  pub fails : Fails n test e
+  pub passed : AllByRecursion (TestPasses n) before
+  pub fails : TestFails n test e
 
 -- WHAT IS ANSWERED OF BYTES: the words that they spell, where these pass all tests, and else what comes of the first one that isn't passed
-abbrev pub IsAnswer : Wanted → List ℕ → Result (List ℕ) SaveFault → Type 0
-IsAnswer w bytes (Ok words) = (bytes ≡ flat_map word words) × (words ≡ words_of bytes) × AllByRecursion (Passes (length words)) (tests w (length bytes) words)
-IsAnswer w bytes (Err e) = FailsFirst (length (words_of bytes)) (tests w (length bytes) (words_of bytes)) e
+abbrev pub IsSavedAnswer : Wanted → List ℕ → Result (List ℕ) SaveFault → Type 0
+IsSavedAnswer w bytes (Ok words) = (bytes ≡ flat_map word words) × (words ≡ words_of_bytes bytes)
+    × AllByRecursion (TestPasses (length words)) (tests w (length bytes) words)
+IsSavedAnswer w bytes (Err e) = FailsFirst (length (words_of_bytes bytes)) (tests w (length bytes) (words_of_bytes bytes)) e
 
 -- the same by going through the tests
 unfoldable pub answer : Wanted → List ℕ → Result (List ℕ) SaveFault
-answer w bytes = all_tried (length (words_of bytes)) (tests w (length bytes) (words_of bytes)) >>= λ done. Ok (words_of bytes)
+answer w bytes = all_tried (length (words_of_bytes bytes)) (tests w (length bytes) (words_of_bytes bytes)) >>= λ done. Ok (words_of_bytes bytes)
 
 -- a call gives this answer, or want of memory
 abbrev pub Gives : {X : Type 0} → (X → List ℕ) → Result X SaveFault → Result (List ℕ) SaveFault → Type 0
@@ -46,10 +47,10 @@ Gives view (Err e) answered = (e ≡ Memory) ⊎ (answered ≡ Err e)
 
 -- laws of a reading: what it answers of bytes is so of them, and nothing else is
 abbrev pub AnswersAreSo : (Wanted → List ℕ → Result (List ℕ) SaveFault) → Type 0
-AnswersAreSo read = (w : Wanted) (bytes : List ℕ) → ((i : ℕ) → slice_index bytes i < 256) → IsAnswer w bytes (read w bytes)
+AnswersAreSo read = (w : Wanted) (bytes : List ℕ) → ((i : ℕ) → slice_index bytes i < 256) → IsSavedAnswer w bytes (read w bytes)
 
 abbrev pub NothingElseIsSo : (Wanted → List ℕ → Result (List ℕ) SaveFault) → Type 0
-NothingElseIsSo read = (w : Wanted) (bytes : List ℕ) (answered : Result (List ℕ) SaveFault) → IsAnswer w bytes answered → read w bytes ≡ answered
+NothingElseIsSo read = (w : Wanted) (bytes : List ℕ) (answered : Result (List ℕ) SaveFault) → IsSavedAnswer w bytes answered → read w bytes ≡ answered
 
 -- laws of a reading: words that it answers can be taken up, and the bytes of words that can be are answered by these
 abbrev pub AnswersAreResumable : (Wanted → List ℕ → Result (List ℕ) SaveFault) → Type 0
@@ -60,7 +61,7 @@ ResumablesAreAnswered read = (w : Wanted) (words : List ℕ) → All (λ n. n < 
 
 -- a machine of a system's run that can be saved, with so many complete turns and this current user: it is in user mode, its memory has the linked
 -- words that no run changes and the sizes of the users, and the numbers are words
-pub record IsOfRun (x : Outside) (w : Wanted) (s : State) (turns user : ℕ) : Type 0 where
+pub record IsOfRun (x : Environment) (w : Wanted) (s : State) (turns user : ℕ) : Type 0 where
   pub fits : Fits x s
   pub steady : Steady w.inputs s
   pub can : CanBeSaved w.inputs s
@@ -80,5 +81,5 @@ pub record IsOfRun (x : Outside) (w : Wanted) (s : State) (turns user : ℕ) : T
 
 -- A LAW OF SAVING: the bytes of a saved machine are read back as its words, which can be taken up
 abbrev pub SavedIsReadBack : (Wanted → List ℕ → Result (List ℕ) SaveFault) → Type 0
-SavedIsReadBack read = (x : Outside) (w : Wanted) (s : State) (turns user : ℕ) → IsOfRun x w s turns user →
+SavedIsReadBack read = (x : Environment) (w : Wanted) (s : State) (turns user : ℕ) → IsOfRun x w s turns user →
     CanBeResumed w (saved w.inputs s turns user) × (read w (flat_map word (saved w.inputs s turns user)) ≡ Ok (saved w.inputs s turns user))

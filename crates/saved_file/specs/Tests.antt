@@ -1,7 +1,7 @@
 -- What is looked at of a file, in order.
 use Rattle.std.specs.Prelude.{ℕ, zero, suc, ◌+◌, ◌-◌, ◌*◌, ◌^◌, ◌||◌, Bool, true, false, List, [], ◌∷◌, ◌++◌, length, slice_index, nat_lt, nat_eq, Result, Ok, Err, if◌then◌else◌}
 use Rattle.mips_table.specs.Machine.{LOG_ROOM}
-use Rattle.mips_machine.specs.Saved.{MARK, joined}
+use Rattle.mips_machine.specs.Saved.{MARK, from_halves}
 use Rattle.saved_file.specs.Resumable.{Wanted, memory_place, memory_word, is_left_out, size_at}
 use Rattle.saved_file.specs.declared.fault.SaveFault.{SaveFault}
 use Rattle.saved_file.specs.declared.fault.SaveFault.TheVariants.{Magic, Truncated, Trailing, Field, ForgedWord, SizeTooLarge, TurnsDone}
@@ -28,8 +28,8 @@ field words place least most =
 -- the number of the next command of the disk, in two words, is at most that of the steps done
 abbrev pub commands_test : List ℕ → Test
 commands_test words =
-    let steps = joined (slice_index words 3) (slice_index words 4) in
-    let commands = joined (slice_index words 52) (slice_index words 53) in
+    let steps = from_halves (slice_index words 3) (slice_index words 4) in
+    let commands = from_halves (slice_index words 52) (slice_index words 53) in
     record { takes = 54; wrong = nat_lt steps commands; fault = Field 52 commands }
 
 -- the head's first fields: the mark, the form, the frames of memory, the complete turns, the current user, and the mask

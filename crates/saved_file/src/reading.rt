@@ -2,8 +2,8 @@
 
 ghost use Rattle.std.specs.Prelude.{◌≡◌, ◌+◌, ◌-◌, ◌*◌, ◌/◌, ◌≤◌, ◌<◌, ◌^◌, ◌++◌, ◌∷◌, [], List, ℕ, IsTrue, length, slice_index, IfOk, Ok};
 ghost use Rattle.std.specs.List.{flat_map};
-ghost use Rattle.cvm_words.specs.Bytes.{word, words_of};
-ghost use Rattle.mips_machine.specs.Saved.{joined};
+ghost use Rattle.cvm_words.specs.Bytes.{word, words_of_bytes};
+ghost use Rattle.mips_machine.specs.Saved.{from_halves};
 ghost use Rattle.saved_file.specs.Resumable.{CanBeResumed, wanted, is_left_out as left_out, memory_word, memory_place, size_at};
 ghost use Rattle.saved_file.specs.Tests.{tried, all_tried, tests, head_tests, tests_behind, first_tests, special_tests, count_tests, mark_test, field as field_test, commands_test, end_test, linked_test, size_test, turns_test, each, whole};
 ghost use Rattle.saved_file.specs.Answer.{Gives, answer, AnswersAreSo, NothingElseIsSo, AnswersAreResumable, ResumablesAreAnswered, SavedIsReadBack};
@@ -189,7 +189,7 @@ fn specials(words: &[u32]) -> Result<(), SaveFault>
 // A number from its two words, of which the low one has this place.
 fn number(words: &[u32], place: usize) -> u64
     requires { place + 1 < length words.now }
-    ensures { result ≡ joined (slice_index words.now place) (slice_index words.now (place + 1)) }
+    ensures { result ≡ from_halves (slice_index words.now place) (slice_index words.now (place + 1)) }
 {
     u64::from(words[place]) + (u64::from(words[place + 1]) << 32)
 }

@@ -12,14 +12,14 @@ use Rattle.std.proofs.lemmas.Str.Parse.{IsNumeralModel, numerals_by_value}
 use Rattle.cvm_text.specs.Number.{number_at}
 use Rattle.schedule_file.specs.declared.row.Row.{Row}
 use Rattle.schedule_file.specs.declared.row.Row.TheVariants.{Line, Busy, Input}
-use Rattle.cvm_text.specs.Lines.{number_of}
+use Rattle.cvm_text.specs.Lines.{number_spelled}
 use Rattle.schedule_file.specs.Text.{row_of_words, row_of_pair, row_in_words, row_of}
-use Rattle.schedule_file.specs.Spelling.{spelling, HasNumbers}
+use Rattle.schedule_file.specs.Spelling.{spelling, NumbersFit}
 use Rattle.schedule_file.proofs.Words.{words}
 
 -- what `whole_numbers_are_spelled` says
 abbrev WholeNumbers : Type 0
-WholeNumbers = (n : ℕ) → n < 2 ^ 64 → number_of (decimal n) ≡ Some n
+WholeNumbers = (n : ℕ) → n < 2 ^ 64 → number_spelled (decimal n) ≡ Some n
 
 -- no digit is a space
 no_space : (digits : List ℕ) → list_all is_ascii_digit digits ≡ true → All (λ c. (c == 32) ≡ false) digits
@@ -54,14 +54,14 @@ module _ (number : WholeNumbers) where
       → row_of_words kind (decimal a) (decimal b) ≡ cond (bytes_eq kind (codes "line")) (Some (Line a b)) (cond (bytes_eq kind (codes "busy")) (Some (Busy a b)) None)
   unfolding row_of_words
   row kind a b small small' =
-      ap (λ found. option_and_then (λ x. option_and_then (λ y. cond (bytes_eq kind (codes "line")) (Some (Line x y)) (cond (bytes_eq kind (codes "busy")) (Some (Busy x y)) None)) (number_of (decimal b))) found) (number a small)
+      ap (λ found. option_and_then (λ x. option_and_then (λ y. cond (bytes_eq kind (codes "line")) (Some (Line x y)) (cond (bytes_eq kind (codes "busy")) (Some (Busy x y)) None)) (number_spelled (decimal b))) found) (number a small)
       ∙ ap (λ found. option_and_then (λ y. cond (bytes_eq kind (codes "line")) (Some (Line a y)) (cond (bytes_eq kind (codes "busy")) (Some (Busy a y)) None)) found) (number b small')
 
   pair : (n : ℕ) → n < 2 ^ 64 → row_of_pair (codes "input") (decimal n) ≡ Some (Input n)
   unfolding row_of_pair
   pair n small = ap (λ found. option_and_then (λ w. cond (bytes_eq (codes "input") (codes "input")) (Some (Input w)) None) found) (number n small)
 
-  pub read_back : (row : Row) → HasNumbers row → row_of (spelling row) ≡ Some row
+  pub read_back : (row : Row) → NumbersFit row → row_of (spelling row) ≡ Some row
   unfolding row_of
   read_back (Line a b) fits = ap row_in_words (three (codes "line") (decimal a) (decimal b) (search rules) (digits_of a fits.0) (digits_of b fits.1)) ∙ row (codes "line") a b fits.0 fits.1
   read_back (Input n) fits = ap row_in_words (two (codes "input") (decimal n) (search rules) (digits_of n fits)) ∙ pair n fits

@@ -91,7 +91,7 @@ Gives (Err (Range line value)) read = read ≡ Err (Range line value)
 Gives (Err (TooManyInputs line)) read = read ≡ Err (TooManyInputs line)
 
 -- rows in order, of eight lines, with not too many input words, and their longest busy time, which is in its range
-pub record Keeps (rows : Rows) (most : ℕ) : Type 0 where
+pub record IsValidSchedule (rows : Rows) (most : ℕ) : Type 0 where
   pub steps : IsNonDecreasingBy (λ row. row.step) rows.lines
   pub bits : All (λ row. row.lines.0 < 2 ^ 8) rows.lines
   pub commands : IsNonDecreasingBy (λ row. row.command) rows.busy

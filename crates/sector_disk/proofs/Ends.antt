@@ -2,14 +2,14 @@
 use Rattle.std.proofs.Common.{◌≡◌, ℕ, zero, suc, ◌-◌, ◌<◌, false, subst, sub-one, List, [], length, get_or, set, replicate, refl, sym, ap, ◌∙◌, arith, get_or-set_same, Some, None}
 use Rattle.std.specs.Prelude.{Option, IfSome, Result, Ok, Err, OnOk}
 use Rattle.std.proofs.lemmas.List.{length-replicate, length-set}
-use Rattle.cvm_outside.specs.Told.{Tells, sector_of, with_sector}
-use Rattle.mips_table.specs.Device.{Pending, Idle, Reading, Writing, is_busy, counted}
+use Rattle.cvm_outside.specs.Told.{Tells, told_sector, with_sector}
+use Rattle.mips_table.specs.Device.{Pending, Idle, Reading, Writing, is_busy, disk_counted}
 use Rattle.mips_table.specs.Fits.{NamesSector}
 use Rattle.cvm_outside.specs.Numbering.{until_fault, Tally}
 use Rattle.sector_disk.specs.Ports.{Ports, device_of, EndsStep, CallsKeepUp, transfer_script, unfinished}
 
 -- where no sector moves, any sectors will do
-pub nothing_moves : (size : ℕ) (old new : Ports) (buffer after : List ℕ) (told retold : Option (List (List ℕ))) → IfSome told (λ ss. length ss ≡ size) → ((sectors : List (List ℕ)) → counted (device_of old buffer sectors) ≡ device_of new after sectors) → retold ≡ told → EndsStep size old new buffer after told retold
+pub nothing_moves : (size : ℕ) (old new : Ports) (buffer after : List ℕ) (told retold : Option (List (List ℕ))) → IfSome told (λ ss. length ss ≡ size) → ((sectors : List (List ℕ)) → disk_counted (device_of old buffer sectors) ≡ device_of new after sectors) → retold ≡ told → EndsStep size old new buffer after told retold
 nothing_moves size old new buffer after None retold sized counts same =
     let e = counts (replicate size []) in
     record { sectors = replicate size []; many = length-replicate size []; given = tt; device = rw e refl; left = same }
@@ -48,7 +48,7 @@ writing_later size old new (suc left) sector buffer told sized low e f =
     nothing_moves size old new buffer buffer told told sized (λ sectors. rw (e, f) (rw sub-one refl)) refl
 
 -- a sector that was read: where none is told, one with the words that came
-pub sector_is_read : (size register sector commands : ℕ) (buffer after : List ℕ) (told retold : Option (List (List ℕ))) → sector < size → IfSome told (λ ss. length ss ≡ size) → Tells (sector_of told sector) after → retold ≡ told → EndsStep size (record { sector = register; pending = Reading 0 sector; commands = commands }) (record { sector = register; pending = Idle; commands = commands }) buffer after told retold
+pub sector_is_read : (size register sector commands : ℕ) (buffer after : List ℕ) (told retold : Option (List (List ℕ))) → sector < size → IfSome told (λ ss. length ss ≡ size) → Tells (told_sector told sector) after → retold ≡ told → EndsStep size (record { sector = register; pending = Reading 0 sector; commands = commands }) (record { sector = register; pending = Idle; commands = commands }) buffer after told retold
 sector_is_read size register sector commands buffer after None retold low sized tells same =
     let some : List (List ℕ) = replicate size [] in
     let e : get_or (set some sector after) sector [] ≡ after = get_or-set_same some sector after [] (rw length-replicate low) in
@@ -68,7 +68,7 @@ before : (old : Ports) (p : Pending) → old.pending ≡ p → old ≡ record { 
 before old p e = ap (λ (q : Pending). let r : Ports = record { sector = old.sector; pending = q; commands = old.commands } in r) e
 
 -- a read that is due
-pub reading_now : {E : Type 0} (result : Result (Unit {0}) E) (size : ℕ) (old new : Ports) (left sector : ℕ) (buffer after : List ℕ) (told retold : Option (List (List ℕ))) → IfSome told (λ ss. length ss ≡ size) → NamesSector size old.pending → left ≡ 0 → old.pending ≡ Reading left sector → new ≡ record { sector = old.sector; pending = Idle; commands = old.commands } → OnOk result (Tells (sector_of told sector) after) → retold ≡ told → OnOk result (EndsStep size old new buffer after told retold)
+pub reading_now : {E : Type 0} (result : Result (Unit {0}) E) (size : ℕ) (old new : Ports) (left sector : ℕ) (buffer after : List ℕ) (told retold : Option (List (List ℕ))) → IfSome told (λ ss. length ss ≡ size) → NamesSector size old.pending → left ≡ 0 → old.pending ≡ Reading left sector → new ≡ record { sector = old.sector; pending = Idle; commands = old.commands } → OnOk result (Tells (told_sector told sector) after) → retold ≡ told → OnOk result (EndsStep size old new buffer after told retold)
 reading_now (Err fault) size old new left sector buffer after told retold sized named due e f tells same = tt
 reading_now (Ok done) size old new left sector buffer after told retold sized named due e f tells same =
     let low : sector < size = subst (NamesSector size) e named in

@@ -4,7 +4,7 @@ use Rattle.std.specs.Option.{option_map}
 use Rattle.cvm_outside.specs.Causes.{Counts}
 use Rattle.cvm_outside.specs.Numbering.{Tally, called}
 use Rattle.cvm_outside.specs.Told.{with_sector}
-use Rattle.mips_table.specs.Device.{Device, Pending, Idle, Reading, Writing, counted}
+use Rattle.mips_table.specs.Device.{Device, Pending, Idle, Reading, Writing, disk_counted}
 use Rattle.mips_table.specs.Fits.{NamesSector}
 use Rattle.cvm_outside.specs.Script.{Call, Read, Wrote}
 
@@ -31,8 +31,8 @@ pub record EndsStep (size : ℕ) (old new : Ports) (buffer after : List ℕ) (to
   pub sectors : List (List ℕ)
   pub many : length sectors ≡ size
   pub given : IfSome told (λ ss. sectors ≡ ss)
-  pub device : device_of new after (counted (device_of old buffer sectors)).sectors ≡ counted (device_of old buffer sectors)
-  pub left : retold ≡ option_map (λ _. (counted (device_of old buffer sectors)).sectors) told
+  pub device : device_of new after (disk_counted (device_of old buffer sectors)).sectors ≡ disk_counted (device_of old buffer sectors)
+  pub left : retold ≡ option_map (λ _. (disk_counted (device_of old buffer sectors)).sectors) told
 
 -- a transfer that is due fails: no sector changes where one was to be read, and where one was to be written the buffer
 -- stays and that sector may hold anything
@@ -69,21 +69,21 @@ pub record CallsWith (more : ℕ) (old new : Ports) (before after : Tally) : Typ
 
 -- what is known of a disk: how many sectors it has, those that are told, its count of faults, and that of the calls which read or write one, up to
 -- the first that failed
-pub record Known : Type 0 where
+pub record KnownDisk : Type 0 where
   pub size : ℕ
   pub told : Option (List (List ℕ))
   pub faults : ℕ
   pub calls : ℕ
 
 -- both counts
-abbrev pub tally_of : Known → Tally
+abbrev pub tally_of : KnownDisk → Tally
 tally_of known = record { faults = known.faults; calls = known.calls }
 
 -- the end of a step, by its answer: the ports, the buffer and the disk before and after it
-pub record StepEnd {E : Type 0} (result : Result (Unit {0}) E) (old new : Ports) (buffer after : List ℕ) (disk left : Known) : Type 0 where
+pub record StepEnd {E : Type 0} (result : Result (Unit {0}) E) (old new : Ports) (buffer after : List ℕ) (disk left : KnownDisk) : Type 0 where
   pub ended : OnOk result (EndsStep disk.size old new buffer after disk.told left.told)
   pub fault : OnErr result (TransferFails old.pending buffer after disk.told left.told)
-  pub ports : (sectors : List (List ℕ)) → new ≡ ports_of (counted (device_of old buffer sectors))
+  pub ports : (sectors : List (List ℕ)) → new ≡ ports_of (disk_counted (device_of old buffer sectors))
   pub under_way : NamesSector left.size new.pending
   pub size : left.size ≡ disk.size
   pub count : Counts disk.faults left.faults result

@@ -3,7 +3,7 @@ ghost use Rattle.std.specs.Prelude.{◌≡◌, ◌+◌, ◌*◌, ◌<◌, ◌≤
 ghost use Rattle.cvm_outside.specs.Script.{Read, Wrote, Asks};
 ghost use Rattle.cvm_outside.specs.Causes.{Counts};
 ghost use Rattle.cvm_outside.specs.Numbering.{until_fault};
-ghost use Rattle.cvm_outside.specs.Told.{Tells, sector_of, with_sector};
+ghost use Rattle.cvm_outside.specs.Told.{Tells, told_sector, with_sector};
 ghost use Rattle.frame_store.specs.Words.{frame_of, with_frame};
 ghost use Rattle.mips_table.specs.Device.{is_busy as is_under_way};
 ghost use Rattle.sector_disk.specs.Transfers.{pending_of};
@@ -44,7 +44,7 @@ pub(crate) fn read_sector<D: Sectors>(
     ensures sectors { D.sectors disk.new ≡ D.sectors disk.old }
     ensures frames { frames.new ≡ with_frame frames.old buffer (frame_of frames.new buffer) }
     ensures length { length frames.new ≡ length frames.old }
-    ensures words { OnOk result (Tells (sector_of (D.sectors disk.old) sector) (frame_of frames.new buffer)) }
+    ensures words { OnOk result (Tells (told_sector (D.sectors disk.old) sector) (frame_of frames.new buffer)) }
     ensures count { Counts (D.faults disk.old) (D.faults disk.new) result }
     ensures called { D.calls disk.new ≡ until_fault (D.faults disk.old) (D.calls disk.old) }
     ensures script { Asks D.Sectors disk.old disk.new (Read sector ∷ []) result }

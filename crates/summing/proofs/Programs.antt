@@ -1,7 +1,7 @@
 -- What is known of any two users that call serves two programs, whose calls come within the steps of their units.
 use Rattle.std.specs.Prelude.{pos}
 use Rattle.std.proofs.Common.{ℕ, ◌+◌, ◌≤◌, List, length, subst, arith}
-use Rattle.mips_table.specs.Device.{Outside}
+use Rattle.mips_table.specs.Device.{Environment}
 use Rattle.mips_table.specs.Machine.{State}
 use Rattle.mips_table.specs.declared.cause.Cause.TheVariants.{Syscall}
 use Rattle.mips_table.specs.Flat.{Flat}
@@ -21,7 +21,7 @@ use Rattle.summing.specs.Compiled.{Brings, ProgramSumShown, AnyProgramsSum, AnyC
 fewer : (a b n k raised : ℕ) → a ≤ n → b ≤ k → 3 + a + b + raised ≤ 3 + n + k + raised
 fewer a b n k raised la lb = omega (arith, la, lb)
 
-module _ (x : Outside) (y : System) (s : State) (late raised turns steps : ℕ) (one two : CUnit) (n k v w a b : ℕ) (la : a ≤ steps_of n) (lb : b ≤ steps_of k) (status : Status) (text : List ℕ)
+module _ (x : Environment) (y : System) (s : State) (late raised turns steps : ℕ) (one two : CUnit) (n k v w a b : ℕ) (la : a ≤ steps_of n) (lb : b ≤ steps_of k) (status : Status) (text : List ℕ)
     (h : SumShown x y s late raised turns steps a b v w (first_flat (image_words one)) (first_flat (image_words two)) status text) where
   shown : ProgramSumShown x y s late raised turns steps one two n k v w status text
   shown = record {

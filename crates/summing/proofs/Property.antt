@@ -5,24 +5,24 @@ use Rattle.std.specs.Ordering.{int_eq}
 use Rattle.std.proofs.lemmas.Bool.{le-ltb}
 use Rattle.mips_table.specs.declared.cause.Cause.{Cause}
 use Rattle.mips_table.specs.declared.cause.Cause.TheVariants as causes
-use Rattle.mips_table.specs.Machine.{number_of, Console}
-use Rattle.mips_table.specs.Flat.{Flat, Next as Goes, vstep}
-use Rattle.c0_meaning.specs.State.{State}
+use Rattle.mips_table.specs.Machine.{cause_number, Console}
+use Rattle.mips_table.specs.Flat.{Flat, Goes, vstep}
+use Rattle.c0_meaning.specs.State.{C0State}
 use Rattle.cvm_model.specs.Kernel.{Core, KernelMeaning}
 use Rattle.cvm_model.specs.Primitives.{user_of}
 use Rattle.cvm_model.specs.Cvm.{System, Running, Halted, first_flat, first_core, status_of}
 use Rattle.cvm_model.specs.Invariant.{Dispatch, IsTrapOf, with_machine, HasUsers, RunsAreLawful}
 use Rattle.cvm_model.specs.Systems.{SystemProperty, status_after, lines_taken, UsePages, KeepsAll, IsSystemInvariant}
 use Rattle.cvm_model.proofs.Systems.{systems_hold, status_join, lines_join}
-use Rattle.cvm_model.proofs.KeptAll.{all_user, all_halt}
+use Rattle.cvm_model.proofs.KeepsSystem.{all_user, all_halt}
 use Rattle.kernel_theorems.proofs.UserRuns.{core_of_parts, known_step, KnownTrap, known_trap, arrives}
 use Rattle.kernel_theorems.proofs.Histories.{one_more}
 use Rattle.kernel_theorems.proofs.Tests.{small_sum}
 use Rattle.kernel_theorems.proofs.OneKernel.{DoesWithin, keeps_within}
 use Rattle.summing.specs.Tree.{kernel_tree}
-use Rattle.summing.specs.Property.{Runs, data_of, Phase, Nobody, FirstOnly, SecondOnly, Everybody, first_called, second_called, calls_of, total_of, done_of, status_of_phase, IsTurn, machine_of, IsSum, Sums, SumsAreRight}
+use Rattle.summing.specs.Property.{RunsSumming, data_of, Phase, Nobody, FirstOnly, SecondOnly, Everybody, first_called, second_called, calls_of, total_of, done_of, status_of_phase, IsTurn, machine_of, IsSum, Sums, SumsAreRight}
 
-module _ (y : System) (m n v w : ℕ) (r : Runs y m n v w) where
+module _ (y : System) (m n v w : ℕ) (r : RunsSumming y m n v w) where
   abbrev f1 : Flat
   f1 = first_flat r.one
 
@@ -67,7 +67,7 @@ module _ (y : System) (m n v w : ℕ) (r : Runs y m n v w) where
       }
 
   -- the code of a dispatch, from data that is known
-  abbrev Does : (k cause edata : ℕ) → List Dispatch → Core → State → Type 0
+  abbrev Does : (k cause edata : ℕ) → List Dispatch → Core → C0State → Type 0
   Does = DoesWithin y kernel_tree r.meaning_is 100 0 I
 
   -- THE START
@@ -172,14 +172,14 @@ module _ (y : System) (m n v w : ℕ) (r : Runs y m n v w) where
 
   -- a trap that is known
   arrive : {k t steps word edata : ℕ} {cause : Cause} {past : List Dispatch} {at there : Core} → KnownTrap at there steps t causes.Syscall word cause edata → UsePages y 100 0 past → Does k 6 word past there there.c0
-      → KeepsAll y 100 J k (number_of cause) edata past at
+      → KeepsAll y 100 J k (cause_number cause) edata past at
   arrive {k} {t} {steps} {word} {edata} {cause} {past} {at} {there} h touch does = arrives h (keeps_within y kernel_tree r.meaning_is 100 0 I k 6 word past there there.c0 touch refl does)
 
-  trapped : (k : ℕ) (cause : Cause) (edata : ℕ) (past : List Dispatch) (before at : Core) → IsTrapOf before cause edata at → status_after past ≡ Running → UsePages y 100 0 past → (h : I (suc k) past before) → KeepsAll y 100 J (suc k) (number_of cause) edata past at
+  trapped : (k : ℕ) (cause : Cause) (edata : ℕ) (past : List Dispatch) (before at : Core) → IsTrapOf before cause edata at → status_after past ≡ Running → UsePages y 100 0 past → (h : I (suc k) past before) → KeepsAll y 100 J (suc k) (cause_number cause) edata past at
   trapped k cause edata past before at came on touch h = by h.phase h.turn_is h.users_are h.turns_are h.length_is h.data_is h.status_is
     where
       by : (p : Phase) → IsTurn p before.current → before.users ≡ users_at p h.one h.two → suc k ≡ 1 + h.one + h.two + calls_of p + lines_taken past → length past ≡ 1 + calls_of p + lines_taken past
-          → before.c0 ≡ data_of (pos (total_of v w p)) (done_of p) → status_after past ≡ status_of_phase p → KeepsAll y 100 J (suc k) (number_of cause) edata past at
+          → before.c0 ≡ data_of (pos (total_of v w p)) (done_of p) → status_after past ≡ status_of_phase p → KeepsAll y 100 J (suc k) (cause_number cause) edata past at
       by Nobody (inl one) users turns long data_is status =
           arrive (known_trap before at (users_at Nobody h.one h.two) 1 f1 m causes.Syscall r.first_calls.calls _ h.one cause edata (data_of (pos (total_of v w Nobody)) (done_of Nobody)) o refl h.few_one users one refl data_is h.console_is came) touch
           (by_first (suc k) _ past h.one h.two h.few_one h.few_two turns long)

@@ -2,7 +2,7 @@
 use Rattle.std.proofs.Common.{◌≡◌, ℕ, suc, ◌+◌, ◌^◌, ◌<◌, ◌≤◌, List, [], ◌∷◌, ◌++◌, length, refl, sym, ap, ◌∙◌, subst, arith}
 use Rattle.std.specs.Prelude.{codes, pos, true}
 use Rattle.std.specs.Fmt.{digits, signed_decimal}
-use Rattle.mips_table.specs.Device.{Outside}
+use Rattle.mips_table.specs.Device.{Environment}
 use Rattle.mips_table.specs.Machine.{State, Console}
 use Rattle.mips_table.specs.Turns.{TurnLaws}
 use Rattle.mips_table.specs.Flat.{Flat}
@@ -19,20 +19,20 @@ use Rattle.cvm_shell.specs.declared.exit_status.Status.{Status}
 use Rattle.cvm_shell.specs.declared.exit_status.Status.TheVariants.{Done}
 use Rattle.cvm_shell.specs.Boot.{booted, around, first_state, steps_before}
 use Rattle.kernel_theorems.specs.Text.{Means}
-use Rattle.kernel_boots.specs.Systems.{EndsWithin, HasHalted, SystemShown}
+use Rattle.kernel_boots.specs.Systems.{SystemEndsWithin, HasHalted, SystemShown}
 use Rattle.kernel_boots.proofs.Boots.{asked_read}
 use Rattle.kernel_boots.proofs.Systems.{asks_source, asked_users, stopped, systems_boot}
 use Rattle.summing.specs.Tree.{kernel_tree}
 use Rattle.summing.specs.Text.{text as kernel_text}
 use Rattle.kernel_theorems.specs.UserRuns.{after, CallsAfter}
-use Rattle.summing.specs.Property.{Runs, data_of, Phase, Nobody, FirstOnly, SecondOnly, Everybody, status_of_phase, calls_of, first_called, second_called, total_of, done_of, machine_of, IsSum, Sums}
+use Rattle.summing.specs.Property.{RunsSumming, data_of, Phase, Nobody, FirstOnly, SecondOnly, Everybody, status_of_phase, calls_of, first_called, second_called, total_of, done_of, machine_of, IsSum, Sums}
 use Rattle.summing.specs.Users.{user_one, user_two, UsersCall}
 use Rattle.summing.specs.Boots.{report_of, last_report, SumShown, AnyUsersSum, NamedSumShown, SummingBoots}
 use Rattle.summing.proofs.Property.{invariant}
 use Rattle.summing.proofs.Reports.{reports}
 
 abbrev runs : (one two : List ℕ) (m n v w : ℕ) → CallsAfter (first_flat one) m v → CallsAfter (first_flat two) n w → v + w < 2 ^ 31
-    → (y : System) → y.boot.meaning ≡ kernel_meaning kernel_tree y.boot.params → y.boot.users ≡ one ∷ two ∷ [] → 8 ≤ y.boot.params.stack → Runs y m n v w
+    → (y : System) → y.boot.meaning ≡ kernel_meaning kernel_tree y.boot.params → y.boot.users ≡ one ∷ two ∷ [] → 8 ≤ y.boot.params.stack → RunsSumming y m n v w
 runs one two m n v w first second small y means users room =
     record { meaning_is = means; one = one; two = two; users_are = users; first_calls = first; second_calls = second; small = small; room = room }
 
@@ -63,7 +63,7 @@ over_phase Everybody e = refl
 
 module _ (y : System) (m n v w : ℕ) (f g : Flat) (lines : ℕ) where
   -- how long it runs
-  ends : EndsWithin y 100 (Sums y m n v w f g) lines (3 + m + n + lines) (3 + lines) 0
+  ends : SystemEndsWithin y 100 (Sums y m n v w f g) lines (3 + m + n + lines) (3 + lines) 0
   ends = record {
     some = omega arith;
     below = λ k past c h on few.
@@ -82,7 +82,7 @@ reported : (names : List (List ℕ)) (c : Core) (total : ℕ) (users : List Flat
     → codes "halted\n" ++ report_text names c ≡ report_of total users
 reported names c total users named data_is none same = rw (named, data_is, none, same) refl
 
-module _ (y : System) (m n v w : ℕ) (r : Runs y m n v w) (f g : Flat) (past : List Dispatch) (k : ℕ) (c : Core) (h : IsSum y m n v w f g k past c) (over : status_after past ≡ Halted) where
+module _ (y : System) (m n v w : ℕ) (r : RunsSumming y m n v w) (f g : Flat) (past : List Dispatch) (k : ℕ) (c : Core) (h : IsSum y m n v w f g k past c) (over : status_after past ≡ Halted) where
   phase : h.phase ≡ Everybody
   phase = over_phase h.phase (sym h.status_is ∙ over)
 
@@ -101,7 +101,7 @@ module _ (y : System) (m n v w : ℕ) (r : Runs y m n v w) (f g : Flat) (past : 
   report : codes "halted\n" ++ report_text y.boot.meaning.names c ≡ report_of (v + w) (after (suc m) f ∷ after (suc n) g ∷ [])
   report = reported y.boot.meaning.names c (v + w) (after (suc m) f ∷ after (suc n) g ∷ []) names data_then log_then users_then
 
-module _ (x : Outside) (y : System) (m n v w : ℕ) (r : Runs y m n v w) (f g : Flat) (s : State) (late raised turns steps : ℕ) (status : Status) (text : List ℕ)
+module _ (x : Environment) (y : System) (m n v w : ℕ) (r : RunsSumming y m n v w) (f g : Flat) (s : State) (late raised turns steps : ℕ) (status : Status) (text : List ℕ)
     (h : SystemShown x y s late raised turns steps 100 (HasUsers y) (Sums y m n v w f g) status text) where
   abbrev Halts : Type 0
   Halts = (status ≡ Done) × (h.stands.state.status ≡ Halted) × (length h.stands.state.rows ≤ 3 + raised)
@@ -135,12 +135,12 @@ any_users_sum images laws counts small takes rise means one two m n v w first se
     let g = first_flat two in
     let (text, printed, shows) = systems_boot images laws counts small takes rise kernel_text (λ s. s.users ≡ one ∷ two ∷ []) 100 (λ y. HasUsers y) (λ y. Sums y m n v w (first_flat one) (first_flat two))
     (λ s rows unit roomy is few.
-    let r : Runs (booted s rows) m n v w = runs one two m n v w first second fits (booted s rows) (means s.unit s.params unit) is (let room = roomy.stack in omega (arith, room)) in
+    let r : RunsSumming (booted s rows) m n v w = runs one two m n v w first second fits (booted s rows) (means s.unit s.params unit) is (let room = roomy.stack in omega (arith, room)) in
     (laws.counted (booted s rows) kernel_tree r.meaning_is, invariant (booted s rows) m n v w r))
     words status old new headlines session s rows before h some view asks users in
     let y = booted s rows in
     let read = asked_read images kernel_text words old.shelf.file session s rows h.asked asks in
-    let r : Runs y m n v w = runs one two m n v w first second fits y (means s.unit s.params read.unit) users (let room = read.room.stack in omega (arith, room)) in
+    let r : RunsSumming y m n v w = runs one two m n v w first second fits y (means s.unit s.params read.unit) users (let room = read.room.stack in omega (arith, room)) in
     (text, printed, shown (around rows old) y m n v w r f g (first_state session s rows before) (steps_before session.start y) (length rows.lines) session.turns session.steps status text shows)
 
 -- THE NAMED SYSTEM
@@ -154,7 +154,7 @@ with_thirty users = rw thirty refl
 last : report_of 30 (after 22 (first_flat user_one) ∷ after 42 (first_flat user_two) ∷ []) ≡ last_report
 last = with_thirty (after 22 (first_flat user_one) ∷ after 42 (first_flat user_two) ∷ []) ∙ ap (λ (t : List ℕ). codes "halted\nglobal total 30\nglobal done true\n" ++ t) reports ∙ refl
 
-named : (x : Outside) (y : System) (s : State) (late raised turns steps : ℕ) (status : Status) (text : List ℕ)
+named : (x : Environment) (y : System) (s : State) (late raised turns steps : ℕ) (status : Status) (text : List ℕ)
     → SumShown x y s late raised turns steps 21 41 10 20 (first_flat user_one) (first_flat user_two) status text → NamedSumShown x y s late raised turns steps status text
 named x y s late raised turns steps status text h = record {
   shows = h;

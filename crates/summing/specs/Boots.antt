@@ -2,7 +2,7 @@
 use Rattle.std.specs.Prelude.{◌≡◌, ◌≢◌, ℕ, ◌+◌, ◌*◌, ◌^◌, ◌≤◌, ◌<◌, suc, pos, true, List, [], ◌∷◌, ◌++◌, length, codes}
 use Rattle.std.specs.Io.KnownBytes.{append_known}
 use Rattle.schedule_file.specs.Rows.{Rows, longest}
-use Rattle.mips_table.specs.Device.{Outside}
+use Rattle.mips_table.specs.Device.{Environment}
 use Rattle.mips_table.specs.Machine.{State}
 use Rattle.mips_table.specs.Flat.{Flat}
 use Rattle.boot_turns.specs.declared.answers.View.TheVariants.{Boot}
@@ -33,7 +33,7 @@ report_of total users =
 -- WHAT A RUN SHOWS of two users that call after m and n steps with v and w: the state where it stands has the invariant; its status is no kernel's fault; and
 -- under a schedule of so many `line` rows, with as many turns more as these steps and three, and with the steps of the machine for them, it is done, has
 -- halted, and printed at most three rows more than there are `line` rows, and then the report, in which each user stands behind its call
-pub record SumShown (x : Outside) (y : System) (s : State) (late raised turns steps m n v w : ℕ) (f g : Flat) (status : Status) (text : List ℕ) : Type 0 where
+pub record SumShown (x : Environment) (y : System) (s : State) (late raised turns steps m n v w : ℕ) (f g : Flat) (status : Status) (text : List ℕ) : Type 0 where
   pub shown : SystemShown x y s late raised turns steps 100 (HasUsers y) (Sums y m n v w f g) status text
   pub no_fault : status ≢ KernelFault
   pub halted : 3 + m + n + raised ≤ turns → steps_for y (3 + m + n + raised) (3 + raised) 100 0 + late ≤ steps
@@ -75,7 +75,7 @@ abbrev pub last_report : List ℕ
 last_report = by_lines report_lines
 
 -- THE NAMED SYSTEM: it shows this of its users, and its report is that one, letter by letter
-pub record NamedSumShown (x : Outside) (y : System) (s : State) (late raised turns steps : ℕ) (status : Status) (text : List ℕ) : Type 0 where
+pub record NamedSumShown (x : Environment) (y : System) (s : State) (late raised turns steps : ℕ) (status : Status) (text : List ℕ) : Type 0 where
   pub shows : SumShown x y s late raised turns steps 21 41 10 20 (first_flat user_one) (first_flat user_two) status text
   pub halted : 65 + raised ≤ turns → steps_for y (65 + raised) (3 + raised) 100 0 + late ≤ steps
       → (status ≡ Done) × (length shows.shown.stands.state.rows ≤ 3 + raised) × (text ≡ rows_text shows.shown.stands.state.rows ++ last_report)

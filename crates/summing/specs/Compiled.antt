@@ -2,7 +2,7 @@
 use Rattle.std.specs.Prelude.{◌≡◌, ◌≢◌, ℕ, suc, pos, ◌+◌, ◌*◌, ◌^◌, ◌≤◌, ◌<◌, List, [], ◌∷◌, ◌++◌, length, codes, Some, slice_get}
 use Rattle.std.specs.Io.KnownBytes.{append_known}
 use Rattle.schedule_file.specs.Rows.{Rows, longest}
-use Rattle.mips_table.specs.Device.{Outside}
+use Rattle.mips_table.specs.Device.{Environment}
 use Rattle.mips_table.specs.Machine.{State}
 use Rattle.mips_table.specs.Flat.{Flat}
 use Rattle.layer_map.specs.Map.{Map}
@@ -40,7 +40,7 @@ pub record Brings (u : CUnit) (n value : ℕ) : Type 0 where
 -- WHAT A RUN SHOWS of two programs that bring v within n units and w within k: each calls after steps within those of its units; the run shows what it shows
 -- of such users, so its status is no kernel's fault; and with as many turns as these steps, the schedule's `line` rows and three, and the steps of the machine
 -- for them, it is done, has halted, and reports the sum
-pub record ProgramSumShown (x : Outside) (y : System) (s : State) (late raised turns steps : ℕ) (one two : CUnit) (n k v w : ℕ) (status : Status) (text : List ℕ) : Type 0 where
+pub record ProgramSumShown (x : Environment) (y : System) (s : State) (late raised turns steps : ℕ) (one two : CUnit) (n k v w : ℕ) (status : Status) (text : List ℕ) : Type 0 where
   pub first_steps : ℕ
   pub second_steps : ℕ
   pub few_first : first_steps ≤ steps_of n
@@ -74,7 +74,7 @@ AnyCountedProgramsSum = (one two : CUnit) (n k v w a b : ℕ) → Brings one n v
 -- THE TWO ADDERS, whose machines at the start are f and g: the status is no kernel's fault; and under a schedule of L `line` rows, with 349 turns and L more,
 -- and the steps of the machine for them, it is done, has halted, and its text is at most 3 + L rows and then the report, which says the total of 265 and each
 -- user's machine behind its call
-pub record AddersShown (x : Outside) (y : System) (s : State) (late raised turns steps : ℕ) (f g : Flat) (status : Status) (text : List ℕ) : Type 0 where
+pub record AddersShown (x : Environment) (y : System) (s : State) (late raised turns steps : ℕ) (f g : Flat) (status : Status) (text : List ℕ) : Type 0 where
   pub shows : SumShown x y s late raised turns steps 123 223 55 210 f g status text
   pub no_fault : status ≢ KernelFault
   pub halted : 349 + raised ≤ turns → steps_for y (349 + raised) (3 + raised) 100 0 + late ≤ steps

@@ -3,7 +3,7 @@
 use Rattle.std.specs.Prelude.{◌≡◌, ◌⊎◌, ◌≤◌, ◌<◌, ◌^◌, ℕ, suc, ◌+◌, ℤ, pos, Bool, true, false, List, [], ◌∷◌, length, Some}
 use Rattle.mips_table.specs.Flat.{Flat}
 use Rattle.c0_meaning.specs.Value.{int, bool, group, empty, part}
-use Rattle.c0_meaning.specs.State.{State}
+use Rattle.c0_meaning.specs.State.{C0State}
 use Rattle.cvm_model.specs.Kernel.{Core}
 use Rattle.cvm_model.specs.KernelMeaning.{kernel_meaning}
 use Rattle.cvm_model.specs.Cvm.{System, Cvm, Status, Running, Halted, first_flat, first_core, cvm, IsCvm}
@@ -13,7 +13,7 @@ use Rattle.kernel_theorems.specs.UserRuns.{after, CallsAfter}
 use Rattle.summing.specs.Tree.{kernel_tree}
 
 -- a system of this kernel: two users, which call after m and n steps with v and w, whose sum is an int; and its stack has room for a frame
-pub record Runs (y : System) (m n v w : ℕ) : Type 0 where
+pub record RunsSumming (y : System) (m n v w : ℕ) : Type 0 where
   pub meaning_is : y.boot.meaning ≡ kernel_meaning kernel_tree y.boot.params
   pub one : List ℕ
   pub two : List ℕ
@@ -24,7 +24,7 @@ pub record Runs (y : System) (m n v w : ℕ) : Type 0 where
   pub room : 8 ≤ y.boot.params.stack
 
 -- the kernel's data
-abbrev pub data_of : ℤ → Bool → State
+abbrev pub data_of : ℤ → Bool → C0State
 data_of total done = record { global_values = group (part (int total) (part (bool done) empty)); heap_values = group empty; heap_words = 0; frames = [] }
 
 -- who has called: nobody, user 1, user 2, or both
@@ -100,5 +100,5 @@ Sums y m n v w f g k past c = IsSum y m n v w f g k past c × UsePages y 100 0 p
 
 -- THE THEOREM: whatever lines are raised, each turn ends within 100 units of its dispatch, and each state from the first turn on is such
 abbrev pub SumsAreRight : Type 0
-SumsAreRight = (y : System) (m n v w : ℕ) (r : Runs y m n v w) (lines : ℕ → ℕ) → HasEight lines → (k : ℕ)
+SumsAreRight = (y : System) (m n v w : ℕ) (r : RunsSumming y m n v w) (lines : ℕ → ℕ) → HasEight lines → (k : ℕ)
     → ((c : Cvm) × (cvm y lines 100 k ≡ Some c)) × ((c : Cvm) → IsCvm y lines (suc k) c → SystemHolds (HasUsers y) (Sums y m n v w (first_flat r.one) (first_flat r.two)) (suc k) (dispatches_of y lines 100 (suc k)) c)

@@ -6,7 +6,7 @@ use Rattle.mips_table.specs.Arith.{extended}
 use Rattle.mips_table.specs.Device.{BUFFER, SECTOR, is_buffer}
 use Rattle.mips_table.specs.Code.{put, World, Sound, filled}
 use Rattle.masm.specs.Says.{is_disk_word}
-use Rattle.swap_layer.specs.Laws.{IsPlace}
+use Rattle.swap_layer.specs.Laws.{IsFrameOrBuffer}
 
 pub put_same : (m : ℕ → ℕ) (a v x : ℕ) → x ≡ a → put m a v x ≡ v
 put_same m a v x e = cond-true _ v (m x) (eq-eqb x a e)
@@ -34,5 +34,5 @@ pub elsewhere : (g m : ℕ → ℕ) (x : ℕ) → x < BUFFER → filled m g x �
 elsewhere g m x lt = cond-false (is_buffer x) _ (m x) (ap (λ a. not a && nat_lt x SECTOR) (lt-ltb x BUFFER lt))
 
 -- the last of a place's words lies below the sector register
-pub place_top : (w : World) → Sound w → (a : ℕ) → IsPlace w a → a + 1023 < SECTOR
+pub place_top : (w : World) → Sound w → (a : ℕ) → IsFrameOrBuffer w a → a + 1023 < SECTOR
 place_top w f a p = let s = f.small in ⊎_elim (λ h. omega arith) (λ h. omega arith) p

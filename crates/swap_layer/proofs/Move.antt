@@ -10,7 +10,7 @@ use Rattle.masm.specs.Laws.{From}
 use Rattle.masm.specs.Stays.{RegistersStay}
 use Rattle.masm.proofs.Routines.{from_straight, does_from, from_does, follows, weaker, loop_goes}
 use Rattle.swap_layer.specs.Code.{move_words_code}
-use Rattle.swap_layer.specs.Laws.{MoveAsked, Moved, MovesRun}
+use Rattle.swap_layer.specs.Laws.{MoveAsked, WordsMoved, MovesRun}
 use Rattle.swap_layer.proofs.Basics.{put_same, put_other, small_is, disk_is, place_top}
 
 -- m words, the o-th and on, from the address in register 1 to that in register 2: what a turn is made of
@@ -120,12 +120,12 @@ module _ (w : World) (f : Sound w) (spared : RegistersStay) (a b : ℕ) (c0 : Co
         },
       ))))
 
-  moves : From w move_words_code 2689 c0 d0 (Moved a b c0 d0)
+  moves : From w move_words_code 2689 c0 d0 (WordsMoved a b c0 d0)
   moves =
       let from = asked.from in let to = asked.to in let count = asked.count in
-      from_does w move_words_code _ c0 d0 (Left 0 0) (Moved a b c0 d0)
+      from_does w move_words_code _ c0 d0 (Left 0 0) (WordsMoved a b c0 d0)
       (record { most = omega arith; from = omega arith; to = omega arith; count = omega arith; words = λ j lt. absurd (omega arith); others = λ x o. refl; regs = λ x lt. refl; special = refl; hi = refl; lo = refl; same = refl })
-      (loop_goes w f (pairs_code 8 0 ++ bumps_code) 3 (λ i. Left i 0) (λ i. i < 128) (λ i. 21 * (128 - i)) (λ i. 19) suc (Moved a b c0 d0) (omega arith)
+      (loop_goes w f (pairs_code 8 0 ++ bumps_code) 3 (λ i. Left i 0) (λ i. i < 128) (λ i. 21 * (128 - i)) (λ i. 19) suc (WordsMoved a b c0 d0) (omega arith)
       (λ i c d l. idle i 0 c d l)
       (λ i lt. omega arith)
       turn

@@ -12,7 +12,7 @@ use Rattle.masm.proofs.Routines.{from_straight, from_then, from_later, straight_
 use Rattle.masm.specs.Frames.{HasDisk, SwappedOut}
 use Rattle.swap_layer.specs.Code.{move_words_code, name_sector_code, give_command_code, swap_out_code, read_sector_code, copy_to_frame_code, swap_in_code}
 use Rattle.swap_layer.specs.declared.swap.TheConstants.{FROM_FRAME_TO_BUFFER, FROM_BUFFER, TO_FRAME}
-use Rattle.swap_layer.specs.Laws.{Moved, Fetched, MovesRun, SwapsOut, Fetches, Settles, SwapsIn}
+use Rattle.swap_layer.specs.Laws.{WordsMoved, SectorFetched, MovesRun, SwapsOut, FetchesSector, FillsFrame, SwapsIn}
 use Rattle.swap_layer.proofs.Basics.{put_same, put_other, in_buffer, elsewhere}
 
 module _ (w : World) (f : Sound w) (spared : RegistersStay) (moves : MovesRun w) (transfers : TransfersRun w) where
@@ -45,7 +45,7 @@ module _ (w : World) (f : Sound w) (spared : RegistersStay) (moves : MovesRun w)
       from_later w swap_out_code (3 + (2689 + (2 + (b + 5)))) _ c d _ _ (omega arith) (λ c' d' k. k)
       (straight_then w f FROM_FRAME_TO_BUFFER _ (Gives (4 * (1024 * g)) ∷ Gives (4 * BUFFER) ∷ Gives 128 ∷ []) _ c d _ refl idle
       (λ n. (omega arith, (refl, (refl, tt))))
-      (λ n. from_then w move_words_code _ 2689 _ _ d (Moved (1024 * g) BUFFER c1 d) _
+      (λ n. from_then w move_words_code _ 2689 _ _ d (WordsMoved (1024 * g) BUFFER c1 d) _
       (moves (1024 * g) BUFFER c1 d (record {
         from = refl;
         to = refl;
@@ -61,7 +61,7 @@ module _ (w : World) (f : Sound w) (spared : RegistersStay) (moves : MovesRun w)
       (λ x lx. k.regs x (omega arith) ∙ spared (λ r. nat_lt r 6) x (le-ltb x 6 lx) FROM_FRAME_TO_BUFFER (Gives (4 * (1024 * g)) ∷ Gives (4 * BUFFER) ∷ Gives 128 ∷ []) n c refl refl) k.special k.hi k.lo k.behind)))
 
   -- the sector comes into the buffer
-  pub fetches : Fetches w
+  pub fetches : FetchesSector w
   fetches b s c d disk r16 lt idle =
       let c1 : Contents = with_reg (record c { memory = put c.memory SECTOR s }) 5 1 in
       let named : c1.memory SECTOR ≡ s = put_same c.memory SECTOR s SECTOR refl in
@@ -86,7 +86,7 @@ module _ (w : World) (f : Sound w) (spared : RegistersStay) (moves : MovesRun w)
       )))))
 
 -- the words at the address in register 1 come into the frame
-pub settles : (w : World) → Sound w → RegistersStay → MovesRun w → Settles w
+pub settles : (w : World) → Sound w → RegistersStay → MovesRun w → FillsFrame w
 settles w f spared moves b a g c d disk r1 r18 frame source apart idle =
     let small = f.small in let below = frame.0 in
     let c1 : Contents = with_reg (with_reg c 2 (4 * (1024 * g))) 3 128 in
@@ -114,11 +114,11 @@ settles w f spared moves b a g c d disk r1 r18 frame source apart idle =
       idle = idle;
     })))
 
-pub swaps_in : (w : World) → Sound w → Fetches w → Settles w → SwapsIn w
+pub swaps_in : (w : World) → Sound w → FetchesSector w → FillsFrame w → SwapsIn w
 swaps_in w f fetches settles b s g c d disk r16 r18 frame lt idle =
     let small = f.small in let below = frame.0 in
     from_later w swap_in_code (b + 8 + 2691) _ c d _ _ (omega arith) (λ c' d' k. k)
-    (from_then w read_sector_code copy_to_frame_code (b + 8) 2691 c d (Fetched s c d) _ (fetches b s c d disk r16 lt idle)
+    (from_then w read_sector_code copy_to_frame_code (b + 8) 2691 c d (SectorFetched s c d) _ (fetches b s c d disk r16 lt idle)
     (λ c2 d2 h. from_later w copy_to_frame_code 2691 2691 c2 d2 _ _ (omega arith)
     (λ c' d' k. record {
       words = λ i li. k.words i li ∙ h.words i li;

@@ -1,6 +1,6 @@
 // The laws of the swaps. Each is the contract of a function that does nothing.
 ghost use Rattle.mips_table.specs.Code.{World, Sound};
-ghost use Rattle.swap_layer.specs.Laws.{MovesRun, SwapsOut, Fetches, Settles, SwapsIn};
+ghost use Rattle.swap_layer.specs.Laws.{MovesRun, SwapsOut, FetchesSector, FillsFrame, SwapsIn};
 
 use masm::laws::{registers_stay, runs_compose};
 use masm::waiting::sectors_are_transferred;
@@ -24,7 +24,7 @@ pub fn a_frame_goes_out()
 
 /// A sector comes into the buffer, in 8 steps and the disk's busy time; memory and all sectors are as before.
 pub fn a_sector_is_fetched()
-    ensures { (w : World) → Sound w → Fetches w }
+    ensures { (w : World) → Sound w → FetchesSector w }
 {
     words_are_moved();
     registers_stay();
@@ -33,7 +33,7 @@ pub fn a_sector_is_fetched()
 
 /// 1,024 words of memory or of the buffer come into a frame, in 2,691 steps; all else but SOURCE, TARGET, WORDS and WORD stays.
 pub fn a_frame_is_settled()
-    ensures { (w : World) → Sound w → Settles w }
+    ensures { (w : World) → Sound w → FillsFrame w }
 {
     registers_stay();
     words_are_moved();

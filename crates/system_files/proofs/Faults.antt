@@ -6,13 +6,13 @@ use Rattle.std.specs.List.{AllByRecursion}
 use Rattle.std.proofs.lemmas.Bool.{lt-ltb, cond-true, cases_lt, or_left, or_right}
 use Rattle.std.proofs.lemmas.List.{take-append-drop, length-take, take_all}
 use Rattle.std.proofs.lemmas.List.Elements.{All-from_recursion, recursion_from_All}
-use Rattle.cvm_text.specs.Lines.{lines_of, number_of}
+use Rattle.cvm_text.specs.Lines.{lines_of, number_spelled}
 use Rattle.layer_map.specs.declared.params.Params.{Params}
 use Rattle.system_files.specs.declared.fault.FileFault.{FileFault}
 use Rattle.system_files.specs.declared.fault.FileFault.TheVariants.{Parameter, Memory, UserTorn, BadParams}
 use Rattle.system_files.specs.declared.params.Numbers.{Numbers}
-use Rattle.system_files.specs.Params.{◌>>=◌, number_in, counted, next_number, at_the_end, numbers_of, ranged, params_in, params_of, AreInRange, Spells}
-use Rattle.system_files.specs.Answer.{names, lines_with, numbers_in, IsAnswer}
+use Rattle.system_files.specs.Params.{◌>>=◌, number_in, number_on_line, next_number, at_the_end, numbers_of, ranged, params_in, params_of, AreInRange, Spells}
+use Rattle.system_files.specs.Answer.{names, lines_with, numbers_in, IsParamsAnswer}
 use Rattle.system_files.proofs.Inverse.{went, lines_for, lines_are, next_is, end_is, line_is, in_its_range, spells_of, spelled}
 use Rattle.system_files.proofs.Read.{Small, line_read, next_read, numbers_read, lines_read, ranged_read, read}
 
@@ -60,7 +60,7 @@ record Outside (which least most value : ℕ) (e : FileFault) : Type 0 where
   fault : e ≡ Parameter which value
   out : least ≤ value → value ≤ most → ⊥
 
-module _ (law : (n : ℕ) → n < 2 ^ 64 → number_of (decimal n) ≡ Some n) (spells : (word : List ℕ) (n : ℕ) → number_of word ≡ Some n → (n < 2 ^ 64) × (word ≡ decimal n)) where
+module _ (law : (n : ℕ) → n < 2 ^ 64 → number_spelled (decimal n) ≡ Some n) (spells : (word : List ℕ) (n : ℕ) → number_spelled word ≡ Some n → (n < 2 ^ 64) × (word ≡ decimal n)) where
   ranged_stopped : (which least most value : ℕ) (e : FileFault) → ranged which least most value ≡ Err e → Outside which least most value e
   ranged_stopped which least most value e h = record {
     fault =
@@ -81,8 +81,8 @@ module _ (law : (n : ℕ) → n < 2 ^ 64 → number_of (decimal n) ≡ Some n) (
   next_bad line beginning [] wrong = refl
   next_bad line beginning (text ∷ rest) wrong = by_number (number_in beginning text) refl
     where
-      by_number : (o : Option ℕ) → number_in beginning text ≡ o → counted line rest (number_in beginning text) ≡ Err (BadParams line)
-      by_number None is = ap (counted line rest) is
+      by_number : (o : Option ℕ) → number_in beginning text ≡ o → number_on_line line rest (number_in beginning text) ≡ Err (BadParams line)
+      by_number None is = ap (number_on_line line rest) is
       by_number (Some n) is = let t = line_is spells beginning text n is in absurd (wrong n t.0 (ap (λ (l : List ℕ). l ∷ []) t.1))
 
   -- why no number of a line is read
@@ -102,10 +102,10 @@ module _ (law : (n : ℕ) → n < 2 ^ 64 → number_of (decimal n) ≡ Some n) (
 
       by_number : (o : Option ℕ) → number_in beginning text ≡ o → NoLine line beginning (text ∷ rest) e
       by_number None is = record {
-        fault = sym (same_fault _ e (sym (ap (counted line rest) is) ∙ h));
+        fault = sym (same_fault _ e (sym (ap (number_on_line line rest) is) ∙ h));
         wrong = λ n small same. not_both (number_in beginning text) n is (ap (number_in beginning) (same_line text (beginning ++ decimal n) same) ∙ line_read law beginning n small);
       }
-      by_number (Some n) is = no_fault _ (n, rest) e (sym (ap (counted line rest) is) ∙ h)
+      by_number (Some n) is = no_fault _ (n, rest) e (sym (ap (number_on_line line rest) is) ∙ h)
 
   -- ---- the lines
 
@@ -358,7 +358,7 @@ module _ (law : (n : ℕ) → n < 2 ^ 64 → number_of (decimal n) ≡ Some n) (
   text_lines text p (inr is) small = ap lines_of is ∙ lines_read law p small (10 ∷ []) (inr refl)
 
   -- what is so of a text is answered
-  pub answer_only : (text : List ℕ) (r : Result Params FileFault) → IsAnswer text r → params_of text ≡ r
+  pub answer_only : (text : List ℕ) (r : Result Params FileFault) → IsParamsAnswer text r → params_of text ≡ r
   answer_only text (Ok p) is = read law text p is.0 is.1
   answer_only text (Err (BadParams line)) is =
       stop params_in (numbers_bad (lines_of text) is.numbers (recursion_from_All (λ n. n < 2 ^ 64) is.numbers is.bits) is.right is.wrong) ∙ ap (λ (n : ℕ). Err (BadParams n)) (sym is.place)
@@ -371,9 +371,9 @@ module _ (law : (n : ℕ) → n < 2 ^ 64 → number_of (decimal n) ≡ Some n) (
   answer_only text (Err Memory) is = absurd is
   answer_only text (Err (UserTorn user bytes)) is = absurd is
 
-  bad_so : (text : List ℕ) (e : FileFault) → Bad (lines_of text) e → IsAnswer text (Err e)
+  bad_so : (text : List ℕ) (e : FileFault) → Bad (lines_of text) e → IsParamsAnswer text (Err e)
   bad_so text e b =
-      subst (λ (k : FileFault). IsAnswer text (Err k)) (sym b.fault)
+      subst (λ (k : FileFault). IsParamsAnswer text (Err k)) (sym b.fault)
       (record { numbers = b.numbers; bits = All-from_recursion (λ n. n < 2 ^ 64) b.numbers b.bits; right = b.right; wrong = b.wrong; place = refl })
 
   -- the numbers of four lines, each of 64 bits
@@ -383,10 +383,10 @@ module _ (law : (n : ℕ) → n < 2 ^ 64 → number_of (decimal n) ≡ Some n) (
     bits : AllByRecursion (λ n. n < 2 ^ 64) (numbers_in given)
     spelled : Spells text given
 
-  over_so : (text : List ℕ) (n : Numbers) (e : FileFault) → Given text n → params_in n ≡ Err e → IsAnswer text (Err e)
+  over_so : (text : List ℕ) (n : Numbers) (e : FileFault) → Given text n → params_in n ≡ Err e → IsParamsAnswer text (Err e)
   over_so text n e g h =
       let o : Over g.given e = params_stopped g.given e (ap params_in (sym g.are) ∙ h) in
-      subst (λ (k : FileFault). IsAnswer text (Err k)) (sym o.fault)
+      subst (λ (k : FileFault). IsParamsAnswer text (Err k)) (sym o.fault)
       (record { given = g.given; bits = All-from_recursion (λ n. n < 2 ^ 64) (numbers_in g.given) g.bits; spelled = g.spelled; fit = o.fit; range = o.in_range; before = o.before; right = o.right; wrong = o.wrong; is = refl; place = refl })
 
   numbers_small : (lines : List (List ℕ)) (n : Numbers) → numbers_of lines ≡ Ok n → AllByRecursion (λ x. x < 2 ^ 64) (n.pages ∷ n.frames ∷ n.heap ∷ n.stack ∷ [])
@@ -408,17 +408,17 @@ module _ (law : (n : ℕ) → n < 2 ^ 64 → number_of (decimal n) ≡ Some n) (
       let p : Params = record { pages = n.pages; frames = n.frames; heap = n.heap; stack = n.stack } in
       record { given = p; are = refl; bits = numbers_small (lines_of text) n h; spelled = spells_of text p (lines_are spells (lines_of text) n h) }
 
-  fault_so : (text : List ℕ) (e : FileFault) → params_of text ≡ Err e → IsAnswer text (Err e)
+  fault_so : (text : List ℕ) (e : FileFault) → params_of text ≡ Err e → IsParamsAnswer text (Err e)
   fault_so text e h =
       elim (stopped (numbers_of (lines_of text)) params_in e h) [
         | inl s ↦ bad_so text e (numbers_stopped (lines_of text) e s)
         | inr w ↦ over_so text w.x e (numbers_given text w.x w.is) w.next
       ]
 
-  answered_so : (text : List ℕ) (r : Result Params FileFault) → params_of text ≡ r → IsAnswer text r
+  answered_so : (text : List ℕ) (r : Result Params FileFault) → params_of text ≡ r → IsParamsAnswer text r
   answered_so text (Ok p) is = spelled spells text p is
   answered_so text (Err e) is = fault_so text e is
 
   -- what is answered is so of the text
-  pub answer_so : (text : List ℕ) → IsAnswer text (params_of text)
+  pub answer_so : (text : List ℕ) → IsParamsAnswer text (params_of text)
   answer_so text = answered_so text (params_of text) refl

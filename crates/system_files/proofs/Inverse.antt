@@ -6,12 +6,12 @@ use Rattle.std.specs.List.{join_with_byte}
 use Rattle.std.proofs.lemmas.Bool.Decides.{nat_tests}
 use Rattle.std.proofs.lemmas.List.{take-append-drop}
 use Rattle.std.proofs.lemmas.Slice.Eq.{bytes_eq-Decides}
-use Rattle.cvm_text.specs.Lines.{lines_of, number_of}
+use Rattle.cvm_text.specs.Lines.{lines_of, number_spelled}
 use Rattle.layer_map.specs.declared.params.Params.{Params}
 use Rattle.system_files.specs.declared.fault.FileFault.{FileFault}
 use Rattle.system_files.specs.declared.fault.FileFault.TheVariants.{Parameter}
 use Rattle.system_files.specs.declared.params.Numbers.{Numbers}
-use Rattle.system_files.specs.Params.{◌>>=◌, number_in, counted, next_number, at_the_end, numbers_of, ranged, params_in, params_of, AreInRange, Spells, spelling}
+use Rattle.system_files.specs.Params.{◌>>=◌, number_in, number_on_line, next_number, at_the_end, numbers_of, ranged, params_in, params_of, AreInRange, Spells, spelling}
 use Rattle.system_files.proofs.Lines.{text_is}
 
 -- a step that went well, and the one behind it
@@ -36,7 +36,7 @@ in_its_range which least most value x h =
     bounds value x e h = (grind (arith, nat_tests), grind (arith, nat_tests))
 
 -- the line of a number that was read
-pub counted_is : (line : ℕ) (rest : List (List ℕ)) (o : Option ℕ) (x : ℕ × List (List ℕ)) → counted line rest o ≡ Ok x → (o ≡ Some x.0) × (rest ≡ x.1)
+pub counted_is : (line : ℕ) (rest : List (List ℕ)) (o : Option ℕ) (x : ℕ × List (List ℕ)) → number_on_line line rest o ≡ Ok x → (o ≡ Some x.0) × (rest ≡ x.1)
 counted_is line rest (Some n) x e = (cc, cc)
 counted_is line rest None x e = cc
 
@@ -71,12 +71,12 @@ spells_of text p lines =
     one_end : (p : Params) → join_with_byte 10 (lines_for p ++ [] ∷ []) ≡ spelling p (10 ∷ [])
     one_end p = refl
 
-module _ (law : (word : List ℕ) (n : ℕ) → number_of word ≡ Some n → (n < 2 ^ 64) × (word ≡ decimal n)) where
+module _ (law : (word : List ℕ) (n : ℕ) → number_spelled word ≡ Some n → (n < 2 ^ 64) × (word ≡ decimal n)) where
   -- a line whose number was read
   pub line_is : (beginning text : List ℕ) (n : ℕ) → number_in beginning text ≡ Some n → (n < 2 ^ 64) × (text ≡ beginning ++ decimal n)
   unfolding number_in
   line_is beginning text n e =
-      let t = taken (bytes_eq (take (length beginning) text) beginning) (number_of (drop (length beginning) text)) n e in
+      let t = taken (bytes_eq (take (length beginning) text) beginning) (number_spelled (drop (length beginning) text)) n e in
       let front = (bytes_eq-Decides (take (length beginning) text) beginning).0 t.0 in
       let back = law (drop (length beginning) text) n t.1 in
       (back.0, sym (take-append-drop (length beginning) text) ∙ ap (λ f. f ++ drop (length beginning) text) front ∙ ap (λ b. beginning ++ b) back.1)

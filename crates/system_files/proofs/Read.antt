@@ -12,11 +12,11 @@ use Rattle.std.proofs.lemmas.List.Elements.{All-nil, All-cons}
 use Rattle.std.proofs.lemmas.List.Splits.{slice_split_at, slice_split_none}
 use Rattle.std.proofs.lemmas.Slice.Eq.{bytes_eq-Decides}
 use Rattle.std.proofs.lemmas.Str.Parse.{IsNumeralModel, numerals_by_value}
-use Rattle.cvm_text.specs.Lines.{without_empty_end, lines_of, number_of}
+use Rattle.cvm_text.specs.Lines.{without_empty_end, lines_of, number_spelled}
 use Rattle.layer_map.specs.declared.params.Params.{Params}
 use Rattle.system_files.specs.declared.fault.FileFault.{FileFault}
 use Rattle.system_files.specs.declared.fault.FileFault.TheVariants.{Parameter}
-use Rattle.system_files.specs.Params.{◌>>=◌, number_in, counted, next_number, numbers_of, ranged, params_in, params_of, AreInRange, Spells, spelling}
+use Rattle.system_files.specs.Params.{◌>>=◌, number_in, number_on_line, next_number, numbers_of, ranged, params_in, params_of, AreInRange, Spells, spelling}
 use Rattle.system_files.proofs.Inverse.{lines_for}
 
 -- no LF among characters
@@ -62,19 +62,19 @@ pub record Small (p : Params) : Type 0 where
 small_of : (p : Params) → AreInRange p → Small p
 small_of p r = record { pages = omega (arith, r.most_pages); frames = omega (arith, r.most_frames); heap = omega (arith, r.most_heap); stack = omega (arith, r.most_stack) }
 
-module _ (law : (n : ℕ) → n < 2 ^ 64 → number_of (decimal n) ≡ Some n) where
+module _ (law : (n : ℕ) → n < 2 ^ 64 → number_spelled (decimal n) ≡ Some n) where
   -- the number of a line
   pub line_read : (beginning : List ℕ) (n : ℕ) → n < 2 ^ 64 → number_in beginning (beginning ++ decimal n) ≡ Some n
   unfolding number_in
   line_read beginning n small =
-      ap (λ b. cond b (number_of (drop (length beginning) (beginning ++ decimal n))) None) (same (take (length beginning) (beginning ++ decimal n)) beginning (take_at beginning (decimal n) (length beginning) refl))
-      ∙ ap number_of (drop_at beginning (decimal n) (length beginning) refl) ∙ law n small
+      ap (λ b. cond b (number_spelled (drop (length beginning) (beginning ++ decimal n))) None) (same (take (length beginning) (beginning ++ decimal n)) beginning (take_at beginning (decimal n) (length beginning) refl))
+      ∙ ap number_spelled (drop_at beginning (decimal n) (length beginning) refl) ∙ law n small
     where
       same : (xs ys : List ℕ) → xs ≡ ys → bytes_eq xs ys ≡ true
       same xs ys e = (bytes_eq-Decides xs ys).1 e
 
   pub next_read : (line : ℕ) (beginning : List ℕ) (n : ℕ) (rest : List (List ℕ)) → n < 2 ^ 64 → next_number line beginning ((beginning ++ decimal n) ∷ rest) ≡ Ok (n, rest)
-  next_read line beginning n rest small = ap (counted line rest) (line_read beginning n small)
+  next_read line beginning n rest small = ap (number_on_line line rest) (line_read beginning n small)
 
   pub numbers_read : (p : Params) → Small p → numbers_of (lines_for p) ≡ Ok (record { pages = p.pages; frames = p.frames; heap = p.heap; stack = p.stack })
   unfolding numbers_of

@@ -42,9 +42,9 @@ pub record HasWrongNumber (text : List ℕ) (which value : ℕ) : Type 0 where
   pub place : which ≡ suc before
 
 -- what is answered of a text
-abbrev pub IsAnswer : List ℕ → Result Params FileFault → Type 0
-IsAnswer text (Ok p) = Spells text p × AreInRange p
-IsAnswer text (Err (BadParams line)) = HasBadLine text line
-IsAnswer text (Err (Parameter which value)) = HasWrongNumber text which value
-IsAnswer text (Err Memory) = ⊥
-IsAnswer text (Err (UserTorn user bytes)) = ⊥
+abbrev pub IsParamsAnswer : List ℕ → Result Params FileFault → Type 0
+IsParamsAnswer text (Ok p) = Spells text p × AreInRange p
+IsParamsAnswer text (Err (BadParams line)) = HasBadLine text line
+IsParamsAnswer text (Err (Parameter which value)) = HasWrongNumber text which value
+IsParamsAnswer text (Err Memory) = ⊥
+IsParamsAnswer text (Err (UserTorn user bytes)) = ⊥

@@ -1,7 +1,7 @@
 -- Which text has parameters, and which fault another one has.
 use Rattle.std.specs.Prelude.{ℕ, ◌≡◌, ◌≤◌, ◌⊎◌, ◌||◌, ◌++◌, nat_lt, List, [], ◌∷◌, length, take, drop, Option, Some, None, Result, Ok, Err, codes, decimal, if◌then◌else◌}
 use Rattle.std.specs.Str.{bytes_eq}
-use Rattle.cvm_text.specs.Lines.{lines_of, number_of}
+use Rattle.cvm_text.specs.Lines.{lines_of, number_spelled}
 use Rattle.layer_map.specs.declared.params.Params.{Params}
 use Rattle.system_files.specs.declared.fault.FileFault.{FileFault}
 use Rattle.system_files.specs.declared.fault.FileFault.TheVariants.{Parameter, BadParams}
@@ -20,17 +20,17 @@ Comes view (Err e) read = read ≡ Err e
 
 -- the number behind the beginning of a line
 unfoldable pub number_in : (beginning line : List ℕ) → Option ℕ
-number_in beginning line = if bytes_eq (take (length beginning) line) beginning then number_of (drop (length beginning) line) else None
+number_in beginning line = if bytes_eq (take (length beginning) line) beginning then number_spelled (drop (length beginning) line) else None
 
 -- a number of the line with this number, and what follows it
-abbrev pub counted : ℕ → List (List ℕ) → Option ℕ → Result (ℕ × List (List ℕ)) FileFault
-counted line rest (Some n) = Ok (n, rest)
-counted line rest None = Err (BadParams line)
+abbrev pub number_on_line : ℕ → List (List ℕ) → Option ℕ → Result (ℕ × List (List ℕ)) FileFault
+number_on_line line rest (Some n) = Ok (n, rest)
+number_on_line line rest None = Err (BadParams line)
 
 -- the number of the next line, which is to begin so, and what follows it
 abbrev pub next_number : (line : ℕ) → (beginning : List ℕ) → List (List ℕ) → Result (ℕ × List (List ℕ)) FileFault
 next_number line beginning [] = Err (BadParams line)
-next_number line beginning (text ∷ rest) = counted line rest (number_in beginning text)
+next_number line beginning (text ∷ rest) = number_on_line line rest (number_in beginning text)
 
 -- numbers behind which no line follows
 abbrev pub at_the_end : List (List ℕ) → Numbers → Result Numbers FileFault

@@ -4,7 +4,7 @@ ghost use Rattle.std.specs.Prelude.{◌≡◌, ◌≤◌, ◌∷◌, [], List, �
 ghost use Rattle.cvm_text.specs.Lines.{lines_of};
 ghost use Rattle.layer_map.specs.declared.params.Params.{Params};
 ghost use Rattle.system_files.specs.declared.fault.FileFault.{FileFault};
-ghost use Rattle.system_files.specs.Answer.{IsAnswer};
+ghost use Rattle.system_files.specs.Answer.{IsParamsAnswer};
 ghost use Rattle.system_files.specs.Params as spec;
 ghost use Rattle.system_files.specs.Params.{AreInRange, Comes, Spells, at_the_end, next_number as next_in, number_in, numbers_of, params_in, ranged};
 
@@ -45,8 +45,8 @@ pub fn parameters_are_their_spellings()
 /// A law: of each text there is one answer in the format's own words, and that is what is answered. So each fault comes exactly where it
 /// stands first, with its numbers.
 pub fn texts_have_one_answer()
-    ensures so { (text : List ℕ) → IsAnswer text (spec.params_of text) }
-    ensures only { (text : List ℕ) (answer : Result Params FileFault) → IsAnswer text answer → spec.params_of text ≡ answer }
+    ensures so { (text : List ℕ) → IsParamsAnswer text (spec.params_of text) }
+    ensures only { (text : List ℕ) (answer : Result Params FileFault) → IsParamsAnswer text answer → spec.params_of text ≡ answer }
 {
     whole_numbers_are_spelled();
 }

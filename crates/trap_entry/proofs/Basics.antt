@@ -5,7 +5,7 @@ use Rattle.std.proofs.lemmas.Nat.{or_shifted}
 use Rattle.mips_table.specs.declared.inst.Inst.{Inst}
 use Rattle.mips_table.specs.Code.{put, Contents, Behind, World, at_with, CodeAt, Reaches}
 use Rattle.masm.specs.Laws.{RunsCompose, From}
-use Rattle.trap_entry.specs.Laws.{ComesTo}
+use Rattle.trap_entry.specs.Laws.{RunComesTo}
 
 pub put_same : (m : ℕ → ℕ) (a v x : ℕ) → x ≡ a → put m a v x ≡ v
 put_same m a v x e = cond-true _ v (m x) (eq-eqb x a e)
@@ -32,5 +32,5 @@ module _ (w : World) (runs : RunsCompose) where
   pub later : (k j n m l : ℕ) (c : Contents) (d : Behind) (Q : Contents → Behind → Type 0) → k ≤ j → m ≡ l → Run k n m c d Q → Run j n l c d Q
   later k j n m l c d Q le e x = (x.0, x.1, x.2, runs.later w k j _ _ le (subst (λ l. Reaches w k (at_with n c d) (at_with l x.0 x.1)) e x.3))
 
-  pub comes : (k n m : ℕ) (i : Inst) (c : Contents) (d : Behind) (Q : Contents → Behind → Type 0) → Run k n m c d Q → w.code m ≡ Some i → ComesTo w k n m i c d Q
+  pub comes : (k n m : ℕ) (i : Inst) (c : Contents) (d : Behind) (Q : Contents → Behind → Type 0) → Run k n m c d Q → w.code m ≡ Some i → RunComesTo w k n m i c d Q
   comes k n m i c d Q x at = record { contents = x.0; behind = x.1; done = x.2; reaches = x.3; stands = at }

@@ -12,9 +12,9 @@ use Rattle.masm.specs.Laws.{RunsCompose, JumpsLead, WhenRuns, From}
 use Rattle.masm.proofs.Routines.{from_straight, from_then, from_later, from_when, straight_then}
 use Rattle.page_model.specs.Places.{Places}
 use Rattle.pcb_layer.specs.Code.{restore_registers_code, save_user_code}
-use Rattle.pcb_layer.specs.Laws.{HasSaveArea, MaySave, IsCurrent, MayKeep, Kept, SavesRegisters, KeepsUser}
+use Rattle.pcb_layer.specs.Laws.{HasSaveArea, MaySave, IsCurrent, MayKeep, InControlBlock, SavesRegisters, KeepsUser}
 use Rattle.trap_entry.specs.Code.{save_and_classify_code, handle_page_fault_code, load_dispatch_arguments_code, enter_kernel_code, handler_code}
-use Rattle.trap_entry.specs.Laws.{IsHandled, UserEntered, ResetEntered, EntersKernel, EntersFirst}
+use Rattle.trap_entry.specs.Laws.{IsHandled, UserEntered, ResetEntered, EntersKernel, ResetEnters}
 use Rattle.trap_entry.proofs.Basics.{Run, block, join, later}
 use Rattle.trap_entry.proofs.Deciding.{Ready, Decided, decision, negative, decides}
 
@@ -60,8 +60,8 @@ module _ (w : World) (f : Sound w) (runs : RunsCompose) (jumps : JumpsLead w) (s
       let c1 = with_reg c 8 (c.special ECA) in
       let cause : c.special ECA ≡ c0.special ECA = ap (λ g. g ECA) s.special in
       let now : IsCurrent w u c1 = record { some = is.some; most = is.most; current = s.others current_at (inl (omega arith)) ∙ is.current; inside = is.inside } in
-      from_then w (when_code 8 save_user_code) load_dispatch_arguments_code (73 + 1) 3 c1 d0 (Kept u c1 d0) (UserEntered u c0 d0)
-      (from_when w f 8 save_user_code 73 c1 d0 (Kept u c1 d0) (omega arith) idle
+      from_then w (when_code 8 save_user_code) load_dispatch_arguments_code (73 + 1) 3 c1 d0 (InControlBlock u c1 d0) (UserEntered u c0 d0)
+      (from_when w f 8 save_user_code 73 c1 d0 (InControlBlock u c1 d0) (omega arith) idle
       (λ z. keeps u c1 d0 free now idle)
       (λ z. absurd (some (sym cause ∙ z))))
       (λ c2 d2 k.
@@ -122,5 +122,5 @@ entering w f runs jumps saves keeps whens p page u n c d le may free is at lt so
     let inside = is.inside in
     enters_kernel w f runs jumps saves whens free.system (omega arith) may keeps p page u n c d le free is at lt some nay idle
 
-pub entering_first : (w : World) → Sound w → RunsCompose → JumpsLead w → SavesRegisters w → ((r : ℕ) (body : List Inst) → length body < 32768 → WhenRuns w r body) → EntersFirst w
+pub entering_first : (w : World) → Sound w → RunsCompose → JumpsLead w → SavesRegisters w → ((r : ℕ) (body : List Inst) → length body < 32768 → WhenRuns w r body) → ResetEnters w
 entering_first w f runs jumps saves whens p page n c d le system area may at z idle = enters_first w f runs jumps saves whens system area may p page n c d le at z idle

@@ -4,7 +4,7 @@ use Rattle.mips_table.specs.declared.inst.Inst.{Inst}
 use Rattle.mips_table.specs.declared.inst.Inst.TheVariants.{Sw, Eret}
 use Rattle.mips_table.specs.declared.cause.Cause.TheVariants.{Reset, FetchFault, DataFault}
 use Rattle.mips_table.specs.Device.{Idle, BUFFER}
-use Rattle.mips_table.specs.Machine.{number_of}
+use Rattle.mips_table.specs.Machine.{cause_number}
 use Rattle.mips_table.specs.declared.special.TheConstants.{ESR, ECA, EPC, EDATA, PTO, PTL, EMODE}
 use Rattle.mips_table.specs.Code.{Contents, Behind, World, at_with, CodeAt, Reaches}
 use Rattle.layer_map.specs.Map.{current_at, hand_at, block_at, layer_words}
@@ -14,9 +14,9 @@ use Rattle.masm.specs.declared.registers.TheConstants.{ARGUMENTS}
 use Rattle.layer_map.specs.declared.entries.TheConstants.{ANSWER}
 use Rattle.layer_map.specs.declared.places.TheConstants.{BLOCK_SIZE, BLOCK_HI, BLOCK_LO}
 use Rattle.masm.specs.Frames.{Besides}
-use Rattle.page_model.specs.Paging.{Pages, PagesStand}
+use Rattle.page_model.specs.Paging.{Pages, PagingInvariant}
 use Rattle.page_model.specs.Faults.{Brought}
-use Rattle.page_model.specs.Places.{Places, frames_end, view}
+use Rattle.page_model.specs.Places.{Places, frames_end, paged_view}
 use Rattle.frame_table.specs.View.{Sited, Ported}
 use Rattle.page_fault.specs.Asked.{swap_steps, fault_steps, PageBlock}
 use Rattle.pcb_layer.specs.Code.{saved_at}
@@ -26,14 +26,14 @@ use Rattle.trap_entry.specs.Code.{save_and_classify_code, handle_page_fault_code
 
 -- a fetch or data fault of a page below the current user's size
 abbrev pub IsHandled : (cause edata pages : ℕ) → Type 0
-IsHandled cause edata pages = ((cause ≡ number_of FetchFault) ⊎ (cause ≡ number_of DataFault)) × (edata / 4096 < pages)
+IsHandled cause edata pages = ((cause ≡ cause_number FetchFault) ⊎ (cause ≡ cause_number DataFault)) × (edata / 4096 < pages)
 
 -- a word that isn't one of the save area
 abbrev pub IsUnsaved : ℕ → Type 0
 IsUnsaved x = (x < saved_at 1) ⊎ (saved_at 31 < x)
 
 -- from word n the run comes, within so many steps, to word m, where this instruction stands, with Q
-pub record ComesTo (w : World) (steps n m : ℕ) (i : Inst) (c : Contents) (d : Behind) (Q : Contents → Behind → Type 0) : Type 0 where
+pub record RunComesTo (w : World) (steps n m : ℕ) (i : Inst) (c : Contents) (d : Behind) (Q : Contents → Behind → Type 0) : Type 0 where
   pub contents : Contents
   pub behind : Behind
   pub done : Q contents behind
@@ -47,15 +47,15 @@ pub record FaultAsked (p : Places) (v : Pages) (base e : ℕ) (c : Contents) (d 
   pub word : e < 2 ^ 32
   pub inside : base + e / 4096 < p.layout.pages
   pub live : v.live (base + e / 4096) ≡ true
-  pub stands : PagesStand p.layout v (view p c.memory d.sectors)
+  pub stands : PagingInvariant p.layout v (paged_view p c.memory d.sectors)
   pub small : (x : ℕ) → x < p.layout.pages → c.memory (p.tables + x) < 2 ^ 32
   pub idle : d.pending ≡ Idle
 
 -- it was: page q passes for a store, the machine shows the same, and registers, memory below the page tables but the hand and the save area, memory
 -- behind the last frame, the sectors past the pages, and all else are as before
 pub record FaultDone (p : Places) (v : Pages) (q : ℕ) (c0 : Contents) (d0 : Behind) (c : Contents) (d : Behind) : Type 0 where
-  pub stands : PagesStand p.layout v (view p c.memory d.sectors)
-  pub brought : Brought p.layout q true (view p c0.memory d0.sectors) (view p c.memory d.sectors)
+  pub stands : PagingInvariant p.layout v (paged_view p c.memory d.sectors)
+  pub brought : Brought p.layout q true (paged_view p c0.memory d0.sectors) (paged_view p c.memory d.sectors)
   pub low : (x : ℕ) → x < p.tables → x ≢ hand_at → IsUnsaved x → c.memory x ≡ c0.memory x
   pub above : (x : ℕ) → frames_end p ≤ x → x < BUFFER → c.memory x ≡ c0.memory x
   pub small : (x : ℕ) → x < p.layout.pages → c.memory (p.tables + x) < 2 ^ 32
@@ -70,7 +70,7 @@ fault_eret_at n p page = n + length save_and_classify_code + 1 + length (handle_
 -- HANDLED FAULT: from its start the handler comes to the eret, in a swap for each page that names the frame at the hand, one more, and 85 steps
 abbrev pub HandlesFaults : World → Type 0
 HandlesFaults w = (p : Places) (b : ℕ) (page : PageBlock w p b) (v : Pages) (base e n : ℕ) (c : Contents) (d : Behind) → Sited p w → Ported p w b → MaySave w → CodeAt w n (handler_code p page.code) → IsHandled (c.special ECA) e (c.special PTL) → FaultAsked p v base e c d
-    → ComesTo w (swap_steps p b c.memory + 85) n (fault_eret_at n p page.code) Eret c d (FaultDone p v (base + e / 4096) c d) × (swap_steps p b c.memory ≤ fault_steps b)
+    → RunComesTo w (swap_steps p b c.memory + 85) n (fault_eret_at n p page.code) Eret c d (FaultDone p v (base + e / 4096) c d) × (swap_steps p b c.memory ≤ fault_steps b)
 
 -- `dispatch` is called for the current user, which is saved
 pub record UserEntered (u : ℕ) (c0 : Contents) (d0 : Behind) (c : Contents) (d : Behind) : Type 0 where
@@ -89,7 +89,7 @@ pub record UserEntered (u : ℕ) (c0 : Contents) (d0 : Behind) (c : Contents) (d
 
 -- `dispatch` is called after the reset
 pub record ResetEntered (c0 : Contents) (d0 : Behind) (c : Contents) (d : Behind) : Type 0 where
-  pub cause : c.regs ARGUMENTS ≡ number_of Reset
+  pub cause : c.regs ARGUMENTS ≡ cause_number Reset
   pub edata : c.regs (ARGUMENTS + 1) ≡ c0.special EDATA
   pub user : c.regs (ARGUMENTS + 2) ≡ c0.memory current_at
   pub others : (x : ℕ) → IsUnsaved x → c.memory x ≡ c0.memory x
@@ -100,12 +100,12 @@ pub record ResetEntered (c0 : Contents) (d0 : Behind) (c : Contents) (d : Behind
 
 -- ENTER, from a user: all interrupts but handled faults lead to the kernel's first word
 abbrev pub EntersKernel : World → Type 0
-EntersKernel w = (p : Places) (page : List Inst) (u n : ℕ) (c : Contents) (d : Behind) → length page ≤ 1000 → MaySave w → MayKeep w u → IsCurrent w u c → CodeAt w n (handler_code p page) → c.special ECA < 2 ^ 32 → c.special ECA ≢ number_of Reset
+EntersKernel w = (p : Places) (page : List Inst) (u n : ℕ) (c : Contents) (d : Behind) → length page ≤ 1000 → MaySave w → MayKeep w u → IsCurrent w u c → CodeAt w n (handler_code p page) → c.special ECA < 2 ^ 32 → c.special ECA ≢ cause_number Reset
     → (IsHandled (c.special ECA) (c.special EDATA) (c.special PTL) → ⊥) → d.pending ≡ Idle → (c' : Contents) × (d' : Behind) × UserEntered u c d c' d' × Reaches w 124 (at_with n c d) (at_with layer_words c' d')
 
 -- ENTER, after the reset
-abbrev pub EntersFirst : World → Type 0
-EntersFirst w = (p : Places) (page : List Inst) (n : ℕ) (c : Contents) (d : Behind) → length page ≤ 1000 → w.system ≡ true → HasSaveArea w → MaySave w → CodeAt w n (handler_code p page) → c.special ECA ≡ number_of Reset → d.pending ≡ Idle
+abbrev pub ResetEnters : World → Type 0
+ResetEnters w = (p : Places) (page : List Inst) (n : ℕ) (c : Contents) (d : Behind) → length page ≤ 1000 → w.system ≡ true → HasSaveArea w → MaySave w → CodeAt w n (handler_code p page) → c.special ECA ≡ cause_number Reset → d.pending ≡ Idle
     → (c' : Contents) × (d' : Behind) × ResetEntered c d c' d' × Reaches w 51 (at_with n c d) (at_with layer_words c' d')
 
 -- user u goes on behind the eret: it is the current one, and the processor is as its control block says
@@ -137,7 +137,7 @@ pub record MayGo (w : World) (p : Places) (users per u : ℕ) : Type 0 where
   pub free : w.kept current_at ≡ None
 
 -- the state is as before, but for T0 and T1
-pub record Passed (c0 : Contents) (d0 : Behind) (c : Contents) (d : Behind) : Type 0 where
+pub record PassedOver (c0 : Contents) (d0 : Behind) (c : Contents) (d : Behind) : Type 0 where
   pub regs : (r : ℕ) → r ≢ T0 → r ≢ T1 → c.regs r ≡ c0.regs r
   pub memory : c.memory ≡ c0.memory
   pub special : c.special ≡ c0.special
@@ -148,19 +148,19 @@ pub record Passed (c0 : Contents) (d0 : Behind) (c : Contents) (d : Behind) : Ty
 -- LEAVE, to user u: in 67 steps to the eret
 abbrev pub LeavesToUser : World → Type 0
 LeavesToUser w = (p : Places) (users per u n : ℕ) (c : Contents) (d : Behind) → MayGo w p users per u → CodeAt w n (act_on_answer_code p users per) → c.regs ANSWER ≡ u → d.pending ≡ Idle
-    → ComesTo w 67 n (n + 6 + length (return_to_user_code p per)) Eret c d (UserReady p per u c d)
+    → RunComesTo w 67 n (n + 6 + length (return_to_user_code p per)) Eret c d (UserReady p per u c d)
 
 -- LEAVE, with the answer 0: in 2 steps to the store of a 0 to the power port
 abbrev pub LeavesForGood : World → Type 0
 LeavesForGood w = (p : Places) (users per n : ℕ) (c : Contents) (d : Behind) → CodeAt w n (act_on_answer_code p users per) → c.regs ANSWER ≡ 0 → d.pending ≡ Idle
-    → ComesTo w 2 n (n + 2) (Sw ZERO ZERO POWER) c d (Passed c d)
+    → RunComesTo w 2 n (n + 2) (Sw ZERO ZERO POWER) c d (PassedOver c d)
 
 -- LEAVE, with no user's number: in 6 steps to the store of BAD_USER
 abbrev pub LeavesBadly : World → Type 0
 LeavesBadly w = (p : Places) (users per n : ℕ) (c : Contents) (d : Behind) → users ≤ 64 → CodeAt w n (act_on_answer_code p users per) → users < c.regs ANSWER → c.regs ANSWER < 2 ^ 32 → d.pending ≡ Idle
-    → ComesTo w 6 n (n + 8 + length (return_to_user_code p per)) (Sw T0 ZERO POWER) c d (λ c' d'. Passed c d c' d' × (c'.regs T0 ≡ BAD_USER))
+    → RunComesTo w 6 n (n + 8 + length (return_to_user_code p per)) (Sw T0 ZERO POWER) c d (λ c' d'. PassedOver c d c' d' × (c'.regs T0 ≡ BAD_USER))
 
 -- FAULT EXIT: in one step to the store of the fault's power word
 abbrev pub ExitsWith : World → Type 0
 ExitsWith w = (power n : ℕ) (c : Contents) (d : Behind) → power < 32768 → CodeAt w n (exit_with_code power) → d.pending ≡ Idle
-    → ComesTo w 1 n (n + 1) (Sw T0 ZERO POWER) c d (λ c' d'. Passed c d c' d' × (c'.regs T0 ≡ power))
+    → RunComesTo w 1 n (n + 1) (Sw T0 ZERO POWER) c d (λ c' d'. PassedOver c d c' d' × (c'.regs T0 ≡ power))

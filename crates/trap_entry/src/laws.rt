@@ -1,6 +1,6 @@
 // The laws of the way in and out. Each is the contract of a function that does nothing.
 ghost use Rattle.mips_table.specs.Code.{World, Sound};
-ghost use Rattle.trap_entry.specs.Laws.{HandlesFaults, EntersKernel, EntersFirst, LeavesToUser, LeavesForGood, LeavesBadly, ExitsWith};
+ghost use Rattle.trap_entry.specs.Laws.{HandlesFaults, EntersKernel, ResetEnters, LeavesToUser, LeavesForGood, LeavesBadly, ExitsWith};
 
 use masm::laws::{a_condition_is_tested, jumps_lead, runs_compose};
 use page_model::laws::alikes_stand;
@@ -30,7 +30,7 @@ pub fn the_kernel_is_entered()
 
 /// The reset comes to the kernel.
 pub fn the_kernel_is_entered_first()
-    ensures { (w : World) → Sound w → EntersFirst w }
+    ensures { (w : World) → Sound w → ResetEnters w }
 {
     runs_compose();
     a_condition_is_tested();

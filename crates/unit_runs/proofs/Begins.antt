@@ -8,11 +8,11 @@ use Rattle.std.proofs.Common.{◌≡◌, ℕ, ◌+◌, ◌*◌, ◌/◌, ◌^◌
 use Rattle.mips_table.specs.declared.inst.Inst.{Inst}
 use Rattle.mips_table.specs.declared.inst.Inst.TheVariants.{Lui}
 use Rattle.mips_table.specs.Arith.{signed}
-use Rattle.mips_table.specs.Device.{Outside}
+use Rattle.mips_table.specs.Device.{Environment}
 use Rattle.mips_table.specs.Fits.{NamesSector, StaysFitting}
-use Rattle.mips_table.specs.Code.{World, Contents, Configuration as Machine, at_with, on_machine, Sound, Steps, CodeAt}
+use Rattle.mips_table.specs.Code.{World, Contents, CodeState, at_with, on_machine, Sound, Steps, CodeAt}
 use Rattle.mips_table.specs.Machine.{State, run}
-use Rattle.mips_table.specs.Simulation.{configuration_of, Quiet, Holds, Serves, MachineSimulates}
+use Rattle.mips_table.specs.Simulation.{configuration_of, Quiet, MemoryHolds, DiskServes, MachineSimulates}
 use Rattle.masm.specs.declared.registers.Places.{Places}
 use Rattle.layer_map.specs.Map.{layer_words, globals_at, heap_at, stack_at}
 use Rattle.page_model.specs.Laws.{AlikesStand}
@@ -23,11 +23,11 @@ use Rattle.c0_meaning.specs.Env.{Shape, typed_of}
 use Rattle.c0_meaning.specs.Limits.{are_three_ints}
 use Rattle.c0_meaning.specs.Sound.{shapes}
 use Rattle.c0_meaning.specs.RunLaws.{HasDispatch}
-use Rattle.c0_meaning.specs.State.{Frame, State as C0}
+use Rattle.c0_meaning.specs.State.{Frame, C0State}
 use Rattle.c0_meaning.specs.Value.{Values, int, empty, part}
 use Rattle.c0_meaning.specs.World.{Configuration, beginning}
 use Rattle.c0_meaning.specs.Running.{begin}
-use Rattle.c0_meaning.specs.TypedState.{Layout, types_of, AllFit, layout_of, IsTypedWith, IsTypedState}
+use Rattle.c0_meaning.specs.TypedState.{StoreTyping, types_of, AllFit, store_typing, IsTypedWith, IsTypedState}
 use Rattle.c0_runtime.specs.Code.{entry_code, behind_first}
 use Rattle.c0_runtime.specs.Laws.{IsEntered, StackIs, EntryRuns, with_half}
 use Rattle.c0_expr_code.specs.Laws.{IsOpened}
@@ -41,12 +41,12 @@ use Rattle.cvm_model.specs.Kernel.{Core, Changes, flat}
 use Rattle.cvm_model.specs.KernelMeaning.{Machines, machines_of}
 use Rattle.cvm_model.specs.Cvm.{Running}
 use Rattle.cvm_model.specs.TypedKernel.{RowsAreCalled}
-use Rattle.cvm_model.specs.Stands.{Site, Stands, address_of}
+use Rattle.cvm_model.specs.Stands.{Site, RunningRelation, address_of}
 use Rattle.unit_runs.specs.Held.{HoldsAt, IsHeldFlat, HeldIsFlat}
 use Rattle.unit_runs.specs.Outer.{Outer}
 use Rattle.unit_runs.specs.Placed.{program, CodeStands}
 use Rattle.c0_meaning.specs.CallChain.{dispatch_number}
-use Rattle.unit_runs.specs.Host.{Counts}
+use Rattle.unit_runs.specs.Host.{CountsCalls}
 use Rattle.unit_runs.proofs.Instructions.{piece_at, not_own, kept_past, kept_words}
 use Rattle.unit_runs.proofs.Seen.{space_is}
 use Rattle.unit_runs.proofs.Standing.{seen, behind, no_user, outer_of}
@@ -65,7 +65,7 @@ signed_fits n = by_test (nat_lt n (2 ^ 31)) refl
     by_test false e = rw e (record { sfits = let h = ltb-false n (2 ^ 31) e in omega (arith, h) })
 
 -- three ints for three parameters of type int
-three_ints : TypesEqualAsWritten → (structs : List Shape) (layout : Layout) (ds : List CDecl) (a b c : ℤ) → are_three_ints ds ≡ true → FitsSigned w32 a → FitsSigned w32 b → FitsSigned w32 c
+three_ints : TypesEqualAsWritten → (structs : List Shape) (layout : StoreTyping) (ds : List CDecl) (a b c : ℤ) → are_three_ints ds ≡ true → FitsSigned w32 a → FitsSigned w32 b → FitsSigned w32 c
     → AllFit structs layout (types_of (map typed_of ds)) (part (int a) (part (int b) (part (int c) empty)))
 three_ints same structs layout (x ∷ y ∷ z ∷ []) a b c e f g h =
     let p = and_parts (same_ty (ty_of x.ty) ty.int) _ e in
@@ -81,11 +81,11 @@ three_ints same structs layout (x ∷ []) a b c e f g h = absurd (cc)
 three_ints same structs layout (x ∷ y ∷ []) a b c e f g h = absurd (cc)
 three_ints same structs layout (x ∷ y ∷ z ∷ w ∷ ds) a b c e f g h = absurd (cc)
 
-abbrev pub with_frames : C0 → List Frame → C0
+abbrev pub with_frames : C0State → List Frame → C0State
 with_frames s f = record s { frames = f }
 
 module _ (simulates : MachineSimulates) (joins : RunsJoin) (fitting : StaysFitting) (alikes : AlikesStand) (rows : RowsAreCalled)
-    (x : Outside) (y : Site) (u : CUnit) (p : Places) (code : List Inst) (words : List ℕ) (longest : ℕ) (c : Core) (st : CodeStands u p y code) (g : Ground x y words longest) (user_ok : c.current ≤ y.map.users)
+    (x : Environment) (y : Site) (u : CUnit) (p : Places) (code : List Inst) (words : List ℕ) (longest : ℕ) (c : Core) (st : CodeStands u p y code) (g : Ground x y words longest) (user_ok : c.current ≤ y.map.users)
     (small : length words < 2 ^ 26) (sound : Sound (on_machine x (program y.map (layer_words + 1) code words))) (sound_all : Sound (on_machine x (program y.map layer_words code words))) (s0 : State)
     (flats : HeldIsFlat) (opened : IsOpened (shapes u)) (dispatch : HasDispatch) (same_types : TypesEqualAsWritten)
     (entry : EntryRuns (on_machine x (program y.map (layer_words + 1) code words))) (entry_all : EntryRuns (on_machine x (program y.map layer_words code words)))
@@ -103,13 +103,13 @@ module _ (simulates : MachineSimulates) (joins : RunsJoin) (fitting : StaysFitti
   abbrev all : World
   all = on_machine x (program y.map layer_words code words)
 
-  abbrev Here : ℕ → Machine → Type 0
+  abbrev Here : ℕ → CodeState → Type 0
   Here k s = Reached simulates joins x y code words sound s0 k s
 
   abbrev target : ℕ
   target = (links_of p).function (dispatch_number u)
 
-  abbrev standing : Stands x y s0 Running c
+  abbrev standing : RunningRelation x y s0 Running c
   standing = called.at.stands
 
   linked_so : length y.linked ≡ layer_words + length code
@@ -128,10 +128,10 @@ module _ (simulates : MachineSimulates) (joins : RunsJoin) (fitting : StaysFitti
     aligned = omega (arith, pc);
   }
 
-  holds : Holds all s0.memory
+  holds : MemoryHolds all s0.memory
   holds = record { size = ap length same; kept = kept_words y.map words y.linked s0.memory code st.linked (λ j le lt. let l = linked_so in standing.kernel.linked j (omega (arith, lt, l)) (not_own y.map j g.bounds.users le)) (λ j le lt. ap (λ w. slice_index w j) same) }
 
-  serves : Serves x all s0.device
+  serves : DiskServes x all s0.device
   serves = record { count = omega arith; named = subst (NamesSector 0) (sym standing.idle) tt }
 
   at_entry : configuration_of s0 ≡ at_with layer_words (seen s0) (behind s0)
@@ -151,7 +151,7 @@ module _ (simulates : MachineSimulates) (joins : RunsJoin) (fitting : StaysFitti
     pub steps : ℕ
     pub few : steps ≤ 1
     pub come : Here steps (at_with (layer_words + 1) (with_half p.globals (seen s0)) (behind s0))
-    pub counts : Counts x s0 steps 0
+    pub counts : CountsCalls x s0 steps 0
 
   first : First
   first =
@@ -182,7 +182,7 @@ module _ (simulates : MachineSimulates) (joins : RunsJoin) (fitting : StaysFitti
         };
         counts =
             let e : 0 + r.steps ≡ r.steps = omega arith in
-            subst (λ i. Counts x s0 i 0) e (counts_along x s0 0 0 r.steps (begins x s0 not_there) (λ j lt. let none : 0 ≡ 0 + j = omega (arith, lt, one) in subst (λ i. IsElsewhere (run x s0 i)) none not_there));
+            subst (λ i. CountsCalls x s0 i 0) e (counts_along x s0 0 0 r.steps (begins x s0 not_there) (λ j lt. let none : 0 ≡ 0 + j = omega (arith, lt, one) in subst (λ i. IsElsewhere (run x s0 i)) none not_there));
       }
 
   -- the layer's variables that the kernel knows
@@ -214,9 +214,9 @@ module _ (simulates : MachineSimulates) (joins : RunsJoin) (fitting : StaysFitti
   pub record Begun : Type 0 where
     pub base : ℕ
     pub few : base ≤ 7
-    pub end : Machine
+    pub end : CodeState
     pub come : Here base end
-    pub counts : Counts x s0 base 0
+    pub counts : CountsCalls x s0 base 0
     pub sim : Simulated Machines Changes (Outer y c.current) z 0 (begin (dispatch_number u) args ∷ []) started end
 
   abbrev its_bases : Bases
@@ -247,7 +247,7 @@ module _ (simulates : MachineSimulates) (joins : RunsJoin) (fitting : StaysFitti
       (λ j lt. word_there (heap_at y.map + j) (omega (arith, lt, flat_scalars (address_of y.map c.c0) c.c0.heap_values, n, b, e, f, h, i, big)) ∙ standing.kernel.heap j lt)
 
   -- the data, with the registers as the entry left them
-  stands : (c' : Contents) → IsEntered p.globals (stack_at y.map) y.map.params.stack (layer_words + 7) (seen s0) c' → code_run.Stands Machines Changes (Outer y c.current) z typed.0 started c' (behind s0)
+  stands : (c' : Contents) → IsEntered p.globals (stack_at y.map) y.map.params.stack (layer_words + 7) (seen s0) c' → code_run.ConfigurationStands Machines Changes (Outer y c.current) z typed.0 started c' (behind s0)
   stands c' ent =
       let used = standing.whole.used in let room = standing.whole.heap in
       let memory = ent.memory in
@@ -305,7 +305,7 @@ module _ (simulates : MachineSimulates) (joins : RunsJoin) (fitting : StaysFitti
           at = refl;
           to = layer_words + 7;
           return_at = e.1.back;
-          fits = three_ints same_types (shapes u) (layout_of u typed.0) d.1.params cause edata user ints.0 (subst (FitsSigned w32) a0 (signed_fits _)) (subst (FitsSigned w32) a1 (signed_fits _)) (subst (FitsSigned w32) a2 (signed_fits _));
+          fits = three_ints same_types (shapes u) (store_typing u typed.0) d.1.params cause edata user ints.0 (subst (FitsSigned w32) a0 (signed_fits _)) (subst (FitsSigned w32) a1 (signed_fits _)) (subst (FitsSigned w32) a2 (signed_fits _));
           arguments = (passed e.0 e.1 20 cause (omega arith) a0, (passed e.0 e.1 21 edata (omega arith) a1, (passed e.0 e.1 22 user (omega arith) a2, tt)));
           ahead = refl;
         };

@@ -13,7 +13,7 @@ use Rattle.c0_unit.specs.Laws.{ArePlacesOf, StandsIn, UnitStands, UnitsStand, Un
 use Rattle.cvm_model.specs.Kernel.{power_of}
 use Rattle.cvm_model.specs.KernelMeaning.{fault_of}
 use Rattle.cvm_model.specs.Stands.{Site}
-use Rattle.unit_runs.specs.Placed.{StandsAt, CodeStands}
+use Rattle.unit_runs.specs.Placed.{CodeStandsAt, CodeStands}
 use Rattle.unit_runs.specs.Runs.{UnitsRunOverLayers, UnitsCallsFollow, IsLinked, CompiledUnitsRun, CompiledUnitsCallsFollow}
 
 same_exit : (f : KernelFault) → 2058 + exit_number f ≡ 2057 + power_of (fault_of f)
@@ -22,7 +22,7 @@ same_exit Bounds = refl
 same_exit DivZero = refl
 same_exit StackOut = refl
 
-as_piece : (u : CUnit) (first k : ℕ) (piece : List _) → StandsIn u first k piece → StandsAt (unit_code u first) k piece
+as_piece : (u : CUnit) (first k : ℕ) (piece : List _) → StandsIn u first k piece → CodeStandsAt (unit_code u first) k piece
 as_piece u first k piece s = (s.before, s.after, s.is, s.from, s.behind)
 
 code_stands : UnitsStand → (u : CUnit) (p : Places) (y : Site) → IsChecked u → ArePlacesOf u p → IsLinked u y → CodeStands u p y (unit_code u (dispatch_number u))

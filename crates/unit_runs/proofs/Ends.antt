@@ -7,9 +7,9 @@ use Rattle.std.proofs.lemmas.Int.{to_z-of_z}
 use Rattle.std.proofs.Common.{◌≡◌, ◌⊎◌, inl, inr, ℕ, ◌+◌, ◌*◌, ◌/◌, ◌^◌, ◌<◌, ◌≤◌, List, [], length, refl, sym, ap, ◌∙◌, subst, arith}
 use Rattle.mips_table.specs.declared.inst.Inst.{Inst}
 use Rattle.mips_table.specs.Arith.{signed}
-use Rattle.mips_table.specs.Device.{Outside}
+use Rattle.mips_table.specs.Device.{Environment}
 use Rattle.mips_table.specs.Fits.{StaysFitting}
-use Rattle.mips_table.specs.Code.{Configuration as Machine, at_with, on_machine, Sound, CodeAt}
+use Rattle.mips_table.specs.Code.{CodeState, at_with, on_machine, Sound, CodeAt}
 use Rattle.mips_table.specs.Machine.{State, run}
 use Rattle.mips_table.specs.Simulation.{MachineSimulates}
 use Rattle.masm.specs.declared.registers.Places.{Places}
@@ -35,18 +35,18 @@ use Rattle.c0_stmt_code.specs.Standing.{bases, unit_scope, Ended, AtExit, StepsR
 use Rattle.layer_contract.specs.declared.entry.Entry.{Entry}
 use Rattle.layer_contract.specs.declared.entry.Entry.TheVariants.{Fault as Exit, Leave}
 use Rattle.layer_contract.specs.declared.registers.TheConstants.{ANSWER}
-use Rattle.layer_contract.specs.Layer.{entry_address, Inside, Way, IsAt}
+use Rattle.layer_contract.specs.Layer.{layer_entry, Inside, Way, IsAtEntry}
 use Rattle.layer_contract.specs.Follows.{IsKernelDoor, EndsAs}
 use Rattle.cvm_model.specs.Kernel.{Core, Changes, Answers, power_of, flat}
 use Rattle.cvm_model.specs.KernelMeaning.{Machines, fault_of, answer_end, core_at, outcome_of}
 use Rattle.cvm_model.specs.Cvm.{Running, run_steps}
 use Rattle.cvm_model.specs.TypedKernel.{RowsAreCalled}
-use Rattle.cvm_model.specs.Stands.{Site, Stands, address_of}
+use Rattle.cvm_model.specs.Stands.{Site, RunningRelation, address_of}
 use Rattle.unit_runs.specs.Held.{HoldsAt, IsHeldFlat, HeldIsFlat}
 use Rattle.unit_runs.specs.Outer.{Outer}
 use Rattle.unit_runs.specs.Placed.{program, CodeStands}
 use Rattle.c0_meaning.specs.CallChain.{dispatch_number}
-use Rattle.unit_runs.specs.Host.{Counts}
+use Rattle.unit_runs.specs.Host.{CountsCalls}
 use Rattle.unit_runs.proofs.Standing.{seen, behind, IsSeen, stands_of}
 use Rattle.unit_runs.proofs.Reached.{RunsJoin, Reached, inside_of, goes_on}
 use Rattle.unit_runs.proofs.Counting.{counts_on}
@@ -55,27 +55,27 @@ use Rattle.unit_runs.proofs.Passing.{Ground, whole}
 use Rattle.unit_runs.proofs.Runs.{RunTo}
 
 -- the first part of a way
-pub way_upto : (x : Outside) (y : Site) (D : Entry → Type 0) (s : State) (k j : ℕ) → j ≤ k → Way x y D k s → Way x y D j s
+pub way_upto : (x : Environment) (y : Site) (D : Entry → Type 0) (s : State) (k j : ℕ) → j ≤ k → Way x y D k s → Way x y D j s
 way_upto x y D s k j le w = record { inside = λ i lt. w.inside i (omega (arith, lt, le)); between = λ i e pos lt d. w.between i e pos (omega (arith, lt, le)) d; sectors = λ i less. w.sectors i (omega (arith, less, le)); frames = λ i lt. w.frames i (omega (arith, le, lt)); named = λ i lt. w.named i (omega (arith, lt, le)) }
 
 abbrev pub with_most : ℕ → Machines → Machines
 with_most m v = record { most = m; users = v.users; console = v.console }
 
 module _ (simulates : MachineSimulates) (joins : RunsJoin) (fitting : StaysFitting) (alikes : AlikesStand) (rows : RowsAreCalled)
-    (x : Outside) (y : Site) (u : CUnit) (p : Places) (code : List Inst) (words : List ℕ) (longest : ℕ) (c : Core) (st : CodeStands u p y code) (g : Ground x y words longest) (user_ok : c.current ≤ y.map.users)
+    (x : Environment) (y : Site) (u : CUnit) (p : Places) (code : List Inst) (words : List ℕ) (longest : ℕ) (c : Core) (st : CodeStands u p y code) (g : Ground x y words longest) (user_ok : c.current ≤ y.map.users)
     (small : length words < 2 ^ 26) (sound : Sound (on_machine x (program y.map (layer_words + 1) code words))) (s0 : State)
     (flats : HeldIsFlat) (opened : IsOpened (shapes u)) where
   abbrev z : Setup Machines Changes (Outer y c.current)
   z = setup x y u p code words st g.bounds g.big small alikes c.current
 
-  abbrev Here : ℕ → Machine → Type 0
+  abbrev Here : ℕ → CodeState → Type 0
   Here k s = Reached simulates joins x y code words sound s0 k s
 
   abbrev H : Type 0
   H = Configuration Machines Changes
 
-  abbrev Data : List Ty → H → Machine → Type 0
-  Data objects h s = code_run.Stands Machines Changes (Outer y c.current) z objects h s.contents s.behind
+  abbrev Data : List Ty → H → CodeState → Type 0
+  Data objects h s = code_run.ConfigurationStands Machines Changes (Outer y c.current) z objects h s.contents s.behind
 
   abbrev its_bases : List Ty → Bases
   its_bases objects = bases Machines Changes (Outer y c.current) z objects []
@@ -84,7 +84,7 @@ module _ (simulates : MachineSimulates) (joins : RunsJoin) (fitting : StaysFitti
   linked_so = whole simulates joins fitting alikes rows x y u p code words longest c.current st g user_ok sound s0
 
   -- the machine stands for where the run stands
-  pub stands_now : (k : ℕ) (s : Machine) (h : H) (objects : List Ty) → Here k s → Data objects h s → Stands x y (run x s0 k) Running (core_at c h)
+  pub stands_now : (k : ℕ) (s : CodeState) (h : H) (objects : List Ty) → Here k s → Data objects h s → RunningRelation x y (run x s0 k) Running (core_at c h)
   stands_now k s h objects here sd = stands_of alikes x y g.bounds linked_so (run x s0 k) (core_at c h) is_seen
     where
       typed : IsTypedWith u objects (record h.state { frames = [] })
@@ -129,10 +129,10 @@ module _ (simulates : MachineSimulates) (joins : RunsJoin) (fitting : StaysFitti
             used = ap (λ m. m 1026) memory_is ∙ sd.used_word;
           }
 
-  pc_of : (k a : ℕ) (s : Machine) → Here k s → s.at ≡ a → (run x s0 k).cpu.pc ≡ 4 * a
+  pc_of : (k a : ℕ) (s : CodeState) → Here k s → s.at ≡ a → (run x s0 k).cpu.pc ≡ 4 * a
   pc_of k a s here is = let e : (run x s0 k).cpu.pc / 4 ≡ s.at = ap (λ q. q.at) here.same in let q = here.quiet.aligned in omega (arith, e, q, is)
 
-  is_at : (k a : ℕ) (s : Machine) (h : H) (objects : List Ty) (e : Entry) → Here k s → Data objects h s → s.at ≡ a → 4 * a ≡ entry_address e → IsAt x y e (core_at c h) (run x s0 k)
+  is_at : (k a : ℕ) (s : CodeState) (h : H) (objects : List Ty) (e : Entry) → Here k s → Data objects h s → s.at ≡ a → 4 * a ≡ layer_entry e → IsAtEntry x y e (core_at c h) (run x s0 k)
   is_at k a s h objects e here sd at place = record { inside = inside_of x (run x s0 k) here.quiet; pc = pc_of k a s here at ∙ place; stands = stands_now k s h objects here sd }
 
   module _ (entry : EntryRuns (on_machine x (program y.map (layer_words + 1) code words))) (code_at : CodeAt (on_machine x (program y.map (layer_words + 1) code words)) (layer_words + 1) (behind_first p.globals (4 * (links_of p).function (dispatch_number u))))
@@ -145,14 +145,14 @@ module _ (simulates : MachineSimulates) (joins : RunsJoin) (fitting : StaysFitti
       pub steps : ℕ
       pub within : steps ≤ run_steps y.map longest (total cost) cost.pages
       pub way : Way x y IsKernelDoor steps s0
-      pub at : IsAt x y Leave (core_at c d) (run x s0 steps)
+      pub at : IsAtEntry x y Leave (core_at c d) (run x s0 steps)
       pub answer : (a : ℤ) → d.answer ≡ Some (int a) → FitsSigned w32 a → signed (slice_index (run x s0 steps).cpu.regs ANSWER) ≡ a
-      pub counts : Counts x s0 steps (length (journal d))
+      pub counts : CountsCalls x s0 steps (length (journal d))
 
     -- the first function has returned: a jump leads to the entry at which the kernel is left
     pub left : (cost : Cost) (d : H) → To (c0_run.Done cost d) → Left cost d
     left cost d r =
-        let at_back : ◌≡◌ {A = Machine} r.1 (at_with (layer_words + 7) r.1.contents r.1.behind) = ap (λ i. at_with i r.1.contents r.1.behind) r.3.at in
+        let at_back : ◌≡◌ {A = CodeState} r.1 (at_with (layer_words + 7) r.1.contents r.1.behind) = ap (λ i. at_with i r.1.contents r.1.behind) r.3.at in
         let jump = entry.leaves layer_words p.globals (4 * (links_of p).function (dispatch_number u)) r.1.contents r.1.behind code_at r.3.stands.idle in
         let there = subst (Here r.0) at_back r.2 in
         let here = goes_on simulates joins x y code words sound s0 r.0 jump.steps (at_with (layer_words + 7) r.1.contents r.1.behind) (at_with 2062 r.1.contents r.1.behind) there jump.run in
@@ -175,7 +175,7 @@ module _ (simulates : MachineSimulates) (joins : RunsJoin) (fitting : StaysFitti
     leaves cost d r a is fits = let l = left cost d r in record { steps = l.steps; within = l.within; way = l.way; there = (l.at, l.answer a is fits) }
 
     -- a fault's exit is reached
-    pub at_exit : (cost : Cost) (f : KernelFault) (d : H) → (r : To (c0_run.Failed cost (faulted f) d)) → IsAt x y (Exit (power_of (fault_of f))) (core_at c d) (run x s0 r.0)
+    pub at_exit : (cost : Cost) (f : KernelFault) (d : H) → (r : To (c0_run.Failed cost (faulted f) d)) → IsAtEntry x y (Exit (power_of (fault_of f))) (core_at c d) (run x s0 r.0)
     at_exit cost f d r = is_at r.0 (2057 + power_of (fault_of f)) r.1 d r.3.objects (Exit (power_of (fault_of f))) r.2 r.3.stands (r.3.at ∙ st.exits f) (omega arith)
 
     pub ends : (o : c0_run.Outcome Machines Changes) → To o → AnswersAnInt o → EndsAs x longest y n s0 (outcome_of c o) (outcome_of c o).end

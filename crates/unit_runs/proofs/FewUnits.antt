@@ -6,8 +6,8 @@ use Rattle.std.proofs.lemmas.List.{get_or_past}
 use Rattle.mips_table.specs.Machine.{Console}
 use Rattle.mips_table.specs.Flat.{Flat}
 use Rattle.c0_meaning.specs.World.{call_cost}
-use Rattle.cvm_model.specs.KernelMeaning.{Machines, ints_of, call_with, called_by}
-use Rattle.cvm_model.specs.Primitives.{Call, VmGet, VmSet, VmSize, VmResize, VmWord, VmPut, VmCopy, ConPut, ConGet, ConLeft, no_flat, user_of, pages_of, pieces, is_within, is_place, overlap, is_good, refused, unchanged, granted, prim}
+use Rattle.cvm_model.specs.KernelMeaning.{Machines, ints_of, call_numbered, called_by}
+use Rattle.cvm_model.specs.Primitives.{KernelCall, VmGet, VmSet, VmSize, VmResize, VmWord, VmPut, VmCopy, ConPut, ConGet, ConLeft, no_flat, user_of, pages_of, pieces, is_within, is_address, ranges_overlap, is_good, refused, unchanged, granted, prim}
 use Rattle.cvm_model.specs.Stands.{UserFits}
 use Rattle.unit_runs.proofs.Runs.{MOST_UNITS, FewUnits}
 
@@ -30,12 +30,12 @@ within_most : (most : ℕ) (p : ℤ) → is_within 0 most p ≡ true → nat_abs
 within_most most (pos n) e = leb-true n most (and_parts (nat_le 0 n) (nat_le n most) e).1
 within_most most (negsuc n) e = absurd (true≢false (sym e))
 
-place_most : (f : Flat) (a : ℤ) (n : ℕ) → is_place f a n ≡ true → 4 * n ≤ 4096 * pages_of f
+place_most : (f : Flat) (a : ℤ) (n : ℕ) → is_address f a n ≡ true → 4 * n ≤ 4096 * pages_of f
 place_most f (pos a) n e = let h = leb-true (a + 4 * n) (4096 * pages_of f) (and_parts (a % 4 == 0) (nat_le (a + 4 * n) (4096 * pages_of f)) e).1 in omega (arith, h)
 place_most f (negsuc a) n e = absurd (true≢false (sym e))
 
 module _ (most : ℕ) (users : List Flat) (o : Console) (small : most ≤ 1024) (fit : All (UserFits most) users) where
-  granted_few : (c : Call) → is_good most users c ≡ true → (granted users o c).words + (granted users o c).pages ≤ 4194304
+  granted_few : (c : KernelCall) → is_good most users c ≡ true → (granted users o c).words + (granted users o c).pages ≤ 4194304
   granted_few (VmGet u r) e = omega arith
   granted_few (VmSet u r v) e = omega arith
   granted_few (VmSize u) e = omega arith
@@ -46,9 +46,9 @@ module _ (most : ℕ) (users : List Flat) (o : Console) (small : most ≤ 1024) 
   granted_few (VmWord u a) e = omega arith
   granted_few (VmPut u a v) e = omega arith
   granted_few (VmCopy u a v b (pos n)) e =
-      let d = (and_parts _ (not (nat_abs u == nat_abs v && overlap (nat_abs a) (nat_abs b) n)) e).0 in
-      let c = (and_parts _ (is_place (user_of users (nat_abs v)) b n) d).0 in
-      let h = place_most (user_of users (nat_abs u)) a n (and_parts (is_within 1 (length users) u && is_within 1 (length users) v) (is_place (user_of users (nat_abs u)) a n) c).1 in
+      let d = (and_parts _ (not (nat_abs u == nat_abs v && ranges_overlap (nat_abs a) (nat_abs b) n)) e).0 in
+      let c = (and_parts _ (is_address (user_of users (nat_abs v)) b n) d).0 in
+      let h = place_most (user_of users (nat_abs u)) a n (and_parts (is_within 1 (length users) u && is_within 1 (length users) v) (is_address (user_of users (nat_abs u)) a n) c).1 in
       let k = pages_few most users (nat_abs u) fit in
       let l = pieces_few (nat_abs a) (nat_abs b) n in
       omega (arith, h, k, l, small)
@@ -57,16 +57,16 @@ module _ (most : ℕ) (users : List Flat) (o : Console) (small : most ≤ 1024) 
   granted_few ConGet e = omega arith
   granted_few ConLeft e = omega arith
 
-  prim_few : (c : Call) → (prim most c users o).words + (prim most c users o).pages ≤ 4194304
+  prim_few : (c : KernelCall) → (prim most c users o).words + (prim most c users o).pages ≤ 4194304
   prim_few c = by (is_good most users c) refl
     where
       by : (b : Bool) → is_good most users c ≡ b → (if b then granted users o c else unchanged users o (refused c) 0 0).words + (if b then granted users o c else unchanged users o (refused c) 0 0).pages ≤ 4194304
       by true e = granted_few c e
       by false e = omega arith
 
-called_few : (v : Machines) (c : Option Call) → v.most ≤ 1024 → All (UserFits v.most) v.users → (call_cost (called_by v c)).primitive ≤ MOST_UNITS
+called_few : (v : Machines) (c : Option KernelCall) → v.most ≤ 1024 → All (UserFits v.most) v.users → (call_cost (called_by v c)).primitive ≤ MOST_UNITS
 called_few v (Some c) small fit = let p = prim_few v.most v.users v.console small fit c in omega (arith, p)
 called_few v None small fit = omega arith
 
 pub few_units : FewUnits
-few_units n vs v small fit = called_few v (option_and_then (call_with n) (ints_of vs)) small fit
+few_units n vs v small fit = called_few v (option_and_then (call_numbered n) (ints_of vs)) small fit

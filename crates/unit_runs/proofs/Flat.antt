@@ -11,11 +11,11 @@ use Rattle.c0_meaning.specs.RunLaws.{scalars, all_scalars}
 use Rattle.c0_meaning.specs.Sizes as sizes
 use Rattle.c0_meaning.specs.Addresses.{type_at, words_to, words_to_part}
 use Rattle.c0_meaning.specs.Value.{Location, Value, int, bool, null, at, group, Values, empty, part}
-use Rattle.c0_meaning.specs.TypedState.{Layout, types_of, Leads, LeadsFrom, PointsTo, Fits, AllFit, AreParts}
+use Rattle.c0_meaning.specs.TypedState.{StoreTyping, types_of, PathLeads, LeadsFrom, PointsTo, Fits, AllFit, AreParts}
 use Rattle.c0_expr_code.specs.Scope.{Scope}
 use Rattle.c0_expr_code.specs.Laws.{IsOpened}
-use Rattle.c0_expr_code.specs.Bases.{Bases, words_of_all, word_at, Held, AllHeld, RegionHeld}
-use Rattle.cvm_model.specs.Kernel.{part_at, words_before, offset, flat, flats}
+use Rattle.c0_expr_code.specs.Bases.{Bases, words_of_all, location_word, Held, AllHeld, RegionHeld}
+use Rattle.cvm_model.specs.Kernel.{part_at, value_words_before, part_offset, flat, flats}
 use Rattle.unit_runs.specs.Held.{HoldsAt}
 
 -- a value has as many words as scalars
@@ -62,7 +62,7 @@ module _ (m : ℕ → ℕ) where
       ap m d ∙ h (length xs + i) (omega (arith, lt, length-append xs ys)) ∙ get_or-append-add xs ys i 0
 
 -- typed values have as many scalars as their types have words
-module _ (structs : List Shape) (opened : IsOpened structs) (lay : Layout) where
+module _ (structs : List Shape) (opened : IsOpened structs) (lay : StoreTyping) where
   words_replicate : (n : ℕ) (t : Ty) → words_of_all structs (replicate n t) ≡ n * words structs t
   words_replicate zero t = omega arith
   words_replicate (suc n) t = let r = words_replicate n t in omega (arith, r)
@@ -84,7 +84,7 @@ module _ (structs : List Shape) (opened : IsOpened structs) (lay : Layout) where
     all_scalars_words (t ∷ ts) empty f = absurd f
 
   -- where a part begins
-  before : (ts : List Ty) (vs : Values) (i : ℕ) → AllFit structs lay ts vs → words_before vs i ≡ sizes.words_before structs ts i
+  before : (ts : List Ty) (vs : Values) (i : ℕ) → AllFit structs lay ts vs → value_words_before vs i ≡ sizes.words_before structs ts i
   before [] empty i f = refl
   before (t ∷ ts) (part v vs) zero f = refl
   before (t ∷ ts) (part v vs) (suc i) f = let a = scalars_words t v f.0 in let b = before ts vs i f.1 in omega (arith, a, b)
@@ -111,7 +111,7 @@ module _ (structs : List Shape) (opened : IsOpened structs) (lay : Layout) where
   at_number : (ts : List Ty) (i : ℕ) (t : Ty) → slice_get ts i ≡ Some t → type_at ts i ≡ t
   at_number ts i t e = ap (λ o. unwrap_or o ty.int) e
 
-  within : (t : Ty) (path : List ℕ) (u : Ty) (v : Value) → Fits structs lay t v → Leads structs t path u → offset path v ≡ words_to structs t path
+  within : (t : Ty) (path : List ℕ) (u : Ty) (v : Value) → Fits structs lay t v → PathLeads structs t path u → part_offset path v ≡ words_to structs t path
   within t [] u v f l = refl
   within (ty.named x) (i ∷ path) u (group vs) f l =
       let a = before (types_of (fields_named structs x)) vs i f in
@@ -129,7 +129,7 @@ module _ (structs : List Shape) (opened : IsOpened structs) (lay : Layout) where
   within (ty.named x) (i ∷ path) u _ f l = absurd f
   within (ty.array t n) (i ∷ path) u _ f l = absurd f
 
-  pub within_region : (ts : List Ty) (path : List ℕ) (u : Ty) (v : Value) → AreParts structs lay ts v → LeadsFrom structs ts path u → offset path v ≡ words_to_part structs ts path
+  pub within_region : (ts : List Ty) (path : List ℕ) (u : Ty) (v : Value) → AreParts structs lay ts v → LeadsFrom structs ts path u → part_offset path v ≡ words_to_part structs ts path
   within_region ts [] u v f l = absurd l
   within_region ts (i ∷ path) u (group vs) f l =
       let a = before ts vs i f in
@@ -143,8 +143,8 @@ module _ (structs : List Shape) (opened : IsOpened structs) (lay : Layout) where
   region_words ts _ f = absurd f
 
 -- where each pointer's address is that of its location, the words stand where the values do
-module _ (sc : Scope) (p : Bases) (lay : Layout) (opened : IsOpened sc.env.structs) (address : Location → ℕ)
-    (same : (l : Location) (t : Ty) → PointsTo sc.env.structs lay l.region l.path t → address l ≡ 4 * word_at sc p l) (m : ℕ → ℕ) where
+module _ (sc : Scope) (p : Bases) (lay : StoreTyping) (opened : IsOpened sc.env.structs) (address : Location → ℕ)
+    (same : (l : Location) (t : Ty) → PointsTo sc.env.structs lay l.region l.path t → address l ≡ 4 * location_word sc p l) (m : ℕ → ℕ) where
   length_of : (t : Ty) (v : Value) → Fits sc.env.structs lay t v → length (flat address v) ≡ words sc.env.structs t
   length_of t v f = flat_scalars address v ∙ scalars_words sc.env.structs opened lay t v f
 

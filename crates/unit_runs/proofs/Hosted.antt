@@ -2,9 +2,9 @@
 use Rattle.std.specs.Prelude.{slice_get, Some, All, length}
 use Rattle.std.proofs.Common.{◌≡◌, ℕ, ◌+◌, ◌^◌, ◌<◌, ◌≤◌, List, [], ◌∷◌, ◌++◌, sym, ap, ◌∙◌, subst, arith}
 use Rattle.mips_table.specs.declared.inst.Inst.{Inst}
-use Rattle.mips_table.specs.Device.{Outside}
+use Rattle.mips_table.specs.Device.{Environment}
 use Rattle.mips_table.specs.Fits.{StaysFitting}
-use Rattle.mips_table.specs.Code.{Configuration as Machine, on_machine, Sound}
+use Rattle.mips_table.specs.Code.{CodeState, on_machine, Sound}
 use Rattle.mips_table.specs.Machine.{State}
 use Rattle.mips_table.specs.Simulation.{MachineSimulates}
 use Rattle.masm.specs.declared.registers.Places.{Places}
@@ -18,9 +18,9 @@ use Rattle.c0_meaning.specs.Running.{Work}
 use Rattle.c0_meaning.specs.Execution.{Outcome, Done, Failed, NotYet, run_within}
 use Rattle.c0_meaning.specs.Value.{Values}
 use Rattle.c0_stmt_code.specs.Code.{links_of}
-use Rattle.c0_stmt_code.specs.Setup.{Called}
+use Rattle.c0_stmt_code.specs.Setup.{PrimitiveIsCalled}
 use Rattle.c0_stmt_code.specs.Standing.{Simulated}
-use Rattle.c0_runs.specs.Runs.{Price, Passed, Hosts, RunTo as HostRun, RunsFollow}
+use Rattle.c0_runs.specs.Runs.{Price, PrimitivePassed, Hosts, RunTo as HostRun, RunsFollow}
 use Rattle.cvm_model.specs.Kernel.{Changes}
 use Rattle.cvm_model.specs.KernelMeaning.{Machines, kernel_primitive}
 use Rattle.cvm_model.specs.Cvm.{page_steps}
@@ -35,10 +35,10 @@ use Rattle.unit_runs.proofs.Passing.{Ground}
 use Rattle.unit_runs.proofs.Runs.{FewUnits, z, Tells, RunTo, passed, one_told}
 
 module _ (simulates : MachineSimulates) (joins : RunsJoin) (fitting : StaysFitting) (alikes : AlikesStand) (rows : RowsAreCalled)
-    (x : Outside) (y : Site) (u : CUnit) (p : Places) (code : List Inst) (words : List ℕ) (longest current : ℕ) (st : CodeStands u p y code) (g : Ground x y words longest) (user_ok : current ≤ y.map.users)
+    (x : Environment) (y : Site) (u : CUnit) (p : Places) (code : List Inst) (words : List ℕ) (longest current : ℕ) (st : CodeStands u p y code) (g : Ground x y words longest) (user_ok : current ≤ y.map.users)
     (small : length words < 2 ^ 26) (sound : Sound (on_machine x (program y.map (layer_words + 1) code words))) (s0 : State)
     (few : FewUnits) where
-  abbrev Here : ℕ → Machine → Type 0
+  abbrev Here : ℕ → CodeState → Type 0
   Here k c = Reached simulates joins x y code words sound s0 k c
 
   abbrev Told : ℕ → Machines → List (List Changes) → Type 0
@@ -47,11 +47,11 @@ module _ (simulates : MachineSimulates) (joins : RunsJoin) (fitting : StaysFitti
   abbrev price : Price
   price = record { unit = 600; page = page_steps y.map longest }
 
-  abbrev Pass : (k : ℕ) → Machine → ℕ → ℕ → CPrimitive → Values → Machines → List (List Changes) → Type 0
-  Pass k s to number row args v calls = Passed Machines Changes (Outer y current) Here Told (z simulates joins fitting alikes rows x y u p code words longest current st g user_ok small sound s0) price k s to number row args v calls
+  abbrev Pass : (k : ℕ) → CodeState → ℕ → ℕ → CPrimitive → Values → Machines → List (List Changes) → Type 0
+  Pass k s to number row args v calls = PrimitivePassed Machines Changes (Outer y current) Here Told (z simulates joins fitting alikes rows x y u p code words longest current st g user_ok small sound s0) price k s to number row args v calls
 
-  passes : (k : ℕ) (s : Machine) (to number : ℕ) (row : CPrimitive) (args : Values) (v : Machines) (calls : List (List Changes)) → Here k s → Told k v calls → slice_get kernel_primitives number ≡ Some row
-      → Called (z simulates joins fitting alikes rows x y u p code words longest current st g user_ok small sound s0).w (links_of p) row number args to s → Outer y current v s.contents s.behind → s.contents.memory 1026 ≤ y.map.params.heap → Pass k s to number row args v calls
+  passes : (k : ℕ) (s : CodeState) (to number : ℕ) (row : CPrimitive) (args : Values) (v : Machines) (calls : List (List Changes)) → Here k s → Told k v calls → slice_get kernel_primitives number ≡ Some row
+      → PrimitiveIsCalled (z simulates joins fitting alikes rows x y u p code words longest current st g user_ok small sound s0).w (links_of p) row number args to s → Outer y current v s.contents s.behind → s.contents.memory 1026 ≤ y.map.params.heap → Pass k s to number row args v calls
   passes k s to number row args v calls here told is called outer room =
       let pd = passed simulates joins fitting alikes rows x y u p code words longest current st g user_ok small sound s0 k s to number row args v here is called outer room in
       let more : entries_of (calls ++ (kernel_primitive number args v).entries ∷ []) ≡ entries_of calls ++ pd.changes ∷ [] = ap (λ es. entries_of (calls ++ es ∷ [])) pd.made ∙ one_entry calls pd.changes in
@@ -88,7 +88,7 @@ module _ (simulates : MachineSimulates) (joins : RunsJoin) (fitting : StaysFitti
   come base limit (Failed cost stuck h) r = absurd r
   come base limit (NotYet cost h) r = (r.late, r.later.machine, r.later.here, r.far, r.later.told)
 
-  pub runs : RunsFollow Machines Changes (Outer y current) Here Told → (base : ℕ) (item : Work) (work : List Work) (h : Configuration Machines Changes) (s : Machine) → Here base s → Told base h.world h.calls
+  pub runs : RunsFollow Machines Changes (Outer y current) Here Told → (base : ℕ) (item : Work) (work : List Work) (h : Configuration Machines Changes) (s : CodeState) → Here base s → Told base h.world h.calls
       → Simulated Machines Changes (Outer y current) (z simulates joins fitting alikes rows x y u p code words longest current st g user_ok small sound s0) 0 (item ∷ work) h s → (n : ℕ) → RunTo simulates joins fitting alikes rows x y u p code words longest current st g user_ok small sound s0 base n (run_within (z simulates joins fitting alikes rows x y u p code words longest current st g user_ok small sound s0).p n (item ∷ work) h)
   runs follow base item work h s here told sim n =
       come base n (run_within (z simulates joins fitting alikes rows x y u p code words longest current st g user_ok small sound s0).p n (item ∷ work) h)

@@ -8,11 +8,11 @@ use Rattle.std.proofs.lemmas.List.Elements.{All-head, All-tail}
 use Rattle.std.proofs.lemmas.Option.{slice_get_past}
 use Rattle.mips_table.specs.declared.inst.Inst.{Inst}
 use Rattle.mips_table.specs.Encoding.{InRange, encoding}
-use Rattle.mips_table.specs.Device.{Outside}
+use Rattle.mips_table.specs.Device.{Environment}
 use Rattle.mips_table.specs.Code.{on_machine, Sound, CodeAt}
 use Rattle.layer_map.specs.Map.{Map, layer_words, block_at, memory_words}
 use Rattle.cvm_model.specs.Stands.{is_own}
-use Rattle.unit_runs.specs.Placed.{code_from, kept_of, program, StandsAt}
+use Rattle.unit_runs.specs.Placed.{code_from, kept_of, program, CodeStandsAt}
 
 pub at_number : {A : Type 0} (P : A → Type 0) (xs : List A) (i : ℕ) (x : A) → All P xs → slice_get xs i ≡ Some x → P x
 at_number P [] i x a e = cc
@@ -53,7 +53,7 @@ pub no_low_code : (code : List Inst) (k : ℕ) → k < layer_words → code_from
 no_low_code code k lt = cond-true (nat_lt k layer_words) None (slice_get code (k - layer_words)) (lt-ltb k layer_words lt)
 
 -- a piece stands in the machine's code
-pub piece_at : (x : Outside) (m : Map) (first : ℕ) (words : List ℕ) (code : List Inst) (piece before after : List Inst) → first ≤ layer_words + length before → code ≡ before ++ (piece ++ after)
+pub piece_at : (x : Environment) (m : Map) (first : ℕ) (words : List ℕ) (code : List Inst) (piece before after : List Inst) → first ≤ layer_words + length before → code ≡ before ++ (piece ++ after)
     → CodeAt (on_machine x (program m first code words)) (layer_words + length before) piece
 piece_at x m first words code [] before after le e = tt
 piece_at x m first words code (i ∷ is) before after le e =
@@ -65,7 +65,7 @@ piece_at x m first words code (i ∷ is) before after le e =
           (piece_at x m first words code is (before ++ i ∷ []) after (omega (arith, le, next)) (e ∙ sym (append_assoc before (i ∷ []) (is ++ after)))),
     )
 
-pub stands_at : (x : Outside) (m : Map) (words : List ℕ) (code : List Inst) (k : ℕ) (piece : List Inst) → StandsAt code k piece → CodeAt (on_machine x (program m (layer_words + 1) code words)) k piece
+pub stands_at : (x : Environment) (m : Map) (words : List ℕ) (code : List Inst) (k : ℕ) (piece : List Inst) → CodeStandsAt code k piece → CodeAt (on_machine x (program m (layer_words + 1) code words)) k piece
 stands_at x m words code k piece s =
     let some = s.4 in
     subst (λ n. CodeAt (on_machine x (program m (layer_words + 1) code words)) n piece) (sym s.3) (piece_at x m (layer_words + 1) words code piece s.0 s.1 (omega (arith, some)) s.2)
@@ -80,7 +80,7 @@ kept_past m code words k le lt =
     ∙ cond-true (nat_lt k (length words)) (Some (slice_index words k)) None (lt-ltb k (length words) lt)
 
 -- the code is sound
-pub sound : (x : Outside) (m : Map) (first : ℕ) (words : List ℕ) (code : List Inst) → layer_words ≤ first → layer_words + length code ≤ memory_words m → memory_words m ≤ length words → length words < 2 ^ 26 → All InRange code
+pub sound : (x : Environment) (m : Map) (first : ℕ) (words : List ℕ) (code : List Inst) → layer_words ≤ first → layer_words + length code ≤ memory_words m → memory_words m ≤ length words → length words < 2 ^ 26 → All InRange code
     → Sound (on_machine x (program m first code words))
 sound x m first words code from room big small range = record {
   small = small;

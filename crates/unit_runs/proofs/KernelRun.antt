@@ -3,7 +3,7 @@ use Rattle.std.specs.Prelude.{slice_get, Some, FitsSigned, ℤ, take}
 use Rattle.std.specs.Int.{w32}
 use Rattle.std.proofs.Common.{◌≡◌, ℕ, ◌+◌, ◌*◌, ◌^◌, ◌<◌, ◌≤◌, List, [], length, map, refl, subst, arith}
 use Rattle.mips_table.specs.declared.inst.Inst.{Inst}
-use Rattle.mips_table.specs.Device.{Outside}
+use Rattle.mips_table.specs.Device.{Environment}
 use Rattle.mips_table.specs.Machine.{State, run}
 use Rattle.mips_table.specs.Fits.{StaysFitting}
 use Rattle.mips_table.specs.Code.{World, on_machine, Sound, CodeAt}
@@ -34,7 +34,7 @@ use Rattle.cvm_model.specs.Kernel.{Core, Changes}
 use Rattle.cvm_model.specs.KernelMeaning.{Machines, setting_of, machines_of, outcome_of}
 use Rattle.cvm_model.specs.Cvm.{Running}
 use Rattle.cvm_model.specs.TypedKernel.{RowsAreCalled, UnitsAnswerInts}
-use Rattle.cvm_model.specs.Stands.{Site, Stands}
+use Rattle.cvm_model.specs.Stands.{Site, RunningRelation}
 use Rattle.unit_runs.specs.Held.{HeldIsFlat}
 use Rattle.unit_runs.specs.Placed.{program, CodeStands}
 use Rattle.c0_meaning.specs.CallChain.{dispatch_number}
@@ -63,8 +63,8 @@ module _ (simulates : MachineSimulates) (joins : RunsJoin) (fitting : StaysFitti
     (areas : AreasHold) (dispatch : HasDispatch) (types : TypesEqualAsWritten) (flats : HeldIsFlat) where
   -- a dispatch that is called, over the code of a unit
   module _ (u : CUnit) (p : Places) (y : Site) (code : List Inst) (sizes : List ℕ) (st : CodeStands u p y code) (variables : Linked y.map sizes (take layer_words y.linked)) (answers : PrimitivesAnswer y)
-      (x : Outside) (longest : ℕ) (s : State) (c : Core) (cause edata user : ℤ) (called : KernelCalled x longest y (IsTypedState u) c cause edata user s) where
-    abbrev standing : Stands x y s Running c
+      (x : Environment) (longest : ℕ) (s : State) (c : Core) (cause edata user : ℤ) (called : KernelCalled x longest y (IsTypedState u) c cause edata user s) where
+    abbrev standing : RunningRelation x y s Running c
     standing = called.called.at.stands
 
     ground : Ground x y s.memory longest

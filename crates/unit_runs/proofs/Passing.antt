@@ -5,9 +5,9 @@ use Rattle.std.proofs.lemmas.Bool.{cases_lt}
 use Rattle.std.proofs.lemmas.List.{length-drop, length-map}
 use Rattle.mips_table.specs.declared.inst.Inst.{Inst}
 use Rattle.mips_table.specs.Encoding.{encoding}
-use Rattle.mips_table.specs.Device.{Outside}
+use Rattle.mips_table.specs.Device.{Environment}
 use Rattle.mips_table.specs.Fits.{NamesSector, StaysFitting}
-use Rattle.mips_table.specs.Code.{World, Configuration as Machine, on_machine, Sound}
+use Rattle.mips_table.specs.Code.{World, CodeState, on_machine, Sound}
 use Rattle.mips_table.specs.Machine.{State, run, Console}
 use Rattle.mips_table.specs.Simulation.{configuration_of, Quiet, MachineSimulates}
 use Rattle.masm.specs.declared.registers.Places.{Places}
@@ -16,12 +16,12 @@ use Rattle.page_model.specs.Laws.{AlikesStand}
 use Rattle.c0_tree.specs.Primitives.{CPrimitive, kernel_primitives}
 use Rattle.c0_tree.specs.Tree.{CUnit}
 use Rattle.mips_table.specs.Flat.{Flat}
-use Rattle.c0_meaning.specs.State.{State as C0}
+use Rattle.c0_meaning.specs.State.{C0State}
 use Rattle.c0_meaning.specs.Value.{group, Values}
 use Rattle.c0_meaning.specs.World.{call_cost}
 use Rattle.c0_meaning.specs.TypedState.{IsScalar}
 use Rattle.c0_stmt_code.specs.Code.{links_of}
-use Rattle.c0_stmt_code.specs.Setup.{scalar_word, IsKept, Back, Called}
+use Rattle.c0_stmt_code.specs.Setup.{scalar_word, IsKept, HasReturned, PrimitiveIsCalled}
 use Rattle.layer_contract.specs.declared.entry.Entry.{Entry}
 use Rattle.layer_contract.specs.declared.entry.Entry.TheVariants.{Dispatch, Primitive, Fault as Exit, Leave}
 use Rattle.layer_contract.specs.Layer.{Inside, IsEntry, BusyWithin, PrimitiveCalled, Returned, ComesBack, PrimitivesAnswer}
@@ -29,14 +29,14 @@ use Rattle.layer_contract.specs.Calls.{EndsCall}
 use Rattle.layer_contract.specs.Follows.{IsKernelDoor}
 use Rattle.cvm_model.specs.Kernel.{Core, Changes}
 use Rattle.cvm_model.specs.KernelMeaning.{Machines, kernel_primitive, called_by}
-use Rattle.cvm_model.specs.Primitives.{Call, Given, prim, told}
+use Rattle.cvm_model.specs.Primitives.{KernelCall, Given, prim, changes_told}
 use Rattle.cvm_model.specs.Cvm.{run_steps}
 use Rattle.cvm_model.specs.TypedKernel.{IsCallOf, RowsAreCalled}
 use Rattle.cvm_model.specs.Stands.{Site, address_of}
 use Rattle.unit_runs.specs.Held.{HoldsAt}
 use Rattle.unit_runs.specs.Outer.{Outer}
 use Rattle.unit_runs.specs.Placed.{program, CodeStands}
-use Rattle.unit_runs.specs.Host.{Counts}
+use Rattle.unit_runs.specs.Host.{CountsCalls}
 use Rattle.unit_runs.proofs.Bounds.{Bounds}
 use Rattle.unit_runs.proofs.Instructions.{code_is, some_below, not_own, kept_words, kept_past}
 use Rattle.unit_runs.proofs.Seen.{space_is}
@@ -53,7 +53,7 @@ door_entry (Exit f) d = d
 door_entry Leave d = d
 
 -- what is known of the machine, beside the kernel's code
-pub record Ground (x : Outside) (y : Site) (words : List ℕ) (longest : ℕ) : Type 0 where
+pub record Ground (x : Environment) (y : Site) (words : List ℕ) (longest : ℕ) : Type 0 where
   pub bounds : Bounds y.map
   pub big : memory_words y.map ≤ length words
   pub small : length words ≤ 65000 * 1024
@@ -62,12 +62,12 @@ pub record Ground (x : Outside) (y : Site) (words : List ℕ) (longest : ℕ) : 
   pub answers : PrimitivesAnswer y
 
 module _ (simulates : MachineSimulates) (joins : RunsJoin) (fitting : StaysFitting) (alikes : AlikesStand) (rows : RowsAreCalled)
-    (x : Outside) (y : Site) (u : CUnit) (p : Places) (code : List Inst) (words : List ℕ) (longest current : ℕ) (st : CodeStands u p y code) (g : Ground x y words longest) (user_ok : current ≤ y.map.users)
+    (x : Environment) (y : Site) (u : CUnit) (p : Places) (code : List Inst) (words : List ℕ) (longest current : ℕ) (st : CodeStands u p y code) (g : Ground x y words longest) (user_ok : current ≤ y.map.users)
     (sound : Sound (on_machine x (program y.map (layer_words + 1) code words))) (s0 : State) where
   abbrev pub world : World
   world = on_machine x (program y.map (layer_words + 1) code words)
 
-  abbrev pub Come : ℕ → Machine → Type 0
+  abbrev pub Come : ℕ → CodeState → Type 0
   Come k c = Reached simulates joins x y code words sound s0 k c
 
   pub linked_words : length y.linked ≡ layer_words + length code
@@ -79,22 +79,22 @@ module _ (simulates : MachineSimulates) (joins : RunsJoin) (fitting : StaysFitti
   whole = let c = st.code_words in let l = linked_words in omega (arith, c, l)
 
   -- a primitive has been passed, in so many steps
-  pub record Passed (k : ℕ) (s : Machine) (to n : ℕ) (row : CPrimitive) (vs : Values) (v : Machines) : Type 0 where
+  pub record Passed (k : ℕ) (s : CodeState) (to n : ℕ) (row : CPrimitive) (vs : Values) (v : Machines) : Type 0 where
     pub steps : ℕ
-    pub end : Machine
+    pub end : CodeState
     pub come : Come (k + steps) end
-    pub back : Back u (regions_on y.map) y.map.params.stack to s end
+    pub back : HasReturned u (regions_on y.map) y.map.params.stack to s end
     pub scalar : IsScalar row.answer (kernel_primitive n vs v).answer
     pub answer : end.contents.regs 2 ≡ scalar_word (kernel_primitive n vs v).answer
     pub outer : Outer y current (kernel_primitive n vs v).world end.contents end.behind
     pub within : steps ≤ run_steps y.map longest (call_cost (kernel_primitive n vs v)).primitive (kernel_primitive n vs v).pages
     pub changes : Changes
     pub made : (kernel_primitive n vs v).entries ≡ changes ∷ []
-    pub counts : (m : ℕ) → Counts x s0 k m → Counts x s0 (k + steps) (suc m)
-    pub ends : (m : ℕ) → Counts x s0 k m → EndsCall x y longest s0 m changes
+    pub counts : (m : ℕ) → CountsCalls x s0 k m → CountsCalls x s0 (k + steps) (suc m)
+    pub ends : (m : ℕ) → CountsCalls x s0 k m → EndsCall x y longest s0 m changes
 
-  module _ (k : ℕ) (s : Machine) (to n : ℕ) (row : CPrimitive) (vs : Values) (users : List Flat) (console : Console) (come : Come k s) (is : slice_get kernel_primitives n ≡ Some row)
-      (called : Called world (links_of p) row n vs to s) (outer : Outer y current (record { most = y.map.params.pages; users = users; console = console }) s.contents s.behind) (room : s.contents.memory 1026 ≤ y.map.params.heap) where
+  module _ (k : ℕ) (s : CodeState) (to n : ℕ) (row : CPrimitive) (vs : Values) (users : List Flat) (console : Console) (come : Come k s) (is : slice_get kernel_primitives n ≡ Some row)
+      (called : PrimitiveIsCalled world (links_of p) row n vs to s) (outer : Outer y current (record { most = y.map.params.pages; users = users; console = console }) s.contents s.behind) (room : s.contents.memory 1026 ≤ y.map.params.heap) where
     abbrev here : State
     here = run x s0 k
 
@@ -102,7 +102,7 @@ module _ (simulates : MachineSimulates) (joins : RunsJoin) (fitting : StaysFitti
     memory = slice_index (run x s0 k).memory
 
     -- the kernel's data, taken as ints
-    abbrev as_ints : C0
+    abbrev as_ints : C0State
     as_ints = record {
       global_values = group (ints_from memory (globals_at y.map) y.map.global_words);
       heap_values = group (ints_from memory (heap_at y.map) (memory 1026));
@@ -165,7 +165,7 @@ module _ (simulates : MachineSimulates) (joins : RunsJoin) (fitting : StaysFitti
           used = space_is here.memory here.device.buffer here.device.sector 1026 (omega (arith, l, b, c, d, e, f, h));
         }
 
-    abbrev call : Call
+    abbrev call : KernelCall
     call = (rows.call n row vs is called.scalars).0
 
     call_of : IsCallOf n vs call
@@ -276,7 +276,7 @@ module _ (simulates : MachineSimulates) (joins : RunsJoin) (fitting : StaysFitti
     register : (r : ℕ) → slice_index later.cpu.regs r ≡ slice_index here.cpu.regs r → slice_index later.cpu.regs r ≡ s.contents.regs r
     register r e = e ∙ ap (λ c. c.regs r) contents
 
-    back : Back u (regions_on y.map) y.map.params.stack to s (configuration_of later)
+    back : HasReturned u (regions_on y.map) y.map.params.stack to s (configuration_of later)
     back = let a = returned.pc in let b = return_word in record {
       at = omega (arith, a, b);
       globals_at = register 28 (returned.kept 0 0 (omega arith));
@@ -300,7 +300,7 @@ module _ (simulates : MachineSimulates) (joins : RunsJoin) (fitting : StaysFitti
     elsewhere : IsElsewhere later
     elsewhere = let a = returned.pc in let from = is_called.back.from in in_code later (omega (arith, a, from))
 
-    counts : (m : ℕ) → Counts x s0 k m → Counts x s0 (k + steps) (suc m)
+    counts : (m : ℕ) → CountsCalls x s0 k m → CountsCalls x s0 (k + steps) (suc m)
     counts m c =
         let at = at_entry in
         counts_one joins x s0 k m n steps c (inside_of x here come.quiet) few (omega (arith, at)) back_it.apart returned.pc elsewhere
@@ -312,7 +312,7 @@ module _ (simulates : MachineSimulates) (joins : RunsJoin) (fitting : StaysFitti
         by (inl lt) = come.way.inside j lt
         by (inr ge) = let q : k ≡ j = omega (arith, le, ge) in subst (λ i. Inside (run x s0 i)) q (inside_of x here come.quiet)
 
-    ends : (m : ℕ) → Counts x s0 k m → EndsCall x y longest s0 m (told call given)
+    ends : (m : ℕ) → CountsCalls x s0 k m → EndsCall x y longest s0 m (changes_told call given)
     ends m c = record {
       entry = k;
       core = core;
@@ -337,7 +337,7 @@ module _ (simulates : MachineSimulates) (joins : RunsJoin) (fitting : StaysFitti
       outer = subst (λ r. Outer y current r.world (seen later) (behind later)) (sym result)
           (outer_of alikes x y g.bounds whole later (record core { users = given.users; console = given.console }) returned.stands (no_user later returned.inside.mode));
       within = subst (λ r. steps ≤ run_steps y.map longest (call_cost r).primitive r.pages) (sym result) back_it.comes.within;
-      changes = told call given;
+      changes = changes_told call given;
       made = ap (λ r. r.entries) result;
       counts = counts;
       ends = ends;

@@ -4,18 +4,18 @@ use Rattle.std.proofs.Common.{◌≡◌, ℕ, zero, suc, ◌+◌, ◌*◌, ◌^�
 use Rattle.std.proofs.lemmas.List.{length-drop, length-map}
 use Rattle.mips_table.specs.declared.inst.Inst.{Inst}
 use Rattle.mips_table.specs.Encoding.{encoding}
-use Rattle.mips_table.specs.Device.{Outside}
+use Rattle.mips_table.specs.Device.{Environment}
 use Rattle.mips_table.specs.Code.{Contents, Behind, World, on_machine}
 use Rattle.masm.specs.declared.registers.Places.{Places}
 use Rattle.layer_map.specs.Map.{Map, layer_words, hand_at, current_at, block_at, globals_at, heap_at, stack_at, tables_at, memory_words}
 use Rattle.page_model.specs.Laws.{AlikesStand}
-use Rattle.page_model.specs.Places.{layout_of, places_of, view}
+use Rattle.page_model.specs.Places.{page_layout, places_of, paged_view}
 use Rattle.c0_tree.specs.Primitives.{CPrimitive, kernel_primitives}
 use Rattle.c0_tree.specs.Tree.{CUnit}
 use Rattle.c0_runtime.specs.Code as runtime
 use Rattle.c0_expr_code.specs.Scope.{scope_of}
 use Rattle.c0_stmt_code.specs.Code.{links_of, function_code}
-use Rattle.c0_stmt_code.specs.Setup.{Setup, Data, IsOurs}
+use Rattle.c0_stmt_code.specs.Setup.{Setup, UnitData, IsOurs}
 use Rattle.cvm_model.specs.Kernel.{Changes}
 use Rattle.cvm_model.specs.KernelMeaning.{Machines, setting_of}
 use Rattle.cvm_model.specs.Paged.{pages_by}
@@ -39,16 +39,16 @@ pub kernels_few : HaveFew kernel_primitives
 kernels_few = (omega arith, (omega arith, (omega arith, (omega arith, (omega arith, (omega arith, (omega arith, (omega arith, (omega arith, (omega arith, tt))))))))))
 
 -- where the unit's data stand on a map, and the word behind the entry's call
-abbrev pub regions_on : Map → Data
+abbrev pub regions_on : Map → UnitData
 regions_on m = record { globals = globals_at m; heap = heap_at m; stack = stack_at m; back = layer_words + 7 }
 
-module _ (x : Outside) (y : Site) (u : CUnit) (p : Places) (code : List Inst) (words : List ℕ) (st : CodeStands u p y code) (b : Bounds y.map)
+module _ (x : Environment) (y : Site) (u : CUnit) (p : Places) (code : List Inst) (words : List ℕ) (st : CodeStands u p y code) (b : Bounds y.map)
     (big : memory_words y.map ≤ length words) (small : length words < 2 ^ 26) (alikes : AlikesStand) (current : ℕ) where
   -- the code from behind its first instruction on
   abbrev pub world : World
   world = on_machine x (program y.map (layer_words + 1) code words)
 
-  abbrev pub regions : Data
+  abbrev pub regions : UnitData
   regions = regions_on y.map
 
   -- words that aren't the unit's: below its globals, and from the page tables on
@@ -86,13 +86,13 @@ module _ (x : Outside) (y : Site) (u : CUnit) (p : Places) (code : List Inst) (w
         user = low current_at (omega arith) (λ e. absurd (omega (arith, e))) ∙ o.user;
         places = λ k from to. low k (omega (arith, to)) (λ e. absurd (omega (arith, e, from))) ∙ o.places k from to;
         linked = λ k lt own. let code_words = st.code_words in same k (not_low k (omega (arith, lt, linked_words, code_words, code_room)) (λ e. absurd (true≢false (sym (ap (is_own y.map) e) ∙ own)))) ∙ o.linked k lt own;
-        pages = alikes.stands (layout_of y.map) (pages_by y.map.params.pages v.users) (view (places_of y.map) c.memory d.sectors) (view (places_of y.map) c'.memory d.sectors) o.pages (record {
+        pages = alikes.stands (page_layout y.map) (pages_by y.map.params.pages v.users) (paged_view (places_of y.map) c.memory d.sectors) (paged_view (places_of y.map) c'.memory d.sectors) o.pages (record {
           entries = λ q lt. high (tables_at y.map + q) (omega arith);
           counts = λ f is. high _ (omega (arith, is.0, is.1));
           slots = λ f is k lt. high _ (omega (arith, is.0, is.1, lt));
           frames = λ f is i lt. high (1024 * f + i) (omega (arith, is.0, is.1));
           sectors = λ q lt i in_page. refl;
-          hand = ap (λ n. (layout_of y.map).zeros + 1 + n) (low hand_at (omega arith) (λ e. absurd (omega (arith, e))));
+          hand = ap (λ n. (page_layout y.map).zeros + 1 + n) (low hand_at (omega arith) (λ e. absurd (omega (arith, e))));
         });
         log_room = o.log_room;
         input_few = o.input_few;

@@ -1,7 +1,7 @@
 -- A state that stands is seen as users and console beside the kernel's data; and a state that is seen so stands.
 use Rattle.std.specs.Prelude.{slice_index, All, ◌&&◌, ◌==◌}
 use Rattle.std.proofs.Common.{◌≡◌, ℕ, ◌+◌, ◌-◌, ◌*◌, ◌<◌, ◌≤◌, Bool, true, false, length, refl, sym, ap, ◌∙◌, arith, true≢false}
-use Rattle.mips_table.specs.Device.{Idle, Outside}
+use Rattle.mips_table.specs.Device.{Idle, Environment}
 use Rattle.mips_table.specs.Code.{Contents, Behind}
 use Rattle.mips_table.specs.declared.special.TheConstants.{MODE}
 use Rattle.mips_table.specs.Machine.{State}
@@ -10,14 +10,14 @@ use Rattle.mips_table.specs.Simulation.{space, contents_of, behind_of, Quiet}
 use Rattle.layer_map.specs.Map.{layer_words, hand_at, current_at, heap_used_at, block_at, globals_at, heap_at, tables_at, memory_words}
 use Rattle.page_model.specs.Laws.{AlikesStand}
 use Rattle.page_model.specs.Edits.{Alike}
-use Rattle.page_model.specs.Places.{layout_of, places_of, view}
+use Rattle.page_model.specs.Places.{page_layout, places_of, paged_view}
 use Rattle.c0_meaning.specs.RunLaws.{scalars}
 use Rattle.cvm_model.specs.Kernel.{flat, Core}
 use Rattle.cvm_model.specs.KernelMeaning.{machines_of}
 use Rattle.cvm_model.specs.Primitives.{user_of}
 use Rattle.cvm_model.specs.Cvm.{Running}
 use Rattle.cvm_model.specs.Paged.{paged_of, pages_by}
-use Rattle.cvm_model.specs.Stands.{Site, UserFits, CoreFits, Stands, runs_user, address_of}
+use Rattle.cvm_model.specs.Stands.{Site, UserFits, CoreFits, RunningRelation, runs_user, address_of}
 use Rattle.unit_runs.specs.Held.{HoldsAt}
 use Rattle.unit_runs.specs.Outer.{Outer}
 use Rattle.unit_runs.proofs.Flat.{flat_scalars}
@@ -43,9 +43,9 @@ no_user s mode = ap (λ n. is_on s && n == 1) mode ∙ by (is_on s)
 pub user_fits : (y : Site) (c : Core) → All (UserFits y.map.params.pages) c.users → (u : ℕ) → 1 ≤ u → u ≤ length c.users → UserFits y.map.params.pages (user_of c.users u)
 user_fits y c each u one le = each (u - 1) _ (omega (arith, one, le))
 
-module _ (alikes : AlikesStand) (x : Outside) (y : Site) (b : Bounds y.map) (whole : length y.linked ≡ layer_words + y.map.code_words) where
+module _ (alikes : AlikesStand) (x : Environment) (y : Site) (b : Bounds y.map) (whole : length y.linked ≡ layer_words + y.map.code_words) where
   -- the words of paging are seen as they are
-  same_pages : (s : State) → memory_words y.map ≤ length s.memory → Alike (layout_of y.map) (paged_of y.map s) (view (places_of y.map) (seen s).memory (behind s).sectors)
+  same_pages : (s : State) → memory_words y.map ≤ length s.memory → Alike (page_layout y.map) (paged_of y.map s) (paged_view (places_of y.map) (seen s).memory (behind s).sectors)
   same_pages s long =
       let code = b.code in let globals = b.globals in let heap = b.heap in let stack = b.stack in let tables = b.tables in let frame_table = b.frame_table in let memory = b.memory in let zeros = b.zeros in
       record {
@@ -54,10 +54,10 @@ module _ (alikes : AlikesStand) (x : Outside) (y : Site) (b : Bounds y.map) (who
         slots = λ f u k lt. space_is s.memory s.device.buffer s.device.sector _ (omega (arith, long, u.0, u.1, lt));
         frames = λ f u i lt. space_is s.memory s.device.buffer s.device.sector (1024 * f + i) (omega (arith, long, u.0, u.1, lt));
         sectors = λ q lt i in_page. refl;
-        hand = ap (λ n. (layout_of y.map).zeros + 1 + n) (space_is s.memory s.device.buffer s.device.sector hand_at (omega (arith, long)));
+        hand = ap (λ n. (page_layout y.map).zeros + 1 + n) (space_is s.memory s.device.buffer s.device.sector hand_at (omega (arith, long)));
       }
 
-  unlike : (s : State) → memory_words y.map ≤ length s.memory → Alike (layout_of y.map) (view (places_of y.map) (seen s).memory (behind s).sectors) (paged_of y.map s)
+  unlike : (s : State) → memory_words y.map ≤ length s.memory → Alike (page_layout y.map) (paged_view (places_of y.map) (seen s).memory (behind s).sectors) (paged_of y.map s)
   unlike s long = let a = same_pages s long in record {
     entries = λ q lt. sym (a.entries q lt);
     counts = λ f u. sym (a.counts f u);
@@ -73,7 +73,7 @@ module _ (alikes : AlikesStand) (x : Outside) (y : Site) (b : Bounds y.map) (who
       let code = b.code in let globals = b.globals in let heap = b.heap in let stack = b.stack in let tables = b.tables in let frame_table = b.frame_table in let memory = b.memory in
       space_is s.memory s.device.buffer s.device.sector k (omega (arith, long, lt))
 
-  pub outer_of : (s : State) (c : Core) → Stands x y s Running c → runs_user s ≡ false → Outer y c.current (machines_of y.map.params c) (seen s) (behind s)
+  pub outer_of : (s : State) (c : Core) → RunningRelation x y s Running c → runs_user s ≡ false → Outer y c.current (machines_of y.map.params c) (seen s) (behind s)
   outer_of s c st none =
       let users : length c.users ≡ y.map.users = st.whole.users in
       let few : y.map.users ≤ 64 = b.users in
@@ -87,7 +87,7 @@ module _ (alikes : AlikesStand) (x : Outside) (y : Site) (b : Bounds y.map) (who
         user = low s st.memory current_at (omega arith) ∙ st.users.current refl;
         places = λ k from to. low s st.memory k (omega (arith, to)) ∙ st.kernel.places k from to;
         linked = λ k lt own. low s st.memory k (omega (arith, lt, whole)) ∙ st.kernel.linked k lt own;
-        pages = alikes.stands (layout_of y.map) (pages_by y.map.params.pages c.users) (paged_of y.map s) (view (places_of y.map) (seen s).memory (behind s).sectors) st.pages (same_pages s st.memory);
+        pages = alikes.stands (page_layout y.map) (pages_by y.map.params.pages c.users) (paged_of y.map s) (paged_view (places_of y.map) (seen s).memory (behind s).sectors) st.pages (same_pages s st.memory);
         log_room = st.whole.log;
         input_few = st.whole.input;
         log = st.log;
@@ -107,7 +107,7 @@ module _ (alikes : AlikesStand) (x : Outside) (y : Site) (b : Bounds y.map) (who
     pub heap : HoldsAt (seen s).memory (heap_at y.map) (flat (address_of y.map c.c0) c.c0.heap_values)
     pub used : (seen s).memory heap_used_at ≡ c.c0.heap_words
 
-  pub stands_of : (s : State) (c : Core) → IsSeen s c → Stands x y s Running c
+  pub stands_of : (s : State) (c : Core) → IsSeen s c → RunningRelation x y s Running c
   stands_of s c h =
       let users : length c.users ≡ y.map.users = h.fits.users in
       let few : y.map.users ≤ 64 = b.users in
@@ -134,7 +134,7 @@ module _ (alikes : AlikesStand) (x : Outside) (y : Site) (b : Bounds y.map) (who
           runs = λ r. absurd (true≢false (sym r ∙ no_user s h.quiet.mode));
           current = λ e. sym (low s h.long current_at (omega arith)) ∙ h.outer.user;
         };
-        pages = alikes.stands (layout_of y.map) (pages_by y.map.params.pages c.users) (view (places_of y.map) (seen s).memory (behind s).sectors) (paged_of y.map s) h.outer.pages (unlike s h.long);
+        pages = alikes.stands (page_layout y.map) (pages_by y.map.params.pages c.users) (paged_view (places_of y.map) (seen s).memory (behind s).sectors) (paged_of y.map s) h.outer.pages (unlike s h.long);
         sectors = h.count;
         no_reset = h.quiet.no_reset;
         idle = h.idle;

@@ -4,7 +4,7 @@ use Rattle.std.proofs.Common.{◌≡◌, ◌≢◌, ℕ, ◌+◌, ◌*◌, ◌^�
 use Rattle.std.proofs.lemmas.Bool.{and_parts, eqb-true}
 use Rattle.mips_table.specs.declared.inst.Inst.{Inst}
 use Rattle.mips_table.specs.Arith.{signed}
-use Rattle.mips_table.specs.Device.{Outside}
+use Rattle.mips_table.specs.Device.{Environment}
 use Rattle.mips_table.specs.Fits.{StaysFitting}
 use Rattle.mips_table.specs.Code.{on_machine, Sound, CodeAt}
 use Rattle.mips_table.specs.declared.special.TheConstants.{MODE}
@@ -24,7 +24,7 @@ use Rattle.c0_runtime.specs.Laws.{EntryRuns}
 use Rattle.c0_expr_code.specs.Laws.{IsOpened}
 use Rattle.c0_stmt_code.specs.Code.{links_of}
 use Rattle.layer_contract.specs.declared.entry.Entry.TheVariants.{Fault as Exit, Leave}
-use Rattle.layer_contract.specs.Layer.{entry_address, Inside, Leaves, Exits, Rests}
+use Rattle.layer_contract.specs.Layer.{layer_entry, Inside, Leaves, Exits, Rests}
 use Rattle.layer_contract.specs.declared.registers.TheConstants.{ANSWER}
 use Rattle.layer_contract.specs.Calls.{entered_before, EndsCall}
 use Rattle.cvm_model.specs.Kernel.{Core, Changes, power_of}
@@ -60,10 +60,10 @@ a_fault c0.DivZero e = cc
 a_fault c0.StackOut e = cc
 
 -- no primitive's entry is one of the others
-leave_elsewhere : (s : State) → s.cpu.pc ≡ entry_address Leave → IsElsewhere s
+leave_elsewhere : (s : State) → s.cpu.pc ≡ layer_entry Leave → IsElsewhere s
 leave_elsewhere s at i lt e = omega (arith, at, lt, e)
 
-exit_elsewhere : (s : State) (f : ℕ) → 1 ≤ f → s.cpu.pc ≡ entry_address (Exit f) → IsElsewhere s
+exit_elsewhere : (s : State) (f : ℕ) → 1 ≤ f → s.cpu.pc ≡ layer_entry (Exit f) → IsElsewhere s
 exit_elsewhere s f one at i lt e = omega (arith, one, at, lt, e)
 
 fault_some : (f : KernelFault) → 1 ≤ power_of f
@@ -74,7 +74,7 @@ fault_some StackOut = omega arith
 fault_some BadUser = omega arith
 
 module _ (simulates : MachineSimulates) (joins : RunsJoin) (fitting : StaysFitting) (alikes : AlikesStand) (rows : RowsAreCalled)
-    (x : Outside) (y : Site) (u : CUnit) (p : Places) (code : List Inst) (words : List ℕ) (longest : ℕ) (c : Core) (st : CodeStands u p y code) (g : Ground x y words longest) (user_ok : c.current ≤ y.map.users)
+    (x : Environment) (y : Site) (u : CUnit) (p : Places) (code : List Inst) (words : List ℕ) (longest : ℕ) (c : Core) (st : CodeStands u p y code) (g : Ground x y words longest) (user_ok : c.current ≤ y.map.users)
     (small : length words < 2 ^ 26) (sound : Sound (on_machine x (program y.map (layer_words + 1) code words))) (s0 : State)
     (flats : HeldIsFlat) (opened : IsOpened (shapes u)) (entry : EntryRuns (on_machine x (program y.map (layer_words + 1) code words)))
     (code_at : CodeAt (on_machine x (program y.map (layer_words + 1) code words)) (layer_words + 1) (behind_first p.globals (4 * (links_of p).function (dispatch_number u)))) (base n : ℕ) (few : base ≤ 7) where

@@ -5,7 +5,7 @@ use Rattle.c0_meaning.specs.Env.{typed_of}
 use Rattle.c0_meaning.specs.Words.{all_words}
 use Rattle.c0_meaning.specs.RunLaws.{scalars}
 use Rattle.c0_meaning.specs.Sound.{shapes}
-use Rattle.c0_meaning.specs.State.{State as C0}
+use Rattle.c0_meaning.specs.State.{C0State}
 use Rattle.c0_meaning.specs.TypedState.{types_of, IsTypedWith}
 use Rattle.c0_expr_code.specs.Laws.{IsOpened}
 use Rattle.c0_expr_code.specs.Bases.{Bases, words_of_all, RegionHeld}
@@ -25,7 +25,7 @@ pub record AreOnMap (m : Map) (p : Bases) : Type 0 where
 
 -- A law: in a typed state of a unit, a struct's words being those of its fields, the globals are held one by one exactly where their words stand one
 -- after another, and so are the heap's objects. They have as many words as their types.
-pub record IsHeldFlat (u : CUnit) (m : Map) (p : Bases) (s : C0) : Type 0 where
+pub record IsHeldFlat (u : CUnit) (m : Map) (p : Bases) (s : C0State) : Type 0 where
   pub globals : (words : ℕ → ℕ) → HoldsAt words (globals_at m) (flat (address_of m s) s.global_values)
       ↔ RegionHeld (unit_scope u) p words (globals_at m) (types_of (map typed_of u.globals)) s.global_values
   pub heap : (words : ℕ → ℕ) → HoldsAt words (heap_at m) (flat (address_of m s) s.heap_values)
@@ -34,4 +34,4 @@ pub record IsHeldFlat (u : CUnit) (m : Map) (p : Bases) (s : C0) : Type 0 where
   pub heap_words : scalars s.heap_values ≡ words_of_all (shapes u) p.objects
 
 abbrev pub HeldIsFlat : Type 0
-HeldIsFlat = (u : CUnit) (m : Map) (p : Bases) (s : C0) → IsOpened (shapes u) → AreOnMap m p → IsTypedWith u p.objects s → IsHeldFlat u m p s
+HeldIsFlat = (u : CUnit) (m : Map) (p : Bases) (s : C0State) → IsOpened (shapes u) → AreOnMap m p → IsTypedWith u p.objects s → IsHeldFlat u m p s

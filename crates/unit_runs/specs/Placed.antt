@@ -36,8 +36,8 @@ abbrev pub program : Map → ℕ → List Inst → List ℕ → Program
 program m first code words = record { code = code_from first code; kept = kept_of m code words; words = length words; count = 0 }
 
 -- a piece of the code stands at a word, behind the code's first instruction
-abbrev pub StandsAt : List Inst → ℕ → List Inst → Type 0
-StandsAt code k piece =
+abbrev pub CodeStandsAt : List Inst → ℕ → List Inst → Type 0
+CodeStandsAt code k piece =
     (before : List Inst) × (after : List Inst) × (code ≡ before ++ (piece ++ after)) × (k ≡ layer_words + length before) × (1 ≤ length before)
 
 -- The code of a checked unit stands behind a layer's words: its entry first, and the functions and the routine `new` at their places. The globals, the
@@ -57,5 +57,5 @@ pub record CodeStands (u : CUnit) (p : Places) (y : Site) (code : List Inst) : T
   pub rest : List Inst
   pub entry : code ≡ runtime.entry_code p.globals (4 * (links_of p).function (dispatch_number u)) ++ rest
   pub functions : (n : ℕ) (f : CFunction) → slice_get u.functions n ≡ Some f
-      → StandsAt code ((links_of p).function n) (function_code (scope_of u f p) (links_of p) f)
-  pub new_object : StandsAt code (links_of p).new_object runtime.new_code
+      → CodeStandsAt code ((links_of p).function n) (function_code (scope_of u f p) (links_of p) f)
+  pub new_object : CodeStandsAt code (links_of p).new_object runtime.new_code

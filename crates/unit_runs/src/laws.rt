@@ -4,7 +4,7 @@ ghost use Rattle.cvm_model.specs.Kernel.{Changes};
 ghost use Rattle.cvm_model.specs.KernelMeaning.{Machines};
 ghost use Rattle.unit_runs.specs.Held.{HeldIsFlat};
 ghost use Rattle.c0_meaning.specs.World.{entries_of};
-ghost use Rattle.unit_runs.specs.Host.{Fixed, HasCome, Tells};
+ghost use Rattle.unit_runs.specs.Host.{Fixed, HasCome, TellsCalls};
 ghost use Rattle.unit_runs.specs.Outer.{Outer};
 ghost use Rattle.unit_runs.specs.Runs.{CompiledUnitsCallsFollow, CompiledUnitsRun, UnitsCallsFollow, UnitsRunOverLayers};
 
@@ -37,7 +37,7 @@ impl Host for MachineOverLayer {
 
     ghost here = { λ f. HasCome f.outside f.site f.code f.words f.first };
 
-    ghost told = { λ f k v calls. Tells f.outside f.site f.longest f.first k (entries_of calls) };
+    ghost told = { λ f k v calls. TellsCalls f.outside f.site f.longest f.first k (entries_of calls) };
 }
 
 /// Over any layer the code of a checked unit runs as the unit means: a dispatch comes to its answer or its fault within its steps, or is on its way.

@@ -6,25 +6,25 @@ use Rattle.std.proofs.lemmas.Bool.{and_parts, eq-eqb}
 use Rattle.std.proofs.lemmas.List.Folds.{list_all-append}
 use Rattle.cvm_model.specs.Kernel.{JournalEntry}
 use Rattle.cvm_model.specs.JournalWords.{holds_word}
-use Rattle.user_c0.specs.Events.{SYSCALL, CALL, Event, step, call, other, entries_of, journal_of, IsProper, AreProper, IsAnswered}
+use Rattle.user_c0.specs.Events.{SYSCALL, CALL_CAUSE, Event, step, call, other, entries_of, journal_of, IsProperEvent, AreProper, IsAnsweredJournal}
 
 -- an event in that form
 record Formed (e : Event) : Type 0 where
   event : Event
   same : entries_of event ≡ entries_of e
-  proper : IsProper event
+  proper : IsProperEvent event
 
 one_trap : (c d : ℕ) → Formed (other c d)
-one_trap c d = by (c == SYSCALL && d == CALL) refl
+one_trap c d = by (c == SYSCALL && d == CALL_CAUSE) refl
   where
-    by : (b : Bool) → (c == SYSCALL && d == CALL) ≡ b → Formed (other c d)
+    by : (b : Bool) → (c == SYSCALL && d == CALL_CAUSE) ≡ b → Formed (other c d)
     by true t =
-        let p = and_parts (c == SYSCALL) (d == CALL) t in
-        record { event = call None; same = ap₂ (λ a b. entries_of (other a b)) (sym (eqb-true c SYSCALL p.0)) (sym (eqb-true d CALL p.1)); proper = tt }
+        let p = and_parts (c == SYSCALL) (d == CALL_CAUSE) t in
+        record { event = call None; same = ap₂ (λ a b. entries_of (other a b)) (sym (eqb-true c SYSCALL p.0)) (sym (eqb-true d CALL_CAUSE p.1)); proper = tt }
     by false t = record {
       event = other c d;
       same = refl;
-      proper = λ a b. let both : (c == SYSCALL && d == CALL) ≡ true = ap₂ (λ x y. x && y) (eq-eqb c SYSCALL a) (eq-eqb d CALL b) in let no : true ≡ false = sym both ∙ t in absurd (cc);
+      proper = λ a b. let both : (c == SYSCALL && d == CALL_CAUSE) ≡ true = ap₂ (λ x y. x && y) (eq-eqb c SYSCALL a) (eq-eqb d CALL_CAUSE b) in let no : true ≡ false = sym both ∙ t in absurd (cc);
     }
 
 formed : (e : Event) → list_all holds_word (entries_of e) ≡ true → Formed e
@@ -46,7 +46,7 @@ all_formed (e ∷ es) h =
     let r = all_formed es p.1 in
     record { events = f.event ∷ r.events; same = ap₂ (λ a b. a ++ b) f.same r.same; proper = (f.proper, r.proper) }
 
-pub answered : (j : List JournalEntry) (es : List Event) → j ≡ journal_of es → list_all holds_word j ≡ true → IsAnswered j
+pub answered : (j : List JournalEntry) (es : List Event) → j ≡ journal_of es → list_all holds_word j ≡ true → IsAnsweredJournal j
 answered j es e h =
     let r = all_formed es (sym (ap (list_all holds_word) e) ∙ h) in
     record { events = r.events; journal = e ∙ sym r.same; proper = r.proper }

@@ -8,7 +8,7 @@ use Rattle.cvm_model.specs.Cvm.{System, first_flat, first_core}
 use Rattle.cvm_model.specs.Journal.{replay, Isolated}
 use Rattle.user_c0.specs.Image.{image_words}
 use Rattle.user_c0.specs.Events.{journal_of}
-use Rattle.user_c0.specs.Systems.{Runs, UsersCome}
+use Rattle.user_c0.specs.Systems.{RunsProgram, UsersCome}
 
 -- a user's first machine is that of its words
 started : (f : List ℕ → Flat) (users : List (List ℕ)) (i : ℕ) (d : Flat) (words : List ℕ) → slice_get users i ≡ Some words → slice_index_or (map f users) i d ≡ f words
@@ -16,7 +16,7 @@ started f [] i d words e = absurd (cc)
 started f (w ∷ users) zero d words e = let same : w ≡ words = cc in ap f same
 started f (w ∷ users) (suc i) d words e = started f users i d words e
 
-first_is : (y : System) (n : ℕ) (u : CUnit) → Runs y n u → user_of (first_core y).users n ≡ first_flat (image_words u)
+first_is : (y : System) (n : ℕ) (u : CUnit) → RunsProgram y n u → user_of (first_core y).users n ≡ first_flat (image_words u)
 first_is y n u runs = started first_flat y.boot.users (n - 1) no_flat (image_words u) runs
 
 pub users_come : Isolated → UsersCome

@@ -4,7 +4,7 @@ use Rattle.std.proofs.Common.{◌≡◌, ℕ, zero, suc, ◌+◌, ◌*◌, ◌�
 use Rattle.std.proofs.lemmas.List.{take_all, length-map, length-take}
 use Rattle.mips_table.specs.declared.cause.Cause.{Cause}
 use Rattle.mips_table.specs.Flat.{Flat, Trap, vstep}
-use Rattle.mips_table.specs.Machine.{number_of}
+use Rattle.mips_table.specs.Machine.{cause_number}
 use Rattle.c0_tree.specs.Tree.{CExpr, true_, call, CStmts, done, next, CUnit}
 use Rattle.c0_tree.specs.declared.tree.Kind.TheVariants.{Primitive}
 use Rattle.c0_meaning.specs.Bare.{bare}
@@ -12,13 +12,13 @@ use Rattle.c0_meaning.specs.Value.{int, group, part, empty}
 use Rattle.c0_meaning.specs.World.{Configuration, entries_of, journal}
 use Rattle.c0_meaning.specs.Evaluation.{costs, truth, value_of}
 use Rattle.c0_meaning.specs.Running.{push, begin, leave, outward}
-use Rattle.c0_meaning.specs.Reasoning.{Ends, Begins, Makes}
+use Rattle.c0_meaning.specs.Reasoning.{Ends, IsPrefix, MakesEntries}
 use Rattle.c0_meaning.specs.ProgramLaws.{AnswersAheadDontMatter, MadeIsAsked, ProgramsIgnorePlaces, program_setting, program_start}
 use Rattle.c0_meaning.specs.UserProgram.{Seen, prog}
-use Rattle.c0_meaning.proofs.Making as making
+use Rattle.c0_meaning.proofs.ServingRules as making
 use Rattle.worked_rows.specs.Kernels.{z, name, local, number}
 use Rattle.user_c0.specs.Events.{Event, replies, calls, answer_of, answers}
-use Rattle.user_c0.specs.Users.{HasCome, IsProgram, IsCallOf, TrapsAreKnown}
+use Rattle.user_c0.specs.Users.{UserHasCome, IsProgram, IsTrapCall, TrapsAreKnown}
 use Rattle.user_c0.specs.Echoing.{echoing, last_of, EchoesForEver}
 
 abbrev Conf : Type 0
@@ -49,7 +49,7 @@ record Left (es : List ℤ) (i : ℕ) (d : Conf) : Type 0 where
   all : entries_of calls ++ x ∷ left ≡ es
 
 abbrev Turns : List ℤ → ℕ → Conf → Type 0
-Turns es zero d = Begins es (journal d)
+Turns es zero d = IsPrefix es (journal d)
 Turns es (suc i) d = Left es i d
 
 joined : (calls : List (List ℤ)) (x : ℤ) → entries_of (calls ++ (x ∷ []) ∷ []) ≡ entries_of calls ++ x ∷ []
@@ -77,7 +77,7 @@ turns es j d h =
     (refl, turn es j h.x h.left h.calls h.count h.all)
 
 -- all turns that have an answer, and one more
-made_there : (given : List ℤ) → Makes (program_setting echoing) (10 * length given + 20) (begin 0 empty ∷ []) (program_start echoing given) (pos 0 ∷ given)
+made_there : (given : List ℤ) → MakesEntries (program_setting echoing) (10 * length given + 20) (begin 0 empty ∷ []) (program_start echoing given) (pos 0 ∷ given)
 made_there given =
     making.more (List ℤ) ℤ (program_setting echoing) (pos 0 ∷ given) (3 + suc (suc (length given) * 8)) (10 * length given + 20) (begin 0 empty ∷ []) (program_start echoing given) (omega arith)
     (making.straight (List ℤ) ℤ (program_setting echoing) (pos 0 ∷ given) 1 3 (suc (suc (length given) * 8)) (begin 0 empty ∷ []) (program_start echoing given) (
@@ -104,8 +104,8 @@ module _ (places : ProgramsIgnorePlaces) (ahead : AnswersAheadDontMatter) (made 
       no_more (pos 0 ∷ given) (prog echoing given n).arguments b.more
       (b.is ∙ ap (λ xs. xs ++ b.more) (take_all (suc (length given)) (pos 0 ∷ given) (omega arith))) (omega (arith, few))
 
-  traps : (u : CUnit) (es : List Event) (f g : Flat) (cause : Cause) (edata : ℕ) → IsProgram u → bare u ≡ echoing → HasCome u es f → vstep f ≡ Trap g cause edata
-      → IsCallOf f (last_of (pos 0) (answers es)) (number_of cause) edata
+  traps : (u : CUnit) (es : List Event) (f g : Flat) (cause : Cause) (edata : ℕ) → IsProgram u → bare u ≡ echoing → UserHasCome u es f → vstep f ≡ Trap g cause edata
+      → IsTrapCall f (last_of (pos 0) (answers es)) (cause_number cause) edata
   traps u es f g cause edata p is come e =
       let n : ℕ = 10 * length (answers es) + 20 in
       known.next_call u es f g cause edata p come e n (last_of (pos 0) (answers es))

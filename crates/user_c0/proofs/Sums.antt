@@ -3,15 +3,15 @@ use Rattle.std.specs.Prelude.{ℤ, pos, map, slice_get}
 use Rattle.std.proofs.Common.{◌≡◌, ℕ, suc, ◌≤◌, List, [], ◌∷◌, length, refl, sym, ap, ◌∙◌, subst, arith, inl, inr}
 use Rattle.std.specs.Int.{int_wrap}
 use Rattle.mips_table.specs.declared.cause.Cause.{Cause}
-use Rattle.mips_table.specs.Flat.{Flat, Next, Trap, vstep}
-use Rattle.mips_table.specs.Machine.{number_of}
+use Rattle.mips_table.specs.Flat.{Flat, Goes, Trap, vstep}
+use Rattle.mips_table.specs.Machine.{cause_number}
 use Rattle.c0_tree.specs.Tree.{CUnit}
 use Rattle.c0_meaning.specs.UserProgram.{Seen, prog, done, not_yet}
 use Rattle.c0_meaning.specs.RunLaws.{HasEnded}
 use Rattle.c0_meaning.specs.ProgramLaws.{AnswersAheadDontMatter, ProgramsIgnorePlaces}
 use Rattle.user_c0.specs.Events.{Event, replies, calls, others, untrapped, answer_of, answers}
 use Rattle.user_c0.specs.Program.{EndsBy, steps_of}
-use Rattle.user_c0.specs.Users.{HasCome, TrapsAreKnown, IsDue, ProgramsStay}
+use Rattle.user_c0.specs.Users.{UserHasCome, TrapsAreKnown, IsDue, ProgramsStay}
 use Rattle.user_c0.specs.Summing.{summing, IsSumming, SumTrap, SumsAreTold}
 
 asks : prog summing [] 200 ≡ record { arguments = pos 55 ∷ []; ending = not_yet }
@@ -35,11 +35,11 @@ module _ (places : ProgramsIgnorePlaces) (ahead : AnswersAheadDontMatter) (known
   is_seen u is [] = sym (places u [] 200) ∙ ap (λ v. prog v [] 200) is.is ∙ asks
   is_seen u is (a ∷ rest) = sym (places u (a ∷ rest) 200) ∙ ap (λ v. prog v (a ∷ rest) 200) is.is ∙ ends a rest
 
-  module _ (u : CUnit) (es : List Event) (f g : Flat) (is : IsSumming u) (come : HasCome u es f) where
-    traps : (cause : Cause) (edata : ℕ) → vstep f ≡ Trap g cause edata → SumTrap (calls es) f (number_of cause) edata
+  module _ (u : CUnit) (es : List Event) (f g : Flat) (is : IsSumming u) (come : UserHasCome u es f) where
+    traps : (cause : Cause) (edata : ℕ) → vstep f ≡ Trap g cause edata → SumTrap (calls es) f (cause_number cause) edata
     traps cause edata e = by (replies es) refl
       where
-        by : (rs : List _) → replies es ≡ rs → SumTrap (length rs) f (number_of cause) edata
+        by : (rs : List _) → replies es ≡ rs → SumTrap (length rs) f (cause_number cause) edata
         by [] q =
             known.next_call u es f g cause edata is.program come e 200 (pos 55)
             (ap (λ rs. slice_get (prog u (map answer_of rs) 200).arguments (length rs)) q ∙ ap (λ (p : Seen). slice_get p.arguments 0) (is_seen u is []))
@@ -52,7 +52,7 @@ module _ (places : ProgramsIgnorePlaces) (ahead : AnswersAheadDontMatter) (known
             let end = known.next_end u es f g cause edata is.program come e 200 over (omega (arith, one, few, some)) in
             (end.0, subst (λ (p : Seen). EndsBy p.ending edata) seen end.1)
 
-    soon : vstep f ≡ Next g → others es ≡ [] → suc (untrapped es) ≤ steps_of 200
+    soon : vstep f ≡ Goes g → others es ≡ [] → suc (untrapped es) ≤ steps_of 200
     soon e none = stay.stay u es f g 200 is.program come e none (by (replies es) refl)
       where
         by : (rs : List _) → replies es ≡ rs → IsDue u es 200

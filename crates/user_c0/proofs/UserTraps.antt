@@ -7,20 +7,20 @@ use Rattle.mips_table.specs.Arith.{signed}
 use Rattle.mips_table.specs.declared.cause.Cause.{Cause}
 use Rattle.mips_table.specs.declared.cause.Cause.TheVariants as causes
 use Rattle.mips_table.specs.Processor.{Move, Ran, Loaded, Stored, Trapped, Privileged, move}
-use Rattle.mips_table.specs.Flat.{Flat, Next, Trap, vstep, answered, flat_access, word_at}
-use Rattle.mips_table.specs.Machine.{number_of}
+use Rattle.mips_table.specs.Flat.{Flat, Goes, Trap, vstep, after_move, flat_access, word_at}
+use Rattle.mips_table.specs.Machine.{cause_number}
 use Rattle.c0_tree.specs.Tree.{CUnit}
 use Rattle.c0_meaning.specs.Operators.{faulted, stuck}
-use Rattle.c0_meaning.specs.UserProgram.{Ending, done, failed, not_yet, prog}
+use Rattle.c0_meaning.specs.UserProgram.{ProgramEnding, done, failed, not_yet, prog}
 use Rattle.c0_meaning.specs.RunLaws.{HasEnded}
 use Rattle.c0_meaning.specs.ProgramLaws.{AnswersAheadDontMatter, ArgumentsStay}
 use Rattle.cvm_model.specs.Kernel.{JournalEntry}
 use Rattle.cvm_model.specs.Cvm.{first_flat}
 use Rattle.cvm_model.specs.Journal.{replay, ReplayJoins}
 use Rattle.user_c0.specs.Image.{image_words}
-use Rattle.user_c0.specs.Events.{SYSCALL, CALL, Event, step, call, other, journal_of, replies, calls, others, untrapped, answer_of, answers}
-use Rattle.user_c0.specs.Program.{EndsBy, steps_of, Follows, ImagesRun}
-use Rattle.user_c0.specs.Users.{HasCome, UsersGoOn, IsCall, IsEnd, IsProgram, ProgramsTrap, IsCallOf, TrapsAreKnown, IsDue, ProgramsStay}
+use Rattle.user_c0.specs.Events.{SYSCALL, CALL_CAUSE, Event, step, call, other, journal_of, replies, calls, others, untrapped, answer_of, answers}
+use Rattle.user_c0.specs.Program.{EndsBy, steps_of, FollowsMain, ImagesRun}
+use Rattle.user_c0.specs.Users.{UserHasCome, UsersGoOn, IsCall, IsProgramEnd, IsProgram, ProgramsTrap, IsTrapCall, TrapsAreKnown, IsDue, ProgramsStay}
 use Rattle.user_c0.proofs.Follow.{journal_join, replies_join, others_of_join}
 
 -- what events with one more come to
@@ -53,7 +53,7 @@ take_get (suc n) (x ∷ xs) zero o lt e = e
 take_get (suc n) (x ∷ xs) (suc i) o lt e = take_get n xs i o (omega (arith, lt)) e
 
 -- the cause of a system call
-only_syscall : (cause : Cause) → number_of cause ≡ SYSCALL → cause ≡ causes.Syscall
+only_syscall : (cause : Cause) → cause_number cause ≡ SYSCALL → cause ≡ causes.Syscall
 only_syscall causes.Syscall e = refl
 only_syscall _ e = absurd (omega (arith, e))
 
@@ -66,10 +66,10 @@ registers_stay f g cause edata e = by (move (flat_access f.words) f.cpu (word_at
     of_trap : (h : Flat) (c : Cause) (d : ℕ) → h.cpu.regs ≡ f.cpu.regs → Trap h c d ≡ Trap g cause edata → g.cpu.regs ≡ f.cpu.regs
     of_trap h c d same e = let one : h ≡ g = cc in ap (λ (m : Flat). m.cpu.regs) (sym one) ∙ same
 
-    no_trap : (h : Flat) → Next h ≡ Trap g cause edata → g.cpu.regs ≡ f.cpu.regs
+    no_trap : (h : Flat) → Goes h ≡ Trap g cause edata → g.cpu.regs ≡ f.cpu.regs
     no_trap h e = absurd (cc)
 
-    by : (m : Move) → answered f m ≡ Trap g cause edata → g.cpu.regs ≡ f.cpu.regs
+    by : (m : Move) → after_move f m ≡ Trap g cause edata → g.cpu.regs ≡ f.cpu.regs
     by (Ran c) e = no_trap _ e
     by (Loaded c register address) e = no_trap _ e
     by (Stored c address value) e = no_trap _ e
@@ -77,14 +77,14 @@ registers_stay f g cause edata e = by (move (flat_access f.words) f.cpu (word_at
     by (Privileged word) e = of_trap _ _ _ refl e
 
 module _ (images : ImagesRun) (goes : UsersGoOn) where
-  follows : (u : CUnit) (es : List Event) (f : Flat) → IsProgram u → HasCome u es f → Follows u (first_flat (image_words u)) es
+  follows : (u : CUnit) (es : List Event) (f : Flat) → IsProgram u → UserHasCome u es f → FollowsMain u (first_flat (image_words u)) es
   follows u es f p h = images u p.checked p.small (journal_of es) (record { events = es; journal = refl; proper = h.proper }) f h.replayed
 
   module _ (ahead : AnswersAheadDontMatter) where
-    called : (u : CUnit) (es : List Event) (f g : Flat) (cause : Cause) (edata : ℕ) → IsProgram u → HasCome u es f → vstep f ≡ Trap g cause edata
-        → number_of cause ≡ SYSCALL → edata ≡ CALL → IsCall u es f (number_of cause) edata
+    called : (u : CUnit) (es : List Event) (f g : Flat) (cause : Cause) (edata : ℕ) → IsProgram u → UserHasCome u es f → vstep f ≡ Trap g cause edata
+        → cause_number cause ≡ SYSCALL → edata ≡ CALL_CAUSE → IsCall u es f (cause_number cause) edata
     called u es f g cause edata p h e is data_is =
-        let syscall : vstep f ≡ Trap g causes.Syscall CALL = e ∙ ap (λ c. Trap g c edata) (only_syscall cause is) ∙ ap (Trap g causes.Syscall) data_is in
+        let syscall : vstep f ≡ Trap g causes.Syscall CALL_CAUSE = e ∙ ap (λ c. Trap g c edata) (only_syscall cause is) ∙ ap (Trap g causes.Syscall) data_is in
         let w = follows u (es ++ call None ∷ []) g p (goes.calls u es f g h syscall) in
         let r = w.asks es [] None f refl h.replayed in
         let few : calls es < suc (length (answers es)) = let l = length-map (replies es) answer_of in omega (arith, l) in
@@ -98,12 +98,12 @@ module _ (images : ImagesRun) (goes : UsersGoOn) where
               (ap (λ given. slice_get (prog u given r.0).arguments (calls es)) (sym (answers_of es (call None))) ∙ r.1);
         }
 
-    ended : (u : CUnit) (es : List Event) (f g : Flat) (cause : Cause) (edata : ℕ) → IsProgram u → HasCome u es f → vstep f ≡ Trap g cause edata
-        → (number_of cause ≡ SYSCALL → edata ≡ CALL → ⊥) → IsEnd u es (number_of cause) edata
+    ended : (u : CUnit) (es : List Event) (f g : Flat) (cause : Cause) (edata : ℕ) → IsProgram u → UserHasCome u es f → vstep f ≡ Trap g cause edata
+        → (cause_number cause ≡ SYSCALL → edata ≡ CALL_CAUSE → ⊥) → IsProgramEnd u es (cause_number cause) edata
     ended u es f g cause edata p h e isnt =
-        let w = follows u (es ++ other (number_of cause) edata ∷ []) g p (goes.others u es f g cause edata isnt h e) in
-        let r = w.ends es [] (number_of cause) edata refl in
-        let same : answers (es ++ other (number_of cause) edata ∷ []) ≡ answers es = answers_of es (other (number_of cause) edata) ∙ append-nil (answers es) in
+        let w = follows u (es ++ other (cause_number cause) edata ∷ []) g p (goes.others u es f g cause edata isnt h e) in
+        let r = w.ends es [] (cause_number cause) edata refl in
+        let same : answers (es ++ other (cause_number cause) edata ∷ []) ≡ answers es = answers_of es (other (cause_number cause) edata) ∙ append-nil (answers es) in
         record {
           cause_is = r.2;
           units = r.0;
@@ -114,25 +114,25 @@ module _ (images : ImagesRun) (goes : UsersGoOn) where
     pub programs_trap : ProgramsTrap
     programs_trap = record { traps = traps; leaves = registers_stay }
       where
-        traps : (u : CUnit) (es : List Event) (f g : Flat) (cause : Cause) (edata : ℕ) → IsProgram u → HasCome u es f → vstep f ≡ Trap g cause edata
-            → IsCall u es f (number_of cause) edata ⊎ IsEnd u es (number_of cause) edata
-        traps u es f g cause edata p h e = by (number_of cause == SYSCALL && edata == CALL) refl
+        traps : (u : CUnit) (es : List Event) (f g : Flat) (cause : Cause) (edata : ℕ) → IsProgram u → UserHasCome u es f → vstep f ≡ Trap g cause edata
+            → IsCall u es f (cause_number cause) edata ⊎ IsProgramEnd u es (cause_number cause) edata
+        traps u es f g cause edata p h e = by (cause_number cause == SYSCALL && edata == CALL_CAUSE) refl
           where
-            by : (b : Bool) → (number_of cause == SYSCALL && edata == CALL) ≡ b → IsCall u es f (number_of cause) edata ⊎ IsEnd u es (number_of cause) edata
+            by : (b : Bool) → (cause_number cause == SYSCALL && edata == CALL_CAUSE) ≡ b → IsCall u es f (cause_number cause) edata ⊎ IsProgramEnd u es (cause_number cause) edata
             by true t =
-                let q = and_parts (number_of cause == SYSCALL) (edata == CALL) t in
-                inl (called u es f g cause edata p h e (eqb-true (number_of cause) SYSCALL q.0) (eqb-true edata CALL q.1))
+                let q = and_parts (cause_number cause == SYSCALL) (edata == CALL_CAUSE) t in
+                inl (called u es f g cause edata p h e (eqb-true (cause_number cause) SYSCALL q.0) (eqb-true edata CALL_CAUSE q.1))
             by false t =
                 inr (ended u es f g cause edata p h e (λ a d.
-                true_false (subst (λ (n : ℕ). (SYSCALL == SYSCALL && n == CALL) ≡ false) d (subst (λ (n : ℕ). (n == SYSCALL && edata == CALL) ≡ false) a t))))
+                true_false (subst (λ (n : ℕ). (SYSCALL == SYSCALL && n == CALL_CAUSE) ≡ false) d (subst (λ (n : ℕ). (n == SYSCALL && edata == CALL_CAUSE) ≡ false) a t))))
 
   pub programs_stay : ProgramsStay
   programs_stay = record { stay = stay; again = again }
     where
-      stay : (u : CUnit) (es : List Event) (f g : Flat) (n : ℕ) → IsProgram u → HasCome u es f → vstep f ≡ Next g → others es ≡ [] → IsDue u es n → suc (untrapped es) ≤ steps_of n
+      stay : (u : CUnit) (es : List Event) (f g : Flat) (n : ℕ) → IsProgram u → UserHasCome u es f → vstep f ≡ Goes g → others es ≡ [] → IsDue u es n → suc (untrapped es) ≤ steps_of n
       stay u es f g n p h e none due = by due
         where
-          w : Follows u (first_flat (image_words u)) (es ++ step ∷ [])
+          w : FollowsMain u (first_flat (image_words u)) (es ++ step ∷ [])
           w = follows u (es ++ step ∷ []) g p (goes.steps u es f g h e)
 
           same : answers (es ++ step ∷ []) ≡ answers es
@@ -149,7 +149,7 @@ module _ (images : ImagesRun) (goes : UsersGoOn) where
               let within = w.comes_to_end (es ++ step ∷ []) [] n (sym (append-nil (es ++ step ∷ []))) (subst (λ given. HasEnded (prog u given n).ending) (sym same) over) (others_of_join es (step ∷ []) ∙ append-nil (others es) ∙ none) in
               omega (arith, more, within)
 
-      again : (u : CUnit) (es : List Event) (f g : Flat) (cause edata : ℕ) → IsProgram u → HasCome u (es ++ other cause edata ∷ step ∷ []) f → vstep f ≡ Next g → ⊥
+      again : (u : CUnit) (es : List Event) (f g : Flat) (cause edata : ℕ) → IsProgram u → UserHasCome u (es ++ other cause edata ∷ step ∷ []) f → vstep f ≡ Goes g → ⊥
       again u es f g cause edata p h e =
           let w = follows u ((es ++ other cause edata ∷ step ∷ []) ++ step ∷ []) g p (goes.steps u (es ++ other cause edata ∷ step ∷ []) f g h e) in
           let few = w.again es (step ∷ step ∷ []) [] cause edata (append_assoc es (other cause edata ∷ step ∷ []) (step ∷ [])) refl in
@@ -190,7 +190,7 @@ front_replays joins m a b f h = by (replay m a) refl (sym (joins m a b) ∙ h)
     by None q r = let none : None ≡ Some f = sym (ap (option_and_then (λ g. replay g b)) q) ∙ r in absurd (cc)
 
 module _ (images : ImagesRun) (joins : ReplayJoins) (trap : ProgramsTrap) (stay : ArgumentsStay) where
-  over : (end : Ending) (edata : ℕ) → EndsBy end edata → HasEnded end
+  over : (end : ProgramEnding) (edata : ℕ) → EndsBy end edata → HasEnded end
   over done edata h = tt
   over (failed (faulted f)) edata h = tt
   over (failed stuck) edata h = absurd h
@@ -199,7 +199,7 @@ module _ (images : ImagesRun) (joins : ReplayJoins) (trap : ProgramsTrap) (stay 
   pub traps_are_known : TrapsAreKnown
   traps_are_known = record { next_call = calls_known; next_end = ends_known; few = few }
     where
-      few : (u : CUnit) (es : List Event) (f : Flat) → IsProgram u → HasCome u es f → (n : ℕ) → HasEnded (prog u (answers es) n).ending
+      few : (u : CUnit) (es : List Event) (f : Flat) → IsProgram u → UserHasCome u es f → (n : ℕ) → HasEnded (prog u (answers es) n).ending
           → calls es ≤ length (prog u (answers es) n).arguments
       few u es f p h n end = by (last_call es)
         where
@@ -208,28 +208,28 @@ module _ (images : ImagesRun) (joins : ReplayJoins) (trap : ProgramsTrap) (stay 
           by (inr l) =
               let r = front_replays joins (first_flat (image_words u)) (journal_of l.before) (journal_of (call l.reply ∷ l.after)) f
               (ap (replay (first_flat (image_words u))) (sym (ap journal_of l.is ∙ journal_join l.before (call l.reply ∷ l.after))) ∙ h.replayed) in
-              let w : Follows u (first_flat (image_words u)) es = images u p.checked p.small (journal_of es) (record { events = es; journal = refl; proper = h.proper }) f h.replayed in
+              let w : FollowsMain u (first_flat (image_words u)) es = images u p.checked p.small (journal_of es) (record { events = es; journal = refl; proper = h.proper }) f h.replayed in
               let a = w.asks l.before l.after l.reply r.0 l.is r.1 in
               let lt = stay.ended u (answers es) n a.0 (calls l.before) _ end a.1 in
               let count = l.count in
               omega (arith, lt, count)
 
-      calls_known : (u : CUnit) (es : List Event) (f g : Flat) (cause : Cause) (edata : ℕ) → IsProgram u → HasCome u es f → vstep f ≡ Trap g cause edata
-          → (n : ℕ) (a : ℤ) → slice_get (prog u (answers es) n).arguments (calls es) ≡ Some a → IsCallOf f a (number_of cause) edata
+      calls_known : (u : CUnit) (es : List Event) (f g : Flat) (cause : Cause) (edata : ℕ) → IsProgram u → UserHasCome u es f → vstep f ≡ Trap g cause edata
+          → (n : ℕ) (a : ℤ) → slice_get (prog u (answers es) n).arguments (calls es) ≡ Some a → IsTrapCall f a (cause_number cause) edata
       calls_known u es f g cause edata p h e n a known = by (trap.traps u es f g cause edata p h e)
         where
-          by : IsCall u es f (number_of cause) edata ⊎ IsEnd u es (number_of cause) edata → IsCallOf f a (number_of cause) edata
+          by : IsCall u es f (cause_number cause) edata ⊎ IsProgramEnd u es (cause_number cause) edata → IsTrapCall f a (cause_number cause) edata
           by (inl c) = record { cause_is = c.cause_is; edata_is = c.edata_is; argument = stay.agree u (answers es) c.units n (calls es) _ a c.argument known }
           by (inr d) =
               let lt = stay.ended u (answers es) d.units n (calls es) a (over _ edata d.ends) known in
               let count = d.count in
               absurd (omega (arith, lt, count))
 
-      ends_known : (u : CUnit) (es : List Event) (f g : Flat) (cause : Cause) (edata : ℕ) → IsProgram u → HasCome u es f → vstep f ≡ Trap g cause edata
+      ends_known : (u : CUnit) (es : List Event) (f g : Flat) (cause : Cause) (edata : ℕ) → IsProgram u → UserHasCome u es f → vstep f ≡ Trap g cause edata
           → (n : ℕ) → HasEnded (prog u (answers es) n).ending → length (prog u (answers es) n).arguments ≡ calls es
-          → (number_of cause ≡ SYSCALL) × EndsBy (prog u (answers es) n).ending edata
+          → (cause_number cause ≡ SYSCALL) × EndsBy (prog u (answers es) n).ending edata
       ends_known u es f g cause edata p h e n end count = by (trap.traps u es f g cause edata p h e)
         where
-          by : IsCall u es f (number_of cause) edata ⊎ IsEnd u es (number_of cause) edata → (number_of cause ≡ SYSCALL) × EndsBy (prog u (answers es) n).ending edata
+          by : IsCall u es f (cause_number cause) edata ⊎ IsProgramEnd u es (cause_number cause) edata → (cause_number cause ≡ SYSCALL) × EndsBy (prog u (answers es) n).ending edata
           by (inl c) = let lt = stay.ended u (answers es) n c.units (calls es) _ end c.argument in absurd (omega (arith, lt, count))
           by (inr d) = (d.cause_is, subst (λ q. EndsBy q.ending edata) (stay.same_end u (answers es) d.units n (over _ edata d.ends) end) d.ends)

@@ -28,6 +28,6 @@ abbrev pub ImagesAreWords : Type 0
 ImagesAreWords = (u : CUnit) → IsCheckedAs User u → tables_at (map_of u) ≤ MAX_IMAGE → All IsWord (image_words u)
 
 -- a program is refused for its size where its image has more words than an image may have, and these are its words
-abbrev pub IsFaultOf : CUnit → UserFault → Type 0
-IsFaultOf u (TooLarge words) = (words ≡ length (image_words u)) × (MAX_IMAGE < length (image_words u))
-IsFaultOf u Memory = Unit {0}
+abbrev pub IsSizeFaultOf : CUnit → UserFault → Type 0
+IsSizeFaultOf u (TooLarge words) = (words ≡ length (image_words u)) × (MAX_IMAGE < length (image_words u))
+IsSizeFaultOf u Memory = Unit {0}

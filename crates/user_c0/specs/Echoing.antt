@@ -2,7 +2,7 @@
 use Rattle.std.specs.Prelude.{◌≡◌, ℕ, ◌+◌, ◌*◌, ℤ, pos, List, [], ◌∷◌, length, codes}
 use Rattle.mips_table.specs.declared.cause.Cause.{Cause}
 use Rattle.mips_table.specs.Flat.{Flat, Trap, vstep}
-use Rattle.mips_table.specs.Machine.{number_of}
+use Rattle.mips_table.specs.Machine.{cause_number}
 use Rattle.c0_tree.specs.declared.tree.Kind.TheVariants.{Local, Primitive}
 use Rattle.c0_tree.specs.Tree.{true_, call, loop, code, CUnit}
 use Rattle.c0_tree.specs.Tree as tree
@@ -10,7 +10,7 @@ use Rattle.c0_meaning.specs.Bare.{bare}
 use Rattle.c0_meaning.specs.UserProgram.{prog}
 use Rattle.worked_rows.specs.Kernels.{z, name, decl, local, number, block, function}
 use Rattle.user_c0.specs.Events.{Event, answers}
-use Rattle.user_c0.specs.Users.{HasCome, IsProgram, IsCallOf}
+use Rattle.user_c0.specs.Users.{UserHasCome, IsProgram, IsTrapCall}
 
 -- int main() { int x; while (true) { x = trap(x); } return 0; }
 abbrev pub echoing : CUnit
@@ -31,5 +31,5 @@ last_of a (b ∷ rest) = last_of b rest
 -- A LAW: it asks 0 and then each of its answers, within 10 units for each of them and 20 more; so each of its traps, for ever, is a call with the last answer
 pub record EchoesForEver : Type 0 where
   pub asks : (given : List ℤ) → (prog echoing given (10 * length given + 20)).arguments ≡ pos 0 ∷ given
-  pub traps : (u : CUnit) (es : List Event) (f g : Flat) (cause : Cause) (edata : ℕ) → IsProgram u → bare u ≡ echoing → HasCome u es f → vstep f ≡ Trap g cause edata
-      → IsCallOf f (last_of (pos 0) (answers es)) (number_of cause) edata
+  pub traps : (u : CUnit) (es : List Event) (f g : Flat) (cause : Cause) (edata : ℕ) → IsProgram u → bare u ≡ echoing → UserHasCome u es f → vstep f ≡ Trap g cause edata
+      → IsTrapCall f (last_of (pos 0) (answers es)) (cause_number cause) edata

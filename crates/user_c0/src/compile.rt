@@ -4,7 +4,7 @@ ghost use Rattle.std.specs.Prelude.{◌≡◌, ◌≤◌, length, IfErr, IfOk};
 ghost use Rattle.c0_tree.specs.View.{unit_view};
 ghost use Rattle.c0_unit.specs.Code.{program_words};
 ghost use Rattle.cvm_model.specs.Cvm.{first_flat};
-ghost use Rattle.user_c0.specs.Compiled.{IsFaultOf};
+ghost use Rattle.user_c0.specs.Compiled.{IsSizeFaultOf};
 ghost use Rattle.user_c0.specs.Image.{image_words, map_of};
 ghost use Rattle.user_c0.specs.Program.{MAX_IMAGE, RunsAsMeant};
 
@@ -92,7 +92,7 @@ pub fn compile_user(alloc: Global, unit: &UserChecked) -> Result<Vec<u32>, UserF
     ensures words { IfOk result (λ v. v.items ≡ image_words (unit_view unit.now)) }
     ensures most { IfOk result (λ v. length v.items ≤ MAX_IMAGE) }
     ensures runs { IfOk result (λ v. RunsAsMeant (unit_view unit.now) (first_flat v.items)) }
-    ensures fault { IfErr result (IsFaultOf (unit_view unit.now)) }
+    ensures fault { IfErr result (IsSizeFaultOf (unit_view unit.now)) }
 {
     let Ok(code) = compiled(alloc, unit) else {
         return Err(UserFault::Memory);

@@ -8,7 +8,7 @@ use Rattle.c0_tree.specs.Tree.{CUnit, assign, unary, binary}
 use Rattle.c0_meaning.specs.Value.{globals, heap, Value, int, bool, null, at, group, Values, empty, part}
 use Rattle.c0_meaning.specs.State.{first_state}
 use Rattle.c0_meaning.specs.Operators.{Failure, NullUse, Bounds, DivZero, StackOut, faulted}
-use Rattle.c0_meaning.specs.World.{Meaning, Setting, Cost, Configuration, journal}
+use Rattle.c0_meaning.specs.World.{PrimitiveMeaning, Setting, Cost, Configuration, journal}
 use Rattle.c0_meaning.specs.Execution.{Outcome, Done, Failed, NotYet, exec, dispatch}
 use Rattle.worked_rows.specs.Kernels.{z, global, number, block, sums, divisions, by_zero, small_heap, recursion, bounds, null_use, nexts, counts, scheduler, asm_sum, list, endless, order, parts, twice, thrice, inverse}
 use Rattle.c0_meaning.specs.PrimitiveCalls.{PrimitiveCall}
@@ -27,18 +27,18 @@ seven Int = int (pos 7)
 seven Boolean = bool true
 
 -- primitives that count and note their calls: those that answer an int answer 7, the others true; each touches one page and one word
-abbrev pub sevens : Meaning ℕ PrimitiveCall
+abbrev pub sevens : PrimitiveMeaning ℕ PrimitiveCall
 sevens n args calls = record { answer = seven (unwrap_or (option_map (λ row. row.answer) (slice_get kernel_primitives n)) Int); world = calls + 1; entries = record { number = n; args = args } ∷ []; pages = 1; words = 1 }
 
 -- how a run ended
-pub data Ending : Type 0 where
-  answered : Option Value → Ending
-  failed : Failure → Ending
-  not_yet : Ending
+pub data KernelEnding : Type 0 where
+  answered : Option Value → KernelEnding
+  failed : Failure → KernelEnding
+  not_yet : KernelEnding
 
 -- what is looked at in an outcome: its end, the globals, the heap objects, the words used of the heap, the journal and the cost
 pub record Sight : Type 0 where
-  pub ending : Ending
+  pub ending : KernelEnding
   pub globals : Value
   pub objects : Value
   pub heap_words : ℕ
@@ -46,7 +46,7 @@ pub record Sight : Type 0 where
   pub cost : Cost
 
 -- what is looked at in a configuration
-abbrev pub sight : Ending → Cost → Configuration ℕ PrimitiveCall → Sight
+abbrev pub sight : KernelEnding → Cost → Configuration ℕ PrimitiveCall → Sight
 sight e k c = record { ending = e; globals = c.state.global_values; objects = c.state.heap_values; heap_words = c.state.heap_words; journal = journal c; cost = k }
 
 -- what is seen of an outcome
@@ -90,15 +90,15 @@ abbrev pub to_object : List ℕ → Value
 to_object path = at (record { region = heap; path = path })
 
 -- a sight with neither heap nor journal
-abbrev pub shows : Ending → List Value → ℕ → Sight
+abbrev pub shows : KernelEnding → List Value → ℕ → Sight
 shows e gs own = record { ending = e; globals = these gs; objects = these []; heap_words = 0; journal = []; cost = record { own = own; primitive = 0; pages = 0 } }
 
 -- a sight without a journal
-abbrev pub shows_objects : Ending → List Value → List Value → ℕ → ℕ → Sight
+abbrev pub shows_objects : KernelEnding → List Value → List Value → ℕ → ℕ → Sight
 shows_objects e gs objects used own = record { ending = e; globals = these gs; objects = these objects; heap_words = used; journal = []; cost = record { own = own; primitive = 0; pages = 0 } }
 
 -- the answer of an int from 0 on
-abbrev pub answers : ℕ → Ending
+abbrev pub answers : ℕ → KernelEnding
 answers n = answered (Some (plain n))
 
 -- kernels, by their end, their variables and objects, and their units
@@ -218,7 +218,7 @@ pub record ArePartsRight : Type 0 where
   pub counted_twice : comes_again counts 64 256 3 0 1 3 0 1 1000 ≡ shows (answers 0) (plain 2 ∷ []) 22
 
 -- a sight of calls of primitives, each of which is three units and a page, and of no heap
-abbrev pub shows_calls : Ending → List Value → List PrimitiveCall → ℕ → Sight
+abbrev pub shows_calls : KernelEnding → List Value → List PrimitiveCall → ℕ → Sight
 shows_calls e gs calls own =
     record { ending = e; globals = these gs; objects = these []; heap_words = 0; journal = calls; cost = record { own = own; primitive = 3 * length calls; pages = length calls } }
 

@@ -10,7 +10,7 @@ use Rattle.c0_meaning.specs.Value.{int, bool}
 use Rattle.mips_table.specs.Flat.{Flat}
 use Rattle.layer_map.specs.Map.{Map, code_at, globals_at, heap_at, stack_at, tables_at, frame_table_at, zero_frame_at, user_frames_at, memory_frames, block_at}
 use Rattle.cvm_model.specs.Kernel.{JournalEntry, Stepped, Trapped, Set, Size, Put}
-use Rattle.cvm_model.specs.Primitives.{Call, VmGet, VmSet, VmSize, VmResize, VmWord, VmPut, VmCopy, ConPut, ConGet, ConLeft, Given, is_good, prim, user_of}
+use Rattle.cvm_model.specs.Primitives.{KernelCall, VmGet, VmSet, VmSize, VmResize, VmWord, VmPut, VmCopy, ConPut, ConGet, ConLeft, Given, is_good, prim, user_of}
 use Rattle.cvm_model.specs.Cvm.{System, Halted, Cvm, cvm, page_steps, reset_steps, turn_steps}
 use Rattle.cvm_model.specs.Journal.{replay, journal}
 use Rattle.cvm_model.specs.Text.{boot_text, trace_text, user_text, journal_rows, open_journal_rows}
@@ -33,26 +33,26 @@ pub record AreMapsRight : Type 0 where
   pub steps : page_steps of_two_frames 0 ∷ turn_steps of_two_frames 0 ∷ reset_steps of_two_frames ∷ [] ≡ 200128 ∷ 400257 ∷ 20384 ∷ []
 
 -- Each primitive with each kind of bad argument: with one user of one page, and at most four pages. The user or the register is none.
-abbrev pub bad_registers : List Call
+abbrev pub bad_registers : List KernelCall
 bad_registers =
     VmGet (pos 0) (pos 1) ∷ VmGet (pos 2) (pos 1) ∷ VmGet (negsuc 0) (pos 1)
     ∷ VmGet (pos 1) (pos 0) ∷ VmGet (pos 1) (pos 33) ∷ VmGet (pos 1) (negsuc 0)
     ∷ VmSet (pos 0) (pos 1) (pos 5) ∷ VmSet (pos 2) (pos 1) (pos 5) ∷ VmSet (pos 1) (pos 0) (pos 5) ∷ VmSet (pos 1) (pos 33) (pos 5) ∷ []
 
 -- the user is none, or the pages are too many or below 0
-abbrev pub bad_sizes : List Call
+abbrev pub bad_sizes : List KernelCall
 bad_sizes =
     VmSize (pos 0) ∷ VmSize (pos 2) ∷ VmSize (negsuc 0)
     ∷ VmResize (pos 0) (pos 1) ∷ VmResize (pos 2) (pos 1) ∷ VmResize (pos 1) (pos 5) ∷ VmResize (pos 1) (negsuc 0) ∷ []
 
 -- the user is none, or the address is below 0, misaligned or past the end
-abbrev pub bad_words : List Call
+abbrev pub bad_words : List KernelCall
 bad_words =
     VmWord (pos 2) (pos 0) ∷ VmWord (pos 1) (negsuc 3) ∷ VmWord (pos 1) (pos 2) ∷ VmWord (pos 1) (pos 4096)
     ∷ VmPut (pos 0) (pos 0) (pos 1) ∷ VmPut (pos 1) (negsuc 3) (pos 1) ∷ VmPut (pos 1) (pos 4093) (pos 1) ∷ VmPut (pos 1) (pos 4096) (pos 1) ∷ []
 
 -- a user is none, an address or the count isn't one, or the ranges share a word
-abbrev pub bad_copies : List Call
+abbrev pub bad_copies : List KernelCall
 bad_copies =
     VmCopy (pos 2) (pos 0) (pos 1) (pos 8) (pos 1) ∷ VmCopy (pos 1) (pos 0) (pos 2) (pos 8) (pos 1)
     ∷ VmCopy (pos 1) (negsuc 3) (pos 1) (pos 8) (pos 1) ∷ VmCopy (pos 1) (pos 0) (pos 1) (negsuc 3) (pos 1)
@@ -62,7 +62,7 @@ bad_copies =
     ∷ VmCopy (pos 1) (pos 4) (pos 1) (pos 0) (pos 2) ∷ []
 
 -- and calls at the very end of each range, which are good
-abbrev pub good_calls : List Call
+abbrev pub good_calls : List KernelCall
 good_calls =
     VmGet (pos 1) (pos 1) ∷ VmGet (pos 1) (pos 32) ∷ VmSet (pos 1) (pos 32) (negsuc 0) ∷ VmResize (pos 1) (pos 0) ∷ VmResize (pos 1) (pos 4)
     ∷ VmWord (pos 1) (pos 4092) ∷ VmPut (pos 1) (pos 4092) (pos 1) ∷ VmCopy (pos 1) (pos 4096) (pos 1) (pos 4096) (pos 0)
@@ -77,7 +77,7 @@ pub record AreArgumentsJudged : Type 0 where
   pub good : map (is_good 4 (a_page [] ∷ [])) good_calls ≡ replicate 10 true
 
 -- what a call comes to, over these users and the console above
-abbrev pub given : List Flat → Call → Given
+abbrev pub given : List Flat → KernelCall → Given
 given users call = prim 4 call users console
 
 -- the words of user u, the pages used and the words touched

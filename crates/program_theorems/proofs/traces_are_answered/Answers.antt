@@ -1,11 +1,11 @@
 use Rattle.std.proofs.Common.{sym, subst, ◌∙◌}
 use Rattle.cvm_shell.specs.Boot.{booted}
 use Rattle.cvm_shell.specs.Isolation.{lines_met}
-use Rattle.user_c0.specs.Events.{IsAnswered}
+use Rattle.user_c0.specs.Events.{IsAnsweredJournal}
 use Rattle.program_theorems.proofs.traces_are_answered.Goals as goal
 
 pub returns : goal.returns
 returns c = λ words session u s rows before old new status h a es e.
-    subst IsAnswered (sym a.entries_are)
+    subst IsAnsweredJournal (sym a.entries_are)
     (c.journals_are_answered.ensures.in_runs (booted s rows) s.unit (c.booted_systems_are_ordinary.ensures words session s rows before old new h) (lines_met session s rows old before) a.units a.turns u es
     (sym a.entries_are ∙ e))

@@ -1,6 +1,6 @@
 use Rattle.boot_image.proofs.Pieces.{pieces_spell}
 use Rattle.boot_image.proofs.Readings.{answer_only}
-use Rattle.boot_image.proofs.Some.{answer_so}
+use Rattle.boot_image.proofs.AnswersAreSo.{answer_so}
 use Rattle.boot_image.proofs.reading.bytes_have_one_answer.Goals as goal
 
 pub returns-clause-pieces : goal.returns-clause-pieces

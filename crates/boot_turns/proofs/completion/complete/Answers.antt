@@ -3,7 +3,7 @@ use Rattle.std.specs.Prelude.{is_some, not, IsSome, IfSome, length}
 use Rattle.std.proofs.Common.{ℕ, ◌+◌, ◌-◌, ◌≤◌, Bool, true, false, Option, Some, Result, Ok, Err, suc, ◌≡◌, ◌<◌, inl, inr, None, List, refl, sym, ap, ap₂, ◌∙◌, subst, ⊎_elim, arith, rules}
 use Rattle.std.specs.Option.{option_map}
 use Rattle.std.proofs.lemmas.Bool.{cases_lt}
-use Rattle.mips_table.specs.Device.{Outside}
+use Rattle.mips_table.specs.Device.{Environment}
 use Rattle.mips_table.specs.Machine.{State, run, step}
 use Rattle.mips_machine.specs.Machine.{Held, state_of}
 use Rattle.mips_machine.specs.Quiet.{Stretch}
@@ -17,15 +17,15 @@ use Rattle.boot_turns.proofs.Events.{told_as_some}
 use Rattle.boot_turns.proofs.Stepping.{off_rests}
 use Rattle.boot_turns.specs.declared.completion.Begun.{Begun}
 use Rattle.mips_table.specs.Turns.{rests}
-use Rattle.boot_turns.specs.Completes.{seen, Passes, Skips, StepFaults, Open, Progress, turn_began, KeptUser, StepBegan}
+use Rattle.boot_turns.specs.Completes.{state_seen, PassesQuietly, Skips, StepFaults, Open, Progress, turn_began, KeptUser, StepBegan}
 use Rattle.boot_turns.specs.Tracing.{Tracing, CanTrace, tracer_at, tracing}
 use Rattle.layer_map.specs.Map.{Map}
 use Rattle.cvm_outside.specs.Numbering.{tally}
 use Rattle.boot_turns.specs.Steps.{StepCalls}
 use Rattle.mips_table.specs.Fits.{NamesSector}
 use Rattle.boot_turns.proofs.CallCounts.{steps_join, steps_ports, steps_stay}
-use Rattle.boot_turns.proofs.Quietly.{progress_passed}
-use Rattle.boot_turns.proofs.Opening.{seen_more, one_step, step_stops, skips_more, skips_passed, Opened, seen_rests, seen_note}
+use Rattle.boot_turns.proofs.QuietStretches.{progress_passed}
+use Rattle.boot_turns.proofs.LoopSteps.{seen_more, one_step, step_stops, skips_more, skips_passed, Opened, seen_rests, seen_note}
 use Rattle.boot_turns.proofs.StepMakes.{no_steps, as_made, stretch_then, at_made, one_more}
 use Rattle.boot_turns.specs.LoopScripts.{StepsCall}
 use Rattle.boot_turns.proofs.Tracking.{Tracks, tracks_none, tracks_limit, tracks_whole, tracks_more, tracks_stop}
@@ -45,7 +45,7 @@ true_false : (b : Bool) → b ≡ true → b ≡ false → ⊥
 true_false b e f = cc
 
 -- a turn that goes on hasn't come to a machine that is off
-none_begun : (x : Outside) (s : State) (t u w : ℕ) (b : Option Begun) → Progress x s t u b → (run x s u).off ≡ Some w → Progress x s t u None
+none_begun : (x : Environment) (s : State) (t u w : ℕ) (b : Option Begun) → Progress x s t u b → (run x s u).off ≡ Some w → Progress x s t u None
 none_begun x s t u w None p off = p
 none_begun x s t u w (Some b) p off = absurd (true_false (rests (run x s u)) (off_rests (run x s u) w off) p.1)
 
@@ -61,15 +61,15 @@ is_done : (stepped : Stepped) (f : RunFault) → ◌≡◌ {A = Result Stepped R
 is_done stepped f e = cc
 
 -- the machine is on where it was found so, and was before
-here_on : (told : Option (List (List ℕ))) (held : Held) (v : State) → seen told held ≡ Some v → held.hardware.off ≡ None → v.off ≡ None
+here_on : (told : Option (List (List ℕ))) (held : Held) (v : State) → state_seen told held ≡ Some v → held.hardware.off ≡ None → v.off ≡ None
 here_on told held v is on = let w = told_as_some told held v is in ap (λ (z : State). z.off) (sym w.2) ∙ on
 
-was_on : (x : Outside) (s : State) (t u : ℕ) → (run x s u).off ≡ None → ((j : ℕ) → t ≤ j → j < u → (run x s j).off ≡ None) → (j : ℕ) → t ≤ j → j < suc u → (run x s j).off ≡ None
+was_on : (x : Environment) (s : State) (t u : ℕ) → (run x s u).off ≡ None → ((j : ℕ) → t ≤ j → j < u → (run x s j).off ≡ None) → (j : ℕ) → t ≤ j → j < suc u → (run x s j).off ≡ None
 was_on x s t u on before j a b = ⊎_elim (λ (lt : j < u). before j a lt) (λ (ge : u ≤ j). let d : u ≡ j = omega (arith, ge, b) in subst (λ i. (run x s i).off ≡ None) d on) (cases_lt j u)
 
 -- the trace goes on through the step
 tracked : (g : Over) (c : In_ok-stepped g) → Tracks (outside_of c.args.machine.now.rows (g.D.Sectors.size c.args.disk.now)) c.args.map.now
-    (seen (g.D.Sectors.sectors c.args.disk.now) c.args.machine.now) (seen (g.D.Sectors.sectors c.step_traced.new.disk) c.step_traced.new.machine)
+    (state_seen (g.D.Sectors.sectors c.args.disk.now) c.args.machine.now) (state_seen (g.D.Sectors.sectors c.step_traced.new.disk) c.step_traced.new.machine)
     (tracing c.args.tracer.now (g.O.Sink.text c.args.out.now) c.args.budget.now)
     (tracing c.step_traced.new.tracer (g.O.Sink.text c.step_traced.new.out) (c.loop-begun.budget - 1))
 tracked g c =
@@ -89,9 +89,9 @@ calls_kept g c =
 
 -- the step is the next of a run, and what is noted then says how far the turn is
 opened : (g : Over) (c : After-note g) (s : State) (t u : ℕ) → t ≤ u →
-    seen (g.D.Sectors.sectors c.loop-begun.disk) c.loop-begun.machine ≡ Some (run (outside_of c.args.machine.now.rows (g.D.Sectors.size c.args.disk.now)) s u) →
+    state_seen (g.D.Sectors.sectors c.loop-begun.disk) c.loop-begun.machine ≡ Some (run (outside_of c.args.machine.now.rows (g.D.Sectors.size c.args.disk.now)) s u) →
     Progress (outside_of c.args.machine.now.rows (g.D.Sectors.size c.args.disk.now)) s t u c.loop-begun.begun →
-    (seen (g.D.Sectors.sectors c.step_traced.new.disk) c.step_traced.new.machine ≡ Some (run (outside_of c.args.machine.now.rows (g.D.Sectors.size c.args.disk.now)) s (suc u)))
+    (state_seen (g.D.Sectors.sectors c.step_traced.new.disk) c.step_traced.new.machine ≡ Some (run (outside_of c.args.machine.now.rows (g.D.Sectors.size c.args.disk.now)) s (suc u)))
     × Opened (outside_of c.args.machine.now.rows (g.D.Sectors.size c.args.disk.now)) s t (suc u) c.note.new.begun
 opened g c s t u le is so_far =
     let began : StepBegan (g.D.Sectors.size c.loop-begun.disk) c.loop-begun.machine (g.D.Sectors.sectors c.loop-begun.disk) c.began.result =
@@ -101,19 +101,19 @@ opened g c s t u le is so_far =
     (ap₂ outside_of c.loop-begun.invariant.rows c.loop-begun.invariant.size) le is so_far c.in_ok-stepped.ensures.ends.ran began c.note.ensures
 
 -- THE CALLS of the steps so far and of one more, where it was done
-stepped_far : (g : Over) (c : In_ok-stepped g) (s : State) (t : ℕ) → seen (g.D.Sectors.sectors c.args.disk.now) c.args.machine.now ≡ Some (run (outside_of c.args.machine.now.rows (g.D.Sectors.size c.args.disk.now)) s t) →
-    seen (g.D.Sectors.sectors c.step_traced.new.disk) c.step_traced.new.machine ≡ Some (run (outside_of c.args.machine.now.rows (g.D.Sectors.size c.args.disk.now)) s (t + (c.args.budget.now - (c.loop-begun.budget - 1))))
+stepped_far : (g : Over) (c : In_ok-stepped g) (s : State) (t : ℕ) → state_seen (g.D.Sectors.sectors c.args.disk.now) c.args.machine.now ≡ Some (run (outside_of c.args.machine.now.rows (g.D.Sectors.size c.args.disk.now)) s t) →
+    state_seen (g.D.Sectors.sectors c.step_traced.new.disk) c.step_traced.new.machine ≡ Some (run (outside_of c.args.machine.now.rows (g.D.Sectors.size c.args.disk.now)) s (t + (c.args.budget.now - (c.loop-begun.budget - 1))))
 stepped_far g c =
     let x = outside_of c.args.machine.now.rows (g.D.Sectors.size c.args.disk.now) in
     let same : outside_of c.loop-begun.machine.rows (g.D.Sectors.size c.loop-begun.disk) ≡ x = ap₂ outside_of c.loop-begun.invariant.rows c.loop-begun.invariant.size in
-    let ran = subst (λ z. seen (g.D.Sectors.sectors c.step_traced.new.disk) c.step_traced.new.machine ≡ option_map (step z) (seen (g.D.Sectors.sectors c.loop-begun.disk) c.loop-begun.machine)) same c.in_ok-stepped.ensures.ends.ran in
+    let ran = subst (λ z. state_seen (g.D.Sectors.sectors c.step_traced.new.disk) c.step_traced.new.machine ≡ option_map (step z) (state_seen (g.D.Sectors.sectors c.loop-begun.disk) c.loop-begun.machine)) same c.in_ok-stepped.ensures.ends.ran in
     let less = c.loop-begun.invariant.less in
     let p = c.if-budget-eq0.false in
-    at_made x (seen (g.D.Sectors.sectors c.args.disk.now) c.args.machine.now) (seen (g.D.Sectors.sectors c.step_traced.new.disk) c.step_traced.new.machine) c.args.budget.now (c.loop-begun.budget - 1) (omega (arith, less))
+    at_made x (state_seen (g.D.Sectors.sectors c.args.disk.now) c.args.machine.now) (state_seen (g.D.Sectors.sectors c.step_traced.new.disk) c.step_traced.new.machine) c.args.budget.now (c.loop-begun.budget - 1) (omega (arith, less))
     (λ s t h.
     let i = c.loop-begun.invariant.ran s t h in
     let b = i.2 in
-    (suc i.0, omega (arith, b, p), seen_more x (seen (g.D.Sectors.sectors c.loop-begun.disk) c.loop-begun.machine) (seen (g.D.Sectors.sectors c.step_traced.new.disk) c.step_traced.new.machine) (run x s i.0) ran i.3))
+    (suc i.0, omega (arith, b, p), seen_more x (state_seen (g.D.Sectors.sectors c.loop-begun.disk) c.loop-begun.machine) (state_seen (g.D.Sectors.sectors c.step_traced.new.disk) c.step_traced.new.machine) (run x s i.0) ran i.3))
 
 stepped_calls : (g : Over) (c : In_ok-stepped g) →
     StepsCall {T = Unit {0}} g.O.Sink g.D.Sectors c.args.map.now c.args.machine.now c.args.tracer.now (c.args.out.now, c.args.disk.now) (c.step_traced.new.out, c.step_traced.new.disk) (c.args.budget.now - (c.loop-begun.budget - 1)) (Ok tt)
@@ -130,7 +130,7 @@ some_too None None e h = h
 some_too None (Some k) e h = absurd (cc)
 some_too (Some k) b e h = refl
 
-passed_calls : (g : Over) (c : In_ok-stepped g) (new : Held) (left n : ℕ) → Passes c.step_traced.new.machine new n → left + n ≡ c.loop-begun.budget - 1 → (IsSome c.step_traced.new.tracer → n ≡ 0) →
+passed_calls : (g : Over) (c : In_ok-stepped g) (new : Held) (left n : ℕ) → PassesQuietly c.step_traced.new.machine new n → left + n ≡ c.loop-begun.budget - 1 → (IsSome c.step_traced.new.tracer → n ≡ 0) →
     StepsCall {T = Unit {0}} g.O.Sink g.D.Sectors c.args.map.now c.args.machine.now c.args.tracer.now (c.args.out.now, c.args.disk.now) (c.step_traced.new.out, c.step_traced.new.disk) (c.args.budget.now - left) (Ok tt)
 passed_calls g c new left n passes spent none =
     let x = outside_of c.args.machine.now.rows (g.D.Sectors.size c.args.disk.now) in
@@ -163,7 +163,7 @@ loop-begun-init g c = record {
   less = omega arith;
   script = as_made (outside_of c.args.machine.now.rows (g.D.Sectors.size c.args.disk.now)) g.O.Sink g.D.Sectors c.args.map.now c.args.machine.now c.args.tracer.now c.args.out.now c.args.disk.now {R = Unit {0}} {T = Unit {0}} (Ok tt) (Ok tt) c.args.out.now c.args.disk.now
       0 (c.args.budget.now - c.args.budget.now) (omega arith) refl (no_steps (outside_of c.args.machine.now.rows (g.D.Sectors.size c.args.disk.now)) g.O.Sink g.D.Sectors c.args.map.now c.args.machine.now c.args.tracer.now c.args.out.now c.args.disk.now);
-  tracks = tracks_none (outside_of c.args.machine.now.rows (g.D.Sectors.size c.args.disk.now)) c.args.map.now (seen (g.D.Sectors.sectors c.args.disk.now) c.args.machine.now)
+  tracks = tracks_none (outside_of c.args.machine.now.rows (g.D.Sectors.size c.args.disk.now)) c.args.map.now (state_seen (g.D.Sectors.sectors c.args.disk.now) c.args.machine.now)
       (tracing c.args.tracer.now (g.O.Sink.text c.args.out.now) c.args.budget.now);
 }
 
@@ -336,21 +336,21 @@ loop-begun-preserved g c = record {
 }
 
 -- with no user traced nothing is to be said of a trace
-none_traced : (x : Outside) (m : Map) (start now : Option State) (before after : Tracing) → before.tracer ≡ None → Tracks x m start now before after
+none_traced : (x : Environment) (m : Map) (start now : Option State) (before after : Tracing) → before.tracer ≡ None → Tracks x m start now before after
 none_traced x m start now before after e = λ b. absurd (let h : ◌≡◌ {A = Option Tracer} None (Some (tracer_at x b.y b.s b.u b.t b.traced.journal)) = sym e ∙ b.traced.keeps in cc)
 
 -- what is kept of a trace stays through a stretch: none is made where a user is traced
-tracks_passed : (x : Outside) (m : Map) (start : Option State) (before : Tracing) (told : Option (List (List ℕ))) (mid new : Held) (tracer old : Option Tracer) (text : Option (List ℕ)) (budget left n : ℕ) →
+tracks_passed : (x : Environment) (m : Map) (start : Option State) (before : Tracing) (told : Option (List (List ℕ))) (mid new : Held) (tracer old : Option Tracer) (text : Option (List ℕ)) (budget left n : ℕ) →
     option_map (λ (k : Tracer). k.user) tracer ≡ option_map (λ (k : Tracer). k.user) old → before.tracer ≡ old → (IsSome tracer → (n ≡ 0) × (new ≡ mid)) → left + n ≡ budget →
-    Tracks x m start (seen told mid) before (tracing tracer text budget) → Tracks x m start (seen told new) before (tracing tracer text left)
-tracks_passed x m start before told mid new None None text budget left n user was none spent so_far = none_traced x m start (seen told new) before (tracing None text left) was
+    Tracks x m start (state_seen told mid) before (tracing tracer text budget) → Tracks x m start (state_seen told new) before (tracing tracer text left)
+tracks_passed x m start before told mid new None None text budget left n user was none spent so_far = none_traced x m start (state_seen told new) before (tracing None text left) was
 tracks_passed x m start before told mid new None (Some l) text budget left n user was none spent so_far = absurd (cc)
 tracks_passed x m start before told mid new (Some k) old text budget left n user was none spent so_far =
     let w = none refl in
     let zero = w.0 in
     let same : budget ≡ left = omega (arith, spent, zero) in
-    subst (λ (h : Held). Tracks x m start (seen told h) before (tracing (Some k) text left)) (sym w.1)
-    (subst (λ b. Tracks x m start (seen told mid) before (tracing (Some k) text b)) same so_far)
+    subst (λ (h : Held). Tracks x m start (state_seen told h) before (tracing (Some k) text left)) (sym w.1)
+    (subst (λ b. Tracks x m start (state_seen told mid) before (tracing (Some k) text b)) same so_far)
 
 can_pass : (m : Map) (words time words2 time2 count n : ℕ) (o : Option Tracer) → words2 ≡ words → time2 ≡ time + n → IfSome o (CanTrace m words time count) → IfSome o (CanTrace m words2 time2 count)
 can_pass m words time words2 time2 count n None e f h = tt
@@ -367,7 +367,7 @@ can_pass m words time words2 time2 count n (Some k) e f h = record {
 }
 
 -- the machine was on at each step of turns that were passed
-on_passed : (x : Outside) (s : State) (t u n : ℕ) → u ≡ t + n → Skips x s t n → (run x s t).off ≡ None → (j : ℕ) → t ≤ j → j < u → (run x s j).off ≡ None
+on_passed : (x : Environment) (s : State) (t u n : ℕ) → u ≡ t + n → Skips x s t n → (run x s t).off ≡ None → (j : ℕ) → t ≤ j → j < u → (run x s j).off ≡ None
 on_passed x s t u n at skips on j a b = ⊎_elim
     (λ (lt : t < j). let i : ℕ = j - t - 1 in let e : t + suc (j - t - 1) ≡ j = omega (arith, lt) in subst (λ k. (run x s k).off ≡ None) e (skips (j - t - 1) (omega (arith, at, b, lt))).2)
     (λ (le : j ≤ t). let e : t ≡ j = omega (arith, a, le) in subst (λ k. (run x s k).off ≡ None) e on)
@@ -419,14 +419,14 @@ loop-begun-preserved-then-skipped-limit g c =
       calls = steps_ports c.args.machine.now c.step_traced.new.machine c.pass-skipped.new.machine c.args.tracer.now c.step_traced.new.tracer (tally g.D.Sectors.faults g.D.Sectors.calls c.args.disk.now) (tally g.D.Sectors.faults g.D.Sectors.calls c.step_traced.new.disk) (ap (λ (h : Held). h.hardware.ports) rest)
           (calls_kept g (goal.at.loop-begun-preserved-then-skipped-limit g c).In_ok-stepped);
       sink_faults = c.in_ok-stepped.ensures.leaves.blame.sink_same (is_done c.in_ok-stepped.stepped Sink) ∙ c.loop-begun.invariant.sink_faults;
-      tracks = tracks_passed (outside_of c.args.machine.now.rows (g.D.Sectors.size c.args.disk.now)) c.args.map.now (seen (g.D.Sectors.sectors c.args.disk.now) c.args.machine.now)
+      tracks = tracks_passed (outside_of c.args.machine.now.rows (g.D.Sectors.size c.args.disk.now)) c.args.map.now (state_seen (g.D.Sectors.sectors c.args.disk.now) c.args.machine.now)
           (tracing c.args.tracer.now (g.O.Sink.text c.args.out.now) c.args.budget.now) (g.D.Sectors.sectors c.step_traced.new.disk) c.step_traced.new.machine c.pass-skipped.new.machine c.step_traced.new.tracer c.args.tracer.now (g.O.Sink.text c.step_traced.new.out)
           (c.loop-begun.budget - 1) c.pass-skipped.new.budget c.pass-skipped.result (c.in_ok-stepped.ensures.leaves.trace.user ∙ c.loop-begun.invariant.user) refl c.pass-skipped.ensures.traced spent
           (tracked g (goal.at.loop-begun-preserved-then-skipped-limit g c).In_ok-stepped);
     }
 
 -- the machine isn't at rest, so the turn goes on
-goes_on : (x : Outside) (s : State) (t u : ℕ) (b : Option Begun) → Opened x s t u b → rests (run x s u) ≡ false → Progress x s t u b
+goes_on : (x : Environment) (s : State) (t u : ℕ) (b : Option Begun) → Opened x s t u b → rests (run x s u) ≡ false → Progress x s t u b
 goes_on x s t u None o busy = o
 goes_on x s t u (Some b) o busy = (o, busy)
 
@@ -469,7 +469,7 @@ loop-begun-preserved-then-not-at_rest g c =
       calls = steps_ports c.args.machine.now c.step_traced.new.machine c.pass.new.machine c.args.tracer.now c.step_traced.new.tracer (tally g.D.Sectors.faults g.D.Sectors.calls c.args.disk.now) (tally g.D.Sectors.faults g.D.Sectors.calls c.step_traced.new.disk) (ap (λ (h : Held). h.hardware.ports) rest)
           (calls_kept g (goal.at.loop-begun-preserved-then-not-at_rest g c).In_ok-stepped);
       sink_faults = c.in_ok-stepped.ensures.leaves.blame.sink_same (is_done c.in_ok-stepped.stepped Sink) ∙ c.loop-begun.invariant.sink_faults;
-      tracks = tracks_passed (outside_of c.args.machine.now.rows (g.D.Sectors.size c.args.disk.now)) c.args.map.now (seen (g.D.Sectors.sectors c.args.disk.now) c.args.machine.now)
+      tracks = tracks_passed (outside_of c.args.machine.now.rows (g.D.Sectors.size c.args.disk.now)) c.args.map.now (state_seen (g.D.Sectors.sectors c.args.disk.now) c.args.machine.now)
           (tracing c.args.tracer.now (g.O.Sink.text c.args.out.now) c.args.budget.now) (g.D.Sectors.sectors c.step_traced.new.disk) c.step_traced.new.machine c.pass.new.machine c.step_traced.new.tracer c.args.tracer.now (g.O.Sink.text c.step_traced.new.out)
           (c.loop-begun.budget - 1) c.pass.new.budget m (c.in_ok-stepped.ensures.leaves.trace.user ∙ c.loop-begun.invariant.user) refl
           c.pass.ensures.traced less

@@ -5,7 +5,7 @@ use Rattle.cvm_outside.specs.Numbering.{tally}
 use Rattle.mips_table.specs.Fits.{NamesSector}
 use Rattle.mips_table.specs.Machine.{State, run}
 use Rattle.mips_machine.specs.Steps.{outside_of}
-use Rattle.boot_turns.specs.Completes.{seen, Progress, Skips}
+use Rattle.boot_turns.specs.Completes.{state_seen, Progress, Skips}
 use Rattle.boot_turns.specs.Steps.{StepCalls}
 use Rattle.boot_turns.specs.Tracing.{CanTrace}
 use Rattle.boot_turns.specs.LoopScripts.{StepsCall}
@@ -23,8 +23,8 @@ invariant-loop-begun g l = record {
   few : l.skipped < l.fn.most;
   limit : l.limit < l.fn.most;
   fresh : l.skipped < l.limit → l.begun ≡ None;
-  ran : (s : State) (t : ℕ) → seen (g.D.Sectors.sectors l.fn.disk) l.fn.machine ≡ Some (run (outside_of l.fn.machine.rows (g.D.Sectors.size l.fn.disk)) s t) →
-      (u : ℕ) × (t + l.skipped ≤ u) × (l.budget + u ≡ l.fn.budget + t) × (seen (g.D.Sectors.sectors l.disk) l.machine ≡ Some (run (outside_of l.fn.machine.rows (g.D.Sectors.size l.fn.disk)) s u))
+  ran : (s : State) (t : ℕ) → state_seen (g.D.Sectors.sectors l.fn.disk) l.fn.machine ≡ Some (run (outside_of l.fn.machine.rows (g.D.Sectors.size l.fn.disk)) s t) →
+      (u : ℕ) × (t + l.skipped ≤ u) × (l.budget + u ≡ l.fn.budget + t) × (state_seen (g.D.Sectors.sectors l.disk) l.machine ≡ Some (run (outside_of l.fn.machine.rows (g.D.Sectors.size l.fn.disk)) s u))
       × Progress (outside_of l.fn.machine.rows (g.D.Sectors.size l.fn.disk)) s (t + l.skipped) u l.begun × Skips (outside_of l.fn.machine.rows (g.D.Sectors.size l.fn.disk)) s t l.skipped
       × (l.skipped < l.limit → u ≡ t + l.skipped)
       × ((j : ℕ) → t ≤ j → j < u → (run (outside_of l.fn.machine.rows (g.D.Sectors.size l.fn.disk)) s j).off ≡ None);
@@ -33,7 +33,7 @@ invariant-loop-begun g l = record {
   untraced : l.fn.tracer ≡ None → (l.tracer ≡ None) × (l.out ≡ l.fn.out);
   calls : StepCalls l.fn.machine l.machine l.fn.tracer l.tracer (tally g.D.Sectors.faults g.D.Sectors.calls l.fn.disk) (tally g.D.Sectors.faults g.D.Sectors.calls l.disk);
   sink_faults : g.O.Sink.faults l.out ≡ g.O.Sink.faults l.fn.out;
-  tracks : Tracks (outside_of l.fn.machine.rows (g.D.Sectors.size l.fn.disk)) l.map (seen (g.D.Sectors.sectors l.fn.disk) l.fn.machine) (seen (g.D.Sectors.sectors l.disk) l.machine)
+  tracks : Tracks (outside_of l.fn.machine.rows (g.D.Sectors.size l.fn.disk)) l.map (state_seen (g.D.Sectors.sectors l.fn.disk) l.fn.machine) (state_seen (g.D.Sectors.sectors l.disk) l.machine)
       (record { tracer = l.fn.tracer; text = g.O.Sink.text l.fn.out; budget = l.fn.budget }) (record { tracer = l.tracer; text = g.O.Sink.text l.out; budget = l.budget });
   less : l.budget ≤ l.fn.budget;
   script : StepsCall {T = Unit {0}} g.O.Sink g.D.Sectors l.map l.fn.machine l.fn.tracer (l.fn.out, l.fn.disk) (l.out, l.disk) (l.fn.budget - l.budget) (Ok tt);

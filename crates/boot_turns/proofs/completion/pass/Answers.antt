@@ -1,5 +1,5 @@
 -- A stretch of the machine, or none.
-use Rattle.boot_turns.proofs.Quietly.{none_pass}
+use Rattle.boot_turns.proofs.QuietStretches.{none_pass}
 use Rattle.boot_turns.proofs.completion.pass.Goals as goal
 
 pub returns-then-is_some-clause-passes : goal.returns-then-is_some-clause-passes

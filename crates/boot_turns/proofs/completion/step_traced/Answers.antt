@@ -7,7 +7,7 @@ use Rattle.boot_turns.specs.declared.completion.Stepped.{Stepped}
 use Rattle.boot_turns.specs.declared.completion.Stepped.TheVariants.{Kept}
 use Rattle.boot_turns.specs.declared.answers.RunFault.{RunFault}
 use Rattle.boot_turns.specs.declared.answers.RunFault.TheVariants.{StepLimit, Disk, Sink}
-use Rattle.boot_turns.specs.Completes.{seen, KeptUser, StepRan, StepFails, StepFaults, StepBegan, turn_began}
+use Rattle.boot_turns.specs.Completes.{state_seen, KeptUser, StepRan, StepFails, StepFaults, StepBegan, turn_began}
 use Rattle.boot_turns.specs.Tracing.{reads_of}
 use Rattle.boot_turns.proofs.CallCounts.{step_alone, step_rows}
 use Rattle.boot_turns.proofs.Counted.{step_counted, counted_reads}
@@ -23,8 +23,8 @@ use Rattle.boot_turns.proofs.completion.step_traced.Goals.{In-Some, in-Kept+else
 use Rattle.boot_turns.proofs.completion.step_traced.Goals as goal
 
 -- a machine that is the same but for what was viewed is seen as before
-same_seen : (a b : Held) (told retold : Option (List (List ℕ))) → SameButViewed a b → retold ≡ told → seen retold b ≡ seen told a
-same_seen a b told retold same e = ap₂ (λ (t : Option (List (List ℕ))) (h : Held). seen t h) e same
+same_seen : (a b : Held) (told retold : Option (List (List ℕ))) → SameButViewed a b → retold ≡ told → state_seen retold b ≡ state_seen told a
+same_seen a b told retold same e = ap₂ (λ (t : Option (List (List ℕ))) (h : Held). state_seen t h) e same
 
 -- so it is where a user is traced
 if_traced : (o : Option Tracer) (P : Type 0) → P → IfSome o (λ _. P)

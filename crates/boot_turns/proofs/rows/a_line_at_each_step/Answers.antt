@@ -3,15 +3,15 @@ use Rattle.std.proofs.Common.{refl, arith, ◌^◌, ◌<◌}
 use Rattle.std.specs.Prelude.{nat_eq}
 use Rattle.std.proofs.lemmas.Bool.{cond_both, cond-false, ne_eqb}
 use Rattle.mips_table.specs.Machine.{step}
-use Rattle.mips_table.specs.Turns.{begins, handled, rests}
+use Rattle.mips_table.specs.Turns.{begins_turn, handled, rests}
 use Rattle.boot_turns.proofs.rows.a_line_at_each_step.Goals as goal
 
 pub returns-clause-early : goal.returns-clause-early
-unfolding step begins handled rests
+unfolding step begins_turn handled rests
 returns-clause-early c = record { first_line = refl; lines = refl; begun = refl; complete = refl; ends = refl }
 
 pub returns-clause-in_user_mode : goal.returns-clause-in_user_mode
-unfolding step begins handled rests
+unfolding step begins_turn handled rests
 returns-clause-in_user_mode c = record {
   second_lines = refl;
   second_begun = refl;
@@ -24,7 +24,7 @@ returns-clause-in_user_mode c = record {
 }
 
 pub returns-clause-late : goal.returns-clause-late
-unfolding step begins handled rests
+unfolding step begins_turn handled rests
 returns-clause-late c = record { lines = refl; begun = refl; complete = refl; ends = refl }
 
 pub returns-clause-schedule : goal.returns-clause-schedule

@@ -1,6 +1,6 @@
 use Rattle.std.proofs.Common.{rules, ◌≡◌, ◌≤◌, length, Option, ℕ, true, List, subst, sym}
 use Rattle.std.specs.Option.{IfSome}
-use Rattle.mips_asm.specs.Text.{lines_of}
+use Rattle.mips_asm.specs.Text.{asm_lines}
 use Rattle.c0_meaning.specs.Asm.{are_allowed_words}
 use Rattle.c0_asm_text.specs.AsmText.{line_words, text_words}
 use Rattle.c0_asm_text.specs.View.{line_view}
@@ -16,4 +16,4 @@ returns-in_default-clause-within c =
     said c.cut.ensures.within c.loop-reading.invariant.near c.loop-reading.invariant.within)
 
 pub returns-in_default-clause-allowed : goal.returns-in_default-clause-allowed
-returns-in_default-clause-allowed c = let w : c.add.new.reading.words.items ≡ text_words c.args.text.now = search rules in subst (λ (ws : List ℕ). are_allowed_words ws ≡ true) (sym w) (words_allowed (lines_of c.args.text.now))
+returns-in_default-clause-allowed c = let w : c.add.new.reading.words.items ≡ text_words c.args.text.now = search rules in subst (λ (ws : List ℕ). are_allowed_words ws ≡ true) (sym w) (words_allowed (asm_lines c.args.text.now))

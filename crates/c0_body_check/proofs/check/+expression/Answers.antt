@@ -5,9 +5,9 @@ use Rattle.c0_tree.specs.declared.tree.Expr as rust
 use Rattle.c0_tree.specs.declared.tree.Expr.TheFolds as folds
 use Rattle.c0_tree.specs.Tree.{field, arrow, index, deref, address, unary, binary}
 use Rattle.c0_tree.specs.View.{expr_view, name_view}
-use Rattle.c0_meaning.specs.Expression.{one, is_place, is_local, span_of, is_null, member, deref_rule, unary_rule}
+use Rattle.c0_meaning.specs.Expression.{one, is_lvalue, is_local, span_of, is_null, member, deref_rule, unary_rule}
 use Rattle.c0_body_check.specs.Scope.{env_view}
-use Rattle.c0_body_check.proofs.Node.{seen, part, part_asked, tested, one_part, field_node, arrow_node, index_node, address_node, null_left_node, no_null_left_node}
+use Rattle.c0_body_check.proofs.NodeChecks.{seen, part, part_asked, tested, one_part, field_node, arrow_node, index_node, address_node, null_left_node, no_null_left_node}
 use Rattle.c0_body_check.proofs.check.+expression.Goals as goal
 
 view_field : (s : _) (b : _) (f : _) → expr_view (rust.Field s b f) ≡ field s (expr_view b.value) (name_view f)
@@ -51,7 +51,7 @@ check-returns-in-Field-clause-checks t c =
     let w = part env _ _ _ _ _ _ c.deref_mut.ensures.value c.check.ensures.checks in
     seen env _ _ _ _ _ _ _ (ap expr_view c.in-Field.is ∙ view_field _ _ _) (view_field _ _ _)
     (field_node env c.in-Field.span _ _ (name_view c.in-Field.name) _ _ _ _ _ _ _ _ _ _ w c.form-form.ensures
-    (c.is_place-place.ensures ∙ ap (λ z. is_place (expr_view z)) c.deref.ensures)
+    (c.is_place-place.ensures ∙ ap (λ z. is_lvalue (expr_view z)) c.deref.ensures)
     (c.span_of-at.ensures ∙ ap (λ z. span_of (expr_view z)) c.deref-in-Field.ensures)
     (c.member-found.ensures ∙ ap (member env _) c.as_slice.ensures.value)
     c.number_field.ensures c.place_field.ensures.settles)
@@ -72,7 +72,7 @@ check-returns-in-Index-clause-checks t c =
     let v = part env _ _ _ _ _ _ c.deref_mut-in-Index-2.ensures.value c.check-in-Index-2.ensures.checks in
     seen env _ _ _ _ _ _ _ (ap expr_view c.in-Index.is ∙ view_index _ _ _) (view_index _ _ _)
     (index_node env c.in-Index.span _ _ _ _ _ _ _ _ _ _ _ _ _ _ _ w v c.form-form-in-Index.ensures c.form-number.ensures
-    (c.is_place-is_there.ensures ∙ ap (λ z. is_place (expr_view z)) c.deref-in-Index.ensures)
+    (c.is_place-is_there.ensures ∙ ap (λ z. is_lvalue (expr_view z)) c.deref-in-Index.ensures)
     (c.span_of-at-in-Index.ensures ∙ ap (λ z. span_of (expr_view z)) c.deref-in-Index-2.ensures)
     c.index.ensures.settles)
 
@@ -82,7 +82,7 @@ check-returns-in-AddressOf-clause-checks t c =
     let w = part env _ _ _ _ _ _ c.deref_mut-in-AddressOf.ensures.value c.check-found.ensures.checks in
     seen env _ _ _ _ _ _ _ (ap expr_view c.in-AddressOf.is ∙ view_address _ _) (view_address _ _)
     (address_node env c.in-AddressOf.field-0 _ _ _ _ _ _ _ _ _ _ w
-    (c.is_place-place-in-AddressOf.ensures ∙ ap (λ z. is_place (expr_view z)) c.deref-in-AddressOf.ensures)
+    (c.is_place-place-in-AddressOf.ensures ∙ ap (λ z. is_lvalue (expr_view z)) c.deref-in-AddressOf.ensures)
     (c.is_local-local.ensures ∙ ap (λ z. is_local env (expr_view z)) c.deref-in-AddressOf-2.ensures)
     (c.span_of-at-in-AddressOf.ensures ∙ ap (λ z. span_of (expr_view z)) c.deref-in-AddressOf-3.ensures)
     c.address.ensures)

@@ -1,4 +1,4 @@
-use Rattle.c0_expr_code.proofs.Elsewhere.{region, scalar}
+use Rattle.c0_expr_code.proofs.OtherFrames.{region, scalar}
 use Rattle.c0_expr_code.proofs.laws.held_elsewhere.Goals as goal
 
 pub returns : goal.returns

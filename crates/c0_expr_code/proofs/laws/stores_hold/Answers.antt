@@ -1,4 +1,4 @@
-use Rattle.c0_expr_code.proofs.Ready.{stored, registered, typed}
+use Rattle.c0_expr_code.proofs.ScalarStores.{stored, registered, typed}
 use Rattle.c0_expr_code.proofs.laws.stores_hold.Goals as goal
 
 pub returns : goal.returns

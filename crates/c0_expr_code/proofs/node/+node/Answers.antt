@@ -3,7 +3,7 @@ use Rattle.std.proofs.Common.{◌≡◌, ◌++◌, map, length, sym, ap, ◌∙�
 use Rattle.std.proofs.lemmas.List.{append-nil, length-map}
 use Rattle.mips_table.specs.Encoding.{encoding}
 use Rattle.c0_tree.specs.View.{expr_view}
-use Rattle.c0_expr_code.specs.Code.{Spot, value_code}
+use Rattle.c0_expr_code.specs.Code.{AddressingMode, value_code}
 use Rattle.c0_expr_code.specs.Scene.{scope_in}
 use Rattle.c0_expr_code.proofs.Emitted.{binary_spot, view_binary, near_place, far_code}
 use Rattle.c0_expr_code.proofs.Patched.{patched}
@@ -15,12 +15,12 @@ emit_place-field_bytes-requires-in-Arrow-clause-resolved t c = c.target_of-found
 pub emit_place-returns-in-Binary-clause-code : goal.emit_place-returns-in-Binary-clause-code
 emit_place-returns-in-Binary-clause-code t c =
     let e = binary_spot (scope_in c.args.scene.now) (expr_view c.args.expr.now) _ _ _ _ c.args.free (ap expr_view c.in-Binary.is ∙ view_binary _ _ _ _) in
-    sym (append-nil c.args.code.now.items) ∙ sym (ap (λ (x : Spot). c.args.code.now.items ++ map encoding x.code) e)
+    sym (append-nil c.args.code.now.items) ∙ sym (ap (λ (x : AddressingMode). c.args.code.now.items ++ map encoding x.code) e)
 
 pub emit_place-returns-in-Binary-clause-place : goal.emit_place-returns-in-Binary-clause-place
 emit_place-returns-in-Binary-clause-place t c =
     let e = binary_spot (scope_in c.args.scene.now) (expr_view c.args.expr.now) _ _ _ _ c.args.free (ap expr_view c.in-Binary.is ∙ view_binary _ _ _ _) in
-    (c.none-in-Binary.ensures.base ∙ sym (ap (λ (x : Spot). x.base) e), c.none-in-Binary.ensures.displacement ∙ sym (ap (λ (x : Spot). x.displacement) e))
+    (c.none-in-Binary.ensures.base ∙ sym (ap (λ (x : AddressingMode). x.base) e), c.none-in-Binary.ensures.displacement ∙ sym (ap (λ (x : AddressingMode). x.displacement) e))
 
 pub emit_right-returns : goal.emit_right-returns
 emit_right-returns t c =

@@ -1,4 +1,4 @@
-use Rattle.c0_meaning.proofs.Holding.{holds_as_tested}
+use Rattle.c0_meaning.proofs.StructHolding.{holds_as_tested}
 use Rattle.c0_meaning.proofs.laws.holding_is_as_tested.Goals as goal
 
 pub returns : goal.returns

@@ -1,4 +1,4 @@
-use Rattle.c0_meaning.proofs.Least.{least_is_there}
+use Rattle.c0_meaning.proofs.LeastFault.{least_is_there}
 use Rattle.c0_meaning.proofs.laws.least_fault_is_there.Goals as goal
 
 pub returns : goal.returns

@@ -1,4 +1,4 @@
-use Rattle.c0_meaning.proofs.Least.{meeting_is_free, meeting_joins}
+use Rattle.c0_meaning.proofs.LeastFault.{meeting_is_free, meeting_joins}
 use Rattle.c0_meaning.proofs.laws.meeting_is_free_of_order.Goals as goal
 
 pub returns-clause-free : goal.returns-clause-free

@@ -1,4 +1,4 @@
-use Rattle.c0_meaning.proofs.Safe.{calls_answer, dispatches_answer}
+use Rattle.c0_meaning.proofs.CallsAreSafe.{calls_answer, dispatches_answer}
 use Rattle.c0_meaning.proofs.run_laws.calls_answer_their_types.Goals as goal
 
 pub returns-clause-calls : goal.returns-clause-calls

@@ -1,4 +1,4 @@
-use Rattle.c0_meaning.proofs.Safe.{calls_are_safe, dispatches_are_safe}
+use Rattle.c0_meaning.proofs.CallsAreSafe.{calls_are_safe, dispatches_are_safe}
 use Rattle.c0_meaning.proofs.run_laws.calls_are_safe.Goals as goal
 
 pub returns-clause-calls : goal.returns-clause-calls

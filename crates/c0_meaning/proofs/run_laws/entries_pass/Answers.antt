@@ -1,5 +1,5 @@
-use Rattle.c0_meaning.proofs.Logged.{dispatches_pass}
-use Rattle.c0_meaning.proofs.Safe.{dispatches_are_safe}
+use Rattle.c0_meaning.proofs.TestedEntries.{dispatches_pass}
+use Rattle.c0_meaning.proofs.CallsAreSafe.{dispatches_are_safe}
 use Rattle.c0_meaning.proofs.run_laws.entries_pass.Goals as goal
 
 pub returns : goal.returns

@@ -2,7 +2,7 @@ use Rattle.std.proofs.Common.{◌≡◌, get_or, subst, sym, ap, ◌∙◌}
 use Rattle.c0_tree.specs.declared.tree.Function.{Function}
 use Rattle.c0_tree.specs.declared.tree.Unit.{Unit as Source}
 use Rattle.c0_tree.specs.View.{unit_view, function_view}
-use Rattle.c0_meaning.specs.Limits.{frame}
+use Rattle.c0_meaning.specs.Limits.{words_of_frame}
 use Rattle.c0_meaning.specs.Sound.{shapes, IsSizedFunction}
 use Rattle.c0_meaning.proofs.Sized.{function_at, function_there}
 use Rattle.c0_meaning.proofs.WellFormed.{well_formed_functions}
@@ -20,4 +20,4 @@ returns c = λ f h.
     let e : c.index.result.now ≡ get_or c.args.unit.now.functions.items c.args.function c.index.result.now =
     c.index.ensures ∙ ap (λ (u : Source). get_or u.functions.items c.args.function c.index.result.now) c.unit.ensures.same in
     c.function_words.ensures
-    ∙ ap (frame (shapes (unit_view c.args.unit.now))) (ap function_view e ∙ function_there c.args.unit.now.functions.items c.args.function c.index.result.now f h)
+    ∙ ap (words_of_frame (shapes (unit_view c.args.unit.now))) (ap function_view e ∙ function_there c.args.unit.now.functions.items c.args.function c.index.result.now f h)

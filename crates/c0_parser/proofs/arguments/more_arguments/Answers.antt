@@ -5,7 +5,7 @@ use Rattle.c0_tokens.specs.Tokens.{token_view}
 use Rattle.c0_parser.specs.Sorts.{mark}
 use Rattle.c0_parser.specs.Value.{token, pair, none, snoc}
 use Rattle.c0_parser.specs.Grammar.{many, sign, ◌▸◌, EXPR}
-use Rattle.c0_parser.specs.Contract.{seen}
+use Rattle.c0_parser.specs.Contract.{as_seen}
 use Rattle.c0_parser.specs.Stmts.{AreMoreArgs}
 use Rattle.c0_parser.proofs.Steps.{list_begins, list_item, goes_many, goes_both, goes_sign, heads_not, heads_is, mark_kind, fails_many, fails_right, exits_any}
 use Rattle.c0_parser.proofs.Stmts.{no_args, more_args}
@@ -37,4 +37,4 @@ loop-after_comma-preserved c =
 pub returns : goal.returns
 returns c =
     let i = c.loop-after_comma.invariant in
-    (i.0, goes_many i.1 (heads_not (sign Comma) EXPR (seen c.loop-after_comma.rest.now) refl c.in_default.ensures), i.2, i.3)
+    (i.0, goes_many i.1 (heads_not (sign Comma) EXPR (as_seen c.loop-after_comma.rest.now) refl c.in_default.ensures), i.2, i.3)

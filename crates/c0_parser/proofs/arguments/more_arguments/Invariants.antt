@@ -2,13 +2,13 @@
 use Rattle.std.proofs.Common.{◌≡◌, ◌≤◌, ◌++◌, length, map}
 use Rattle.c0_tree.specs.View.{expr_view}
 use Rattle.c0_tokens.specs.declared.token.Mark.TheVariants.{Comma}
-use Rattle.c0_parser.specs.Value.{Value, none, exprs}
+use Rattle.c0_parser.specs.Value.{SemanticValue, none, exprs}
 use Rattle.c0_parser.specs.Grammar.{sign, ◌▸◌, EXPR}
-use Rattle.c0_parser.specs.Contract.{seen, GoesOn}
+use Rattle.c0_parser.specs.Contract.{as_seen, PieceGoesOn}
 use Rattle.c0_parser.proofs.arguments.more_arguments.Given as goal
 
 abbrev pub invariant-loop-after_comma : goal.invariant-loop-after_comma
-invariant-loop-after_comma l = (v : Value) × GoesOn (sign Comma ▸ EXPR) (seen l.fn.ts) none (seen l.rest) v × (map expr_view l.fn.first.items ++ exprs v ≡ map expr_view l.list.items) × (length l.rest ≤ length l.fn.ts)
+invariant-loop-after_comma l = (v : SemanticValue) × PieceGoesOn (sign Comma ▸ EXPR) (as_seen l.fn.ts) none (as_seen l.rest) v × (map expr_view l.fn.first.items ++ exprs v ≡ map expr_view l.list.items) × (length l.rest ≤ length l.fn.ts)
 
 abbrev pub decreases-loop-after_comma : goal.decreases-loop-after_comma
 decreases-loop-after_comma l = length l.rest

@@ -6,7 +6,7 @@ use Rattle.c0_parser.specs.Sorts.{mark, among}
 use Rattle.c0_parser.specs.Value.{token, pair, none, snoc, joined, chained, suffixed, primary_value, unary_value}
 use Rattle.c0_parser.specs.Grammar.{the, many, maybe, sign, primary, postfix, unary}
 use Rattle.c0_parser.specs.Machine.{kind}
-use Rattle.c0_parser.specs.Contract.{seen}
+use Rattle.c0_parser.specs.Contract.{as_seen}
 use Rattle.c0_parser.specs.Views.{IsPart}
 use Rattle.c0_parser.specs.Levels.{rule_of, operation, heads_any}
 use Rattle.c0_parser.specs.Tails.{part_value, LITERAL, FIELD, SUFFIX}
@@ -26,7 +26,7 @@ pub binary-loop-sign-init : goal.binary-loop-sign-init
 binary-loop-sign-init t c =
     let g = c.in_ok-left.ensures in
     record {
-      chain = record { first = g.0; mid = seen c.in_ok-left.rest.now; operations = none; first_goes = g.1; on = list_starts (operation c.args.level) (seen c.in_ok-left.rest.now) none; is = g.2; inside = g.3 };
+      chain = record { first = g.0; mid = as_seen c.in_ok-left.rest.now; operations = none; first_goes = g.1; on = list_starts (operation c.args.level) (as_seen c.in_ok-left.rest.now) none; is = g.2; inside = g.3 };
       follow = sym c.chains.ensures ∙ c.if-not-chains.false;
     }
 
@@ -49,13 +49,13 @@ binary-loop-sign-preserved t c =
 
 pub binary-returns : goal.binary-returns
 binary-returns t c =
-    let n = subst (λ ms. heads_any (map (λ x. mark x) ms) (seen c.loop-sign.rest.now) ≡ false) c.marks.ensures c.in_default.ensures in
+    let n = subst (λ ms. heads_any (map (λ x. mark x) ms) (as_seen c.loop-sign.rest.now) ≡ false) c.marks.ensures c.in_default.ensures in
     chain_ends c.args.level _ _ _ c.loop-sign.invariant.chain c.loop-sign.invariant.follow n
 
 pub comparison-returns-in_default : goal.comparison-returns-in_default
 comparison-returns-in_default t c =
-    let n = subst (λ ms. heads_any (map (λ x. mark x) ms) (seen c.args.ts.now) ≡ false) c.marks.ensures c.in_default.ensures in
-    (none, goes_without (operation c.args.level) (seen c.args.ts.now) (operation_heads c.args.level (seen c.args.ts.now) ∙ n), refl, omega arith)
+    let n = subst (λ ms. heads_any (map (λ x. mark x) ms) (as_seen c.args.ts.now) ≡ false) c.marks.ensures c.in_default.ensures in
+    (none, goes_without (operation c.args.level) (as_seen c.args.ts.now) (operation_heads c.args.level (as_seen c.args.ts.now) ∙ n), refl, omega arith)
 
 pub comparison-returns-in_err-right : goal.comparison-returns-in_err-right
 comparison-returns-in_err-right t c =
@@ -81,7 +81,7 @@ postfix-returns-in_err-left t c = exits (the postfix) IsPart _ _ _ c.from_residu
 pub postfix-loop-alloc-init : goal.postfix-loop-alloc-init
 postfix-loop-alloc-init t c =
     let g = c.in_ok-left.ensures in
-    record { first = g.0; mid = seen c.in_ok-left.rest.now; parts = none; first_goes = g.1; on = list_starts SUFFIX (seen c.in_ok-left.rest.now) none; is = g.2; inside = g.3 }
+    record { first = g.0; mid = as_seen c.in_ok-left.rest.now; parts = none; first_goes = g.1; on = list_starts SUFFIX (as_seen c.in_ok-left.rest.now) none; is = g.2; inside = g.3 }
 
 pub postfix-returns-in_err-longer : goal.postfix-returns-in_err-longer
 postfix-returns-in_err-longer t c =

@@ -4,7 +4,7 @@ use Rattle.c0_tokens.specs.declared.token.Mark.TheVariants.{OpenBrace, CloseBrac
 use Rattle.c0_tokens.specs.Tokens.{token_view}
 use Rattle.c0_tree.specs.View.{name_view}
 use Rattle.c0_parser.specs.Value.{struct_of}
-use Rattle.c0_parser.specs.Contract.{seen}
+use Rattle.c0_parser.specs.Contract.{as_seen}
 use Rattle.c0_parser.specs.Grammar.{many, sign, ◌▸◌, ◌or◌, LINE, FIELDS}
 use Rattle.c0_parser.specs.Factored.{DEFINED, declared_as}
 use Rattle.c0_parser.specs.Factored as factored
@@ -29,7 +29,7 @@ returns-in-Some c =
 pub returns-in-None : goal.returns-in-None
 returns-in-None c =
     let t = token_view c.args.word.now in
-    let n = heads_not (sign OpenBrace) ((LINE ▸ many LINE) ▸ sign CloseBrace ▸ sign Semicolon) (seen c.args.ts.now) refl c.in-None.ensures in
+    let n = heads_not (sign OpenBrace) ((LINE ▸ many LINE) ▸ sign CloseBrace ▸ sign Semicolon) (as_seen c.args.ts.now) refl c.in-None.ensures in
     tails (FIELDS or DEFINED) DEFINED (IsItemAfterName t (name_view c.args.name)) (IsDefined c.struct_at.result) _ _ _
     (λ x r. (
       _,

@@ -4,7 +4,7 @@ use Rattle.c0_tokens.specs.declared.token.Mark.TheVariants.{Struct, Int, Bool as
 use Rattle.c0_tokens.specs.Tokens.{token_view}
 use Rattle.c0_tree.specs.View.{name_view}
 use Rattle.c0_parser.specs.Value.{token, pair}
-use Rattle.c0_parser.specs.Contract.{seen}
+use Rattle.c0_parser.specs.Contract.{as_seen}
 use Rattle.c0_parser.specs.Grammar.{sign, ◌▸◌, ◌or◌, NAME, BASIC, FIELDS}
 use Rattle.c0_parser.specs.Factored.{DEFINED, FACTORED, factored_value}
 use Rattle.c0_parser.specs.Views.{IsItem, IsDefined, IsItemAfterName}
@@ -34,7 +34,7 @@ returns-in-Some c =
 pub returns-in-Some-take_basic : goal.returns-in-Some-take_basic
 returns-in-Some-take_basic c =
     let b = c.in-Some-take_basic.ensures in
-    let h = heads_then BASIC DEFINED (seen c.args.ts.now) b.0 in
+    let h = heads_then BASIC DEFINED (as_seen c.args.ts.now) b.0 in
     tails FACTORED DEFINED IsItem (IsDefined c.in-Some-take_basic.base) _ _ _
     (λ x r. (
       _,
@@ -46,7 +46,7 @@ returns-in-Some-take_basic c =
 
 pub returns-in-None : goal.returns-in-None
 returns-in-None c =
-    let ts = seen c.args.ts.now in
+    let ts = as_seen c.args.ts.now in
     fails_by (length c.args.ts.now)
     (refuses_second (sign Struct ▸ NAME ▸ (FIELDS or DEFINED)) (picks_not (sign Struct ▸ NAME ▸ (FIELDS or DEFINED)) (BASIC ▸ DEFINED) ts (heads_not (sign Struct) (NAME ▸ (FIELDS or DEFINED)) ts refl c.in_default.ensures))
     (refuses_left DEFINED (refuses_one (mark Int) (mark Boolean ∷ []) ts c.in-None.ensures))) (seen_length _)

@@ -2,7 +2,7 @@ use Rattle.std.proofs.Common.{[], length, sym}
 use Rattle.c0_parser.specs.Sorts.{the_end}
 use Rattle.c0_parser.specs.Value.{token}
 use Rattle.c0_parser.specs.Grammar.{one_of}
-use Rattle.c0_parser.specs.Contract.{seen}
+use Rattle.c0_parser.specs.Contract.{as_seen}
 use Rattle.c0_parser.proofs.Steps.{goes_both, fails_left, fails_right, fails_by, refuses_one, seen_length}
 use Rattle.c0_parser.proofs.Sources.{exits_to_end, goes_heads}
 use Rattle.c0_parser.proofs.source.items_to_end.Goals as goal
@@ -13,10 +13,10 @@ returns-in_err-items c = exits_to_end _ _ _ c.from_residual.ensures.1 (fails_lef
 pub returns-then-is_end : goal.returns-then-is_end
 returns-then-is_end c =
     let o = c.in_ok-items.ensures in
-    let g = goes_heads the_end [] (seen c.in_ok-items.rest.now) (sym c.if-is_end.ensures) in
+    let g = goes_heads the_end [] (as_seen c.in_ok-items.rest.now) (sym c.if-is_end.ensures) in
     record { items = o.0; stop = token g.0; rest = g.1; goes = goes_both o.1 g.2; are = o.2 }
 
 pub returns-else-is_end : goal.returns-else-is_end
 returns-else-is_end c =
     let o = c.in_ok-items.ensures in
-    fails_right o.1 (fails_by (length c.in_ok-items.rest.now) (refuses_one the_end [] (seen c.in_ok-items.rest.now) (sym c.if-is_end.ensures)) (seen_length _))
+    fails_right o.1 (fails_by (length c.in_ok-items.rest.now) (refuses_one the_end [] (as_seen c.in_ok-items.rest.now) (sym c.if-is_end.ensures)) (seen_length _))

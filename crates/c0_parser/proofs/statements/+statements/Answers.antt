@@ -4,7 +4,7 @@ use Rattle.c0_tokens.specs.declared.token.Mark.TheVariants.{Else, CloseBrace}
 use Rattle.c0_parser.specs.Sorts.{mark}
 use Rattle.c0_parser.specs.Value.{none}
 use Rattle.c0_parser.specs.Grammar.{sign, ◌▸◌, the, many, block, statement}
-use Rattle.c0_parser.specs.Contract.{seen}
+use Rattle.c0_parser.specs.Contract.{as_seen}
 use Rattle.c0_parser.specs.Views.{AreStmts, IsBlock}
 use Rattle.c0_parser.specs.Stmts.{CHOICE, OTHERWISE, IsStmtOf, IsOtherwise}
 use Rattle.c0_parser.proofs.Steps.{goes_sign, goes_both, goes_the, goes_with, goes_without, goes_many, heads_at, mark_kind, heads_not, fails_the, fails_left, fails_right, fails_with, exits, exits_any, shorter}
@@ -54,7 +54,7 @@ otherwise-returns-in-Some t c =
     (_, goes_with (heads_at (sign Else ▸ the block) (mark Else) _ _ _ e.0 (mark_kind e.1) refl) (goes_both (goes_sign _ _ _ _ e.0 e.1) b.1), other _ c.in_ok-block.block _ b.2, omega (arith, shorter _ _ _ e.0, b.3))
 
 pub otherwise-returns : goal.otherwise-returns
-otherwise-returns t c = (none, goes_without (sign Else ▸ the block) _ (heads_not (sign Else) (the block) (seen c.args.ts.now) refl c.in_default.ensures), refl, omega arith)
+otherwise-returns t c = (none, goes_without (sign Else ▸ the block) _ (heads_not (sign Else) (the block) (as_seen c.args.ts.now) refl c.in_default.ensures), refl, omega arith)
 
 pub statements-loop-here-init : goal.statements-loop-here-init
 statements-loop-here-init t c = (none, begins_list (the statement) _ _ c.read_so_far-stmts.ensures.rest, rw (c.read_so_far-stmts.ensures.value, c.new.ensures.items) refl, omega (arith, ap length c.read_so_far-stmts.ensures.rest))

@@ -2,7 +2,7 @@ use Rattle.std.proofs.Common.{length, refl, ap, arith}
 use Rattle.c0_tokens.specs.declared.token.Mark.TheVariants.{Comma}
 use Rattle.c0_parser.specs.Value.{token, pair, none, snoc}
 use Rattle.c0_parser.specs.Grammar.{many, sign, the, decl, ◌▸◌}
-use Rattle.c0_parser.specs.Contract.{seen}
+use Rattle.c0_parser.specs.Contract.{as_seen}
 use Rattle.c0_parser.specs.Sorts.{mark}
 use Rattle.c0_tokens.specs.Tokens.{token_view}
 use Rattle.c0_parser.specs.Views.{AreMoreLines}
@@ -29,4 +29,4 @@ loop-after_comma-preserved c =
     (snoc i.0 (pair (token (token_view c.in-Some.field-0-0)) o.0), list_item i.1 (heads_is (sign Comma ▸ the decl) (mark Comma) e.0 (mark_kind e.1)) (goes_both (goes_sign _ _ _ _ e.0 e.1) o.1), more_decls c.args.first.items c.loop-after_comma.list.items c.push.new.self.items c.in_ok-decl.decl i.0 (pair (token (token_view c.in-Some.field-0-0)) o.0) i.2 (comma_decl (token (token_view c.in-Some.field-0-0)) o.0 c.in_ok-decl.decl refl o.2) c.in_ok-push.ensures.items, omega (arith, i.3, o.3, ap length e.0))
 
 pub returns : goal.returns
-returns c = let i = c.loop-after_comma.invariant in (i.0, goes_many i.1 (heads_not (sign Comma) (the decl) (seen c.loop-after_comma.rest.now) refl c.in_default.ensures), i.2, i.3)
+returns c = let i = c.loop-after_comma.invariant in (i.0, goes_many i.1 (heads_not (sign Comma) (the decl) (as_seen c.loop-after_comma.rest.now) refl c.in_default.ensures), i.2, i.3)

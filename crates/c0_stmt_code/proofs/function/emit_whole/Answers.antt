@@ -9,7 +9,7 @@ use Rattle.c0_stmt_code.specs.Code.{body_code, function_code, links_of}
 use Rattle.c0_stmt_code.specs.Emit.{IsEmittableBody}
 use Rattle.c0_stmt_code.specs.EmitLeaf.{HasFrame}
 use Rattle.c0_expr_code.specs.Scope.{scope_of}
-use Rattle.c0_stmt_code.proofs.Named.{found, counted, same_some}
+use Rattle.c0_stmt_code.proofs.FunctionAt.{found, counted, same_some}
 use Rattle.c0_stmt_code.proofs.function.emit_whole.Goals as goal
 
 pub overflow_cast-params : goal.overflow_cast-params

@@ -2,7 +2,7 @@
 use Rattle.std.proofs.Common.{length, subst, sym}
 use Rattle.c0_meaning.specs.Env.{Env}
 use Rattle.c0_stmt_code.specs.Emit.{IsEmittableBody}
-use Rattle.c0_stmt_code.proofs.Ranging.{body_fine}
+use Rattle.c0_stmt_code.proofs.FunctionRanges.{body_fine}
 use Rattle.c0_stmt_code.proofs.sizes.functions_are_in_range.Goals as goal
 
 pub returns : goal.returns

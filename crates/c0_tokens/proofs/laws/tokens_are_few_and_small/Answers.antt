@@ -1,4 +1,4 @@
-use Rattle.c0_tokens.proofs.Small.{source_few, source_small}
+use Rattle.c0_tokens.proofs.TokensAreSmall.{source_few, source_small}
 use Rattle.c0_tokens.proofs.laws.tokens_are_few_and_small.Goals as goal
 
 pub returns-clause-count : goal.returns-clause-count

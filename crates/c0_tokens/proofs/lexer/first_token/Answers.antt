@@ -2,7 +2,7 @@
 use Rattle.std.proofs.Common.{sym, ◌∙◌, ap, arith, ◌&&◌}
 use Rattle.std.proofs.lemmas.Bool.Decides.{nat_tests}
 use Rattle.c0_tokens.specs.Lexis.{is_unclosed}
-use Rattle.c0_tokens.proofs.Shorter.{closed_after}
+use Rattle.c0_tokens.proofs.TokensShorten.{closed_after}
 use Rattle.c0_tokens.proofs.lexer.first_token.Goals as goal
 
 pub asm_cut-requires : goal.asm_cut-requires

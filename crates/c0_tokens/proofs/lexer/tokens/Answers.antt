@@ -1,6 +1,6 @@
 -- Each iteration moves the first token of what is left to the end of the tokens so far.
 use Rattle.std.proofs.Common.{◌++◌, length, map, sym, ◌∙◌, ap, arith}
-use Rattle.c0_tokens.specs.Lexis.{is_asm}
+use Rattle.c0_tokens.specs.Lexis.{is_asm_word}
 use Rattle.c0_tokens.specs.Tokens.{lexeme_view, token_view}
 use Rattle.c0_tokens.specs.Nesting.{depth_after}
 use Rattle.c0_tokens.specs.View.{cut_view, depth_view}
@@ -46,6 +46,6 @@ loop-tokens-preserved c =
       run = omega (arith, shorter, c.loop-tokens.invariant.run, run_below (depth_view c.loop-tokens.depth) (lexeme_view c.first_token-cut.result.lexeme), ap (λ d. d.run) c.after-depth.ensures);
       whole = ap (λ d. map token_view c.push.new.self.items ++ left size d c.is_asm-after_asm.result c.first_token-cut.result.rest.now) c.after-depth.ensures
           ∙ ap (λ b. map token_view c.push.new.self.items ++ left size (depth_after (depth_view c.loop-tokens.depth) (lexeme_view c.first_token-cut.result.lexeme)) b c.first_token-cut.result.rest.now) c.is_asm-after_asm.ensures
-          ∙ ap (λ ts. map token_view ts ++ left size (depth_after (depth_view c.loop-tokens.depth) (lexeme_view c.first_token-cut.result.lexeme)) (is_asm (lexeme_view c.first_token-cut.result.lexeme)) c.first_token-cut.result.rest.now) c.in_ok-push.ensures.items
+          ∙ ap (λ ts. map token_view ts ++ left size (depth_after (depth_view c.loop-tokens.depth) (lexeme_view c.first_token-cut.result.lexeme)) (is_asm_word (lexeme_view c.first_token-cut.result.lexeme)) c.first_token-cut.result.rest.now) c.in_ok-push.ensures.items
           ∙ pushed token_view c.loop-tokens.tokens.items _ _ _ _ c.loop-tokens.invariant.whole (s.more open_);
     }

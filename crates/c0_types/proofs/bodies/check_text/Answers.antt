@@ -11,7 +11,7 @@ use Rattle.c0_meaning.specs.DeclaredTypes.{fault_if}
 use Rattle.c0_meaning.specs.Names.{decl_name_faults}
 use Rattle.c0_name_check.specs.Met.{met_view}
 use Rattle.c0_name_check.proofs.Meeting.{two_met}
-use Rattle.c0_types.specs.Source.{line_fault}
+use Rattle.c0_types.specs.Source.{asm_line_fault}
 use Rattle.c0_types.proofs.BodiesScope.{over_capped}
 use Rattle.c0_types.proofs.bodies.check_text.Goals as goal
 
@@ -30,8 +30,8 @@ returns-clause-met c =
     let over : nat_lt 2000 c.asm_nodes-nodes.result ≡ nat_lt 2000 nodes = over_capped c.asm_nodes-nodes.result nodes counted in
     let names : met_view c.name_locals.new.least ≡ kept_all (met_view c.args.least.now) (decl_name_faults (ps ++ [])) =
     c.in_ok-_names.ensures.met ∙ ap (λ (l : List Decl). kept_all (met_view c.args.least.now) (decl_name_faults (map decl_view l ++ []))) c.deref.ensures.value in
-    let line : met_view c.meet_line.new.least ≡ kept_all (met_view c.meet_if.new.least) (line_fault (bad_line text) c.args.text.now.span) =
-    c.meet_line.ensures ∙ ap (λ o. kept_all (met_view c.meet_if.new.least) (line_fault o c.args.text.now.span)) (c.in_ok-words.ensures.bad ∙ ap bad_line c.deref-2.ensures.value) in
+    let line : met_view c.meet_line.new.least ≡ kept_all (met_view c.meet_if.new.least) (asm_line_fault (bad_line text) c.args.text.now.span) =
+    c.meet_line.ensures ∙ ap (λ o. kept_all (met_view c.meet_if.new.least) (asm_line_fault o c.args.text.now.span)) (c.in_ok-words.ensures.bad ∙ ap bad_line c.deref-2.ensures.value) in
     two_met (met_view c.args.least.now) (met_view c.name_locals.new.least) _ (decl_name_faults (ps ++ [])) _ names
     (two_met _ (met_view c.meet_if.new.least) _ (fault_if (nat_lt 2000 nodes) TOO_MANY_NODES c.args.function.now.name.span) _
     (c.meet_if.ensures ∙ ap (λ b. kept_all (met_view c.name_locals.new.least) (fault_if b TOO_MANY_NODES c.args.function.now.name.span)) over) line)

@@ -5,7 +5,7 @@ use Rattle.std.proofs.lemmas.List.Elements.{All-get_or}
 use Rattle.c0_tree.specs.declared.tree.StructDef.{StructDef}
 use Rattle.c0_tree.specs.Tree.{CStruct}
 use Rattle.c0_tree.specs.View.{decl_view, struct_view}
-use Rattle.c0_body_check.specs.Scope.{Tells, typed_view}
+use Rattle.c0_body_check.specs.Scope.{MapTells, typed_view}
 use Rattle.c0_body_check.proofs.InPlace.{rest}
 use Rattle.c0_meaning.specs.Env.{Shape, shape_of}
 use Rattle.c0_meaning.specs.Fault.{kept_all}
@@ -52,8 +52,8 @@ loop-definition-preserved c =
           numbered_step struct_view (numbered_struct shapes) 0 c.args.structs.now c.loop-definition.structs i c.loop-definition.number x c.check_struct.new.definition
           c.loop-definition.invariant.changed c.loop-definition-test.true (omega (arith, c.loop-definition.invariant.at)) at (c.in_ok-fields.ensures.named shapes c.requires.known);
       fields = λ j n d below.
-          subst (λ ms. Tells (λ v. v.text) (get_or ms j n) (map typed_view (get_or (set c.loop-definition.structs i c.check_struct.new.definition) j d).fields.items)) (sym c.in_ok-push.ensures.items)
-          (told_more (λ m e. Tells (λ v. v.text) m (map typed_view e.fields.items)) c.loop-definition.field_names.items c.loop-definition.structs i c.in_ok-fields.fields c.check_struct.new.definition
+          subst (λ ms. MapTells (λ v. v.text) (get_or ms j n) (map typed_view (get_or (set c.loop-definition.structs i c.check_struct.new.definition) j d).fields.items)) (sym c.in_ok-push.ensures.items)
+          (told_more (λ m e. MapTells (λ v. v.text) m (map typed_view e.fields.items)) c.loop-definition.field_names.items c.loop-definition.structs i c.in_ok-fields.fields c.check_struct.new.definition
           c.loop-definition.invariant.fields c.loop-definition.invariant.count (omega (arith, c.loop-definition.auto.structs, c.loop-definition-test.true)) (c.in_ok-fields.ensures.fields shapes c.requires.known) j n d below);
       met =
           ap (λ m. kept_all m (structs_faults shapes (rest (i + 1) ss))) (c.in_ok-fields.ensures.met shapes c.requires.known held)

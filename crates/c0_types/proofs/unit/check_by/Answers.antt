@@ -15,7 +15,7 @@ use Rattle.c0_meaning.specs.Env.{Env, Shape, shape_of, env_of}
 use Rattle.c0_meaning.specs.Fault.{kept_all, UNIT_TOO_LARGE}
 use Rattle.c0_meaning.specs.Limits.{all_nodes, first_faults, is_first, none_first, whole}
 use Rattle.c0_meaning.specs.Resolved.{resolved_decls, resolved_structs}
-use Rattle.c0_name_check.specs.Met.{met_view, number_of}
+use Rattle.c0_name_check.specs.Met.{met_view, mistake_number}
 use Rattle.c0_name_check.proofs.Meeting.{two_met}
 use Rattle.c0_types.specs.Known.{TellUnit, env_in}
 use Rattle.c0_types.specs.Parts.{bodied, bodies_faults, functions_nodes, headed_functions, is_plain_function, outer_faults, outer_unit}
@@ -78,7 +78,7 @@ returns-clause-met c =
     let some : Bool = list_any (is_first c.args.program) (checked_as c.args.program u).functions in
     let first : met_view c.meet_if-2.new.least ≡ kept_all (met_view c.meet_if.new.least) (first_faults c.args.program (read_unit u)) =
     c.meet_if-2.ensures
-    ∙ (ap (λ (b : Bool). kept_all (met_view c.meet_if.new.least) (fault_if (not b) (number_of c.without_first.result) c.whole-span.result)) found
+    ∙ (ap (λ (b : Bool). kept_all (met_view c.meet_if.new.least) (fault_if (not b) (mistake_number c.without_first.result) c.whole-span.result)) found
     ∙ (ap (λ (n : ℕ). kept_all (met_view c.meet_if.new.least) (fault_if (not some) n c.whole-span.result)) c.without_first.ensures
     ∙ (ap (λ (s : Span). kept_all (met_view c.meet_if.new.least) (fault_if (not some) (none_first c.args.program) s)) span
     ∙ ap (kept_all (met_view c.meet_if.new.least)) (c.resolving_is_stable.ensures.first c.args.program rows (read_unit u))))) in

@@ -3,15 +3,15 @@ use Rattle.std.specs.Prelude.{sum}
 use Rattle.std.proofs.Common.{◌≡◌, ◌+◌, ◌*◌, ◌/◌, length, refl, arith}
 use Rattle.std.proofs.lemmas.Result.{IfOk-weaker}
 use Rattle.c0_tree.specs.View.{unit_view}
-use Rattle.c0_unit.specs.Code.{words_of}
+use Rattle.c0_unit.specs.Code.{words_of_functions}
 use Rattle.c0_unit.specs.Laws.{ArePlacedAt, ArePlacesOf}
-use Rattle.c0_unit.proofs.Units.{are_places_of}
+use Rattle.c0_unit.proofs.UnitPlaces.{are_places_of}
 use Rattle.c0_unit.proofs.whole.unit_places.Goals as goal
 
 pub returns-clause-placed : goal.returns-clause-placed
 returns-clause-placed c =
     let start : length c.in_ok-code.code.items ≡ 39 = let e = c.in_ok-code.ensures.len in omega (arith, e, c.in_ok-code.code.ok) in
-    let long : c.len.result ≡ length c.in_ok-code.code.items + sum (words_of (unit_view c.args.layout.now.unit.now) (unit_view c.args.layout.now.unit.now).functions) =
+    let long : c.len.result ≡ length c.in_ok-code.code.items + sum (words_of_functions (unit_view c.args.layout.now.unit.now) (unit_view c.args.layout.now.unit.now).functions) =
     let l = c.len.ensures in
     let n = c.in_ok-starts.ensures.length in
     omega (arith, l, n, c.emit_functions.new.code.ok) in

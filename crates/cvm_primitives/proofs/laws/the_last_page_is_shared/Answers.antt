@@ -2,14 +2,14 @@
 use Rattle.std.proofs.Common.{refl}
 use Rattle.page_fault.specs.Code.{handle_page_code}
 use Rattle.cvm_primitives.specs.Copy.{copied}
-use Rattle.cvm_primitives.specs.View.{start}
-use Rattle.cvm_primitives.specs.Laws.{Answered, first_word, second_word, copy_steps}
-use Rattle.cvm_primitives.proofs.Last.{vm_copy_shares, told_again}
+use Rattle.cvm_primitives.specs.View.{entry_state}
+use Rattle.cvm_primitives.specs.Laws.{PrimitiveAnswered, first_word, second_word, copy_steps}
+use Rattle.cvm_primitives.proofs.LastPiece.{vm_copy_shares, told_again}
 use Rattle.cvm_primitives.proofs.laws.the_last_page_is_shared.Goals as goal
 
 pub returns : goal.returns
 returns k w s = λ p b users per size v c d e good whole.
     let f = k.routines_have_laws.ensures w s in
     let block = k.the_block_is_a_page_block.ensures w s p b e.sited e.ported in
-    told_again w p users per v (first_word per c) (second_word per c) (c.regs 24) (copy_steps p b per c) c d (Answered p (copied v (first_word per c) (second_word per c) (c.regs 24)) (start c d) 1) block.0.code (handle_page_code p) block.1
+    told_again w p users per v (first_word per c) (second_word per c) (c.regs 24) (copy_steps p b per c) c d (PrimitiveAnswered p (copied v (first_word per c) (second_word per c) (c.regs 24)) (entry_state c d) 1) block.0.code (handle_page_code p) block.1
     (vm_copy_shares w f p b e.sited block.0 users per size v c d e.held e.sizes (c.regs 20) (c.regs 21) (c.regs 22) (c.regs 23) (c.regs 24) refl refl refl refl refl (e.regs 20) (e.regs 21) (e.regs 22) (e.regs 23) (e.regs 24) whole good)

@@ -1,6 +1,6 @@
 use Rattle.std.proofs.Common.{◌≡◌, rules}
 use Rattle.std.specs.Prelude.{codes}
-use Rattle.cvm_shell.proofs.Four.{four_texts}
+use Rattle.cvm_shell.proofs.ListsOfFour.{four_texts}
 use Rattle.cvm_shell.proofs.Spellings.{words_of_kernel, words_of_one_kernel}
 use Rattle.cvm_shell.proofs.command.read_compile_kernel.Goals as goal
 

@@ -1,6 +1,6 @@
 use Rattle.std.proofs.Common.{◌≡◌, arith, rules}
 use Rattle.std.specs.Prelude.{codes}
-use Rattle.cvm_shell.proofs.Few.{two_texts}
+use Rattle.cvm_shell.proofs.ListsOfTwo.{two_texts}
 use Rattle.cvm_shell.proofs.Spellings.{words_of_sample, words_of_one_sample, no_sample}
 use Rattle.cvm_shell.proofs.command.read_sample.Goals as goal
 

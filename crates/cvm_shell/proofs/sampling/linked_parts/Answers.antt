@@ -2,7 +2,7 @@ use Rattle.std.proofs.Common.{◌≡◌, ap, ◌∙◌, map, List, ℕ, Vec, Glo
 use Rattle.std.proofs.lemmas.Result.{err_from_is_err_and}
 use Rattle.kernel_linker.specs.Object.{object_of}
 use Rattle.c0_tree.specs.View.{unit_view}
-use Rattle.sample_maker.specs.Parts.{Parts as Sampled}
+use Rattle.sample_maker.specs.Parts.{SampleParts as Sampled}
 use Rattle.cvm_shell.proofs.SamplePlans.{parts_source_fault, parts_link_fault, parts_linked}
 use Rattle.cvm_shell.proofs.sampling.linked_parts.Goals as goal
 

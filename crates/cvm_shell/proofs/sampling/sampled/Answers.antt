@@ -2,7 +2,7 @@ use Rattle.std.proofs.Common.{◌≡◌, ap, subst}
 use Rattle.std.specs.Prelude.{⊤}
 use Rattle.std.proofs.lemmas.Result.{err_from_is_err_and}
 use Rattle.real_layer.specs.Image.{layer_image}
-use Rattle.sample_maker.specs.Parts.{Parts as Sampled}
+use Rattle.sample_maker.specs.Parts.{SampleParts as Sampled}
 use Rattle.cvm_shell.specs.Command.{sample_session}
 use Rattle.cvm_shell.specs.Plan.{PartsPlan, IsPlan}
 use Rattle.cvm_shell.specs.Stages.{ready_for}

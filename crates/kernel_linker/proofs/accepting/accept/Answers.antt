@@ -4,9 +4,9 @@ use Rattle.std.proofs.lemmas.Result.{err_from_is_err_and}
 use Rattle.layer_map.specs.declared.params.Params.{Params}
 use Rattle.layer_map.specs.Map.{ParamsInRange}
 use Rattle.c0_tree.specs.View.{unit_view}
-use Rattle.boot_image.specs.Parts.{Parts as Image}
+use Rattle.boot_image.specs.Parts.{ImageParts as Image}
 use Rattle.boot_image.specs.Reading.{answer}
-use Rattle.kernel_linker.specs.Accept.{system_of, stored, accept_answer}
+use Rattle.kernel_linker.specs.Accept.{system_of, words_match, accept_answer}
 use Rattle.kernel_linker.specs.Linked.{linked, sizes_of}
 use Rattle.kernel_linker.proofs.AcceptSteps.{source_stops, unread_file, wanting, unread_source, forged_image, accepted_image, spelled_params, spelled_users, spelled_sizes}
 use Rattle.kernel_linker.proofs.accepting.accept.Goals as goal
@@ -75,4 +75,4 @@ returns-clause-is g c =
     c.in_ok-joined.ensures.words ∙ (ap (λ (p : Params). linked g.M.LayerMaker.made (unit_view c.in_ok-unit.unit) p (sizes_of (map (λ (u : Vec ℕ Global). u.items) c.deref-3.result.now))) params
     ∙ ap (λ (us : List (List ℕ)). linked g.M.LayerMaker.made (unit_view c.in_ok-unit.unit) c.in_ok-image.image.params (sizes_of us)) lent) in
     accepted_image g.M.LayerMaker.made (λ a. system_of a.boot) (answer c.args.bytes.now) c.in_ok-image.image _ (unit_view c.in_ok-unit.unit) c.deref.result.now c.in_ok-joined.joined.words.items (map (λ (u : Vec ℕ Global). u.items) c.image.inside.users.items) c.in_ok-check_words.field-0
-    c.in_ok-image.ensures.is c.in_ok-unit.ensures.found same (c.in_ok-check_words.ensures ∙ ap (stored c.in_ok-image.image) c.deref-4.ensures.value) words users (ap (λ (p : Params). record { params = p; unit = unit_view c.in_ok-unit.unit; words = c.in_ok-joined.joined.words.items; users = map (λ (u : Vec ℕ Global). u.items) c.image.inside.users.items }) params)
+    c.in_ok-image.ensures.is c.in_ok-unit.ensures.found same (c.in_ok-check_words.ensures ∙ ap (words_match c.in_ok-image.image) c.deref-4.ensures.value) words users (ap (λ (p : Params). record { params = p; unit = unit_view c.in_ok-unit.unit; words = c.in_ok-joined.joined.words.items; users = map (λ (u : Vec ℕ Global). u.items) c.image.inside.users.items }) params)

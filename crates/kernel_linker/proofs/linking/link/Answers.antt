@@ -2,7 +2,7 @@ use Rattle.std.proofs.Common.{ℕ, ◌≡◌, Vec, Global, length, map, ap, arit
 use Rattle.std.proofs.lemmas.List.{length-map}
 use Rattle.std.proofs.lemmas.Result.{err_from_is_err_and}
 use Rattle.c0_tree.specs.View.{unit_view}
-use Rattle.object_file.specs.Parts.{Parts as Object}
+use Rattle.object_file.specs.Parts.{ObjectParts as Object}
 use Rattle.kernel_linker.specs.declared.opening.Opened.{Opened}
 use Rattle.kernel_linker.proofs.LinkSteps.{unfit, wanting, unopened, made, written}
 use Rattle.kernel_linker.proofs.linking.link.Goals as goal

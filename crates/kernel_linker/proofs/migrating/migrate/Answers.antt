@@ -6,7 +6,7 @@ use Rattle.layer_map.specs.declared.params.Params.{Params}
 use Rattle.layer_map.specs.Map.{ParamsInRange}
 use Rattle.c0_tree.specs.View.{unit_view}
 use Rattle.boot_image.specs.Format.{most_words}
-use Rattle.boot_image.specs.Parts.{Parts as Image}
+use Rattle.boot_image.specs.Parts.{ImageParts as Image}
 use Rattle.boot_image.specs.Reading.{old_answer}
 use Rattle.kernel_linker.specs.Linked.{linked, sizes_of}
 use Rattle.kernel_linker.specs.Migrate.{migrate_answer}

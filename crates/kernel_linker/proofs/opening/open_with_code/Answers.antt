@@ -3,7 +3,7 @@ use Rattle.std.proofs.Common.{◌≡◌, ◌≤◌, ℕ, List, length, ap, subst
 use Rattle.std.proofs.lemmas.Result.{err_from_is_err_and}
 use Rattle.c0_tree.specs.View.{unit_view}
 use Rattle.c0_unit.specs.Code.{unit_words}
-use Rattle.object_file.specs.Parts.{Parts as Object}
+use Rattle.object_file.specs.Parts.{ObjectParts as Object}
 use Rattle.kernel_linker.specs.declared.opening.Opened.{Opened}
 use Rattle.kernel_linker.proofs.OpenSteps.{wanting, unread, forged, opened}
 use Rattle.kernel_linker.proofs.opening.open_with_code.Goals as goal

@@ -1,5 +1,5 @@
 -- By the laws that the body calls.
-use Rattle.masm.proofs.Transfer.{transfers}
+use Rattle.masm.proofs.SectorTransfers.{transfers}
 use Rattle.masm.proofs.waiting.sectors_are_transferred.Goals as goal
 
 pub returns : goal.returns

@@ -1,12 +1,12 @@
 -- The words so far and those of the lines that are left are the words of the text.
 use Rattle.std.proofs.Common.{◌≡◌, ◌<◌, ◌++◌, ◌^◌, length}
-use Rattle.mips_asm.specs.Text.{lines_of}
-use Rattle.mips_asm.specs.Passes.{look, words_from}
+use Rattle.mips_asm.specs.Text.{asm_lines}
+use Rattle.mips_asm.specs.Passes.{label_of, words_from}
 use Rattle.mips_asm.proofs.pass.words.Given as goal
 
 abbrev pub invariant-loop-words : goal.invariant-loop-words
 invariant-loop-words l =
-    (l.words.items ++ words_from (look l.places) l.at (lines_of l.here) ≡ words_from (look l.places) 0 (lines_of l.text)) × (l.at < 2 ^ 62)
+    (l.words.items ++ words_from (label_of l.places) l.at (asm_lines l.here) ≡ words_from (label_of l.places) 0 (asm_lines l.text)) × (l.at < 2 ^ 62)
 
 abbrev pub decreases-loop-words : goal.decreases-loop-words
 decreases-loop-words l = length l.here

@@ -3,7 +3,7 @@ use Rattle.std.proofs.Common.{◌≡◌, sym, ap, ◌∙◌, subst}
 use Rattle.std.specs.Option.{IfSome}
 use Rattle.mips_table.specs.Encoding.{InRange, encoding}
 use Rattle.mips_table.specs.Decoding.{inst_of, decoding}
-use Rattle.mips_table.proofs.Round.{decoding-encoding, encoding-decoding}
+use Rattle.mips_table.proofs.DecodingInverts.{decoding-encoding, encoding-decoding}
 use Rattle.mips_table.proofs.decoding.decode.Goals as goal
 
 value : (c : goal.After-inst_of) → c.inst_of.result ≡ decoding c.args.word

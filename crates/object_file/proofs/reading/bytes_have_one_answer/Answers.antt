@@ -1,5 +1,5 @@
 use Rattle.object_file.proofs.Answers.{one_answer}
-use Rattle.object_file.proofs.Whole.{some_answer}
+use Rattle.object_file.proofs.EveryAnswer.{some_answer}
 use Rattle.object_file.proofs.reading.bytes_have_one_answer.Goals as goal
 
 pub returns-clause-some : goal.returns-clause-some

@@ -1,7 +1,7 @@
 -- The fields and parts were found, or the first fault; and that is so of the bytes, and nothing else is.
 use Rattle.std.proofs.Common.{arith}
 use Rattle.std.proofs.lemmas.Result.{err_from_is_err_and}
-use Rattle.object_file.proofs.Whole.{fault_so, fault_only, object_so, object_only, memory_only}
+use Rattle.object_file.proofs.EveryAnswer.{fault_so, fault_only, object_so, object_only, memory_only}
 use Rattle.object_file.proofs.reading.read.Goals as goal
 
 pub returns-in_err-source-clause-answer : goal.returns-in_err-source-clause-answer

@@ -1,5 +1,5 @@
 -- Part by part, with cases on whether an entry names the frame.
-use Rattle.page_model.proofs.Kept.{evicted}
+use Rattle.page_model.proofs.StepsKeepMemories.{evicted}
 use Rattle.page_model.proofs.laws.evictions_stand.Goals as goal
 
 pub returns : goal.returns

@@ -2,7 +2,7 @@
 use Rattle.std.proofs.Common.{◌≡◌, Ok, Err, List, ℕ, length, inr, refl, sym, subst, ◌∙◌, arith}
 use Rattle.std.proofs.lemmas.Result.{err_from_is_err_and}
 use Rattle.saved_file.specs.Resumable.{wanted}
-use Rattle.saved_file.specs.Answer.{IsAnswer}
+use Rattle.saved_file.specs.Answer.{IsSavedAnswer}
 use Rattle.saved_file.specs.Tests.{tests, all_tried}
 use Rattle.saved_file.proofs.Words.{words_whole, answer_of, answer_so}
 use Rattle.saved_file.proofs.Fitting.{resumable}
@@ -27,7 +27,7 @@ returns-clause-resumable c = resumable (wanted c.args.sizes.now c.args.inputs.no
 
 pub returns-clause-spelled : goal.returns-clause-spelled
 returns-clause-spelled c =
-    let so : IsAnswer (wanted c.args.sizes.now c.args.inputs.now c.args.linked.now c.args.turns) c.args.bytes.now (Ok c.in_ok-words.words.items) =
-    (subst (IsAnswer (wanted c.args.sizes.now c.args.inputs.now c.args.linked.now c.args.turns) c.args.bytes.now) (returns-clause-is c)
+    let so : IsSavedAnswer (wanted c.args.sizes.now c.args.inputs.now c.args.linked.now c.args.turns) c.args.bytes.now (Ok c.in_ok-words.words.items) =
+    (subst (IsSavedAnswer (wanted c.args.sizes.now c.args.inputs.now c.args.linked.now c.args.turns) c.args.bytes.now) (returns-clause-is c)
     (answer_so (wanted c.args.sizes.now c.args.inputs.now c.args.linked.now c.args.turns) c.args.bytes.now (λ i. omega (arith, c.type_inv.bytes i)))) in
     sym so.0

@@ -4,7 +4,7 @@ use Rattle.std.proofs.lemmas.List.{length-map}
 use Rattle.c0_tree.specs.View.{struct_view}
 use Rattle.c0_name_check.specs.Names.{look}
 use Rattle.c0_struct_sizes.specs.Parts.{edges}
-use Rattle.c0_struct_sizes.specs.Walk.{State, state_of, IsWalkOver, target_of, mark_of, met, work_over}
+use Rattle.c0_struct_sizes.specs.Walk.{WalkState, state_of, IsWalkOver, target_of, mark_of, met, work_over}
 use Rattle.c0_struct_sizes.specs.declared.walk.Mark.TheVariants.{Unseen, Open, Done}
 use Rattle.c0_struct_sizes.proofs.Moves.{target_below, passed, entered, entered_falls}
 use Rattle.c0_struct_sizes.proofs.walk.Walk.follow.Goals as goal
@@ -35,23 +35,23 @@ turn_back-requires-clause-placed c = subst (λ (n : ℕ). mark_of c.args.self.no
 
 pub returns-in_ok-meet-in-Unseen-clause-walk : goal.returns-in_ok-meet-in-Unseen-clause-walk
 returns-in_ok-meet-in-Unseen-clause-walk c =
-    let s : State = state_of c.args.self.now in
+    let s : WalkState = state_of c.args.self.now in
     let unseen : mark_of c.args.self.now.marks.items (target_of s) ≡ Unseen = subst (λ (n : ℕ). mark_of c.args.self.now.marks.items n ≡ Unseen) c.target-target.ensures (sym c.in-Unseen.ensures) in
-    subst (λ (x : State). IsWalkOver (look c.args.names.now) (map struct_view c.args.structs.now) x)
+    subst (λ (x : WalkState). IsWalkOver (look c.args.names.now) (map struct_view c.args.structs.now) x)
     (sym (c.in_ok-meet-in-Unseen.ensures ∙ ap (λ (n : ℕ). met (edges (look c.args.names.now) (map struct_view c.args.structs.now)) n s) c.target-target.ensures))
     (entered (look c.args.names.now) (map struct_view c.args.structs.now) c.requires.told s c.requires.walk c.requires.left unseen)
 
 pub returns-in_ok-meet-in-Unseen-clause-falls : goal.returns-in_ok-meet-in-Unseen-clause-falls
 returns-in_ok-meet-in-Unseen-clause-falls c =
-    let s : State = state_of c.args.self.now in
+    let s : WalkState = state_of c.args.self.now in
     let unseen : mark_of c.args.self.now.marks.items (target_of s) ≡ Unseen = subst (λ (n : ℕ). mark_of c.args.self.now.marks.items n ≡ Unseen) c.target-target.ensures (sym c.in-Unseen.ensures) in
-    subst (λ (x : State). work_over (look c.args.names.now) (map struct_view c.args.structs.now) x < work_over (look c.args.names.now) (map struct_view c.args.structs.now) s)
+    subst (λ (x : WalkState). work_over (look c.args.names.now) (map struct_view c.args.structs.now) x < work_over (look c.args.names.now) (map struct_view c.args.structs.now) s)
     (sym (c.in_ok-meet-in-Unseen.ensures ∙ ap (λ (n : ℕ). met (edges (look c.args.names.now) (map struct_view c.args.structs.now)) n s) c.target-target.ensures))
     (entered_falls (look c.args.names.now) (map struct_view c.args.structs.now) s c.requires.walk c.requires.left unseen)
 
 pub returns-in-Done-clause-walk : goal.returns-in-Done-clause-walk
 returns-in-Done-clause-walk c =
-    let s : State = state_of c.args.self.now in
+    let s : WalkState = state_of c.args.self.now in
     let is_done : mark_of c.args.self.now.marks.items (target_of s) ≡ Done c.in-Done.field-0
     = subst (λ (n : ℕ). mark_of c.args.self.now.marks.items n ≡ Done c.in-Done.field-0) c.target-target.ensures (sym c.in-Done.ensures) in
-    subst (λ (x : State). IsWalkOver (look c.args.names.now) (map struct_view c.args.structs.now) x) (sym c.leave_target.ensures) (passed (look c.args.names.now) (map struct_view c.args.structs.now) s c.requires.walk c.requires.left c.in-Done.field-0 is_done)
+    subst (λ (x : WalkState). IsWalkOver (look c.args.names.now) (map struct_view c.args.structs.now) x) (sym c.leave_target.ensures) (passed (look c.args.names.now) (map struct_view c.args.structs.now) s c.requires.walk c.requires.left c.in-Done.field-0 is_done)

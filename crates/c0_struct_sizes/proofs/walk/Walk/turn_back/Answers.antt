@@ -2,7 +2,7 @@
 use Rattle.std.proofs.Common.{◌<◌, ◌≤◌, map, sym, subst}
 use Rattle.c0_tree.specs.View.{struct_view}
 use Rattle.c0_name_check.specs.Names.{look}
-use Rattle.c0_struct_sizes.specs.Walk.{State, state_of, IsWalkOver}
+use Rattle.c0_struct_sizes.specs.Walk.{WalkState, state_of, IsWalkOver}
 use Rattle.c0_struct_sizes.proofs.Moves.{group_there, turned, closed}
 use Rattle.c0_struct_sizes.proofs.walk.Walk.turn_back.Goals as goal
 
@@ -11,12 +11,12 @@ last_start-requires c = group_there (look c.args.names.now) (map struct_view c.a
 
 pub returns-then-place-last_start-clause-walk : goal.returns-then-place-last_start-clause-walk
 returns-then-place-last_start-clause-walk c =
-    subst (λ (s : State). IsWalkOver (look c.args.names.now) (map struct_view c.args.structs.now) s) (sym c.join_groups.ensures)
+    subst (λ (s : WalkState). IsWalkOver (look c.args.names.now) (map struct_view c.args.structs.now) s) (sym c.join_groups.ensures)
     (turned (look c.args.names.now) (map struct_view c.args.structs.now) (state_of c.args.self.now) c.requires.walk c.requires.left c.args.place c.requires.placed
     (subst (λ n. c.args.place < n) c.last_start.ensures c.if-place-last_start.true))
 
 pub returns-else-place-last_start-clause-walk : goal.returns-else-place-last_start-clause-walk
 returns-else-place-last_start-clause-walk c =
-    subst (λ (s : State). IsWalkOver (look c.args.names.now) (map struct_view c.args.structs.now) s) (sym c.leave_target.ensures)
+    subst (λ (s : WalkState). IsWalkOver (look c.args.names.now) (map struct_view c.args.structs.now) s) (sym c.leave_target.ensures)
     (closed (look c.args.names.now) (map struct_view c.args.structs.now) (state_of c.args.self.now) c.requires.walk c.requires.left c.args.place c.requires.placed
     (subst (λ n. n ≤ c.args.place) c.last_start.ensures c.if-place-last_start.false))

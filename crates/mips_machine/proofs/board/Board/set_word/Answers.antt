@@ -2,7 +2,7 @@
 use Rattle.std.proofs.Common.{◌≡◌, ◌<◌, length, take, ap, ◌∙◌, slice_set, arith}
 use Rattle.std.proofs.lemmas.List.{length-take-le}
 use Rattle.mips_machine.specs.Board.{Board}
-use Rattle.mips_machine.proofs.Parts.{board_in, memory_set}
+use Rattle.mips_machine.proofs.BoardWrites.{board_in, memory_set}
 use Rattle.mips_machine.proofs.board.Board.set_word.Goals as goal
 
 pub returns : goal.returns

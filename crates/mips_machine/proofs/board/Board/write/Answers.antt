@@ -1,7 +1,7 @@
 -- A word of memory that is set is a store, said of the board that callers see.
 use Rattle.std.proofs.Common.{ap, ◌∙◌, Some}
 use Rattle.mips_machine.specs.Board.{Board, stored_at}
-use Rattle.mips_machine.proofs.Parts.{board_in, memory_stored}
+use Rattle.mips_machine.proofs.BoardWrites.{board_in, memory_stored}
 use Rattle.mips_machine.proofs.board.Board.write.Goals as goal
 
 pub returns-then-word-self : goal.returns-then-word-self

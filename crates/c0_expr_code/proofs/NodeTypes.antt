@@ -1,0 +1,198 @@
+-- The types that the code goes by, and which constants nodes are.
+use Rattle.std.specs.Prelude.{pos, neg_ℤ, option_map, FitsSigned, Ok}
+use Rattle.std.specs.Int.{int_wrap, w32}
+use Rattle.std.proofs.Common.{◌≡◌, ℕ, ◌+◌, ◌-◌, ◌%◌, ◌^◌, ◌≤◌, Bool, true, false, cond, Option, Some, None, refl, sym, ap, ◌∙◌, subst, arith}
+use Rattle.std.proofs.lemmas.Bool.{cond-true}
+use Rattle.std.proofs.lemmas.Int.{SFits-int_wrap}
+use Rattle.c0_tree.specs.declared.tree.Kind.{Kind}
+use Rattle.c0_tree.specs.declared.tree.Kind.TheVariants.{Unresolved, Struct, Field, Global, Local, Function, Primitive}
+use Rattle.c0_tree.specs.declared.tree.UnaryOp.TheVariants.{Negate, Not}
+use Rattle.c0_tree.specs.declared.tree.BinaryOp.{BinaryOp}
+use Rattle.c0_tree.specs.declared.tree.BinaryOp.TheVariants.{Add, Sub, Mul, Div, Rem, Lt, Le, Gt, Ge, Eq, Ne, And, Or}
+use Rattle.c0_tree.specs.Tree.{CExpr, num, true_, false_, null, var, field, arrow, index, deref, address, unary, binary}
+use Rattle.c0_meaning.specs.Ty.{Ty}
+use Rattle.c0_meaning.specs.Ty as ty
+use Rattle.c0_meaning.specs.Env.{Env, Typed}
+use Rattle.c0_meaning.specs.Expression.{target}
+use Rattle.c0_meaning.specs.Judgement.{IsArithmetic, add, sub, mul, div, rem, IsOrder, lt, le, gt, ge, IsEquality, eq, ne, IsLogical, and, or}
+use Rattle.c0_meaning.specs.Numbered.{HasNumberedType, a_number, a_true, a_false, a_variable, a_field, a_target_field, an_element, a_target, an_address, a_negative, a_negation, arithmetic, order, logic, equality, null_left, null_right}
+use Rattle.c0_meaning.specs.TypeAt.{field_type, element, binary_type, type_at}
+use Rattle.c0_meaning.specs.TypedState.{Fits}
+use Rattle.c0_meaning.specs.State.{C0State}
+use Rattle.c0_meaning.specs.Value.{Value, int, bool}
+use Rattle.c0_meaning.specs.Value as value
+use Rattle.c0_meaning.specs.Operators.{on_unary}
+use Rattle.c0_meaning.specs.Evaluation.{Costed, costs, at_no_cost, paying, ◌>>=◌, value_of}
+use Rattle.cvm_words.specs.Words.{word_of}
+use Rattle.c0_expr_code.specs.Scope.{Scope}
+use Rattle.c0_expr_code.specs.Code.{Made, at_place, register_made, register_of, local_spot, variable_made, negated, negative_made, Immediate, immediate_of, operator_made, sum_made, binary_made, made}
+use Rattle.c0_expr_code.specs.Bases.{Bases, word}
+use Rattle.c0_expr_code.specs.Relation.{layout}
+use Rattle.c0_expr_code.proofs.Words.{word_pos, word_negative}
+
+arithmetic_gives : (o : BinaryOp) → IsArithmetic o → binary_type o ≡ ty.int
+arithmetic_gives _ add = refl
+arithmetic_gives _ sub = refl
+arithmetic_gives _ mul = refl
+arithmetic_gives _ div = refl
+arithmetic_gives _ rem = refl
+
+order_gives : (o : BinaryOp) → IsOrder o → binary_type o ≡ ty.bool
+order_gives _ lt = refl
+order_gives _ le = refl
+order_gives _ gt = refl
+order_gives _ ge = refl
+
+equality_gives : (o : BinaryOp) → IsEquality o → binary_type o ≡ ty.bool
+equality_gives _ eq = refl
+equality_gives _ ne = refl
+
+logic_gives : (o : BinaryOp) → IsLogical o → binary_type o ≡ ty.bool
+logic_gives _ and = refl
+logic_gives _ or = refl
+
+-- the type that the code goes by
+pub type_is : (env : Env) (e : CExpr) (t : Ty) → HasNumberedType env e t → type_at env e ≡ Some t
+type_is env _ _ (a_number h) = refl
+type_is env _ _ a_true = refl
+type_is env _ _ a_false = refl
+type_is env _ _ (a_variable {x = x} {d = d} h) = ap (option_map (λ (d : Typed). d.ty)) h
+type_is env _ _ (a_field {e = e} {f = n} {x = x} {d = d} p h q) =
+    ap (λ (o : Option Ty). field_type env.structs o n.number) (type_is env e (ty.named x) h) ∙ ap (option_map (λ (d : Typed). d.ty)) q
+type_is env _ _ (a_target_field {e = e} {f = n} {x = x} {d = d} h q) =
+    ap (λ (o : Option Ty). field_type env.structs (target o) n.number) (type_is env e (ty.pointer (ty.named x)) h) ∙ ap (option_map (λ (d : Typed). d.ty)) q
+type_is env _ _ (an_element {e = e} {t = t} {n = n} p h g) = ap element (type_is env e (ty.array t n) h)
+type_is env _ _ (a_target {e = e} {t = t} h) = ap target (type_is env e (ty.pointer t) h)
+type_is env _ _ (an_address {e = e} {t = t} p away h) = cond-true _ (option_map ty.pointer (type_at env e)) None p ∙ ap (option_map ty.pointer) (type_is env e t h)
+type_is env _ _ (a_negative h) = refl
+type_is env _ _ (a_negation h) = refl
+type_is env _ _ (arithmetic {o = o} k h g) = ap Some (arithmetic_gives o k)
+type_is env _ _ (order {o = o} k h g) = ap Some (order_gives o k)
+type_is env _ _ (logic {o = o} k h g) = ap Some (logic_gives o k)
+type_is env _ _ (equality {o = o} k s h g) = ap Some (equality_gives o k)
+type_is env _ _ (null_left {o = o} k h) = ap Some (equality_gives o k)
+type_is env _ _ (null_right {o = o} k h) = ap Some (equality_gives o k)
+
+-- a node that is no constant
+pub record IsOpen (m : Made) : Type 0 where
+  pub literal : m.literal ≡ None
+  pub known : m.known ≡ None
+
+operator_open : (im : Immediate) (o : BinaryOp) (a b : Made) → IsOpen (operator_made im o a b)
+operator_open (Some g) o a b = record { literal = refl; known = refl }
+operator_open None o a b = record { literal = refl; known = refl }
+
+sum_open : (i j : Immediate) (a b : Made) → IsOpen (sum_made i j a b)
+sum_open (Some g) j a b = record { literal = refl; known = refl }
+sum_open None (Some g) a b = record { literal = refl; known = refl }
+sum_open None None a b = record { literal = refl; known = refl }
+
+module _ (sc : Scope) where
+  binary_open : (o : BinaryOp) (a b : Made) → IsOpen (binary_made sc o a b)
+  binary_open Add a b = sum_open (immediate_of Add b.known) (immediate_of Add a.known) a b
+  binary_open Sub a b = operator_open (immediate_of Sub b.known) Sub a b
+  binary_open Mul a b = record { literal = refl; known = refl }
+  binary_open Div a b = record { literal = refl; known = refl }
+  binary_open Rem a b = record { literal = refl; known = refl }
+  binary_open Lt a b = operator_open (immediate_of Lt b.known) Lt a b
+  binary_open Le a b = operator_open (immediate_of Le b.known) Le a b
+  binary_open Gt a b = record { literal = refl; known = refl }
+  binary_open Ge a b = operator_open (immediate_of Ge b.known) Ge a b
+  binary_open Eq a b = operator_open (immediate_of Eq b.known) Eq a b
+  binary_open Ne a b = operator_open (immediate_of Ne b.known) Ne a b
+  binary_open And a b = record { literal = refl; known = refl }
+  binary_open Or a b = record { literal = refl; known = refl }
+
+  variable_open : (k : Kind) (n : ℕ) → IsOpen (variable_made sc k n)
+  variable_open Global n = record { literal = refl; known = refl }
+  variable_open Local n = by_form sc.in_registers
+    where
+      by_form : (b : Bool) → IsOpen (cond b (register_made (register_of n)) (at_place (λ r. local_spot sc n)))
+      by_form true = record { literal = refl; known = refl }
+      by_form false = record { literal = refl; known = refl }
+  variable_open Unresolved n = record { literal = refl; known = refl }
+  variable_open Struct n = record { literal = refl; known = refl }
+  variable_open Field n = record { literal = refl; known = refl }
+  variable_open Function n = record { literal = refl; known = refl }
+  variable_open Primitive n = record { literal = refl; known = refl }
+
+  negative_literal : (o : Option ℕ) (m : Made) → (negative_made o m).literal ≡ None
+  negative_literal (Some n) m = refl
+  negative_literal None m = refl
+
+  none_some : {A : Type 0} (o : Option A) (a : A) → o ≡ None → o ≡ Some a → ⊥
+  none_some o a e q = cc
+
+  -- the number that is written
+  pub literal_is : (e : CExpr) (c : ℕ) (s : C0State) → (made sc e).literal ≡ Some c → value_of e s ≡ costs 1 (Ok (int (pos c)))
+  literal_is (num p n) c s e = let q : n ≡ c = cc in ap (λ m. costs 1 (Ok (int (pos m)))) q
+  literal_is (var x) c s e = absurd (none_some _ c (variable_open x.kind x.number).literal e)
+  literal_is (unary p Negate a) c s e = absurd (none_some _ c (negative_literal (made sc a).literal (made sc a)) e)
+  literal_is (unary p Not a) c s e = absurd (cc)
+  literal_is (binary p o a b) c s e = absurd (none_some _ c (binary_open o (made sc a) (made sc b)).literal e)
+  literal_is (true_ p) c s e = absurd (cc)
+  literal_is (false_ p) c s e = absurd (cc)
+  literal_is (null p) c s e = absurd (cc)
+  literal_is (field p a f) c s e = absurd (cc)
+  literal_is (arrow p a f) c s e = absurd (cc)
+  literal_is (index p a i) c s e = absurd (cc)
+  literal_is (deref p a) c s e = absurd (cc)
+  literal_is (address p a) c s e = absurd (cc)
+
+  pub small_literal : (e : CExpr) (c : ℕ) → HasNumberedType sc.env e ty.int → (made sc e).literal ≡ Some c → FitsSigned w32 (pos c)
+  small_literal _ c (a_number {n = n} h) e = let q : n ≡ c = cc in subst (λ m. FitsSigned w32 (pos m)) q (record { sfits = omega (arith, h) })
+  small_literal (var x) c h e = absurd (none_some _ c (variable_open x.kind x.number).literal e)
+  small_literal (unary p Negate a) c h e = absurd (none_some _ c (negative_literal (made sc a).literal (made sc a)) e)
+  small_literal (binary p o a b) c h e = absurd (none_some _ c (binary_open o (made sc a) (made sc b)).literal e)
+  small_literal (field p a f) c h e = absurd (cc)
+  small_literal (arrow p a f) c h e = absurd (cc)
+  small_literal (index p a i) c h e = absurd (cc)
+  small_literal (deref p a) c h e = absurd (cc)
+
+  module _ (p : Bases) where
+    -- an evaluation comes to a value of a known word
+    pub record KnownAs (t : Ty) (k : ℕ) (y : Costed Value) : Type 0 where
+      pub units : ℕ
+      pub value : Value
+      pub is : y ≡ costs units (Ok value)
+      pub some : 1 ≤ units
+      pub fits : Fits sc.env.structs (layout sc p) t value
+      pub word_is : word sc p value ≡ k
+
+    negative_word : (n : ℕ) → FitsSigned w32 (pos n) → word_of (int_wrap w32 (neg_ℤ (pos n))) ≡ negated n
+    negative_word n h = sym (word_negative (pos n) h) ∙ ap (λ y. (0 + (2 ^ 32 - y)) % 2 ^ 32) (word_pos n h) ∙ omega arith
+
+    pub negative_known : (e : CExpr) (s : C0State) (k : ℕ) (o : Option ℕ) → HasNumberedType sc.env e ty.int → (made sc e).literal ≡ o
+        → (negative_made o (made sc e)).known ≡ Some k → KnownAs ty.int k (paying 1 (value_of e s >>= λ v. at_no_cost (on_unary Negate v)))
+    negative_known e s k None h q g = absurd (cc)
+    negative_known e s k (Some n) h q g =
+        let fits = small_literal e n h q in
+        let z : negated n ≡ k = cc in
+        record {
+          units = 1 + (1 + 0);
+          value = int (int_wrap w32 (neg_ℤ (pos n)));
+          is = ap (λ (z : Costed Value). paying 1 (z >>= λ v. at_no_cost (on_unary Negate v))) (literal_is e n s q);
+          some = omega arith;
+          fits = SFits-int_wrap w32 _;
+          word_is = negative_word n fits ∙ z;
+        }
+
+    pub known_is : (e : CExpr) (t : Ty) (s : C0State) (k : ℕ) → HasNumberedType sc.env e t → (made sc e).known ≡ Some k → KnownAs t k (value_of e s)
+    known_is _ _ s k (a_number {n = n} h) e =
+        let q : n ≡ k = cc in
+        let fits : FitsSigned w32 (pos n) = record { sfits = omega (arith, h) } in
+        record { units = 1; value = int (pos n); is = refl; some = omega arith; fits = fits; word_is = word_pos n fits ∙ q }
+    known_is _ _ s k a_true e = let q : 1 ≡ k = cc in record { units = 1; value = bool true; is = refl; some = omega arith; fits = tt; word_is = q }
+    known_is _ _ s k a_false e = let q : 0 ≡ k = cc in record { units = 1; value = bool false; is = refl; some = omega arith; fits = tt; word_is = q }
+    known_is (var x) t s k h e = absurd (none_some _ k (variable_open x.kind x.number).known e)
+    known_is (field p a f) t s k h e = absurd (cc)
+    known_is (arrow p a f) t s k h e = absurd (cc)
+    known_is (index p a i) t s k h e = absurd (cc)
+    known_is (deref p a) t s k h e = absurd (cc)
+    known_is (address p a) t s k h e = absurd (cc)
+    known_is _ _ s k (a_negative {e = a} h) e = negative_known a s k (made sc a).literal h refl e
+    known_is _ _ s k (a_negation {e = a} h) e = absurd (cc)
+    known_is (binary p o a b) t s k h e = absurd (none_some _ k (binary_open o (made sc a) (made sc b)).known e)
+
+    pub null_known : (t : Ty) (k : ℕ) → ◌≡◌ {A = Option ℕ} (Some 0) (Some k) → KnownAs (ty.pointer t) k (costs 1 (Ok value.null))
+    null_known t k e = let q : 0 ≡ k = cc in record { units = 1; value = value.null; is = refl; some = omega arith; fits = tt; word_is = q }

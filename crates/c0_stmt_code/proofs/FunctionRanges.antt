@@ -1,0 +1,215 @@
+-- The instructions of the code of functions are in range: part by part.
+use Rattle.std.specs.Prelude.{map, if◌then◌else◌, nat_le, nat_lt, IsTrue, All, Option, Some, None, unwrap_or}
+use Rattle.std.specs.List.{All as EachOf}
+use Rattle.std.proofs.Common.{◌≡◌, inl, inr, ℕ, zero, suc, ◌+◌, ◌*◌, ◌/◌, ◌%◌, ◌^◌, ◌<◌, ◌≤◌, Bool, true, false, List, [], ◌∷◌, ◌++◌, length, refl, ap, subst, sym, arith}
+use Rattle.std.proofs.lemmas.Bool.{cases_Bool, cond-true, cond-false, ltb-true}
+use Rattle.std.proofs.lemmas.List.Elements.{All-append, All-cons, All-head, All-nil, All-tail}
+use Rattle.mips_table.specs.declared.inst.Inst.{Inst}
+use Rattle.mips_table.specs.declared.inst.Inst.TheVariants.{Addiu, Addu, Beq, Bne, J, Jal, Jr, Lui, Lw, Ori, Sltu, Sw}
+use Rattle.mips_table.specs.Encoding.{InRange}
+use Rattle.c0_tree.specs.declared.tree.Kind.{Kind}
+use Rattle.c0_tree.specs.declared.tree.Kind.TheVariants.{Unresolved, Struct, Field, Global, Local, Function, Primitive}
+use Rattle.c0_tree.specs.Size.{need}
+use Rattle.c0_tree.specs.Tree.{CExpr, CStmt, assign, call, new, choice, loop, CStmts, done, next, CBody, code, asm, CDecl}
+use Rattle.c0_meaning.specs.Ty.{ty_of}
+use Rattle.c0_meaning.specs.Env.{typed_of}
+use Rattle.c0_meaning.specs.Words.{words, all_words}
+use Rattle.c0_meaning.specs.Operators.{StackOut}
+use Rattle.c0_meaning.specs.Asm.{are_allowed_words}
+use Rattle.c0_asm_body.specs.Code.{argument_code, arguments_code, asm_code, body_code}
+use Rattle.c0_asm_body.specs.Laws.{AreEncoded}
+use Rattle.c0_expr_code.specs.Laws.{CodesInRange, HasNearExits}
+use Rattle.c0_expr_code.specs.Scope.{Scope}
+use Rattle.c0_expr_code.specs.Code.{AddressingMode, is_near, low, high, frame_back, register_of, constant_code, on_spot, store_code, operand_code, operand_register, made, value_code}
+use Rattle.c0_expr_code.specs.Test.{test_code}
+use Rattle.c0_stmt_code.specs.Code.{Links, callee_index, skip, stored_code, answer_code, assigned_code, args_code, otherwise, otherwise_at, back, turn_code, stmt_code, stmts_code, are_calling, frame_spot, end_code, large_code, stack_test, save_code, restore_code, params_code, zeros_code, zeros_loop, locals_code, clear_code, frame_entry, frame_return, register_entry, register_return, entry_code, exit_code, return_code, body_code as code_of_body}
+use Rattle.c0_stmt_code.specs.Emit.{IsEmittable, AreEmittable, IsEmittableBody}
+use Rattle.c0_stmt_code.specs.EmitLeaf.{CanStand}
+use Rattle.c0_stmt_code.specs.Ranges.{AreNear}
+
+abbrev Fine : List Inst → Type 0
+Fine is = All InRange is
+
+none : Fine []
+none = All-nil InRange
+
+front : (i : Inst) (is : List Inst) → InRange i → Fine is → Fine (i ∷ is)
+front i is h g = All-cons InRange i is h g
+
+both : (is js : List Inst) → Fine is → Fine js → Fine (is ++ js)
+both is js h g = All-append InRange is js h g
+
+either : (b : Bool) (is js : List Inst) → Fine is → Fine js → Fine (if b then is else js)
+either true is js h g = h
+either false is js h g = g
+
+constants : (d n : ℕ) → d < 32 → Fine (constant_code d n)
+constants d n h = elim (cases_Bool (nat_lt n (2 ^ 16))) [
+  | inl e ↦
+      let l = ltb-true n (2 ^ 16) e in
+      subst (λ (is : List Inst). Fine is) (sym (cond-true (nat_lt n (2 ^ 16)) (Ori d 0 n ∷ []) (if is_near n then Addiu d 0 (low n) ∷ [] else Lui d (n / 2 ^ 16 % 2 ^ 16) ∷ Ori d d (n % 2 ^ 16) ∷ []) e)) (front (Ori d 0 n) [] (h, omega arith, l) none)
+  | inr e ↦
+      subst (λ (is : List Inst). Fine is) (sym (cond-false (nat_lt n (2 ^ 16)) (Ori d 0 n ∷ []) (if is_near n then Addiu d 0 (low n) ∷ [] else Lui d (n / 2 ^ 16 % 2 ^ 16) ∷ Ori d d (n % 2 ^ 16) ∷ []) e))
+      (either (is_near n) (Addiu d 0 (low n) ∷ []) (Lui d (n / 2 ^ 16 % 2 ^ 16) ∷ Ori d d (n % 2 ^ 16) ∷ []) (front (Addiu d 0 (low n)) [] (h, omega arith, omega arith) none)
+      (front (Lui d (n / 2 ^ 16 % 2 ^ 16)) (Ori d d (n % 2 ^ 16) ∷ []) (h, omega arith) (front (Ori d d (n % 2 ^ 16)) [] (h, h, omega arith) none)))
+]
+
+-- a place without code of its own
+spots : (f : ℕ → ℕ → Inst) (r : ℕ) (x : AddressingMode) → r < 32 → x.base < 32 → Fine x.code → ((b k : ℕ) → b < 32 → k < 2 ^ 16 → InRange (f b k)) → Fine (on_spot f r x)
+spots f r x h b c i =
+    both x.code (if is_near x.displacement then f x.base (low x.displacement) ∷ [] else Lui 1 (high x.displacement) ∷ Addu r x.base 1 ∷ f r (low x.displacement) ∷ []) c
+    (either (is_near x.displacement) (f x.base (low x.displacement) ∷ []) (Lui 1 (high x.displacement) ∷ Addu r x.base 1 ∷ f r (low x.displacement) ∷ [])
+    (front (f x.base (low x.displacement)) [] (i x.base (low x.displacement) b (omega arith)) none)
+    (front (Lui 1 (high x.displacement)) (Addu r x.base 1 ∷ f r (low x.displacement) ∷ []) (omega arith, omega arith)
+    (front (Addu r x.base 1) (f r (low x.displacement) ∷ []) (h, b, omega arith) (front (f r (low x.displacement)) [] (i r (low x.displacement) h (omega arith)) none))))
+
+module _ (sc : Scope) (x : Links) (codes : CodesInRange) (exits : HasNearExits sc) (near : AreNear x) where
+  -- a register in which a variable stands
+  stands : (e : CExpr) (q : ℕ) → need e ≤ 24 → (made sc e).stands ≡ Some q → q < 32
+  stands e q h is = let r = codes.register sc exits e 8 (omega (arith, h)) in let same = ap (λ (o : Option ℕ). unwrap_or o 8) is in omega (arith, r, same)
+
+  stored : (q r : ℕ) (p : CExpr) (o : Option ℕ) → q < 32 → r + need p ≤ 32 → ((y : ℕ) → o ≡ Some y → y < 32) → Fine (stored_code q r o (made sc p).place)
+  stored q r p (Some y) h room s = front (Addu y q 0) [] (s y refl, h, omega arith) none
+  stored q r p None h room s = codes.store sc exits p q r h room
+
+  answer : (p : CExpr) → need p ≤ 12 → Fine (answer_code sc p)
+  answer p h = stored 2 8 p (made sc p).stands (omega arith) (omega (arith, h)) (λ y e. stands p y (omega (arith, h)) e)
+
+  assigned : (p v : CExpr) (o : Option ℕ) → need p ≤ 11 → need v ≤ 12 → ((y : ℕ) → o ≡ Some y → y < 32) → Fine (assigned_code o (made sc p) (made sc v))
+  assigned p v (Some y) h g s = codes.value sc exits v y 8 (s y refl) (omega (arith, g))
+  assigned p v None h g s =
+      both (operand_code (made sc v) 8) (store_code (operand_register (made sc v) 8) 9 ((made sc p).place 9)) (codes.operand sc exits v 8 (omega (arith, g)))
+      (codes.store sc exits p (operand_register (made sc v) 8) 9 (codes.register sc exits v 8 (omega (arith, g))) (omega (arith, h)))
+
+  args : (es : List CExpr) (i : ℕ) → EachOf (CanStand sc.env 12) es → Fine (args_code sc es i)
+  args [] i h = none
+  args (e ∷ es) i h =
+      both (value_code sc e (register_of i) 8) (args_code sc es (suc i)) (codes.value sc exits e (register_of i) 8 (omega arith) (let r = (All-head (CanStand sc.env 12) e es h).room in omega (arith, r))) (args es (suc i) (All-tail (CanStand sc.env 12) e es h))
+
+  callees : (k : Kind) (n : ℕ) → callee_index x k n < 2 ^ 26
+  callees Unresolved n = omega arith
+  callees Struct n = omega arith
+  callees Field n = omega arith
+  callees Global n = omega arith
+  callees Local n = omega arith
+  callees Function n = near.function n
+  callees Primitive n = near.primitive n
+
+  others : (b : CStmts) (is : List Inst) → Fine is → Fine (otherwise b is)
+  others done is h = none
+  others (next s rest) is h = front (skip (length is)) is (omega arith, omega arith, omega arith) h
+
+  mutual
+    statement : (t : CStmt) → IsEmittable sc.env t → Fine (stmt_code sc x t)
+    statement (assign s p v) h =
+        let hp = h.0.room in
+        let hv = h.1.room in
+        assigned p v (made sc p).stands hp hv (λ y e. stands p y (omega (arith, hp)) e)
+    statement (call s p cs f as_) h =
+        both (args_code sc as_ 0) (Jal (callee_index x f.kind f.number) ∷ answer_code sc p) (args as_ 0 h.1) (front (Jal (callee_index x f.kind f.number)) (answer_code sc p) (callees f.kind f.number) (answer p h.0.room))
+    statement (new s p t ts) h =
+        both (constant_code 2 (words sc.env.structs (ty_of t) % 2 ^ 32)) (Jal x.new_object ∷ answer_code sc p) (constants 2 (words sc.env.structs (ty_of t) % 2 ^ 32) (omega arith)) (front (Jal x.new_object) (answer_code sc p) near.new_object (answer p h.0.room))
+    statement (choice s t a b) h =
+        let r = h.0.room in
+        both (test_code sc t false ((length (stmts_code sc x a) + otherwise_at b) % 2 ^ 16) 8) (stmts_code sc x a ++ otherwise b (stmts_code sc x b)) (codes.test sc exits t false ((length (stmts_code sc x a) + otherwise_at b) % 2 ^ 16) 8 (omega arith) (omega (arith, r)))
+        (both (stmts_code sc x a) (otherwise b (stmts_code sc x b)) (statements a h.1) (others b (stmts_code sc x b) (statements b h.2)))
+    statement (loop s t b) h =
+        let r = h.0.room in
+        front (skip (length (stmts_code sc x b))) (stmts_code sc x b ++ turn_code sc t (stmts_code sc x b)) (omega arith, omega arith, omega arith)
+        (both (stmts_code sc x b) (turn_code sc t (stmts_code sc x b)) (statements b h.1) (codes.test sc exits t true (back sc t (stmts_code sc x b)) 8 (omega arith) (omega (arith, r))))
+
+    statements : (ss : CStmts) → AreEmittable sc.env ss → Fine (stmts_code sc x ss)
+    statements done h = none
+    statements (next s rest) h = both (stmt_code sc x s) (stmts_code sc x rest) (statement s h.0) (statements rest h.1)
+
+  -- code on a word of the frame
+  framed : (f : ℕ → ℕ → Inst) (r i : ℕ) → r < 32 → ((b k : ℕ) → b < 32 → k < 2 ^ 16 → InRange (f b k)) → Fine (on_spot f r (frame_spot sc i))
+  framed f r i h g = spots f r (frame_spot sc i) h (omega arith) none g
+
+  ends : (d n : ℕ) → d < 32 → Fine (end_code d n)
+  ends d n h = spots (λ b k. Addiu d b k) d (record { code = []; base = 29; displacement = n % 2 ^ 32 }) h (omega arith) none (λ b k l m. (h, l, m))
+
+  tests_stack : (d : ℕ) → d < 32 → Fine (stack_test sc d)
+  tests_stack d h =
+      both (large_code sc) (end_code d (4 * sc.frame) ++ (Sltu 1 30 d ∷ Beq 1 0 1 ∷ J (sc.exit StackOut) ∷ [])) (either (nat_lt 262144 sc.frame) (J (sc.exit StackOut) ∷ []) [] (front (J (sc.exit StackOut)) [] (exits StackOut) none) none)
+      (both (end_code d (4 * sc.frame)) (Sltu 1 30 d ∷ Beq 1 0 1 ∷ J (sc.exit StackOut) ∷ []) (ends d (4 * sc.frame) h)
+      (front (Sltu 1 30 d) (Beq 1 0 1 ∷ J (sc.exit StackOut) ∷ []) (omega arith, omega arith, h) (front (Beq 1 0 1) (J (sc.exit StackOut) ∷ []) (omega arith, omega arith, omega arith) (front (J (sc.exit StackOut)) [] (exits StackOut) none))))
+
+  saves : (b : Bool) → Fine (save_code sc b)
+  saves true = framed (λ b k. Sw 31 b k) 1 0 (omega arith) (λ b k l m. (omega arith, l, m))
+  saves false = none
+
+  restores : (b : Bool) → Fine (restore_code sc b)
+  restores true = framed (λ b k. Lw 31 b k) 1 0 (omega arith) (λ b k l m. (omega arith, l, m))
+  restores false = none
+
+  params_stored : (n i : ℕ) → Fine (params_code sc n i)
+  params_stored zero i = none
+  params_stored (suc n) i =
+      both (on_spot (λ b k. Sw (register_of i) b k) 1 (frame_spot sc (3 + i))) (params_code sc n (suc i)) (framed (λ b k. Sw (register_of i) b k) 1 (3 + i) (omega arith) (λ b k l m. (omega arith, l, m))) (params_stored n (suc i))
+
+  zeros_stored : (n i : ℕ) → Fine (zeros_code sc n i)
+  zeros_stored zero i = none
+  zeros_stored (suc n) i = both (on_spot (λ b k. Sw 0 b k) 1 (frame_spot sc i)) (zeros_code sc n (suc i)) (framed (λ b k. Sw 0 b k) 1 i (omega arith) (λ b k l m. (omega arith, l, m))) (zeros_stored n (suc i))
+
+  zeros_looped : (i : ℕ) → Fine (zeros_loop sc i)
+  zeros_looped i =
+      both (on_spot (λ b k. Addiu 2 b k) 2 (frame_spot sc i)) (Sw 0 2 0 ∷ Addiu 2 2 4 ∷ Bne 2 29 65533 ∷ []) (framed (λ b k. Addiu 2 b k) 2 i (omega arith) (λ b k l m. (omega arith, l, m)))
+      (front (Sw 0 2 0) (Addiu 2 2 4 ∷ Bne 2 29 65533 ∷ []) (omega arith, omega arith, omega arith) (front (Addiu 2 2 4) (Bne 2 29 65533 ∷ []) (omega arith, omega arith, omega arith) (front (Bne 2 29 65533) [] (omega arith, omega arith, omega arith) none)))
+
+  clears : (n i : ℕ) → Fine (clear_code n i)
+  clears zero i = none
+  clears (suc n) i = front (Addu (register_of i) 0 0) (clear_code n (suc i)) (omega arith, omega arith, omega arith) (clears n (suc i))
+
+  frame_begins : (params words : ℕ) (b : Bool) → Fine (frame_entry sc params words b)
+  frame_begins params words b =
+      both (stack_test sc 29) (save_code sc b ++ (params_code sc params 0 ++ locals_code sc words (3 + params))) (tests_stack 29 (omega arith))
+      (both (save_code sc b) (params_code sc params 0 ++ locals_code sc words (3 + params)) (saves b)
+      (both (params_code sc params 0) (locals_code sc words (3 + params)) (params_stored params 0) (either (nat_le words 8) (zeros_code sc words (3 + params)) (zeros_loop sc (3 + params)) (zeros_stored words (3 + params)) (zeros_looped (3 + params)))))
+
+  register_saves : (b : Bool) → Fine (if b then Sw 31 29 0 ∷ [] else [])
+  register_saves b = either b (Sw 31 29 0 ∷ []) [] (front (Sw 31 29 0) [] (omega arith, omega arith, omega arith) none) none
+
+  register_begins : (params locals : ℕ) (b : Bool) → Fine (register_entry sc params locals b)
+  register_begins params locals b =
+      both (stack_test sc 1) ((if b then Sw 31 29 0 ∷ [] else []) ++ clear_code locals params) (tests_stack 1 (omega arith)) (both (if b then Sw 31 29 0 ∷ [] else []) (clear_code locals params) (register_saves b) (clears locals params))
+
+  returns_by : Fine (Jr 31 ∷ [])
+  returns_by = front (Jr 31) [] (omega arith) none
+
+  begins : (params : ℕ) (locals : List CDecl) (b : Bool) → Fine (entry_code sc params locals b)
+  begins params locals b =
+      either sc.in_registers (register_entry sc params (length locals) b) (frame_entry sc params (all_words sc.env.structs (map typed_of locals)) b) (register_begins params (length locals) b) (frame_begins params (all_words sc.env.structs (map typed_of locals)) b)
+
+  leaves : (b : Bool) → Fine (exit_code sc b)
+  leaves b =
+      either sc.in_registers (register_return b) (frame_return sc b)
+      (both (if b then Lw 31 29 0 ∷ [] else []) (Jr 31 ∷ []) (either b (Lw 31 29 0 ∷ []) [] (front (Lw 31 29 0) [] (omega arith, omega arith, omega arith) none) none) returns_by)
+      (both (restore_code sc b) (end_code 29 (frame_back sc) ++ (Jr 31 ∷ [])) (restores b) (both (end_code 29 (frame_back sc)) (Jr 31 ∷ []) (ends 29 (frame_back sc) (omega arith)) returns_by))
+
+  argument_fine : (count i : ℕ) → i < 4 → InRange (argument_code count i)
+  argument_fine count i h = (omega (arith, h), from_which (nat_lt i count), omega arith)
+    where
+      from_which : (b : Bool) → (if b then 20 + i else 0) < 32
+      from_which true = omega (arith, h)
+      from_which false = omega arith
+
+  arguments_fine : (count : ℕ) → Fine (arguments_code count)
+  arguments_fine count =
+      front (Addu 2 0 0) (Addu 3 0 0 ∷ argument_code count 0 ∷ argument_code count 1 ∷ argument_code count 2 ∷ argument_code count 3 ∷ []) (omega arith, omega arith, omega arith)
+      (front (Addu 3 0 0) (argument_code count 0 ∷ argument_code count 1 ∷ argument_code count 2 ∷ argument_code count 3 ∷ []) (omega arith, omega arith, omega arith)
+      (front (argument_code count 0) (argument_code count 1 ∷ argument_code count 2 ∷ argument_code count 3 ∷ []) (argument_fine count 0 (omega arith))
+      (front (argument_code count 1) (argument_code count 2 ∷ argument_code count 3 ∷ []) (argument_fine count 1 (omega arith))
+      (front (argument_code count 2) (argument_code count 3 ∷ []) (argument_fine count 2 (omega arith)) (front (argument_code count 3) [] (argument_fine count 3 (omega arith)) none)))))
+
+  module _ (encoded : (ws : List ℕ) → IsTrue (are_allowed_words ws) → AreEncoded ws) where
+    -- the code of a body
+    pub body_fine : (params : ℕ) (b : CBody) → IsEmittableBody sc.env params b → Fine (code_of_body sc x params b)
+    body_fine params (code locals stmts ans) h =
+        let r = h.1.room in
+        both (entry_code sc params locals (are_calling stmts)) (stmts_code sc x stmts ++ return_code sc (are_calling stmts) ans) (begins params locals (are_calling stmts))
+        (both (stmts_code sc x stmts) (return_code sc (are_calling stmts) ans) (statements stmts h.0)
+        (both (value_code sc ans 2 8) (exit_code sc (are_calling stmts)) (codes.value sc exits ans 2 8 (omega arith) (omega (arith, r))) (leaves (are_calling stmts))))
+    body_fine params (asm text span ws) h =
+        both (stack_test sc 1) (asm_code params ws ++ (Jr 31 ∷ [])) (tests_stack 1 (omega arith))
+        (both (asm_code params ws) (Jr 31 ∷ []) (both (arguments_code params) (body_code ws) (arguments_fine params) (encoded ws h.1).range) returns_by)

@@ -1,0 +1,89 @@
+-- What the proofs of this crate take from the crates below, as premises.
+use Rattle.std.proofs.Common.{◌≡◌, ◌≢◌, ℕ, ◌+◌, ◌*◌, ◌<◌, ◌≤◌, Bool, List, [], ◌∷◌, ◌++◌, length}
+use Rattle.mips_table.specs.Code.{World}
+use Rattle.c0_tree.specs.Primitives.{CPrimitive}
+use Rattle.c0_tree.specs.Size.{need, nodes, stmts_nodes}
+use Rattle.c0_tree.specs.Tree.{asm, CTy, CExpr, CStmts, code, CDecl, CFunction, CUnit}
+use Rattle.c0_meaning.specs.Ty.{Ty, bool, is_scalar, ty_of}
+use Rattle.c0_meaning.specs.Ty as ty
+use Rattle.c0_meaning.specs.Asm.{are_allowed_words}
+use Rattle.c0_tree.specs.declared.tree.Span.{Span}
+use Rattle.c0_meaning.specs.Limits.{locals_of}
+use Rattle.c0_meaning.specs.Typed.{IsDeclarable}
+use Rattle.c0_meaning.specs.Numbered.{is_frame_place, IsNumberedGiven, IsNumberedLeft, IsNumberedTest, AreNumbered}
+use Rattle.c0_meaning.specs.Env.{Env, Shape, typed_of, env_of}
+use Rattle.c0_meaning.specs.Value.{Region, globals, heap, locals, Location, Value, Values, group, followed_by, with_part, zero_of, zeros_of, value_with}
+use Rattle.c0_meaning.specs.State.{Frame, C0State, write, pushed}
+use Rattle.c0_meaning.specs.Sound.{shapes}
+use Rattle.c0_meaning.specs.Addresses.{words_to_part}
+use Rattle.c0_meaning.specs.TypedState.{types_of, LeadsFrom, Fits, AllFit, variable_types, store_typing, IsTypedWith}
+use Rattle.c0_meaning.specs.Evaluation.{value_of, place_of}
+use Rattle.std.specs.Prelude.{None, Some, IsTrue, map, slice_get}
+use Rattle.c0_expr_code.specs.Scope.{Scope}
+use Rattle.c0_expr_code.specs.Code.{operand_code, made, value_code}
+use Rattle.c0_expr_code.specs.Test.{test_code}
+use Rattle.c0_expr_code.specs.Bases.{Bases, words_of_all, word, RegionHeld}
+use Rattle.c0_expr_code.specs.Relation.{ValueRuns, OperandRuns, PlaceRuns, TestRuns}
+
+-- the code of a function's expressions does what they mean, in a state that stands in the machine
+pub record ExpressionsDo (w : World) (env : Env) (sc : Scope) (p : Bases) (s : C0State) : Type 0 where
+  pub value : (e : CExpr) (t : Ty) → IsNumberedGiven env e t → IsTrue (is_scalar t) → nodes e ≤ 2000 → ValueRuns w sc p s (made sc e) (need e) t (value_of e s)
+  pub operand : (e : CExpr) (t : Ty) → IsNumberedGiven env e t → IsTrue (is_scalar t) → nodes e ≤ 2000 → OperandRuns w sc p s (made sc e) (need e) t (value_of e s)
+  pub place : (e : CExpr) (t : Ty) → IsNumberedLeft env e t → nodes e ≤ 2000 → (made sc e).stands ≡ None → PlaceRuns w sc p s (made sc e) (need e) (is_frame_place e) t (place_of e s)
+  pub test : (e : CExpr) → IsNumberedGiven env e bool → nodes e ≤ 2000 → TestRuns w sc p s e
+
+-- what stands in words stays while these stay, and a scalar that is stored in its word stands there
+pub record HeldStays (structs : List Shape) : Type 0 where
+  pub same : (sc : Scope) (p : Bases) (m m' : ℕ → ℕ) (a : ℕ) (types : List Ty) (v : Value) → sc.env.structs ≡ structs → ((x : ℕ) → a ≤ x → x < a + words_of_all structs types → m' x ≡ m x) → RegionHeld sc p m a types v → RegionHeld sc p m' a types v
+  pub stored : (sc : Scope) (p : Bases) (m m' : ℕ → ℕ) (a : ℕ) (types : List Ty) (path : List ℕ) (t : Ty) (v x : Value) → sc.env.structs ≡ structs → LeadsFrom structs types path t → IsTrue (is_scalar t) → RegionHeld sc p m a types v
+      → m' (a + words_to_part structs types path) ≡ word sc p x → ((y : ℕ) → y ≢ a + words_to_part structs types path → m' y ≡ m y) → RegionHeld sc p m' a types (value_with v path x)
+  pub inside : (types : List Ty) (path : List ℕ) (t : Ty) → LeadsFrom structs types path t → IsTrue (is_scalar t) → words_to_part structs types path < words_of_all structs types
+
+-- the types of a region's variables or objects, for a function
+abbrev pub types_for : CUnit → List Ty → CFunction → Region → List Ty
+types_for u objects f globals = types_of (map typed_of u.globals)
+types_for u objects f heap = objects
+types_for u objects f locals = variable_types f
+
+-- a typed state stays typed where a value that fits is stored, where frames come and go, and where the heap has an object more; values at their start fit
+pub record TypedStays (u : CUnit) : Type 0 where
+  pub written : (objects : List Ty) (s : C0State) (g : Frame) (fs : List Frame) (f : CFunction) (l : Location) (t : Ty) (v : Value) → s.frames ≡ g ∷ fs → slice_get u.functions g.function ≡ Some f → IsTypedWith u objects s
+      → LeadsFrom (shapes u) (types_for u objects f l.region) l.path t → Fits (shapes u) (store_typing u objects) t v → IsTypedWith u objects (write s l v)
+  pub popped : (objects : List Ty) (s : C0State) (g : Frame) (fs : List Frame) → s.frames ≡ g ∷ fs → IsTypedWith u objects s → IsTypedWith u objects (record s { frames = fs })
+  pub zeros : (objects : List Ty) (n : ℕ) (f : CFunction) (locals : List CDecl) (stmts : CStmts) (answer : CExpr) → slice_get u.functions n ≡ Some f → f.body ≡ code locals stmts answer
+      → AllFit (shapes u) (store_typing u objects) (types_of (map typed_of locals)) (zeros_of (shapes u) (map typed_of locals))
+  pub entered : (objects : List Ty) (s : C0State) (n : ℕ) (f : CFunction) (locals : List CDecl) (stmts : CStmts) (answer : CExpr) (args : Values) → slice_get u.functions n ≡ Some f → f.body ≡ code locals stmts answer → IsTypedWith u objects s
+      → AllFit (shapes u) (store_typing u objects) (types_of (map typed_of f.params)) args → IsTypedWith u objects (pushed (record { function = n; variables = group (followed_by args (zeros_of (shapes u) (map typed_of locals))) }) s)
+  pub zero : (objects : List Ty) (t : CTy) → IsDeclarable (shapes u) t → Fits (shapes u) (store_typing u objects) (ty_of t) (zero_of (shapes u) (ty_of t))
+  pub grown : (objects : List Ty) (gv hv : Value) (hw n : ℕ) (frames : List Frame) (t : Ty) (v : Value) → IsTypedWith u objects (record { global_values = gv; heap_values = hv; heap_words = hw; frames = frames }) → Fits (shapes u) (store_typing u (objects ++ t ∷ [])) t v
+      → IsTypedWith u (objects ++ t ∷ []) (record { global_values = gv; heap_values = with_part hv v; heap_words = hw + n; frames = frames })
+
+-- how long the code of expressions is
+pub record LengthsFit (sc : Scope) : Type 0 where
+  pub value : (e : CExpr) (d r : ℕ) → length (value_code sc e d r) ≤ 14 * nodes e
+  pub value_some : (e : CExpr) (d r : ℕ) → 1 ≤ length (value_code sc e d r)
+  pub operand : (e : CExpr) (r : ℕ) → length (operand_code (made sc e) r) ≤ 14 * nodes e
+  pub place : (e : CExpr) (r : ℕ) → length ((made sc e).place r).code + 3 ≤ 14 * nodes e
+  pub test : (e : CExpr) (s : Bool) (far r : ℕ) → length (test_code sc e s far r) ≤ 15 * nodes e
+  pub test_some : (e : CExpr) (s : Bool) (far r : ℕ) → 1 ≤ length (test_code sc e s far r)
+  pub test_same : (e : CExpr) (s : Bool) (far r : ℕ) → length (test_code sc e s far r) ≡ length (test_code sc e s 0 r)
+
+-- each of these types is a scalar's
+abbrev pub AllScalar : List Ty → Type 0
+AllScalar [] = Unit {0}
+AllScalar (t ∷ ts) = IsTrue (is_scalar t) × AllScalar ts
+
+-- each of these types is int
+abbrev pub AreInts : List Ty → Type 0
+AreInts [] = Unit {0}
+AreInts (t ∷ ts) = (t ≡ ty.int) × AreInts ts
+
+-- what is known of the functions of a unit
+pub record FunctionsAre (table : List CPrimitive) (u : CUnit) : Type 0 where
+  pub scalars : (n : ℕ) (f : CFunction) → slice_get u.functions n ≡ Some f → AllScalar (types_of (map typed_of f.params))
+  pub answers : (n : ℕ) (f : CFunction) → slice_get u.functions n ≡ Some f → IsTrue (is_scalar (ty_of f.answer))
+  pub few : (n : ℕ) (f : CFunction) → slice_get u.functions n ≡ Some f → length f.params ≤ 8
+  pub typed : (n : ℕ) (f : CFunction) (locals : List CDecl) (stmts : CStmts) (answer : CExpr) → slice_get u.functions n ≡ Some f → f.body ≡ code locals stmts answer
+      → AreNumbered (env_of table u (f.params ++ locals_of f.body)) stmts × IsNumberedTest (env_of table u (f.params ++ locals_of f.body)) answer (ty_of f.answer)
+  pub nodes : (n : ℕ) (f : CFunction) (locals : List CDecl) (stmts : CStmts) (answer : CExpr) → slice_get u.functions n ≡ Some f → f.body ≡ code locals stmts answer → stmts_nodes stmts + nodes answer ≤ 2000
+  pub asms : (n : ℕ) (f : CFunction) (bytes : List ℕ) (span : Span) (words : List ℕ) → slice_get u.functions n ≡ Some f → f.body ≡ asm bytes span words → AreInts (types_of (map typed_of f.params)) × (length f.params ≤ 4) × (ty_of f.answer ≡ ty.int) × IsTrue (are_allowed_words words)
