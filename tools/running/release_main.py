@@ -18,7 +18,7 @@ BUILT = os.path.join('crates', 'cvm', 'out', 'cvm')
 # How many bytes the packed program has at most.
 MOST = 1000000
 
-USAGE = '''release/build                  proves and builds the program from nothing, some 100 minutes of work for a processor
+USAGE = '''release/build                  proves and builds the program from nothing, several crates at a time: some 100 minutes of work for a processor
 release/build --from PROGRAM   takes the program that a gate or `rt run` has just built: crates/cvm/out/cvm of a clone with these sources
 Either says `the same` where it is the stored one, and else stores it.
 release/build --same PROGRAM   stores nothing; its status is 1 where a program that was just built so is another than the stored one'''
@@ -76,8 +76,8 @@ def clone_of(path):
 
 
 def build_in(room, rt):
-    """Proves and builds the program in a folder with nothing but the sources."""
-    for name in [*files_below(TOP), 'HANDLES']:
+    """Proves and builds the program in a folder with nothing but the sources, and what the program is tried with, as a gate does: several crates at a time."""
+    for name in [*files_below(TOP), *tried_with(), 'HANDLES']:
         os.makedirs(os.path.dirname(os.path.join(room, name)), exist_ok=True)
         shutil.copyfile(os.path.join(TOP, name), os.path.join(room, name))
     below = kept.crates_below('cvm')
@@ -87,13 +87,22 @@ def build_in(room, rt):
         file.writelines(rows)
     say('release/build: proves and builds the program, which is some 100 minutes of work for a processor.')
     with open(os.path.join(room, 'log'), 'w+', encoding='utf-8', errors='replace') as log:
-        subprocess.run([rt, 'run'], cwd=os.path.join(room, 'crates', 'cvm'), stdin=subprocess.DEVNULL, stdout=subprocess.DEVNULL, stderr=log)
+        ran = subprocess.run([rt, 'ci', '--anew'], cwd=room, stdin=subprocess.DEVNULL, stdout=log, stderr=subprocess.STDOUT)
         log.seek(0)
         end = log.read().strip().split('\n')[-20:]
     made = os.path.join(room, BUILT)
-    if not os.path.isfile(made + '.stamp'):  # rt writes it behind a whole proof alone
+    if ran.returncode or not os.path.isfile(made):
         raise Bad('the build failed. The end of what it said:\n' + '\n'.join('  ' + line for line in end), 70)
     return made
+
+
+def tried_with():
+    """What the gate gives the program, and what it is to print."""
+    top = os.path.join(TOP, 'crates', 'cvm')
+    found = [name for name in ('args', 'stdin', 'stdout', 'status') if os.path.isfile(os.path.join(top, name))]
+    if os.path.isdir(os.path.join(top, 'data')):
+        found += [os.path.join('data', name) for name in os.listdir(os.path.join(top, 'data'))]
+    return [os.path.join('crates', 'cvm', name) for name in sorted(found)]
 
 
 def starts(path, room):
