@@ -87,7 +87,7 @@ fn division(exit: u32) -> Block<3>
     ensures { result ≡ map encoding (division_code exit) }
 {
     block! {
-        bne ARGUMENTS + 1, ZERO, 1;
+        bne ARGUMENTS + 1, ZERO, 1;     // over the next line
         j exit / 4;
         div ARGUMENTS, ARGUMENTS + 1;
     }

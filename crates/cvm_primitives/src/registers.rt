@@ -48,6 +48,7 @@ fn check_arguments(bad: u32, users: u32, work: &Block<2>) -> Block<15>
     requires users { users ≤ 64 }
     ensures { result ≡ check_arguments_words bad users work.now }
 {
+    // This call tells the prover that `work` has at most two words, so that all fits.
     let _fits = work.len();
     block! {
         then check_user(bad, users);

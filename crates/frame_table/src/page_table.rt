@@ -7,16 +7,16 @@ ghost use Rattle.frame_table.specs.Code.{walk_page_table_code};
 use layer_map::Map;
 use masm::roles::{ENTRY, FRAME, PAGE, T0, VALID};
 use masm::{Code, block, code, load_immediate};
-use mips_table::Inst;
+use mips_table::{Inst, VALID_BIT};
 
 /// The entry's address, by that of the page tables in ENTRY, and its frame and valid bit.
 const ENTRY_OF_PAGE: [Inst; 7] = code! {
     sll T0, PAGE, 2;                // an entry has four bytes
     addu ENTRY, ENTRY, T0;
     lw T0, 0(ENTRY);
-    srl FRAME, T0, 12;
-    srl VALID, T0, 11;              // bit 11 comes to bit 0
-    sll VALID, VALID, 31;           // and all above it goes
+    srl FRAME, T0, 12;              // the frame's number stands in bits 31 to 12
+    srl VALID, T0, VALID_BIT;       // the valid bit comes to bit 0
+    sll VALID, VALID, 31;           // and by two shifts all above it goes
     srl VALID, VALID, 31;
 };
 

@@ -1,10 +1,5 @@
 // Where the layer and the kernel's code meet.
 
-ghost use Rattle.std.specs.Prelude.{◌≡◌};
-ghost use Rattle.layer_contract.specs.Layer.{layer_entry, IsEntry};
-
-use layer_map::{EXITS, LEAVE, PRIMITIVES, UNIT_ENTRY};
-
 /// Where the layer and the kernel's code meet.
 #[derive(Clone, Copy, Debug, PartialEq, Eq)]
 pub enum Entry {
@@ -16,20 +11,4 @@ pub enum Entry {
     Fault(u32),
     /// `dispatch` has answered.
     Leave,
-}
-
-impl Entry {
-    /// Its address, in bytes, which is the same in every layer: `dispatch` begins the kernel's code, and the others are a word each
-    /// from 0x2000 on.
-    pub fn address(self) -> u32
-        requires { IsEntry self }
-        ensures { result ≡ layer_entry self }
-    {
-        match self {
-            Entry::Dispatch => UNIT_ENTRY,
-            Entry::Primitive(number) => PRIMITIVES + 4 * number,
-            Entry::Fault(power) => EXITS + 4 * (power - 1),
-            Entry::Leave => LEAVE,
-        }
-    }
 }

@@ -1,9 +1,7 @@
 // A layer: what the code below the kernel does, as laws of a trait.
 ghost use Rattle.std.specs.Prelude.{◌≡◌, ℕ, List};
 ghost use Rattle.layer_map.specs.Map.{Map, MapInRange};
-ghost use Rattle.layer_contract.specs.Layer.{layer_entry, IsEntry, LawsAnyCode, Linked};
-
-use crate::entry::Entry;
+ghost use Rattle.layer_contract.specs.Layer.{LawsAnyCode, Linked};
 
 /// The code below the kernel, made for a map and for users of certain sizes in pages.
 pub trait Layer {
@@ -19,11 +17,6 @@ pub trait Layer {
     /// The words that stand in memory at the start.
     fn words(&self) -> &[u32]
         ensures { result.now ≡ image self.now };
-
-    /// The address of an entry.
-    fn place(&self, entry: Entry) -> u32
-        requires { IsEntry entry }
-        ensures { result ≡ layer_entry entry };
 
     /// A law of each layer, which does nothing: what its variables and control blocks hold at load, where its map is in range; and
     /// the laws of entering and leaving the kernel, of each primitive, of each fault exit and of a handled fault, of a memory that holds

@@ -107,13 +107,6 @@ impl Map {
         4 * next_page(self.stack() / 4 + self.params.stack)
     }
 
-    /// The address behind the last word of the page tables.
-    pub fn page_tables_end(&self) -> u32
-        ensures { result ≡ 4 * (tables_at self.now + self.now.users * self.now.params.pages) }
-    {
-        4 * (self.page_tables() / 4 + self.users * self.params.pages)
-    }
-
     /// The first address of the frame table. It has eight words for each user frame, and then for the zero frame.
     pub fn frame_table(&self) -> u32
         ensures { result ≡ 4 * frame_table_at self.now }

@@ -1,7 +1,7 @@
 //! What the layer keeps in registers, by name.
 //!
-//! T0 to T3 are temporaries: what one of them holds is for the next lines alone. Every other name means the same in all blocks; a number with
-//! two names has two meanings, at different times.
+//! T0 to T3 are temporaries: what one of them holds is for the next lines alone. Every other name but ENTRY means the same in all blocks; a
+//! number with two names has two meanings, at different times.
 
 /// Always 0.
 pub const ZERO: u32 = 0;
@@ -54,7 +54,7 @@ pub const VICTIM_AT: u32 = 18;
 /// The address of the count of the frame at the hand, before its list.
 pub const LIST: u32 = 19;
 
-/// The address of the page's entry.
+/// The address of the page's entry; while a frame is emptied, and until the entry is found, that of the first entry of all.
 pub const ENTRY: u32 = 20;
 
 /// The frame that an entry names.

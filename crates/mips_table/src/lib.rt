@@ -21,5 +21,8 @@ pub use decoding::decode;
 pub use effect::{Effect, effect_of};
 pub use encoding::encode;
 pub use inst::Inst;
-pub use special::{ECA, EDATA, EMODE, EPC, ESR, IS_PROTECTED, IS_VALID, MODE, PTL, PTO, SR};
+pub use special::{
+    ECA, EDATA, EMODE, EPC, ESR, IS_PROTECTED, IS_VALID, MODE, PROTECTED_BIT, PTL, PTO, SR,
+    VALID_BIT,
+};
 pub use table::{Row, Table, mips32, mnemonic_of};

@@ -27,8 +27,14 @@ pub const MODE: u32 = 7;
 /// The mode before the interrupt: what MODE becomes at an eret.
 pub const EMODE: u32 = 8;
 
-/// In an entry, bit 11: it is valid.
+/// The number of the bit of an entry that says that it is valid.
+pub const VALID_BIT: u32 = 11;
+
+/// That bit as a mask.
 pub const IS_VALID: u32 = 2048;
 
-/// In an entry, bit 10: its page is protected, so no store goes there.
+/// The number of the bit of an entry that says that its page is protected, so no store goes there.
+pub const PROTECTED_BIT: u32 = 10;
+
+/// That bit as a mask.
 pub const IS_PROTECTED: u32 = 1024;

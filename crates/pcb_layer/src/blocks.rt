@@ -39,6 +39,7 @@ fn load_registers(base: u32, offset: u32, count: u32) -> Block<31>
 pub fn restore_registers() -> Block<31>
     ensures { result ≡ map encoding (restore_registers_code 31) }
 {
+    // The area's first word is that of register 1: register 0 has none.
     load_registers(ZERO, VARIABLES / 4 - 1, 31)
 }
 

@@ -4,7 +4,7 @@ ghost use Rattle.real_layer.specs.Image.{layer_image};
 
 use crate::image::layer_words;
 use crate::laws::{the_image_is_linked, the_layer_is_lawful};
-use layer_contract::{Entry, Layer, LayerMaker};
+use layer_contract::{Layer, LayerMaker};
 use layer_map::Map;
 use std::alloc::{AllocError, Global};
 use std::marker::Model;
@@ -57,10 +57,6 @@ impl Layer for RealLayer {
 
     fn words(&self) -> &[u32] {
         &self.words
-    }
-
-    fn place(&self, entry: Entry) -> u32 {
-        entry.address()
     }
 
     fn keeps_laws(&self) {

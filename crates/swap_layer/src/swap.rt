@@ -64,7 +64,7 @@ fn run_disk_command(sector: u32, order: u32) -> Block<6>
 /// The frame at the address in VICTIM_AT is to be moved to the disk's buffer.
 const FROM_FRAME_TO_BUFFER: [Inst; 3] = code! {
     addu SOURCE, VICTIM_AT, ZERO;
-    addiu TARGET, ZERO, BUFFER;
+    addiu TARGET, ZERO, BUFFER;     // its sign is extended, so it is 0xffffe000
     addiu WORDS, ZERO, TURNS;       // of eight words each
 };
 
@@ -81,7 +81,7 @@ pub fn swap_out() -> Block<30>
 
 /// The words that were read stand in the disk's buffer.
 const FROM_BUFFER: [Inst; 1] = code! {
-    addiu SOURCE, ZERO, BUFFER;
+    addiu SOURCE, ZERO, BUFFER;     // its sign is extended
 };
 
 /// Code that reads the sector of PAGE into the buffer, whose address SOURCE becomes.
