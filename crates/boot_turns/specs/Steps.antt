@@ -62,7 +62,7 @@ pub record CanFollow (m : Map) (held : Held) (kept : Tracer) (count : ℕ) : Typ
 -- is counted; else nothing is, and the rows are still to be seen to. Where no user is traced there is nothing to count
 pub record CountsStep (current : ℕ) (old new : Option Tracer) (answer : Bool) : Type 0 where
   pub free : answer ≡ true → IfSome old (λ kept. kept.call ≡ None)
-  pub counted : answer ≡ true → new ≡ option_map (counted current) old
+  pub counted : answer ≡ true → new ≡ option_map (counted_step current) old
   pub same : answer ≡ false → new ≡ old
 
 -- what rows keep of a trace: its user, and it has no more steps without a row than before; fewer than 2^32 words are read for them
