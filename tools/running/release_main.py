@@ -18,7 +18,9 @@ BUILT = os.path.join('crates', 'cvm', 'out', 'cvm')
 # How many bytes the packed program has at most.
 MOST = 1000000
 
-USAGE = '''release/build                  proves and builds the program from nothing, several crates at a time: some 100 minutes of work for a processor
+USAGE = '''release/build                  proves and builds the program from the sources alone, several crates at a time: some 100 minutes of work for a processor,
+                               but for what a run of the toolchain on this machine has proved of the same files and kept
+release/build --anew           the same, and takes nothing that was kept
 release/build --from PROGRAM   takes the program that a gate or `rt run` has just built: crates/cvm/out/cvm of a clone with these sources
 Either says `the same` where it is the stored one, and else stores it.
 release/build --same PROGRAM   stores nothing; its status is 1 where a program that was just built so is another than the stored one'''
@@ -75,7 +77,7 @@ def clone_of(path):
     return top
 
 
-def build_in(room, rt):
+def build_in(room, rt, anew):
     """Proves and builds the program in a folder with nothing but the sources, and what the program is tried with, as a gate does: several crates at a time."""
     for name in [*files_below(TOP), *tried_with(), 'HANDLES']:
         os.makedirs(os.path.dirname(os.path.join(room, name)), exist_ok=True)
@@ -87,7 +89,7 @@ def build_in(room, rt):
         file.writelines(rows)
     say('release/build: proves and builds the program, which is some 100 minutes of work for a processor.')
     with open(os.path.join(room, 'log'), 'w+', encoding='utf-8', errors='replace') as log:
-        ran = subprocess.run([rt, 'ci', '--anew'], cwd=room, stdin=subprocess.DEVNULL, stdout=log, stderr=subprocess.STDOUT)
+        ran = subprocess.run([rt, 'ci', *anew], cwd=room, stdin=subprocess.DEVNULL, stdout=log, stderr=subprocess.STDOUT)
         log.seek(0)
         end = log.read().strip().split('\n')[-20:]
     made = os.path.join(room, BUILT)
@@ -210,17 +212,17 @@ def compare(path, folder):
 
 
 def main(words):
-    if words and (len(words) != 2 or words[0] not in ('--from', '--same')):
+    if words not in ([], ['--anew']) and (len(words) != 2 or words[0] not in ('--from', '--same')):
         raise Bad('the words are to be one of these:\n' + USAGE)
     rt, folder, version = kit()
     if words[:1] == ['--same']:
         return compare(words[1], folder)
     with contextlib.ExitStack() as stack:
-        if words:
+        if words[:1] == ['--from']:
             clone_of(words[1])
             made = words[1]
         else:
-            made = build_in(stack.enter_context(tempfile.TemporaryDirectory(prefix='cvm-release-')), rt)
+            made = build_in(stack.enter_context(tempfile.TemporaryDirectory(prefix='cvm-release-')), rt, words)
         data = stripped(made, folder)
     program.put_line('release/build: ' + store(data, description(data, version)))
     return 0
