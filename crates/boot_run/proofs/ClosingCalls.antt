@@ -46,20 +46,21 @@ use Rattle.boot_turns.specs.declared.answers.View.TheVariants.{Boot, Trace}
 use Rattle.boot_turns.specs.declared.answers.RunFault.{RunFault}
 use Rattle.boot_turns.specs.Runs.{Run, Past, cvm_at}
 use Rattle.boot_turns.specs.RowScripts.{of_run}
-use Rattle.boot_turns.specs.LoopScripts.{AreOfRun}
-use Rattle.boot_turns.proofs.SomeCalls.{untold, made_untold, untold_both}
+use Rattle.boot_turns.proofs.SomeCalls.{untold, made_untold}
 use Rattle.boot_run.specs.declared.places.Places.{Places}
 use Rattle.boot_run.specs.Closing.{says, boot_report, trace_report, last_steps, user_script}
 use Rattle.boot_run.specs.LoadEnds.{Kept, viewed, tracer_fits}
 use Rattle.boot_run.specs.Placed.{PlacesHold}
 use Rattle.boot_run.specs.Report.{runs_now, closing_calls, trace_calls}
 use Rattle.boot_run.specs.RunCalls.{run_at, report_script, TellsFrom, ReportCalls}
+use Rattle.boot_run.specs.RunScript.{AreReads}
 use Rattle.boot_run.specs.Shown.{has_faulted}
 use Rattle.boot_run.specs.Sink.{Base}
 use Rattle.boot_run.specs.TurnCalls.{ended_of, around, Ready, Traces}
 use Rattle.boot_run.proofs.TraceRoom.{user_there}
 use Rattle.boot_run.proofs.ReportScripts.{user_script_is, users_script_is}
 use Rattle.boot_run.proofs.Reporting.{its_told, its_map, stands, halting, running, told_rows, told_globals}
+use Rattle.boot_run.proofs.ReadingCalls.{reads_behind}
 use Rattle.boot_run.proofs.ScriptParts.{at}
 use Rattle.boot_run.proofs.TraceReporting.{is_user, told_user, users_are_those}
 
@@ -67,24 +68,24 @@ no_fault : (b : Bool) → b ≡ true → b ≡ false → ⊥
 no_fault b e f = cc
 
 -- which calls a report makes, where nothing is told
-of_if : (b : Bool) (q : ℕ) → AreOfRun (untold (if b then [] else Read q ∷ []))
+of_if : (b : Bool) (q : ℕ) → AreReads (untold (if b then [] else Read q ∷ []))
 of_if true q = tt
 of_if false q = tt
 
-untold_scripts : (f : ℕ → List Call) (n : ℕ) → ((i : ℕ) → AreOfRun (untold (f i))) → AreOfRun (untold (scripts f n))
-untold_scripts f zero h = subst (λ (l : List Call). AreOfRun (untold l)) (sym (scripts-none f)) tt
-untold_scripts f (suc n) h = subst (λ (l : List Call). AreOfRun (untold l)) (sym (scripts-suc f n)) (untold_both (scripts f n) (f n) (untold_scripts f n h) (h n))
+untold_scripts : (f : ℕ → List Call) (n : ℕ) → ((i : ℕ) → AreReads (untold (f i))) → AreReads (untold (scripts f n))
+untold_scripts f zero h = subst (λ (l : List Call). AreReads (untold l)) (sym (scripts-none f)) tt
+untold_scripts f (suc n) h = subst (λ (l : List Call). AreReads (untold l)) (sym (scripts-suc f n)) (reads_behind (scripts f n) (f n) (untold_scripts f n h) (h n))
 
-of_user : (m : Map) (held : Held) (told : Option (List (List ℕ))) (runs : Bool) (u : ℕ) → AreOfRun (untold (reported.user_script m held told runs u))
+of_user : (m : Map) (held : Held) (told : Option (List (List ℕ))) (runs : Bool) (u : ℕ) → AreReads (untold (reported.user_script m held told runs u))
 of_user m held told runs u = untold_scripts (λ p. reported.page_script m (state_of held []) told ((u - 1) * m.params.pages + p) p) (pages_in m held.hardware.memory u) (λ p.
-    untold_both (page_reads m (state_of held []) ((u - 1) * m.params.pages + p)) (Printed (option_map (page_text p) (shown m (state_of held []) told ((u - 1) * m.params.pages + p))) ∷ [])
+    reads_behind (page_reads m (state_of held []) ((u - 1) * m.params.pages + p)) (Printed (option_map (page_text p) (shown m (state_of held []) told ((u - 1) * m.params.pages + p))) ∷ [])
     (of_if (is_resident m (state_of held []) ((u - 1) * m.params.pages + p)) ((u - 1) * m.params.pages + p)) tt)
 
-pub of_closing : (halted : Bool) (current : ℕ) (held : Held) (told : Option (List (List ℕ))) (places : Places) (decls : List Decl) → AreOfRun (untold (closing_calls halted current held told places decls))
+pub of_closing : (halted : Bool) (current : ℕ) (held : Held) (told : Option (List (List ℕ))) (places : Places) (decls : List Decl) → AreReads (untold (closing_calls halted current held told places decls))
 of_closing halted current held told places decls =
     untold_scripts (λ i. reported.user_script places.map held told (i + 1 == runs_now halted current) (i + 1)) places.map.users (λ i. of_user places.map held told (i + 1 == runs_now halted current) (i + 1))
 
-pub of_trace : (halted : Bool) (current : ℕ) (held : Held) (told : Option (List (List ℕ))) (m : Map) (kept : Tracer) → AreOfRun (untold (trace_calls halted current held told m kept))
+pub of_trace : (halted : Bool) (current : ℕ) (held : Held) (told : Option (List (List ℕ))) (m : Map) (kept : Tracer) → AreReads (untold (trace_calls halted current held told m kept))
 of_trace halted current held told m kept = of_user m held told (kept.user == runs_now halted current) kept.user
 
 -- the report of a run that hasn't faulted, by what the abstract machine says of it

@@ -18,6 +18,7 @@ use Rattle.c0_meaning.specs.TypedState.{IsTypedState}
 use Rattle.cvm_model.specs.Kernel.{power_of}
 use Rattle.cvm_model.specs.Cvm.{System, Status, Running, Halted, Faulted, Cvm, IsCvm, first_cvm}
 use Rattle.cvm_model.specs.declared.kernel_fault.KernelFault.{KernelFault}
+use Rattle.cvm_model.specs.declared.row.Next.{Next}
 use Rattle.layer_contract.specs.declared.boot.Boot.{Boot as Booted}
 use Rattle.layer_contract.specs.Boots.{boot_of}
 use Rattle.layer_contract.specs.Layer.{Rests}
@@ -44,6 +45,7 @@ use Rattle.boot_run.specs.TurnCalls.{ended_of, around, Ready, KeepsLoad}
 use Rattle.boot_run.proofs.ClosingCalls.{faulted_script}
 use Rattle.boot_run.proofs.GoScripts.{no_sooner, on_there, goes_before, past_tells}
 use Rattle.boot_run.proofs.Looping.{machines}
+use Rattle.boot_run.proofs.ReadingCalls.{of_run_too}
 use Rattle.boot_run.proofs.ScriptParts.{at}
 use Rattle.boot_run.proofs.Scripting.{goes_none}
 
@@ -57,6 +59,9 @@ other_due : (st : Status) → has_faulted (ended_of st) ≡ false → ends.Done 
 other_due Running e = refl
 other_due Halted e = refl
 other_due (Faulted f) e = absurd (let h = e in cc)
+
+no_other : (o : Option Next) → has_faulted o ≡ true → has_faulted o ≡ false → ⊥
+no_other o e f = cc
 
 -- whom the end of a fault blames
 pub blames_so : (f : RunFault) → of_end (end_of_fault f) ≡ of_run f
@@ -74,6 +79,7 @@ module _ {L O D : Type 0} (text : sink_of.Ghosts O) (told : sectors_of.Ghosts D)
       is = λ _. faulted_due c.status (ap has_faulted (sym ready.ended) ∙ e);
     };
     some = ([], tt, λ shelf. done (at text told shelf o d));
+    none = λ _. refl;
   }
 
   module _ (o1 : O) (d1 : D) (fine : r.fault ≡ None) (other : has_faulted r.ended ≡ false) where
@@ -84,6 +90,7 @@ module _ {L O D : Type 0} (text : sink_of.Ghosts O) (told : sectors_of.Ghosts D)
         is = λ _. other_due c.status (ap has_faulted (sym ready.ended) ∙ other);
       };
       some = calls.some fine;
+      none = λ e. absurd (no_other r.ended e other);
     }
 
     pub closed_fails : {T : Type 0} (f : RunFault) → f ≢ StepLimit → (end : RunEnd) → end ≡ end_of_fault f → ReportCalls {T = T} text told r (o, d) (o1, d1) (Err f) → CloseCalls text told r (o, d) (o1, d1) end
@@ -94,10 +101,12 @@ module _ {L O D : Type 0} (text : sink_of.Ghosts O) (told : sectors_of.Ghosts D)
         by Disk ne calls = record {
           exact = λ budget y s late held base k t c same lawful ready turns steps p tells. record { made = calls.exact budget y s late held base k t c same lawful ready turns steps p tells; is = λ e. absurd (let h = e in cc) };
           some = calls.some fine;
+          none = λ e. absurd (no_other r.ended e other);
         }
         by Sink ne calls = record {
           exact = λ budget y s late held base k t c same lawful ready turns steps p tells. record { made = calls.exact budget y s late held base k t c same lawful ready turns steps p tells; is = λ e. absurd (let h = e in cc) };
           some = calls.some fine;
+          none = λ e. absurd (no_other r.ended e other);
         }
 
 -- the whole report is that of a kernel that faulted, or another
@@ -243,7 +252,7 @@ rest_closes text told r mid o o1 o2 d d1 d2 turns budget left law counts e kept 
       };
   some = (
     calls.some.0 ++ closes.some.0,
-    of_both calls.some.0 closes.some.0 calls.some.1 closes.some.1,
+    of_both calls.some.0 closes.some.0 calls.some.1 (of_run_too closes.some.0 closes.some.1),
     λ shelf. both calls.some.0 closes.some.0 (at text told shelf o d) (at text told shelf o1 d1) (at text told shelf o2 d2) (of_end e) (calls.some.2 shelf) (closes.some.2 shelf),
   );
 }

@@ -42,6 +42,7 @@ use Rattle.boot_run.proofs.EndScripts.{blames_so, late_none, now_is, closing_is,
 use Rattle.boot_run.proofs.TurnToTurn.{running_of}
 use Rattle.boot_run.proofs.GoScripts.{no_sooner, goes_before, past_tells}
 use Rattle.boot_run.proofs.Looping.{machines}
+use Rattle.boot_run.proofs.ReadingCalls.{of_run_too}
 use Rattle.boot_run.proofs.ScriptParts.{at}
 use Rattle.boot_run.proofs.Scripting.{goes_none}
 use Rattle.boot_run.proofs.WholeScripts.{by_disk, same_loads}
@@ -71,7 +72,7 @@ module _ {L O D : Type 0} (text : sink_of.Ghosts O) (told : sectors_of.Ghosts D)
           made = λ shelf. same_script rep (unless_on c.status rep) (at text told shelf o d) (at text told shelf o1 d1) (of_stop (Ended end)) (sym (over_is c.status rep on)) (w.made shelf);
           is = λ none. ap (λ (e : RunEnd). Ended e) (w.is none) ∙ over_end c.status on;
         };
-    some = calls.some;
+    some = (calls.some.0, of_run_too calls.some.0 calls.some.1, calls.some.2);
   }
 
 pub stop_on : {L O D : Type 0} (text : sink_of.Ghosts O) (told : sectors_of.Ghosts D) (r : Kept L) (o : O) (d : D) → r.ended ≡ None → StopCalls text told r (o, d) (o, d) Stopped

@@ -25,7 +25,8 @@ use Rattle.boot_run.specs.declared.load.LoadFault.TheVariants as load
 use Rattle.boot_run.specs.declared.whole.RunEnd.{RunEnd}
 use Rattle.boot_run.specs.declared.whole.RunEnd.TheVariants as ends
 use Rattle.boot_run.specs.Closing.{opening_script, report_by}
-use Rattle.boot_run.specs.RunScript.{rest_script, run_script}
+use Rattle.boot_run.specs.RunScript.{rest_script, run_script, AreReads}
+use Rattle.boot_run.specs.Shown.{has_faulted}
 use Rattle.boot_run.specs.LoadEnds.{Kept}
 use Rattle.boot_run.specs.Sink.{Base}
 use Rattle.boot_run.specs.Pieces.{Bootable, FirstAt}
@@ -87,10 +88,14 @@ ReportPerforms text told run (out, disk) new result =
     Makes text told (out, disk) new
     (report_script run.view (run_at (outside_of run.machine.rows (told.size disk)) y s run.view turns steps) p t c.status) of_run result
 
+-- so it is; and where it kept no fault some calls are made over any disk that only read, and print
+abbrev pub SomeRead : {O D T : Type 0} → sink_of.Ghosts O → sectors_of.Ghosts D → (old new : O × D) → Result T RunFault → Type 0
+SomeRead text told old new result = (script : List Call) × AreReads script × Makes text told old new script of_run result
+
 pub record ReportCalls {O D L T : Type 0} (text : sink_of.Ghosts O) (told : sectors_of.Ghosts D) (run : Kept L) (old new : O × D)
     (result : Result T RunFault) : Type 0 where
   pub exact : ReportPerforms text told run old new result
-  pub some : run.fault ≡ None → SomeMake text told old new result
+  pub some : run.fault ≡ None → SomeRead text told old new result
 
 -- whom an answer of a load blames
 abbrev pub of_load : LoadFault → Option Who
@@ -176,14 +181,16 @@ ClosePerforms text told run (out, disk) new end =
     EndsBy text told (out, disk) new (report_script run.view (run_at (outside_of run.machine.rows (told.size disk)) y s run.view turns steps) p t c.status)
     (end_by true c.status) end
 
--- some calls of a run are made, by whom they blame
-abbrev pub SomeMade : {O D : Type 0} → sink_of.Ghosts O → sectors_of.Ghosts D → (old new : O × D) → Option Who → Type 0
-SomeMade text told old new blamed = (script : List Call) × AreOfRun script × Made text told old new script blamed
-
+-- so it is; and over any disk calls that only read, and print: none where the kernel faulted
 pub record CloseCalls {O D L : Type 0} (text : sink_of.Ghosts O) (told : sectors_of.Ghosts D) (run : Kept L) (old new : O × D) (end : RunEnd) :
     Type 0 where
   pub exact : ClosePerforms text told run old new end
-  pub some : SomeMade text told old new (of_end end)
+  pub some : (script : List Call) × AreReads script × Made text told old new script (of_end end)
+  pub none : has_faulted run.ended ≡ true → new ≡ old
+
+-- some calls of a run are made, by whom they blame
+abbrev pub SomeMade : {O D : Type 0} → sink_of.Ghosts O → sectors_of.Ghosts D → (old new : O × D) → Option Who → Type 0
+SomeMade text told old new blamed = (script : List Call) × AreOfRun script × Made text told old new script blamed
 
 pub record RestCalls {O D L : Type 0} (text : sink_of.Ghosts O) (told : sectors_of.Ghosts D) (run : Kept L) (turns budget : ℕ) (old new : O × D)
     (end : RunEnd) : Type 0 where

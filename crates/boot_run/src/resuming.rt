@@ -7,6 +7,7 @@ ghost use Rattle.mips_machine.specs.Saved.{saved, AreSaved, CanBeSaved};
 ghost use Rattle.layer_contract.specs.Boots.{BootFollows};
 ghost use Rattle.boot_run.specs.OneTurn.{CanClose, RunLeaves};
 ghost use Rattle.boot_run.specs.LoadEnds.{pages_needed};
+ghost use Rattle.boot_run.specs.AnyScripts.{RestUntold};
 ghost use Rattle.boot_run.specs.RunCalls.{RestCalls};
 ghost use Rattle.boot_run.specs.SavedFiles.{SavedBootsAreOfRuns};
 ghost use Rattle.boot_run.specs.Saving.{AreBoots, IsResumed, Joins, RunsOn};
@@ -103,6 +104,8 @@ pub fn run_on<L: Layer + Drop, D: Sectors, O: Sink>(
     ensures told { IsResumed run.old → IsSome (D.sectors disk.old) → IsSome (D.sectors disk.new) }
     ensures leaves { RunLeaves (result ≡ RunEnd.DiskFault) (result ≡ RunEnd.SinkFault) D.size D.faults O.faults disk.old out.old disk.new out.new }
     ensures script { RestCalls O.Sink D.Sectors run.old (turns - run.old.turns) (steps - run.old.machine.time)
+        (out.old, disk.old) (out.new, disk.new) result }
+    ensures untold { RestUntold O.Sink D.Sectors run.old (turns - run.old.turns) (steps - run.old.machine.time)
         (out.old, disk.old) (out.new, disk.new) result }
 {
     machines_run();

@@ -15,6 +15,7 @@ ghost use Rattle.boot_report.specs.Leaves.{CallsDisk, OnlyViews, PutsRows};
 ghost use Rattle.boot_run.specs.LoadedPages.{user_pages, rom_pages};
 ghost use Rattle.boot_run.specs.Loading.{system_of};
 ghost use Rattle.boot_run.specs.LoadScript.{load_script};
+ghost use Rattle.boot_run.specs.AnyScripts.{TurnsUntold};
 ghost use Rattle.boot_run.specs.RunCalls.{LoadCalls, ReportCalls, TurnsCall};
 ghost use Rattle.boot_run.specs.Calls.{MakesTurns, Proceeds, ProceedsAnyhow, Reports};
 ghost use Rattle.boot_run.specs.OneTurn.{CanMake, TurnsMake, ReportLeaves, TurnsSay, as_turns};
@@ -287,6 +288,8 @@ impl<L: Layer + Drop> Run<L> {
         ensures any { ProceedsAnyhow D.size D.sectors O.text most self.old disk.old budget.old out.old self.new disk.new budget.new out.new result }
         ensures calls { IsCalled self.old self.new (tally D.faults D.calls disk.old) (tally D.faults D.calls disk.new) }
         ensures script { TurnsCall O.Sink D.Sectors self.old budget.old (out.old, disk.old) (out.new, disk.new) (budget.old - budget.new) result }
+        ensures untold { TurnsUntold O.Sink D.Sectors self.old (out.old, disk.old) (out.new, disk.new) (budget.old - budget.new) result }
+        ensures untraced { self.old.tracer ≡ None → self.new.tracer ≡ None }
         ensures less { budget.new ≤ budget.old }
     {
         machines_run();
@@ -318,6 +321,8 @@ impl<L: Layer + Drop> Run<L> {
         ensures says { TurnsSay D.size D.sectors D.faults D.calls O.text O.faults most
             self.old disk.old budget.old out.old self.new disk.new budget.new out.new result }
         ensures script { TurnsCall O.Sink D.Sectors self.old budget.old (out.old, disk.old) (out.new, disk.new) (budget.old - budget.new) result }
+        ensures untold { TurnsUntold O.Sink D.Sectors self.old (out.old, disk.old) (out.new, disk.new) (budget.old - budget.new) result }
+        ensures untraced { self.old.tracer ≡ None → self.new.tracer ≡ None }
         ensures less { budget.new ≤ budget.old }
     {
         if let Some(fault) = self.fault {

@@ -23,3 +23,6 @@ returns-clause-told g c = λ resumed told.
 
 pub returns-clause-script : goal.returns-clause-script
 returns-clause-script g c = rw (sym c.turns_left-left.ensures, sym c.steps_left-budget.ensures.value) c.run_to_end.ensures.script
+
+pub returns-clause-untold : goal.returns-clause-untold
+returns-clause-untold g c = rw (sym c.turns_left-left.ensures, sym c.steps_left-budget.ensures.value) c.run_to_end.ensures.untold

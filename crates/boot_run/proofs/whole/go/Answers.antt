@@ -1,4 +1,4 @@
-use Rattle.std.proofs.Common.{ℕ, ◌≡◌, ◌-◌, ◌≤◌, ◌++◌, [], None, Ok, inl, inr, refl, sym, ◌∙◌, subst, arith}
+use Rattle.std.proofs.Common.{ℕ, ◌≡◌, ◌-◌, ◌≤◌, ◌++◌, [], None, Ok, Err, inl, inr, refl, sym, ◌∙◌, subst, arith}
 use Rattle.std.specs.Prelude.{IsSome}
 use Rattle.std.proofs.lemmas.Result.{err_from_is_err_and}
 use Rattle.cvm_outside.specs.Numbering.{tally}
@@ -8,10 +8,12 @@ use Rattle.boot_turns.specs.declared.answers.Turn.{Turn}
 use Rattle.boot_turns.specs.LoopScripts.{SomeMake}
 use Rattle.boot_turns.proofs.CallCounts.{steps_stay}
 use Rattle.boot_turns.proofs.SomeCalls.{of_both}
+use Rattle.boot_run.specs.AnyScripts.{TurnsUntold}
 use Rattle.boot_run.specs.TurnCalls.{Around, around}
 use Rattle.boot_run.proofs.AnyCalls.{any_first, any_next, any_failed, any_over, any_went}
 use Rattle.boot_run.proofs.GoScripts.{KeepsMade, made_first, made_next, go_broke, go_came}
 use Rattle.boot_run.proofs.Looping.{calls_on, keeps_first, keeps_next, go_failed, went_over, went, not_over, not_failed, was_over}
+use Rattle.boot_run.proofs.UntoldTurns.{untold_first, untold_next, untold_came, untold_failed}
 use Rattle.boot_run.proofs.whole.go.Goals as goal
 
 pub loop-left-init : goal.loop-left-init
@@ -29,6 +31,9 @@ loop-left-init g c = record {
   still = λ _. (refl, refl);
   made = made_first g.O.Sink g.D.Sectors c.args.run.now c.args.out.now c.args.disk.now c.args.budget.now (c.args.turns - c.args.turns) c.args.run.now.machine.time (omega arith);
   some = ([], tt, λ shelf. done _);
+  less = omega arith;
+  untraced = λ e. e;
+  untold = untold_first g.O.Sink g.D.Sectors c.args.run.now c.args.out.now c.args.disk.now (c.args.budget.now - c.args.budget.now) (omega arith);
 }
 
 pub returns-in_err-made-clause-ends : goal.returns-in_err-made-clause-ends
@@ -63,6 +68,7 @@ loop-left-preserved g c =
     let most = c.in_ok-made.ensures.says.leaves.made.0 in
     let spent = c.in_ok-made.ensures.says.leaves.spent in
     let less = c.turns.ensures.less in
+    let was_less = c.loop-left.invariant.less in
     record {
       kept = record {
         layer_is = kept.layer_is ∙ was.layer_is;
@@ -94,6 +100,11 @@ loop-left-preserved g c =
             of_both c.loop-left.invariant.some.0 more.0 c.loop-left.invariant.some.1 more.1,
             λ shelf. both c.loop-left.invariant.some.0 more.0 _ _ _ None (c.loop-left.invariant.some.2 shelf) (more.2 shelf),
           );
+      less = omega (arith, less, was_less);
+      untraced = λ e. c.turns.ensures.untraced (c.loop-left.invariant.untraced e);
+      untold = untold_next g.O.Sink g.D.Sectors c.args.run.now c.loop-left.run c.args.out.now c.loop-left.out c.turns.new.out c.args.disk.now c.loop-left.disk c.turns.new.disk c.args.budget.now c.loop-left.budget (c.args.turns - c.loop-left.left)
+          c.loop-left.invariant.kept c.loop-left.invariant.size c.loop-left.invariant.less c.loop-left.invariant.untraced on c.loop-left.invariant.fault c.loop-left.invariant.anyhow c.loop-left.invariant.untold {T = Unit {0}}
+          (c.loop-left.budget - c.turns.new.budget) (c.args.budget.now - c.turns.new.budget) (Ok tt) (omega (arith, less, was_less)) c.in_ok-made.ensures.untold;
     }
 
 pub returns-clause-ends : goal.returns-clause-ends
@@ -166,3 +177,39 @@ returns-clause-script g c =
     let none = c.loop-left-test.false in
     go_came g.O.Sink g.D.Sectors c.args.run.now c.loop-left.run c.args.out.now c.loop-left.out c.args.disk.now c.loop-left.disk c.args.budget.now c.loop-left.budget (c.args.turns - c.loop-left.left) c.args.turns c.machines_run.ensures c.turns_are_counted.ensures
     c.loop-left.invariant.made c.loop-left.invariant.some (returns-clause-ends g c) (λ zero. inl (omega (arith, zero, none), (c.loop-left.invariant.still zero).0))
+
+-- of any run
+pub returns-in_err-made-clause-untold : goal.returns-in_err-made-clause-untold
+returns-in_err-made-clause-untold g c =
+    let w = err_from_is_err_and c.from_residual.result c.from_residual.ensures.1 in
+    let on = not_failed c.loop-left.run.ended c.in_err-made.field-0.0 (λ o. c.in_err-made.ensures.says.leaves.over c.loop-left.invariant.fault o) in
+    let few = c.loop-left.invariant.few in
+    let less = c.turns.ensures.less in
+    let was_less = c.loop-left.invariant.less in
+    let before : Around = around c.args.run.now (g.D.Sectors.sectors c.args.disk.now) c.args.budget.now (g.O.Sink.text c.args.out.now) in
+    let mid : Around = around c.loop-left.run (g.D.Sectors.sectors c.loop-left.disk) c.loop-left.budget (g.O.Sink.text c.loop-left.out) in
+    let after : Around = around c.turns.new.self (g.D.Sectors.sectors c.turns.new.disk) c.turns.new.budget (g.O.Sink.text c.turns.new.out) in
+    rw (w.1, w.2) (untold_failed g.O.Sink g.D.Sectors c.args.run.now c.turns.new.self c.args.out.now c.turns.new.out c.args.disk.now c.turns.new.disk c.args.budget.now c.turns.new.budget c.args.turns c.turns_are_counted.ensures (omega (arith, less, was_less))
+    (Unit {0}) c.in_err-made.field-0.0
+    (untold_next g.O.Sink g.D.Sectors c.args.run.now c.loop-left.run c.args.out.now c.loop-left.out c.turns.new.out c.args.disk.now c.loop-left.disk c.turns.new.disk c.args.budget.now c.loop-left.budget (c.args.turns - c.loop-left.left)
+    c.loop-left.invariant.kept c.loop-left.invariant.size c.loop-left.invariant.less c.loop-left.invariant.untraced on c.loop-left.invariant.fault c.loop-left.invariant.anyhow c.loop-left.invariant.untold {T = Unit {0}}
+    (c.loop-left.budget - c.turns.new.budget) (c.args.budget.now - c.turns.new.budget) (Err c.in_err-made.field-0.0) (omega (arith, less, was_less)) c.in_err-made.ensures.untold)
+    (any_failed (g.D.Sectors.size c.args.disk.now) (g.D.Sectors.size c.loop-left.disk) c.args.run.now c.loop-left.run c.loop-left.invariant.kept c.loop-left.invariant.size before mid after
+    (c.args.turns - c.loop-left.left) c.loop-left.left on c.loop-left.invariant.anyhow
+    c.args.turns c.in_err-made.field-0.0 c.in_err-made.field-0.0 (Err c.in_err-made.field-0.0) (c.in_err-made.ensures.says.any c.loop-left.invariant.fault on) (omega (arith, few)) refl refl))
+
+pub returns-then-made-eq0-clause-untold : goal.returns-then-made-eq0-clause-untold
+returns-then-made-eq0-clause-untold g c =
+    let over : IsSome c.loop-left.run.ended = was_over c.loop-left.run.ended c.in_ok-made.made c.in_ok-made.ensures.says.leaves.made.1 c.if-made-eq0.true in
+    let st = c.in_ok-made.ensures.says.leaves.still (inr over) in
+    let less = c.turns.ensures.less in
+    let was_less = c.loop-left.invariant.less in
+    let so : TurnsUntold {T = Unit {0}} g.O.Sink g.D.Sectors c.args.run.now (c.args.out.now, c.args.disk.now) (c.turns.new.out, c.turns.new.disk) (c.args.budget.now - c.turns.new.budget) (Ok tt) =
+    rw (st.1, st.2, st.3) c.loop-left.invariant.untold in
+    untold_came g.O.Sink g.D.Sectors c.args.run.now c.turns.new.self c.args.out.now c.turns.new.out c.args.disk.now c.turns.new.disk c.args.budget.now c.turns.new.budget c.args.turns c.turns_are_counted.ensures (omega (arith, less, was_less)) so
+    (returns-then-made-eq0-clause-any g c)
+
+pub returns-clause-untold : goal.returns-clause-untold
+returns-clause-untold g c =
+    untold_came g.O.Sink g.D.Sectors c.args.run.now c.loop-left.run c.args.out.now c.loop-left.out c.args.disk.now c.loop-left.disk c.args.budget.now c.loop-left.budget c.args.turns c.turns_are_counted.ensures c.loop-left.invariant.less
+    c.loop-left.invariant.untold (returns-clause-any g c)

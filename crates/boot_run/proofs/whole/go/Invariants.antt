@@ -1,6 +1,7 @@
 use Rattle.std.proofs.Common.{◌≡◌, ◌+◌, ◌-◌, ◌≤◌, None, Ok}
 use Rattle.cvm_outside.specs.Numbering.{tally}
 use Rattle.boot_turns.specs.LoopScripts.{SomeMake}
+use Rattle.boot_run.specs.AnyScripts.{TurnsUntold}
 use Rattle.boot_run.specs.TurnCalls.{around, IsCalled, KeepsLoad}
 use Rattle.boot_run.proofs.AnyCalls.{AnyGoing}
 use Rattle.boot_run.proofs.GoScripts.{KeepsMade}
@@ -24,6 +25,9 @@ invariant-loop-left g l = record {
   still : l.fn.turns - l.left ≡ 0 → (l.run.machine.time ≡ l.fn.run.machine.time) × (l.run.ended ≡ l.fn.run.ended);
   made : KeepsMade g.O.Sink g.D.Sectors l.fn.run l.fn.out l.fn.disk l.out l.disk l.fn.budget (l.fn.turns - l.left) l.run.machine.time;
   some : SomeMake {T = Unit {0}} g.O.Sink g.D.Sectors (l.fn.out, l.fn.disk) (l.out, l.disk) (Ok tt);
+  less : l.budget ≤ l.fn.budget;
+  untraced : l.fn.run.tracer ≡ None → l.run.tracer ≡ None;
+  untold : TurnsUntold {T = Unit {0}} g.O.Sink g.D.Sectors l.fn.run (l.fn.out, l.fn.disk) (l.out, l.disk) (l.fn.budget - l.budget) (Ok tt);
 }
 
 abbrev pub decreases-loop-left : goal.decreases-loop-left

@@ -11,6 +11,7 @@ use Rattle.boot_run.proofs.Proceeding.{cut_before, broke_off, went, cut_after, p
 use Rattle.boot_run.specs.TurnParts.{rows_before, rows_after}
 use Rattle.boot_run.proofs.ScriptParts.{puts_of}
 use Rattle.boot_run.proofs.Scripting.{begun_cut, broken_calls, made_calls}
+use Rattle.boot_run.proofs.UntoldTurns.{untold_traced, untold_broke, untold_made}
 use Rattle.boot_run.proofs.run.Run.proceed.Goals as goal
 
 pub returns-in_err-put_before-clause-ends : goal.returns-in_err-put_before-clause-ends
@@ -133,3 +134,39 @@ returns-clause-script g c =
     c.in_ok-put_before.ensures.put.ok (λ e. ap g.O.Sink.text (c.make_turn.ensures.untraced e).1) c.make_turn.ensures.makes.spent
     c.in_ok-made.made turns.0 turns.1 c.in_ok-made.answer turns.2 turns.3 turns.4 c.requires.can.steps c.make_turn.ensures.makes.fault (λ e. (c.make_turn.ensures.untraced e).0)
     refl)
+
+-- of any run
+pub returns-in_err-put_before-clause-untold : goal.returns-in_err-put_before-clause-untold
+returns-in_err-put_before-clause-untold g c =
+    untold_traced g.O.Sink g.D.Sectors c.args.self.now c.args.self.now c.args.out.now c.put_before.new.out c.put_before.new.out c.put_before.new.out c.args.disk.now c.args.disk.now c.args.budget.now c.args.budget.now c.args.most
+    (c.args.budget.now - c.args.budget.now) c.from_residual.result c.in_err-put_before.ensures.first.0
+
+pub returns-in_err-made-clause-untold : goal.returns-in_err-made-clause-untold
+returns-in_err-made-clause-untold g c =
+    let h = err_from_is_err_and c.from_residual-in_err-made.result c.from_residual-in_err-made.ensures.1 in
+    rw (h.1, h.2) (untold_broke g.O.Sink g.D.Sectors c.args.self.now c.make_turn.new.self c.args.out.now c.put_before.new.out c.make_turn.new.out c.make_turn.new.out c.args.disk.now c.make_turn.new.disk c.args.budget.now c.make_turn.new.budget c.args.most
+    (puts_of g.O.Sink c.args.out.now c.put_before.new.out (rows_before c.args.self.now.boot c.args.self.now.tracer c.args.self.now.turns) (Ok tt) c.in_ok-put_before.ensures.put) (c.args.budget.now - c.make_turn.new.budget)
+    (ℕ × Turn) c.in_err-made.field-0.0 c.in_err-made.ensures.script)
+
+pub returns-in_err-put_after-clause-untold : goal.returns-in_err-put_after-clause-untold
+returns-in_err-put_after-clause-untold g c =
+    let h = err_from_is_err_and c.from_residual-in_err-put_after.result c.from_residual-in_err-put_after.ensures.1 in
+    let turns = c.in_ok-made.ensures.ends in
+    rw (h.1, h.2) (untold_made g.O.Sink g.D.Sectors c.args.self.now c.make_turn.new.self c.args.out.now c.put_before.new.out c.make_turn.new.out c.put_after.new.out c.args.disk.now c.make_turn.new.disk c.args.budget.now c.make_turn.new.budget c.args.most
+    (puts_of g.O.Sink c.args.out.now c.put_before.new.out (rows_before c.args.self.now.boot c.args.self.now.tracer c.args.self.now.turns) (Ok tt) c.in_ok-put_before.ensures.put) (c.args.budget.now - c.make_turn.new.budget) {R = ℕ × Turn} {T = ℕ × Turn}
+    (c.in_ok-made.made, c.in_ok-made.answer) c.in_ok-made.ensures.script refl c.make_turn.ensures.less c.in_ok-made.made c.in_ok-made.answer c.in_ok-made.ensures.makes.made.0 (g.O.Sink.text c.put_after.new.out)
+    (any_made c.args.self.now c.make_turn.new.self c.put_before.ensures.views (g.D.Sectors.size c.args.disk.now) c.args.most (g.D.Sectors.sectors c.args.disk.now) (g.D.Sectors.sectors c.make_turn.new.disk) c.args.budget.now c.make_turn.new.budget
+    (g.O.Sink.text c.args.out.now) (g.O.Sink.text c.put_before.new.out) (g.O.Sink.text c.make_turn.new.out) (g.O.Sink.text c.put_after.new.out) c.in_ok-made.made turns.0 turns.1 c.in_ok-made.answer turns.2 turns.3 turns.4)
+    (rows_after c.make_turn.new.self.tracer c.make_turn.new.self.ended c.in_ok-made.answer) (Err Sink)
+    (puts_of g.O.Sink c.make_turn.new.out c.put_after.new.out (rows_after c.make_turn.new.self.tracer c.make_turn.new.self.ended c.in_ok-made.answer) (Err c.in_err-put_after.field-0.0) c.in_err-put_after.ensures.put))
+
+pub returns-clause-untold : goal.returns-clause-untold
+returns-clause-untold g c =
+    let turns = c.in_ok-made.ensures.ends in
+    untold_made g.O.Sink g.D.Sectors c.args.self.now c.make_turn.new.self c.args.out.now c.put_before.new.out c.make_turn.new.out c.put_after.new.out c.args.disk.now c.make_turn.new.disk c.args.budget.now c.make_turn.new.budget c.args.most
+    (puts_of g.O.Sink c.args.out.now c.put_before.new.out (rows_before c.args.self.now.boot c.args.self.now.tracer c.args.self.now.turns) (Ok tt) c.in_ok-put_before.ensures.put) (c.args.budget.now - c.make_turn.new.budget) {R = ℕ × Turn} {T = ℕ × Turn}
+    (c.in_ok-made.made, c.in_ok-made.answer) c.in_ok-made.ensures.script refl c.make_turn.ensures.less c.in_ok-made.made c.in_ok-made.answer c.in_ok-made.ensures.makes.made.0 (g.O.Sink.text c.put_after.new.out)
+    (any_made c.args.self.now c.make_turn.new.self c.put_before.ensures.views (g.D.Sectors.size c.args.disk.now) c.args.most (g.D.Sectors.sectors c.args.disk.now) (g.D.Sectors.sectors c.make_turn.new.disk) c.args.budget.now c.make_turn.new.budget
+    (g.O.Sink.text c.args.out.now) (g.O.Sink.text c.put_before.new.out) (g.O.Sink.text c.make_turn.new.out) (g.O.Sink.text c.put_after.new.out) c.in_ok-made.made turns.0 turns.1 c.in_ok-made.answer turns.2 turns.3 turns.4)
+    (rows_after c.make_turn.new.self.tracer c.make_turn.new.self.ended c.in_ok-made.answer) (Ok (c.in_ok-made.made, c.in_ok-made.answer))
+    (puts_of g.O.Sink c.make_turn.new.out c.put_after.new.out (rows_after c.make_turn.new.self.tracer c.make_turn.new.self.ended c.in_ok-made.answer) (Ok tt) c.in_ok-put_after.ensures.put)

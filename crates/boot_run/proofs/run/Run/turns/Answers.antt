@@ -1,13 +1,15 @@
-use Rattle.std.proofs.Common.{arith, ◌-◌, Some, Err, rules, ap, sym, ◌∙◌, subst}
+use Rattle.std.proofs.Common.{ℕ, arith, ◌-◌, Some, Ok, Err, rules, ap, sym, ◌∙◌, subst}
 use Rattle.std.specs.Prelude.{IsSome}
 use Rattle.cvm_outside.specs.Numbering.{tally}
 use Rattle.boot_turns.proofs.CallCounts.{steps_stay}
+use Rattle.boot_turns.specs.declared.answers.Turn.{Turn}
 use Rattle.boot_turns.specs.declared.answers.Turn.TheVariants.{Over}
 use Rattle.boot_run.specs.LoadEnds.{Kept}
 use Rattle.boot_run.specs.TurnCalls.{around}
 use Rattle.boot_run.proofs.AnyCalls.{any_kept}
 use Rattle.boot_run.proofs.Proceeding.{runs_faulted, runs_after}
 use Rattle.boot_run.proofs.Scripting.{faulted_calls, over_calls}
+use Rattle.boot_run.proofs.UntoldTurns.{untold_faulted, untold_over}
 use Rattle.boot_run.proofs.run.Run.turns.Goals as goal
 
 -- nothing is touched
@@ -21,6 +23,9 @@ returns-in-Some g c = record {
   };
   script = faulted_calls g.O.Sink g.D.Sectors c.args.self.now c.args.out.now c.args.out.now c.args.disk.now c.args.disk.now c.args.budget.now (c.args.budget.now - c.args.budget.now) (Err c.in-Some.fault)
       c.in-Some.fault (ap (λ (q : Kept _). q.fault) (sym c.self.view_is) ∙ c.in-Some.is);
+  untold = untold_faulted {T = ℕ × Turn} g.O.Sink g.D.Sectors c.args.self.now c.args.out.now c.args.out.now c.args.disk.now c.args.disk.now (c.args.budget.now - c.args.budget.now) (Err c.in-Some.fault)
+      c.in-Some.fault (ap (λ (q : Kept _). q.fault) (sym c.self.view_is) ∙ c.in-Some.is);
+  untraced = λ e. e;
   less = omega arith;
 }
 
@@ -34,6 +39,9 @@ returns-then-is_some g c = record {
   };
   script = over_calls g.O.Sink g.D.Sectors c.args.self.now c.args.out.now c.args.disk.now c.args.budget.now (c.args.budget.now - c.args.budget.now) (0, Over)
       (subst (λ (q : Kept _). IsSome q.ended) c.self.view_is (sym c.is_some.ensures ∙ c.if-is_some.true));
+  untold = untold_over {T = ℕ × Turn} g.O.Sink g.D.Sectors c.args.self.now c.args.out.now c.args.out.now c.args.disk.now c.args.disk.now (c.args.budget.now - c.args.budget.now) (Ok (0, Over))
+      (subst (λ (q : Kept _). IsSome q.ended) c.self.view_is (sym c.is_some.ensures ∙ c.if-is_some.true));
+  untraced = λ e. e;
   less = omega arith;
 }
 
@@ -46,6 +54,8 @@ returns-in-Ok g c = record {
     calls = c.proceed.ensures.calls;
   };
   script = c.in-Ok.ensures.script;
+  untold = c.in-Ok.ensures.untold;
+  untraced = c.proceed.ensures.untraced;
   less = c.proceed.ensures.less;
 }
 
@@ -62,5 +72,7 @@ returns-in-Err g c = record {
     calls = search rules;
   };
   script = c.in-Err.ensures.script;
+  untold = c.in-Err.ensures.untold;
+  untraced = search rules;
   less = c.proceed.ensures.less;
 }
