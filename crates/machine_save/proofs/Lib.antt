@@ -3,3 +3,4 @@ pub mod Premises
 pub mod Resumed
 pub mod Stopped
 pub mod SaveCalls
+pub mod ResumeCalls

@@ -29,7 +29,7 @@ use Rattle.machine_save.specs.SavedBoots.{AreTakenUp, CanBoot}
 use Rattle.machine_save.specs.declared.resuming.ResumeFault.{ResumeFault}
 use Rattle.machine_save.specs.declared.resuming.ResumeFault.TheVariants.{Save, SmallDisk}
 
-one_answer : {E : Type 0} (o : Result (List ℕ) E) (a b : List ℕ) → o ≡ Ok a → o ≡ Ok b → a ≡ b
+pub one_answer : {E : Type 0} (o : Result (List ℕ) E) (a b : List ℕ) → o ≡ Ok a → o ≡ Ok b → a ≡ b
 one_answer (Ok c) a b e f = cc
 one_answer (Err c) a b e f = absurd (cc)
 
@@ -74,7 +74,7 @@ joins_at layer b rows count words r turns steps told retold made remade had has 
     (subst (λ (c : Booted). JoinsAt c r.machine.rows count r (saved_run r) turns steps told retold made remade had has e) up.boot_is joins))
 
 -- the bytes of a saved run are read back as its words
-read_back : (b : Booted) (rows : Rows) (turns steps count : ℕ) (bytes : List ℕ) (old left : List (List ℕ)) (few spent : ℕ) (words shown : List ℕ) → AreTakenUp b rows count → turns < 2 ^ 32 → steps < 2 ^ 64 → IsDisk count old →
+pub read_back : (b : Booted) (rows : Rows) (turns steps count : ℕ) (bytes : List ℕ) (old left : List (List ℕ)) (few spent : ℕ) (words shown : List ℕ) → AreTakenUp b rows count → turns < 2 ^ 32 → steps < 2 ^ 64 → IsDisk count old →
     pages_needed b ≤ count → SavedAt (outside_of rows count) (system_of b rows) (loaded (system_of b rows) old) few spent words left shown → bytes ≡ flat_map word words → 1 ≤ few → few ≤ turns → spent ≤ steps →
     answer (wanted_of b rows turns) bytes ≡ Ok words
 read_back b rows turns steps count bytes old left few spent words shown up bits limit disk room at spelled some enough within =
@@ -90,7 +90,7 @@ joins_so layer b rows turns steps count bytes told retold made remade had has r 
     subst (λ (l : List ℕ). JoinsAt b rows count r l turns steps told retold made remade had has e) same (joins_at layer b rows count words r turns steps told retold made remade had has e up joins)
     old left now few spent shown (boots room) up.resumed disk within tells retells at
 
-no_memory : {L : Type 0} (layer : L) (b : Booted) (rows : Rows) (turns count : ℕ) (bytes words : List ℕ) (fault : ResumeFault) → ResumesFile layer b rows turns count bytes (Err fault) → pages_needed b ≤ count →
+pub no_memory : {L : Type 0} (layer : L) (b : Booted) (rows : Rows) (turns count : ℕ) (bytes words : List ℕ) (fault : ResumeFault) → ResumesFile layer b rows turns count bytes (Err fault) → pages_needed b ≤ count →
     answer (wanted_of b rows turns) bytes ≡ Ok words → fault ≡ Save Memory
 no_memory layer b rows turns count bytes words (Save e) (inl memory) room is = ap Save memory
 no_memory layer b rows turns count bytes words (Save e) (inr fails) room is = absurd (no_answer (answer (wanted_of b rows turns) bytes) words e is fails)
@@ -101,7 +101,14 @@ pub refused_joins : {L : Type 0} (layer : L) (b : Booted) (rows : Rows) (turns s
 refused_joins layer b rows turns steps count bytes told retold made remade had has fault ups bits limit refused = λ old left now few spent saved shown disk room tells retells at spells some more within.
     no_memory layer b rows turns count bytes saved fault refused room (read_back b rows turns steps count bytes old left few spent saved shown ups bits limit disk room at spells some more within)
 
--- ANY WORDS
+-- ANY WORDS name the machine of the run that is taken up of them
+pub named_so : {L : Type 0} (layer : L) (b : Booted) (rows : Rows) (count : ℕ) (words : List ℕ) (r : Kept L) (left : List (List ℕ)) → IsTakenUp layer b rows count words r → Names rows.inputs words left (state_of r.machine left) r.turns r.current
+named_so layer b rows count words r left up = record {
+  ready = subst (λ (q : Rows). CanBeSaved q.inputs (state_of r.machine left)) up.rows_are (up.resumed.ready left);
+  words_are = subst (λ (q : Rows). saved q.inputs (state_of r.machine left) r.turns r.current ≡ words) up.rows_are up.words_are;
+  sectors_are = refl;
+}
+
 abbrev AnyAt : (rows : Rows) → (count : ℕ) → State → (more budget : ℕ) → (retold : Option (List (List ℕ))) → RunEnd → Type 0
 AnyAt rows count z more budget retold e = AnyEnds (outside_of rows count) z more budget retold e
 
@@ -110,11 +117,7 @@ pub any_so : {L : Type 0} (layer : L) (b : Booted) (rows : Rows) (turns steps co
 any_so layer b rows turns steps count bytes told retold r e once (words, is, spelled, can, enough, up) goes = λ other left answers tells.
     let same : words ≡ other = one_answer (answer (wanted_of b rows turns) bytes) words other is answers in
     let z = state_of r.machine left in
-    let named : Names rows.inputs other left z r.turns r.current = record {
-      ready = subst (λ (q : Rows). CanBeSaved q.inputs z) up.rows_are (up.resumed.ready left);
-      words_are = subst (λ (q : Rows). saved q.inputs z r.turns r.current ≡ other) up.rows_are (up.words_are ∙ same);
-      sectors_are = refl;
-    } in
+    let named : Names rows.inputs other left z r.turns r.current = subst (λ (l : List ℕ). Names rows.inputs l left z r.turns r.current) same (named_so layer b rows count words r left up) in
     record {
       machine = z;
       done = r.turns;

@@ -4,3 +4,4 @@ pub mod SavedBoots
 pub mod SaveRun
 pub mod ResumeRun
 pub mod SaveCalls
+pub mod ResumeCalls

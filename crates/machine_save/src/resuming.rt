@@ -8,17 +8,20 @@ ghost use Rattle.layer_contract.specs.Boots.{BootFollows, boot_of};
 ghost use Rattle.boot_report.specs.Blames.{Blames};
 ghost use Rattle.boot_run.specs.Saving.{AreBoots};
 ghost use Rattle.machine_save.specs.Resume.{ResumesFile};
+ghost use Rattle.machine_save.specs.ResumeCalls.{ResumeScript};
 ghost use Rattle.machine_save.specs.ResumeRun.{ResumeAnswers, ResumedGoesOn, ResumedJoins};
 ghost use Rattle.machine_save.specs.SavedBoots.{BootsGoOn};
 ghost use Rattle.machine_save.specs.declared.resuming.ResumeFault.TheVariants.{Save};
 ghost use Rattle.saved_file.specs.declared.fault.SaveFault.TheVariants.{Memory};
 
 use crate::laws::boots_hold;
-use boot_run::{Run, RunEnd, frames_of, run_on};
+use boot_run::{Run, RunEnd, frames_of, run_on, saved_runs_are_taken_up};
+use boot_turns::machines_run;
 use cvm_outside::{Sectors, Sink};
 use layer_contract::{Boot, Layer};
 use layer_map::{memory_is_whole, parts_are_in_order};
 use mips_machine::laws::saved_machines_differ;
+use mips_table::runs::{a_new_machine_is_steady, runs_are_taken_up, turns_are_counted};
 use saved_file::{SaveFault, Sizes, read};
 use schedule_file::Schedule;
 use std::alloc::{AllocError, Global};
@@ -129,7 +132,13 @@ pub fn resume_run<L: Layer + Drop, D: Sectors, O: Sink>(
     ensures still { IfErr result (λ _. (disk.new ≡ disk.old) × (out.new ≡ out.old)) }
     ensures size { D.size disk.new ≡ D.size disk.old }
     ensures blame { Blames (result ≡ Ok RunEnd.DiskFault) (result ≡ Ok RunEnd.SinkFault) D.faults disk.old disk.new O.faults out.old out.new }
+    ensures script { ResumeScript O.Sink D.Sectors boot schedule turns steps bytes.now (out.old, disk.old) (out.new, disk.new) result }
 {
+    machines_run();
+    turns_are_counted();
+    runs_are_taken_up();
+    a_new_machine_is_steady();
+    saved_runs_are_taken_up();
     boots_hold(&layer, &boot, &schedule, disk);
     saved_machines_differ();
     let mut run = resume(alloc, layer, boot, schedule, bytes, turns, disk)?;

@@ -1,9 +1,12 @@
-use Rattle.std.proofs.Common.{refl, ap, ◌∙◌, subst}
+use Rattle.std.proofs.Common.{◌-◌, refl, ap, ◌∙◌, subst}
 use Rattle.std.proofs.lemmas.Result.{err_from_is_err_and}
 use Rattle.cvm_outside.specs.Causes.{Rose}
 use Rattle.cvm_outside.specs.Numbering.{tally}
+use Rattle.boot_run.specs.AnyScripts.{RestUntold}
+use Rattle.boot_run.specs.RunCalls.{RestCalls}
 use Rattle.boot_run.specs.Saving.{GoesOnAnyhow, JoinsBoot}
 use Rattle.boot_run.specs.declared.whole.RunEnd.TheVariants.{DiskFault, SinkFault}
+use Rattle.machine_save.proofs.ResumeCalls.{refused_script, resumed_script}
 use Rattle.machine_save.proofs.Resumed.{answers_so, any_so, done_few, is_end, is_no_end, joins_so, refused_joins, refused_so, told_so}
 use Rattle.machine_save.proofs.resuming.resume_run.Goals as goal
 
@@ -62,3 +65,22 @@ returns-clause-blame g c = record {
   sink_rose = λ h. c.run_on.ensures.leaves.blame.sink_rose (is_end c.run_on.result SinkFault h);
   sink_same = λ none. c.run_on.ensures.leaves.blame.sink_same (is_no_end c.run_on.result SinkFault none);
 }
+
+-- the calls
+pub returns-in_err-run-clause-script : goal.returns-in_err-run-clause-script
+returns-in_err-run-clause-script g c =
+    let w = err_from_is_err_and c.from_residual.result c.from_residual.ensures.1 in
+    rw (w.1, w.2)
+    (refused_script (record { machines = c.machines_run.ensures; counts = c.turns_are_counted.ensures; sums = c.runs_are_taken_up.ensures; steady = c.a_new_machine_is_steady.ensures; takes = c.saved_runs_are_taken_up.ensures })
+    g.O.Sink g.D.Sectors c.args.layer c.args.boot c.args.schedule c.args.turns c.args.steps c.args.bytes.now c.args.out.now c.args.out.now c.args.disk.now c.resume.new.disk
+    c.boots_hold.ensures.boots c.boots_hold.ensures.taken_up c.ranges.turns.fits c.ranges.steps.fits c.in_err-run.field-0.0 c.in_err-run.ensures.is c.resume.ensures.same)
+
+pub returns-clause-script : goal.returns-clause-script
+returns-clause-script g c =
+    resumed_script (record { machines = c.machines_run.ensures; counts = c.turns_are_counted.ensures; sums = c.runs_are_taken_up.ensures; steady = c.a_new_machine_is_steady.ensures; takes = c.saved_runs_are_taken_up.ensures })
+    g.O.Sink g.D.Sectors c.args.layer c.args.boot c.args.schedule c.args.turns c.args.steps c.args.bytes.now c.args.out.now c.run_on.new.out c.args.disk.now c.run_on.new.disk
+    c.boots_hold.ensures.boots c.boots_hold.ensures.taken_up c.ranges.turns.fits c.ranges.steps.fits c.in_ok-run.run' c.run_on.result c.in_ok-run.ensures.is
+    (subst (λ d. RestCalls g.O.Sink g.D.Sectors c.in_ok-run.run' (c.args.turns - c.in_ok-run.run'.turns) (c.args.steps - c.in_ok-run.run'.machine.time) (c.args.out.now, d) (c.run_on.new.out, c.run_on.new.disk) c.run_on.result)
+    c.resume.ensures.same c.run_on.ensures.script)
+    (subst (λ d. RestUntold g.O.Sink g.D.Sectors c.in_ok-run.run' (c.args.turns - c.in_ok-run.run'.turns) (c.args.steps - c.in_ok-run.run'.machine.time) (c.args.out.now, d) (c.run_on.new.out, c.run_on.new.disk) c.run_on.result)
+    c.resume.ensures.same c.run_on.ensures.untold)
