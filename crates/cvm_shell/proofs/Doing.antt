@@ -24,8 +24,8 @@ use Rattle.cvm_shell.specs.Plan.{Plan, bad_words, refuses, puts, prints, no_comm
 use Rattle.cvm_shell.specs.Refusal.{too_long}
 use Rattle.cvm_shell.specs.Views.{refusal_view, stated_row, stated_status}
 use Rattle.cvm_shell.specs.Stages.{IsSamplePlan}
-use Rattle.cvm_shell.specs.Ends.{Ends, done, no_file, no_memory, GetsFor, all, up_to, CommandGets, files_of, gets, Wants, behind, answered}
-use Rattle.cvm_shell.specs.Does.{AreGot, IsNotGot, StopGets, Acts, DoesPlan, DoesOrWants}
+use Rattle.cvm_shell.specs.Ends.{Ends, done, no_file, no_memory, GetsFor, all, up_to, CommandGets, files_of, gets, IsNotGot, Wants, behind, answered}
+use Rattle.cvm_shell.specs.Does.{AreGot, StopGets, Acts, DoesPlan, DoesOrWants}
 use Rattle.cvm_shell.proofs.Endings.{FilesPlan, plan_of, only_none, which, one_refusal}
 use Rattle.cvm_shell.proofs.GotCalls.{beside}
 use Rattle.cvm_shell.proofs.OneCommand.{one_command}
@@ -101,7 +101,8 @@ pub run_done : (words : List (List ℕ)) (c : Command) (p : Plan) (old mid new :
 run_done words c p old mid new status is plan some short got taken (inl d) = plan_done words c p old mid new status is plan some short got taken d
 run_done words c p old mid new status is plan some short got taken (inr (m, e)) =
     subst (Ends words old new) (sym m)
-    (no_memory c is (behind (files_of c) [] (append-nil (files_of c)) (subst (λ (at : Outside). Performs (gets (files_of c)) old at None) (sym e) got.performs) (λ named h. got.few (sym taken ∙ h))))
+    (no_memory c is (behind (files_of c) [] (append-nil (files_of c)) got.short (subst (λ (at : Outside). Performs (gets (files_of c)) old at None) (sym e) got.performs)
+    (λ named h. got.few (sym taken ∙ h))))
 
 -- A COMMAND THAT GETS NO FILE
 pub nothing_got : (words : List (List ℕ)) (c : Command) (p : Plan) (old new : Outside) (status : Status) → files_of c ≡ [] → IsCommand words c → FilesPlan old.shelf.file c p → p ≢ bad_words → p ≢ refuses too_long
@@ -111,7 +112,7 @@ nothing_got words c p old new status none is plan some short d =
 
 pub nothing_wanted : (words : List (List ℕ)) (c : Command) (old new : Outside) → files_of c ≡ [] → IsCommand words c → new ≡ old → Ends words old new Memory
 nothing_wanted words c old new none is e =
-    no_memory c is (behind [] (files_of c) refl (subst (λ (at : Outside). Performs [] old at None) (sym e) (all_done old)) (λ named. absurd (named none)))
+    no_memory c is (behind [] (files_of c) refl tt (subst (λ (at : Outside). Performs [] old at None) (sym e) (all_done old)) (λ named. absurd (named none)))
 
 -- what is refused is no command, and not too long
 pub refusal_plan : (r : ByCode) (old new : Outside) (status : Status) → Acts (says (stated_row r)) (stated_status r) old new status → DoesPlan (refuses (refusal_view r)) old new status
@@ -168,7 +169,7 @@ put_done words c name put bytes r sink disk old mid new is plan e got p =
 
 -- a file could not be got
 pub shelf_done : (words : List (List ℕ)) (c : Command) (old new : Outside) → IsCommand words c → IsNotGot (files_of c) old new → Ends words old new Shelf
-shelf_done words c old new is h = no_file c is h.performs h.few
+shelf_done words c old new is h = no_file c is h
 
 -- or there was no memory
 pub memory_done : (words : List (List ℕ)) (c : Command) (old new : Outside) → IsCommand words c → Wants (files_of c) old new → Ends words old new Memory

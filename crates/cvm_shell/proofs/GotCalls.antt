@@ -13,7 +13,7 @@ use Rattle.cvm_shell.specs.declared.boot.Stop.{Stop}
 use Rattle.cvm_shell.specs.declared.boot.Stop.TheVariants as Stops
 use Rattle.cvm_shell.specs.declared.refusal.Refusal.TheVariants as by
 use Rattle.cvm_shell.specs.Command.{texts}
-use Rattle.cvm_shell.specs.Ends.{gets, AreShort, MayBeShort, MayBeLong, Wants, behind, within, wants}
+use Rattle.cvm_shell.specs.Ends.{gets, AreShort, MayBeShort, MayBeLong, IsNotGot, Wants, behind, within, wants}
 use Rattle.cvm_shell.specs.Stages.{stop_of}
 use Rattle.cvm_shell.specs.Does.{AreGot, IsLong, StopGets, AnswerGets}
 
@@ -54,7 +54,12 @@ one_got name old new v sink disk g =
 
 pub one_stopped : (name : List ℕ) (rest : List (List ℕ)) (old new : Files) (f : ShelfFault) (sink : Output) (disk : Drive) → OneGet name old new (Err f) → StopGets (name ∷ rest) (beside sink disk old) (beside sink disk new) (stop_of f)
 one_stopped name rest old new Failed sink disk g = record {
-  performs = breaks (Got name) (gets rest) _ _ (g.files, record { later = g.count.later; rose = g.count.cases }, refl);
+  before = [];
+  name = name;
+  after = rest;
+  all = refl;
+  short = tt;
+  performs = breaks (Got name) [] _ _ (g.files, record { later = g.count.later; rose = g.count.cases }, refl);
   few = λ h. let e = g.long.1 h in cc;
 }
 one_stopped name rest old new Long sink disk g =
@@ -70,7 +75,7 @@ one_stopped name rest old new Long sink disk g =
       performs = goes_on (Got name) [] _ _ _ None (g.files, told, g.count.cases, refl) (done _);
       taken = taken;
     }
-one_stopped name rest old new NoMemory sink disk g = within [] rest name _ refl (done _) (wants g.files g.count.cases (λ h. let e = g.long.1 h in cc) refl)
+one_stopped name rest old new NoMemory sink disk g = within [] rest name _ refl tt (done _) (wants g.files g.count.cases (λ h. let e = g.long.1 h in cc) refl)
 
 -- SOME BEHIND OTHERS
 gets-append : (a b : List (List ℕ)) → gets (a ++ b) ≡ gets a ++ gets b
@@ -96,10 +101,13 @@ module _ (a : List (List ℕ)) (old mid : Outside) (p : AreGot a old mid) where
   joined : (b : List (List ℕ)) (new : Outside) (blamed : Option Who) → Performs (gets b) mid new blamed → Performs (gets (a ++ b)) old new blamed
   joined b new blamed q = subst (λ (s : List Call). Performs s old new blamed) (sym (gets-append a b)) (both (gets a) (gets b) old mid new blamed p.performs q)
 
+  both_short : (b : List (List ℕ)) → AreShort mid.shelf.file b → AreShort old.shelf.file (a ++ b)
+  both_short b s = short_both old.shelf.file a b p.short (short_moved old.shelf.file mid.shelf.file kept b s)
+
   pub are_both : (b : List (List ℕ)) (new : Outside) → AreGot b mid new → AreGot (a ++ b) old new
   are_both b new q = record {
     performs = joined b new None q.performs;
-    short = short_both old.shelf.file a b p.short (short_moved old.shelf.file mid.shelf.file kept b q.short);
+    short = both_short b q.short;
     few = q.few;
   }
 
@@ -109,27 +117,39 @@ module _ (a : List (List ℕ)) (old mid : Outside) (p : AreGot a old mid) where
     name = q.name;
     after = q.after;
     all = append_assoc a q.before (q.name ∷ q.after) ∙ ap (λ (l : List (List ℕ)). a ++ l) q.all;
-    short = short_both old.shelf.file a q.before p.short (short_moved old.shelf.file mid.shelf.file kept q.before q.short);
+    short = both_short q.before q.short;
     long = subst MayBeLong (kept q.name) q.long;
     performs = subst (λ (l : List (List ℕ)). Performs (gets l) old new None) (sym (append_assoc a q.before (q.name ∷ []))) (joined (q.before ++ q.name ∷ []) new None q.performs);
     taken = q.taken;
   }
 
+  not_both : (b : List (List ℕ)) (new : Outside) → IsNotGot b mid new → IsNotGot (a ++ b) old new
+  not_both b new q = record {
+    before = a ++ q.before;
+    name = q.name;
+    after = q.after;
+    all = append_assoc a q.before (q.name ∷ q.after) ∙ ap (λ (l : List (List ℕ)). a ++ l) q.all;
+    short = both_short q.before q.short;
+    performs = subst (λ (l : List (List ℕ)). Performs (gets l) old new (Some TheShelf)) (sym (append_assoc a q.before (q.name ∷ []))) (joined (q.before ++ q.name ∷ []) new (Some TheShelf) q.performs);
+    few = q.few;
+  }
+
   wants_both : (b : List (List ℕ)) (new : Outside) → Wants b mid new → Wants (a ++ b) old new
-  wants_both b new (behind made rest e q t) = behind (a ++ made) rest (append_assoc a made rest ∙ ap (λ (l : List (List ℕ)). a ++ l) e) (joined made new None q) (few b new t made rest e q)
+  wants_both b new (behind made rest e s q t) =
+      behind (a ++ made) rest (append_assoc a made rest ∙ ap (λ (l : List (List ℕ)). a ++ l) e) (both_short made s) (joined made new None q) (few b new t made rest e q)
     where
       few : (b : List (List ℕ)) (new : Outside) → (b ≢ [] → new.shelf.taken ≢ TOO_LONG) → (made rest : List (List ℕ)) → made ++ rest ≡ b → Performs (gets made) mid new None →
           a ++ b ≢ [] → new.shelf.taken ≢ TOO_LONG
       few (n ∷ names) new t made rest e q some = t (λ d. cc)
       few [] new t [] rest e (done _) some = p.few
       few [] new t (m ∷ made) rest e q some = absurd (cc)
-  wants_both b new (within made rest name at e q w) =
-      within (a ++ made) rest name at (append_assoc a made (name ∷ rest) ∙ ap (λ (l : List (List ℕ)). a ++ l) e) (joined made at None q) w
+  wants_both b new (within made rest name at e s q w) =
+      within (a ++ made) rest name at (append_assoc a made (name ∷ rest) ∙ ap (λ (l : List (List ℕ)). a ++ l) e) (both_short made s) (joined made at None q) w
 
   stop_both : (b : List (List ℕ)) (new : Outside) (s : Stop) → StopGets b mid new s → StopGets (a ++ b) old new s
   stop_both b new (Stops.Refused by.TooLong) q = long_both b new q
   stop_both b new (Stops.Refused other) q = are_both b new q
-  stop_both b new Stops.Shelf q = record { performs = joined b new (Some TheShelf) q.performs; few = q.few }
+  stop_both b new Stops.Shelf q = not_both b new q
   stop_both b new Stops.Memory q = wants_both b new q
 
 -- what a stage gets behind files that were got
@@ -146,7 +166,7 @@ pub stop_behind : (names : List (List ℕ)) (old new : Outside) (s : Stop) → A
 stop_behind names old new (Stops.Refused by.TooLong) p inside short = absurd (short refl)
 stop_behind names old new (Stops.Refused other) p inside short = p
 stop_behind names old new Stops.Shelf p inside short = absurd (inside refl)
-stop_behind names old new Stops.Memory p inside short = behind names [] (append-nil names) p.performs (λ some. p.few)
+stop_behind names old new Stops.Memory p inside short = behind names [] (append-nil names) p.short p.performs (λ some. p.few)
 
 pub gets_behind : {T : Type 0} (names : List (List ℕ)) (old new : Outside) (r : Result T Stop) → AreGot names old new → IfErr r (λ s. s ≢ Stops.Shelf) → (IsErrOf r (Stops.Refused by.TooLong) → ⊥) → AnswerGets names old new r
 gets_behind names old new (Ok v) p inside short = p
@@ -154,7 +174,7 @@ gets_behind names old new (Err s) p inside short = stop_behind names old new s p
 
 -- there was no memory for more, behind some of the files
 pub wants_more : (a b names : List (List ℕ)) (old new : Outside) → a ++ b ≡ names → AreGot a old new → Wants names old new
-wants_more a b names old new e p = behind a b e p.performs (λ some. p.few)
+wants_more a b names old new e p = behind a b e p.short p.performs (λ some. p.few)
 
 -- none was got yet
 pub none_got : (names : List (String Global)) (at : Outside) → at.shelf.taken ≢ TOO_LONG → AreGot (texts (take 0 names)) at at

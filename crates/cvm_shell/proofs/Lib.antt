@@ -29,6 +29,7 @@ mod SaveEndings
 mod SavePlans
 mod SavedCalls
 mod ResumeEndings
+mod ResumedCalls
 mod SaveWords
 mod SourceStops
 mod SystemCalls

@@ -62,6 +62,14 @@ resume_end words c r status old new is plan few (inr ends) =
     done (resumable_for c r) (plan_of words old.shelf.file (resume c) (resumable_for c r) is plan)
     (λ d other gets. took_taken (save_session c) (system_of r.ready.boot) r.ready.schedule _ new.shelf.taken few) ends
 
+-- what the bytes are answered by tells the plan
+pub answered_so : (r : Resumable) (c : Save) (P : Plan → Type 0) (a : Result (List ℕ) SaveFault) → machine_of (wanted_of r.ready.boot r.ready.schedule c.boot.turns) r.bytes.items ≡ a
+    → P (taken_plan (save_session c) (system_of r.ready.boot) r.ready.schedule a) → P (resumable_for c r)
+answered_so r c P a e h =
+    let same : a ≡ machine_of (wanted_by (system_of r.ready.boot) r.ready.schedule c.boot.turns) r.bytes.items =
+    sym e ∙ ap (λ (w : Wanted). machine_of w r.bytes.items) (same_wanted r.ready.boot r.ready.schedule c.boot.turns) in
+    subst (λ (x : Result (List ℕ) SaveFault). P (taken_plan (save_session c) (system_of r.ready.boot) r.ready.schedule x)) same h
+
 -- the numbers of a fault by other names
 pub small_named : (P : ResumeFault → Type 0) (need have n h : ℕ) → need ≡ n → have ≡ h → P (fault.SmallDisk n h) → P (fault.SmallDisk need have)
 small_named P need have n h a b p = subst (λ (k : ℕ). P (fault.SmallDisk k have)) (sym a) (subst (λ (k : ℕ). P (fault.SmallDisk n k)) (sym b) p)
@@ -79,12 +87,9 @@ module _ (r : Resumable) (c : Save) (old new : Host) where
   abbrev under : Rows
   under = r.ready.schedule
 
-  -- what the bytes are answered by tells the plan
   by_answer : (a : Result (List ℕ) SaveFault) (status : Status) → machine_of (wanted_of r.ready.boot under c.boot.turns) r.bytes.items ≡ a → PlanEnds (taken_plan (save_session c) ours under a) status old new
       → PlanEnds (resumable_for c r) status old new
-  by_answer a status e h =
-      let same : a ≡ machine_of (wanted_by ours under c.boot.turns) r.bytes.items = sym e ∙ ap (λ (w : Wanted). machine_of w r.bytes.items) (same_wanted r.ready.boot under c.boot.turns) in
-      subst (λ (x : Result (List ℕ) SaveFault). PlanEnds (taken_plan (save_session c) ours under x) status old new) same h
+  by_answer a status e h = answered_so r c (λ (p : Plan). PlanEnds p status old new) a e h
 
   -- A FAULT of the file
   pub file_refused : (f : SaveFault) (status : Status) → ResumeAnswers r.ready.boot under c.boot.turns old.disk.size r.bytes.items (Err (fault.Save f)) → ((n : List ℕ) → new.shelf.file n ≡ old.shelf.file n)

@@ -85,7 +85,7 @@ abbrev pub status_by : Result RunEnd LoadFault → Status
 status_by (Ok end) = ended_as (ending_of_end end)
 status_by (Err fault) = Disk
 
-same_status : (ended : Bool) (st : CvmStatus) → ended_as (ending_of_end (end_by ended st)) ≡ status_of ended st
+pub same_status : (ended : Bool) (st : CvmStatus) → ended_as (ending_of_end (end_by ended st)) ≡ status_of ended st
 same_status false Running = refl
 same_status false Halted = refl
 same_status false (Faulted f) = refl
@@ -171,7 +171,7 @@ module _ {O D : Type 0} (text : sink_of.Ghosts O) (told : sectors_of.Ghosts D) (
           }
 
 -- A RUN WAS REFUSED: of a disk that is too small
-named : (session : Session) (s : ImageSystem) (rows : Rows) (need have : ℕ) (old new : Outside) (status : Status) → need ≡ sectors_needed session s rows → have ≡ old.disk.size
+pub named : (session : Session) (s : ImageSystem) (rows : Rows) (need have : ℕ) (old new : Outside) (status : Status) → need ≡ sectors_needed session s rows → have ≡ old.disk.size
     → Acts (says (refusal_text (small_disk need have))) Disk old new status → Acts (says (refusal_text (small_disk (sectors_needed session s rows) old.disk.size))) Disk old new status
 named session s rows need have old new status needed size acts =
     let A : ℕ → ℕ → Type 0 = λ n h. Acts (says (refusal_text (small_disk n h))) Disk old new status in

@@ -2,7 +2,7 @@
 use Rattle.std.specs.Prelude.{◌≡◌, ◌≢◌, ◌⊎◌, ◌≤◌, ℕ, List, [], ◌∷◌, ◌++◌, length, Option, None, Some, Result, MatchResult}
 use Rattle.cvm_outside.specs.Told.{TOO_LONG}
 use Rattle.cvm_outside.specs.Outside.{Outside, Files, Output, Drive, files, output, drive}
-use Rattle.cvm_outside.specs.Script.{Call, Who, TheShelf, Performs}
+use Rattle.cvm_outside.specs.Script.{Call, Who, Performs}
 use Rattle.cvm_outside.specs.declared.shelf.Shelf as shelf_of
 use Rattle.cvm_outside.specs.declared.sink.Sink as sink_of
 use Rattle.cvm_outside.specs.declared.sectors.Sectors as sectors_of
@@ -26,7 +26,7 @@ use Rattle.cvm_shell.specs.Command.{Command, Save, IsCommand, IsSample, save_ses
 use Rattle.cvm_shell.specs.Plan.{Plan}
 use Rattle.cvm_shell.specs.Boot.{booted, first_state, sectors_needed}
 use Rattle.cvm_shell.specs.SessionRuns.{run_of}
-use Rattle.cvm_shell.specs.Ends.{Ends, PlanAsks, Joins, Wants, AreShort, MayBeLong, answered, gets, load_of, seen}
+use Rattle.cvm_shell.specs.Ends.{Ends, PlanAsks, Joins, IsNotGot, Wants, AreShort, MayBeLong, answered, gets, load_of, seen}
 
 -- FILES WERE GOT, one after the other, and none is too long
 pub record AreGot (names : List (List ℕ)) (old new : Outside) : Type 0 where
@@ -44,11 +44,6 @@ pub record IsLong (names : List (List ℕ)) (old new : Outside) : Type 0 where
   pub long : MayBeLong (old.shelf.file name)
   pub performs : Performs (gets (before ++ name ∷ [])) old new None
   pub taken : new.shelf.taken ≡ TOO_LONG
-
--- one could not be got: those before it were
-pub record IsNotGot (names : List (List ℕ)) (old new : Outside) : Type 0 where
-  pub performs : Performs (gets names) old new (Some TheShelf)
-  pub few : new.shelf.taken ≢ TOO_LONG
 
 -- which gets were made where a stage stops: all, where a fault of what they hold is refused
 abbrev pub StopGets : (names : List (List ℕ)) → (old new : Outside) → Stop → Type 0

@@ -12,7 +12,7 @@ use Rattle.kernel_linker.specs.Accept.{ImageSystem}
 use Rattle.cvm_shell.specs.declared.exit_status.Status.{Status}
 use Rattle.cvm_shell.specs.declared.exit_status.Status.TheVariants.{Done, Words, Refused, KernelFault, StepLimit, Disk, Shelf, Sink, Memory}
 use Rattle.cvm_shell.specs.declared.boot.Session.{Session}
-use Rattle.cvm_shell.specs.Command.{Command, Save, IsCommand, boot, trace, save, resume, compile_user, compile_kernel, compile_program, link, migrate, sample, check}
+use Rattle.cvm_shell.specs.Command.{Command, IsCommand, boot, trace, save, resume, compile_user, compile_kernel, compile_program, link, migrate, sample, check}
 use Rattle.cvm_shell.specs.Refusal.{small_disk, no_such_user, too_long, refusal_text, refusal_status}
 use Rattle.cvm_shell.specs.Plan.{Plan, bad_words, refuses, puts, boots, saves, resumes, prints as tells, PlanComesTo, AllTold, IsPlan}
 use Rattle.cvm_outside.specs.Script.{Call, Printed, Got, Stored, Who, TheSink, TheDisk, TheShelf, Performs}
@@ -158,7 +158,8 @@ answered due (Some TheSink) = Sink
 answered due (Some TheDisk) = Disk
 answered due (Some TheShelf) = Shelf
 
--- A RUN THAT WAS SAVED in these words, over a disk of as many sectors: it made no more steps than the resume may, and its machine was on
+-- A RUN THAT WAS SAVED in these words, over a disk of as many sectors: at the first step at which so many turns are complete, which is none later than the
+-- resume may make, and its machine was on
 pub record SavedRun (session : Session) (s : ImageSystem) (rows : Rows) (words : List ℕ) (size : ℕ) (left : List (List ℕ)) (r : Run) (past : Past) (made : ℕ) :
     Type 0 where
   pub sectors : List (List ℕ)
@@ -166,30 +167,41 @@ pub record SavedRun (session : Session) (s : ImageSystem) (rows : Rows) (words :
   pub is_past : IsPast r past
   pub disk : length sectors ≡ size
   pub pages : All IsPage sectors
-  pub turns : ℕ
-  pub first : IsTurnEnd r.around r.first turns made
+  pub first : IsTurnEnd r.around r.first (turns_at r made) made
   pub few : made ≤ session.steps
   pub on : (cvm_at r past made).status ≡ Running
   pub words_are : words ≡ saved rows.inputs (state_at r made) (turns_at r made) (cvm_at r past made).core.current
   pub left_is : left ≡ (state_at r made).device.sectors
 
--- THE SAME RESUME goes on as every run that was saved so: it performs the rest of that boot's script, with its texts and its status
+-- THE SAME RESUME goes on as every run that was saved so: it performs the rest of that boot's script, with its texts, and has its status
 abbrev pub Joins : Plan → (old new : Outside) → Option Who → Status → Type 0
 Joins (resumes session s rows words) old new blamed due =
     (left : List (List ℕ)) (r : Run) (past : Past) (made : ℕ) → sectors_needed session s rows ≤ old.disk.size → old.disk.sectors ≡ Some left →
-    SavedRun session s rows words old.disk.size left r past made → Performs (rest_script r past made) old new blamed × (due ≡ run_status r past)
+    SavedRun session s rows words old.disk.size left r past made →
+    Performs (rest_script r past made) old new blamed × (answered due blamed ≡ answered (run_status r past) blamed)
 Joins other old new blamed due = ⊤
 
--- WANT OF MEMORY, before all else is done: some of the gets were made; or the last of them found no memory, and took no 67,108,865 bytes
+-- A FILE COULD NOT BE GOT: it took no 67,108,865 bytes, those before it were got, and none of them is too long
+pub record IsNotGot (names : List (List ℕ)) (old new : Outside) : Type 0 where
+  pub before : List (List ℕ)
+  pub name : List ℕ
+  pub after : List (List ℕ)
+  pub all : before ++ name ∷ after ≡ names
+  pub short : AreShort old.shelf.file before
+  pub performs : Performs (gets (before ++ name ∷ [])) old new (Some TheShelf)
+  pub few : new.shelf.taken ≢ TOO_LONG
+
+-- WANT OF MEMORY, before all else is done: some of the gets were made, of which no file is too long; or one more found no memory, and took no 67,108,865
+-- bytes
 pub data GetWants (old new : Outside) : Type 0 where
   wants : ((n : List ℕ) → new.shelf.file n ≡ old.shelf.file n) → new.shelf.faults ≡ old.shelf.faults → new.shelf.taken ≢ TOO_LONG →
       new ≡ record old { shelf = new.shelf } → GetWants old new
 
 pub data Wants (names : List (List ℕ)) (old new : Outside) : Type 0 where
-  behind : (made rest : List (List ℕ)) → made ++ rest ≡ names → Performs (gets made) old new None → (names ≢ [] → new.shelf.taken ≢ TOO_LONG) →
-      Wants names old new
-  within : (made rest : List (List ℕ)) (name : List ℕ) (mid : Outside) → made ++ name ∷ rest ≡ names → Performs (gets made) old mid None → GetWants mid new →
-      Wants names old new
+  behind : (made rest : List (List ℕ)) → made ++ rest ≡ names → AreShort old.shelf.file made → Performs (gets made) old new None →
+      (names ≢ [] → new.shelf.taken ≢ TOO_LONG) → Wants names old new
+  within : (made rest : List (List ℕ)) (name : List ℕ) (mid : Outside) → made ++ name ∷ rest ≡ names → AreShort old.shelf.file made →
+      Performs (gets made) old mid None → GetWants mid new → Wants names old new
 
 -- WHAT WAS DONE: the gets and the plan's script were performed, up to a call that failed
 pub record Does (words : List (List ℕ)) (old new : Outside) (status : Status) : Type 0 where
@@ -210,17 +222,9 @@ pub record Does (words : List (List ℕ)) (old new : Outside) (status : Status) 
 -- HOW A COMMAND ENDS: so; or a file could not be got; or memory was wanted before a file was put, a text printed, or the disk called
 pub data Ends (words : List (List ℕ)) (old new : Outside) : Status → Type 0 where
   done : (status : Status) → Does words old new status → Ends words old new status
-  no_file : (c : Command) → IsCommand words c → Performs (gets (files_of c)) old new (Some TheShelf) → new.shelf.taken ≢ TOO_LONG → Ends words old new Shelf
+  no_file : (c : Command) → IsCommand words c → IsNotGot (files_of c) old new → Ends words old new Shelf
   no_memory : (c : Command) → IsCommand words c → Wants (files_of c) old new → Ends words old new Memory
 
 -- the three objects of a command as one outside
 abbrev pub seen : {S O D : Type 0} → shelf_of.Ghosts S → sink_of.Ghosts O → sectors_of.Ghosts D → S → O → D → Outside
 seen shelf sink disk s o d = record { shelf = files shelf s; sink = output sink o; disk = drive disk d }
-
--- the words are those of a resume
-abbrev pub IsResume : List (List ℕ) → Type 0
-IsResume words = (c : Save) × IsCommand words (resume c)
-
--- HOW EVERY OTHER COMMAND ENDS, and words that are none
-abbrev pub EndsUnlessResume : (words : List (List ℕ)) → (old new : Outside) → Status → Type 0
-EndsUnlessResume words old new status = (IsResume words → ⊥) → Ends words old new status

@@ -6,7 +6,7 @@ ghost use Rattle.cvm_shell.specs.Command as command;
 ghost use Rattle.cvm_shell.specs.Command.{texts};
 ghost use Rattle.cvm_shell.specs.CommandEnds.{RunOutcome, Caused, Causes, Headlines, RunCompletes, SavesComplete, ResumesComplete, Isolates};
 ghost use Rattle.cvm_shell.specs.Does.{CommandDoes, RunDoes, SampleDoes};
-ghost use Rattle.cvm_shell.specs.Ends.{EndsUnlessResume, seen as told_by};
+ghost use Rattle.cvm_shell.specs.Ends.{Ends, seen as told_by};
 ghost use Rattle.cvm_shell.specs.Host.{Drive, Files, seen, beside, within};
 ghost use Rattle.cvm_shell.specs.Resumes.{Resumes};
 ghost use Rattle.cvm_shell.specs.Saves.{Saves};
@@ -108,7 +108,7 @@ pub fn run<S: Shelf, O: Sink, D: Sectors>(
     ensures resumes { Resumes (seen S.Shelf O.Sink D.Sectors) (texts words.now.items) result (shelf.old, out.old, disk.old) (shelf.new, out.new, disk.new) }
     ensures resumes_complete { ResumesComplete (seen S.Shelf O.Sink D.Sectors) (texts words.now.items) result
         (shelf.old, out.old, disk.old) (shelf.new, out.new, disk.new) }
-    ensures script { EndsUnlessResume (texts words.now.items) (told_by S.Shelf O.Sink D.Sectors shelf.old out.old disk.old)
+    ensures script { Ends (texts words.now.items) (told_by S.Shelf O.Sink D.Sectors shelf.old out.old disk.old)
         (told_by S.Shelf O.Sink D.Sectors shelf.new out.new disk.new) result }
 {
     turns_are_counted();
@@ -140,7 +140,7 @@ fn run_command<S: Shelf, O: Sink, D: Sectors>(
 ) -> Status
     ensures ends { RunOutcome (seen S.Shelf O.Sink D.Sectors) (texts words.now.items) result (shelf.old, out.old, disk.old) (shelf.new, out.new, disk.new) }
     ensures causes { Causes (seen S.Shelf O.Sink D.Sectors) result (shelf.old, out.old, disk.old) (shelf.new, out.new, disk.new) }
-    ensures script { EndsUnlessResume (texts words.now.items) (told_by S.Shelf O.Sink D.Sectors shelf.old out.old disk.old)
+    ensures script { Ends (texts words.now.items) (told_by S.Shelf O.Sink D.Sectors shelf.old out.old disk.old)
         (told_by S.Shelf O.Sink D.Sectors shelf.new out.new disk.new) result }
 {
     match read_command(words) {

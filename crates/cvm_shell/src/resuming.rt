@@ -6,7 +6,7 @@ ghost use Rattle.cvm_outside.specs.Told.{AppendsPart, TOO_LONG};
 ghost use Rattle.real_layer.specs.Image.{layer_image};
 ghost use Rattle.cvm_shell.specs.Command.{resume as of_resume};
 ghost use Rattle.cvm_shell.specs.CommandEnds.{Causes};
-ghost use Rattle.cvm_shell.specs.Does.{Gets};
+ghost use Rattle.cvm_shell.specs.Does.{Gets, RunDoes, SaysAs, SystemDoes};
 ghost use Rattle.cvm_shell.specs.Ends.{files_of};
 ghost use Rattle.cvm_shell.specs.Host.{seen, within};
 ghost use Rattle.cvm_shell.specs.Refusal.{bad_save, refusal_text};
@@ -57,6 +57,7 @@ pub fn run_resume<S: Shelf, O: Sink, D: Sectors>(
 ) -> Status
     ensures ends { ResumeEndsAs (save_view resume.now) (seen S.Shelf O.Sink D.Sectors) result (shelf.old, out.old, disk.old) (shelf.new, out.new, disk.new) }
     ensures causes { Causes (seen S.Shelf O.Sink D.Sectors) result (shelf.old, out.old, disk.old) (shelf.new, out.new, disk.new) }
+    ensures does { RunDoes S.Shelf O.Sink D.Sectors (of_resume (save_view resume.now)) result (shelf.old, out.old, disk.old) (shelf.new, out.new, disk.new) }
 {
     match plan_resume(alloc, resume, shelf) {
         Ok(resumable) => resume_system(alloc, resumable, resume, out, disk),
@@ -76,6 +77,7 @@ fn resume_system<O: Sink, D: Sectors>(
 ) -> Status
     requires follows { SystemFollows resumable.ready }
     ensures ends { ResumesAs resumable (save_view resume.now) (within O.Sink D.Sectors) result (out.old, disk.old) (out.new, disk.new) }
+    ensures does { SystemDoes O.Sink D.Sectors (resumable_for (save_view resume.now) resumable) result (out.old, disk.old) (out.new, disk.new) }
     ensures rose { result ≡ Status.Sink → Rose (O.faults out.old) (O.faults out.new) }
     ensures same { result ≢ Status.Sink → O.faults out.new ≡ O.faults out.old }
     ensures disk_same { result ≢ Status.Disk → D.faults disk.new ≡ D.faults disk.old }
@@ -108,6 +110,7 @@ fn refuse_file<O: Sink>(fault: SaveFault, out: &mut O) -> Status
     ensures part { result ≡ Status.Sink → AppendsPart (O.text out.old) (O.text out.new) (refusal_text (bad_save fault)) }
     ensures rose { result ≡ Status.Sink → Rose (O.faults out.old) (O.faults out.new) }
     ensures same { result ≢ Status.Sink → O.faults out.new ≡ O.faults out.old }
+    ensures says { fault ≢ SaveFault.Memory → SaysAs O.Sink Status.Refused (refusal_text (bad_save fault)) out.old out.new result }
 {
     if let SaveFault::Memory = fault {
         return Status::Memory;

@@ -1,7 +1,7 @@
 -- Why a status is what it is.
 use Rattle.std.specs.Prelude.{Option, Some, None, codes}
 use Rattle.std.specs.Io.KnownBytes.{append_known}
-use Rattle.std.proofs.Common.{◌≡◌, ◌⊎◌, inl, inr, ℕ, zero, suc, ◌<◌, Bool, true, false, List, [], length, refl, sym, ap, ◌∙◌, subst}
+use Rattle.std.proofs.Common.{◌≡◌, ◌⊎◌, inl, inr, ℕ, zero, suc, ◌<◌, Bool, true, false, List, [], ◌∷◌, ◌++◌, length, refl, sym, ap, ◌∙◌, subst}
 use Rattle.cvm_outside.specs.Told.{AppendsPart, TOO_LONG}
 use Rattle.cvm_model.specs.Cvm.{Status as CvmStatus, Running, Halted, Faulted}
 use Rattle.boot_turns.specs.declared.answers.View.TheVariants.{Boot, Trace}
@@ -20,7 +20,7 @@ use Rattle.cvm_shell.specs.Boot.{sectors_needed}
 use Rattle.boot_run.specs.RunEnds.{SeesUser}
 use Rattle.boot_run.specs.Closing.{says}
 use Rattle.cvm_shell.specs.RunStatus.{status_of, power_status}
-use Rattle.cvm_shell.specs.Ends.{Does, done, no_file, no_memory, GetsFor, all, up_to, Wants, behind, within, wants, PlanAsks, SessionAsks, no_user, small, over_told, over_untold, SomeSaveAsks, as_boot, is_saved, load_of, files_of, gets, answered}
+use Rattle.cvm_shell.specs.Ends.{Does, done, no_file, no_memory, GetsFor, all, up_to, IsNotGot, Wants, behind, within, wants, PlanAsks, SessionAsks, no_user, small, over_told, over_untold, SomeSaveAsks, as_boot, is_saved, load_of, files_of, gets, answered}
 use Rattle.run_scripts.specs.Headline.{NoneFailed}
 use Rattle.run_scripts.specs.Causes.{Counts, NeedsMore, CausedBy, StatusesAreCaused, WordsAreRefused}
 use Rattle.run_scripts.proofs.Joins.{got_keeps}
@@ -128,12 +128,12 @@ module _ (blame : ScriptsBlame) where
   pub of_done : (words : List (List ℕ)) (old new : Outside) (status : Status) (h : Does words old new status) → Counts h.blamed old new
   of_done words old new status h = counts_both h.got h.script old h.mid new h.blamed h.files h.performs
 
-  pub of_no_file : (names : List (List ℕ)) (old new : Outside) → Performs (gets names) old new (Some TheShelf) → Counts (Some TheShelf) old new
-  of_no_file names old new p w = blame (gets names) old new (Some TheShelf) p w
+  pub of_no_file : (names : List (List ℕ)) (old new : Outside) → IsNotGot names old new → Counts (Some TheShelf) old new
+  of_no_file names old new g w = blame (gets (g.before ++ g.name ∷ [])) old new (Some TheShelf) g.performs w
 
   of_wants : (names : List (List ℕ)) (old new : Outside) → Wants names old new → Counts None old new
-  of_wants names old new (behind made rest e p t) w = blame (gets made) old new None p w
-  of_wants names old new (within made rest name mid e p (wants f c t s)) w =
+  of_wants names old new (behind made rest e s p t) w = blame (gets made) old new None p w
+  of_wants names old new (within made rest name mid e short p (wants f c t s)) w =
       let g = blame (gets made) old mid None p w in
       let h : faults_of w mid ≡ faults_of w old = g.same (λ x. cc) in
       record { rose = λ x. absurd (cc); same = λ ne. same w ∙ h }
@@ -205,7 +205,7 @@ module _ (blame : ScriptsBlame) where
       by (Some TheSink) e k = subst (λ (st : Status). CausedBy st words old new) (sym e) k
       by (Some TheDisk) e k = subst (λ (st : Status). CausedBy st words old new) (sym e) (inl k)
       by (Some TheShelf) e k = subst (λ (st : Status). CausedBy st words old new) (sym e) (inl k)
-  statuses_are_caused words old new status (no_file c is g t) = inl (of_no_file (files_of c) old new g)
+  statuses_are_caused words old new status (no_file c is g) = inl (of_no_file (files_of c) old new g)
   statuses_are_caused words old new status (no_memory c is w) = of_wants (files_of c) old new w
 
   -- THE STATUS of words, files and disks
@@ -265,5 +265,5 @@ module _ (blame : ScriptsBlame) where
 
           of_due : Due h.plan h.mid h.script h.due → (status ≡ Words) ⊎ (status ≡ Sink)
           of_due d = let a = subst (λ (p : Plan). PlanAsks p h.mid h.script h.due) (none h.plan o) h.asks in said a.0 a.1
-  words_are_refused words old new status (no_file c is g t) = record { only = λ e. absurd (cc); so = λ n. absurd (n c is) }
+  words_are_refused words old new status (no_file c is g) = record { only = λ e. absurd (cc); so = λ n. absurd (n c is) }
   words_are_refused words old new status (no_memory c is w) = record { only = λ e. absurd (cc); so = λ n. absurd (n c is) }

@@ -25,7 +25,7 @@ use Rattle.cvm_shell.specs.Saves.{saved_row}
 use Rattle.cvm_shell.specs.SessionRuns.{run_of, pages_loaded}
 use Rattle.boot_run.specs.RunScript.{run_script}
 use Rattle.cvm_shell.specs.RunStatus.{run_status, status_of, save_script, saved_bytes}
-use Rattle.cvm_shell.specs.Ends.{Does, done, no_file, no_memory, RunAsks, SaveAsks, SomeRunAsks, SomeSaveAsks, load_of, answered, files_of, gets}
+use Rattle.cvm_shell.specs.Ends.{Does, done, no_file, no_memory, IsNotGot, RunAsks, SaveAsks, SomeRunAsks, SomeSaveAsks, load_of, answered, files_of}
 use Rattle.run_scripts.specs.Headline.{Asked, ended_text, text_at, whole_text}
 use Rattle.run_scripts.specs.Faults.{PrintedWithin, Stand, CalledBy, AfterSink, AfterBy, After, FaultsLeave, IsLeft, IsReported, UnsavedBy, SaveFaultsLeave}
 use Rattle.run_scripts.proofs.Behind.{load_calls_disk, stand_behind, sink_behind, disk_behind}
@@ -183,7 +183,7 @@ faults_leave blame tell store count law words session s rows before old new stat
     h.script h.due a two.0 (plan_asks blame words old new status h (boots session s rows) a.files a.is_plan) in
     boot_left tell store law words (boots session s rows) session s rows before old h.mid a two.0 two.1 t.past t.is_past (called_by blame count old h.mid two.0) new status h.due h.blamed t.status_is h.status_is w
     (subst (λ (c : List Call). Performs c h.mid new h.blamed) t.script_is h.performs)
-faults_leave blame tell store count law words session s rows before old new status a w (no_file c i f t) = absurd (not_shelf w)
+faults_leave blame tell store count law words session s rows before old new status a w (no_file c i f) = absurd (not_shelf w)
 faults_leave blame tell store count law words session s rows before old new status a w (no_memory c i m) = absurd (not_memory (of_three Memory w))
 
 -- A SAVE
@@ -288,6 +288,6 @@ pub save_faults_leave : ScriptsBlame → ScriptsTell → ScriptsStore → Script
 save_faults_leave blame tell store count law words c s rows before old new status is a w (done _ h) =
     inr (save_left blame tell store count law words c s rows before old new status is a w h h.blamed h.status_is
     (subst (λ (x : List Call). Performs x h.mid new h.blamed) (t blame tell store count law words c s rows before old new status is a w h).script_is h.performs))
-save_faults_leave blame tell store count law words c s rows before old new status is a w (no_file d i f t) =
-    inl (refl, subst (λ (e : Command). Performs (gets (files_of e)) old new (Some TheShelf)) (one_command words d (save c) i is) f)
+save_faults_leave blame tell store count law words c s rows before old new status is a w (no_file d i f) =
+    inl (refl, subst (λ (e : Command). IsNotGot (files_of e) old new) (one_command words d (save c) i is) f)
 save_faults_leave blame tell store count law words c s rows before old new status is a w (no_memory d i m) = absurd (not_memory w)

@@ -1,5 +1,5 @@
 -- The resume of a saved run.
-use Rattle.std.proofs.Common.{◌≡◌, ◌≤◌, ℕ, List, [], ◌∷◌, ◌++◌, Option, Some, None, refl, ap, ◌∙◌, sym, subst}
+use Rattle.std.proofs.Common.{◌≡◌, ◌≤◌, ℕ, List, [], ◌∷◌, ◌++◌, Option, Some, None, refl, ◌∙◌, sym, subst}
 use Rattle.kernel_linker.specs.Accept.{ImageSystem}
 use Rattle.schedule_file.specs.Rows.{Rows}
 use Rattle.cvm_shell.specs.declared.exit_status.Status.{Status}
@@ -24,7 +24,7 @@ got_keeps file names taken p got old mid (up_to before after name e s l t) f = g
 -- what is performed is what is left of the run that was saved
 pub saved_joins : (words : List (List ℕ)) (d : Save) (s : ImageSystem) (rows : Rows) (machine : List ℕ) (left : List (List ℕ)) (old new : Outside) (status : Status) (r : Run) (p : Past) (made : ℕ) →
     IsResume words d → Asked words (resumes (save_session d) s rows machine) (save_session d) s rows left old → SavedRun (save_session d) s rows machine old.disk.size left r p made →
-    (h : Does words old new status) → Performs (rest_script r p made) h.mid new h.blamed × (h.due ≡ run_status r p)
+    (h : Does words old new status) → Performs (rest_script r p made) h.mid new h.blamed × (answered h.due h.blamed ≡ answered (run_status r p) h.blamed)
 saved_joins words d s rows machine left old new status r p made is asked saved h =
     let e : resumes (save_session d) s rows machine ≡ h.plan = h.is_plan.only asked.files _ asked.is_plan in
     let k = got_keeps _ _ _ _ _ old h.mid (h.gets.0 (resume d) is) h.files in
@@ -37,6 +37,6 @@ pub resumes_join : ResumesJoin
 resumes_join words d s rows machine left old new status r p made is asked saved (done _ h) memory shelf =
     let k = got_keeps _ _ _ _ _ old h.mid (h.gets.0 (resume d) is) h.files in
     let two = saved_joins words d s rows machine left old new status r p made is asked saved h in
-    record { mid = h.mid; disk = k.disk; sink = k.sink; blamed = h.blamed; performs = two.0; status_is = h.status_is ∙ ap (λ due. answered due h.blamed) two.1 }
-resumes_join words d s rows machine left old new status r p made is asked saved (no_file c i f t) memory shelf = absurd (shelf refl)
+    record { mid = h.mid; disk = k.disk; sink = k.sink; blamed = h.blamed; performs = two.0; status_is = h.status_is ∙ two.1 }
+resumes_join words d s rows machine left old new status r p made is asked saved (no_file c i f) memory shelf = absurd (shelf refl)
 resumes_join words d s rows machine left old new status r p made is asked saved (no_memory c i w) memory shelf = absurd (memory refl)

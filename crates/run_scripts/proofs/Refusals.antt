@@ -14,7 +14,7 @@ use Rattle.cvm_outside.specs.Outside.{Outside, Drive, Output}
 use Rattle.cvm_outside.specs.Script.{Call, Who, TheSink, TheDisk, TheShelf, Performs}
 use Rattle.cvm_shell.specs.Boot.{sectors_needed}
 use Rattle.boot_run.specs.Closing.{says}
-use Rattle.cvm_shell.specs.Ends.{Does, done, no_file, no_memory, GetsFor, all, up_to, behind, within, wants, PlanAsks, SessionAsks, no_user, small, over_told, over_untold, files_of, gets, answered}
+use Rattle.cvm_shell.specs.Ends.{Does, done, no_file, no_memory, GetsFor, all, up_to, IsNotGot, behind, within, wants, PlanAsks, SessionAsks, no_user, small, over_told, over_untold, files_of, answered}
 use Rattle.run_scripts.specs.Headline.{NoneFailed, IsOf, booted_so, saved_so, resumed_so}
 use Rattle.run_scripts.specs.Causes.{FilesAreRefused, HasNoUser, MissingUsersAreRefused, SmallDisksAreRefused, LongFilesAreRefused, RefusedAsLong, WorkCompletes, IsWork}
 use Rattle.run_scripts.proofs.OneCommand.{one_command}
@@ -43,7 +43,7 @@ module _ (blame : ScriptsBlame) where
       PlanAsks p h.mid h.script h.due
   plan_asks words old new status h p told comes = subst (λ (q : Plan). PlanAsks q h.mid h.script h.due) (sym (h.is_plan.only told p comes)) h.asks
 
-  pub no_file_failed : (c : Command) (old new : Outside) → NoneFailed old new → Performs (gets (files_of c)) old new (Some TheShelf) → ⊥
+  pub no_file_failed : (c : Command) (old new : Outside) → NoneFailed old new → IsNotGot (files_of c) old new → ⊥
   no_file_failed c old new f g = f TheShelf ((of_no_file blame (files_of c) old new g TheShelf).rose refl).rose
 
   refused_so : (r : Refusal) → refusal_status r ≡ Refused → r ≢ too_long
@@ -87,7 +87,7 @@ module _ (blame : ScriptsBlame) where
       only (Some TheSink) n e = absurd (cc)
       only (Some TheDisk) n e = absurd (cc)
       only (Some TheShelf) n e = absurd (cc)
-  files_are_refused words old new status told (no_file c is g t) = record { so = λ r comes f m. absurd (no_file_failed c old new f g); only = λ e. absurd (cc) }
+  files_are_refused words old new status told (no_file c is g) = record { so = λ r comes f m. absurd (no_file_failed c old new f g); only = λ e. absurd (cc) }
   files_are_refused words old new status told (no_memory c is w) = record { so = λ r comes f m. absurd (m refl); only = λ e. absurd (cc) }
 
   pub missing_users_are_refused : MissingUsersAreRefused
@@ -102,7 +102,7 @@ module _ (blame : ScriptsBlame) where
       by script due s d (small v x) = absurd (w.none v)
       by script due s d (over_told ss _ _ v x q a) = absurd (w.none v)
       by script due s d (over_untold _ _ v x q a) = absurd (w.none v)
-  missing_users_are_refused words old new status r told w f (no_file c is g t) m = absurd (no_file_failed c old new f g)
+  missing_users_are_refused words old new status r told w f (no_file c is g) m = absurd (no_file_failed c old new f g)
   missing_users_are_refused words old new status r told w f (no_memory c is x) m = absurd (m refl)
 
   pub small_disks_are_refused : SmallDisksAreRefused
@@ -129,7 +129,7 @@ module _ (blame : ScriptsBlame) where
       by p booted_so a = ends _ _ h.script h.due refl refl a
       by p (saved_so name) a = ends _ _ h.script h.due refl refl a
       by p (resumed_so machine) a = ends _ _ h.script h.due refl refl a
-  small_disks_are_refused words plan session s rows old new status told comes is sees few f (no_file c k g t) m = absurd (no_file_failed c old new f g)
+  small_disks_are_refused words plan session s rows old new status told comes is sees few f (no_file c k g) m = absurd (no_file_failed c old new f g)
   small_disks_are_refused words plan session s rows old new status told comes is sees few f (no_memory c k x) m = absurd (m refl)
 
   pub long_files_are_refused : LongFilesAreRefused
@@ -155,9 +155,9 @@ module _ (blame : ScriptsBlame) where
       by : (p : Plan) → h.plan ≡ p → (got : List Call) → GetsFor old.shelf.file (files_of c) new.shelf.taken p got → RefusedAsLong old new status
       by p e got (all _ n t) = absurd (t some taken)
       by p e got (up_to before after name x s l t) = refused e
-  long_files_are_refused words c old new status is some (no_file d k g t) taken = absurd (t taken)
-  long_files_are_refused words c old new status is some (no_memory d k (behind made rest e p t)) taken = absurd (t (λ n. some (ap files_of (one_command words c d is k) ∙ n)) taken)
-  long_files_are_refused words c old new status is some (no_memory d k (within made rest name mid e p (wants x y t z))) taken = absurd (t taken)
+  long_files_are_refused words c old new status is some (no_file d k g) taken = absurd (g.few taken)
+  long_files_are_refused words c old new status is some (no_memory d k (behind made rest e s p t)) taken = absurd (t (λ n. some (ap files_of (one_command words c d is k) ∙ n)) taken)
+  long_files_are_refused words c old new status is some (no_memory d k (within made rest name mid e s p (wants x y t z))) taken = absurd (t taken)
 
   pub work_completes : WorkCompletes
   work_completes words old new status p told comes work f (done _ h) m =
@@ -171,5 +171,5 @@ module _ (blame : ScriptsBlame) where
       by (boots d s r) w a = absurd w
       by (saves d s r n) w a = absurd w
       by (resumes d s r x) w a = absurd w
-  work_completes words old new status p told comes work f (no_file c is g t) m = absurd (no_file_failed c old new f g)
+  work_completes words old new status p told comes work f (no_file c is g) m = absurd (no_file_failed c old new f g)
   work_completes words old new status p told comes work f (no_memory c is w) m = absurd (m refl)

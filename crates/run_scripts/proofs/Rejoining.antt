@@ -1,8 +1,9 @@
 -- A save and its resume are the boot as a whole.
 use Rattle.std.specs.Prelude.{Option, Some, None, Result, Ok}
-use Rattle.std.proofs.Common.{◌≡◌, ◌⊎◌, inl, inr, ℕ, ◌<◌, ◌≤◌, ◌^◌, List, ◌++◌, refl, sym, ap, ◌∙◌, subst, arith}
+use Rattle.std.proofs.Common.{◌≡◌, ◌≢◌, ◌⊎◌, inl, inr, ℕ, ◌<◌, ◌≤◌, ◌^◌, List, ◌++◌, refl, sym, ap, ◌∙◌, subst, arith}
+use Rattle.mips_table.specs.Turns.{IsTurnEnd}
 use Rattle.mips_machine.specs.Saved.{saved}
-use Rattle.cvm_model.specs.Cvm.{Cvm}
+use Rattle.cvm_model.specs.Cvm.{Cvm, Running}
 use Rattle.cvm_model.specs.Text.{rows_text}
 use Rattle.kernel_linker.specs.Accept.{ImageSystem}
 use Rattle.saved_file.specs.Answer.{answer as machine_of}
@@ -18,8 +19,8 @@ use Rattle.boot_turns.specs.Runs.{Run, Past, IsPast, state_at, turns_at, steps_m
 use Rattle.boot_run.specs.SavedRuns.{IsDisk}
 use Rattle.cvm_shell.specs.SessionRuns.{run_of}
 use Rattle.boot_run.specs.RunScript.{rest_script, saved_words}
-use Rattle.cvm_shell.specs.RunStatus.{saved_bytes}
-use Rattle.cvm_shell.specs.Ends.{done, no_file, no_memory, Does, SavedRun}
+use Rattle.cvm_shell.specs.RunStatus.{run_status, saved_bytes}
+use Rattle.cvm_shell.specs.Ends.{done, no_file, no_memory, Does, SavedRun, answered}
 use Rattle.run_scripts.specs.Headline.{Asked, NoneFailed, text_at, whole_text}
 use Rattle.run_scripts.specs.Faults.{IsLeft}
 use Rattle.run_scripts.specs.Saving.{IsSaved, IsUnsaved, IsBootBehind, SavedAndResumedAreBooted}
@@ -30,7 +31,7 @@ use Rattle.run_scripts.proofs.Keys.{known, ends_are_over, sectors_behind_stay}
 use Rattle.boot_run.proofs.AbstractRuns.{past_of, turns_up_to}
 use Rattle.run_scripts.proofs.Pasts.{Known, founded}
 use Rattle.run_scripts.proofs.Performed.{ScriptLaws, Says, says_text, leaves_sectors}
-use Rattle.run_scripts.proofs.Refusals.{none_blamed, status_due, no_file_failed}
+use Rattle.run_scripts.proofs.Refusals.{none_blamed, no_file_failed}
 use Rattle.run_scripts.proofs.Reports.{rest_tells}
 use Rattle.run_scripts.proofs.Skips.{steps_within}
 use Rattle.run_scripts.proofs.StoredRuns.{rest_leaves}
@@ -100,6 +101,14 @@ module _ (law : ScriptLaws) (c d : Save) (words : List (List ℕ)) (s : ImageSys
     left_there : left ≡ (state_at r (steps_made q)).device.sectors
     left_there = same_some left (state_at r (steps_made q)).device.sectors (sym a.sectors ∙ f.sectors)
 
+    -- all its turns were complete there
+    all_turns : turns_at r (steps_made q) ≡ c.boot.turns
+    all_turns = of (its.machines.ends c.boot.turns c.boot.steps (cvm_at q o (steps_made q)) (f.is_past.turns (turns_at q (steps_made q)) (omega arith)) f.left.0).over
+      where
+        of : (turns_at q (steps_made q) ≡ c.boot.turns) ⊎ ((cvm_at q o (steps_made q)).status ≢ Running) → turns_at r (steps_made q) ≡ c.boot.turns
+        of (inl e) = e
+        of (inr n) = absurd (n f.left.1)
+
     saved_run : SavedRun (save_session d) s rows machine old.disk.size left r p (steps_made q)
     saved_run =
         let within = steps_within law.runs.count q.around q.first q.turns q.steps in
@@ -109,8 +118,7 @@ module _ (law : ScriptLaws) (c d : Save) (words : List (List ℕ)) (s : ImageSys
           is_past = past;
           disk = f.disk.size;
           pages = f.disk.each;
-          turns = c.boot.turns;
-          first = law.runs.count.found q.around q.first q.turns q.steps f.left.0;
+          first = subst (λ (n : ℕ). IsTurnEnd r.around r.first n (steps_made q)) (sym all_turns) (law.runs.count.found q.around q.first q.turns q.steps f.left.0);
           few = omega (arith, within, less);
           on = ap (λ (x : Cvm). x.status) (sym at_end) ∙ f.left.1;
           words_are = the_words ∙ ap (λ (x : Cvm). saved rows.inputs (state_at r (steps_made q)) (turns_at r (steps_made q)) x.core.current) at_end;
@@ -134,7 +142,7 @@ module _ (law : ScriptLaws) (c d : Save) (words : List (List ℕ)) (s : ImageSys
             are = leaves_sectors law.store (rest_script r p (steps_made q)) old h.mid new left (state_at r (steps_made r)).device.sectors a.sectors leaves k.0 z;
             beyond = sectors_behind_stay law.runs words _ (save_session d) s rows before (with_disk old before) asked (steps_made r) (omega arith);
           };
-          status_is = status_due law.blame words old new status h n ∙ j.1;
+          status_is = h.status_is ∙ j.1 ∙ ap (answered (run_status r p)) n;
           over = ends_are_over law.runs words _ (save_session d) s rows before (with_disk old before) asked p past;
           text = t.text;
           printed = t.printed;
@@ -156,5 +164,5 @@ saved_and_resumed_are_booted law c d words s rows before left machine first mid 
         machine_of (wanted_by s rows turns) (saved_bytes (run_of (save_session c) s rows first.disk.size before) w.past) ≡ Ok (saved_words (run_of (save_session c) s rows first.disk.size before) w.past)
     fits (inl z) = z.fits
     fits (inr u) = absurd (u.ended saved_so)
-saved_and_resumed_are_booted law c d words s rows before left machine first mid old new made status disk w saved_so l is a none (no_file e k g t) m = absurd (no_file_failed law.blame e old new none g)
+saved_and_resumed_are_booted law c d words s rows before left machine first mid old new made status disk w saved_so l is a none (no_file e k g) m = absurd (no_file_failed law.blame e old new none g)
 saved_and_resumed_are_booted law c d words s rows before left machine first mid old new made status disk w saved_so l is a none (no_memory e k x) m = absurd (m refl)

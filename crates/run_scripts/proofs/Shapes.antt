@@ -1,12 +1,12 @@
 -- Which calls a command makes.
-use Rattle.std.specs.Prelude.{Option, Some, None}
+use Rattle.std.specs.Prelude.{Option, None}
 use Rattle.std.proofs.Common.{◌≡◌, ◌≢◌, ◌⊎◌, inl, inr, ℕ, List, [], ◌∷◌, ◌++◌, refl, ap, ◌∙◌, subst, append_assoc, append-nil}
 use Rattle.cvm_outside.specs.Told.{TOO_LONG}
 use Rattle.cvm_shell.specs.Command.{Command, IsCommand, save, resume}
 use Rattle.cvm_shell.specs.Plan.{Plan, bad_words}
 use Rattle.cvm_outside.specs.Outside.{Outside}
-use Rattle.cvm_outside.specs.Script.{Call, Who, TheShelf, Performs, done as all_done, breaks, goes_on, disk_calls}
-use Rattle.cvm_shell.specs.Ends.{done, no_file, no_memory, GetsFor, all, up_to, Wants, files_of, gets}
+use Rattle.cvm_outside.specs.Script.{Call, Who, Performs, done as all_done, breaks, goes_on, disk_calls}
+use Rattle.cvm_shell.specs.Ends.{done, no_file, no_memory, GetsFor, all, up_to, IsNotGot, Wants, files_of, gets}
 use Rattle.run_scripts.specs.Shapes.{PlansHaveShape, OthersStay, NothingIsLoaded, GetsComeFirst, EndsLong, were_got, ungot, wanting, file_put, puts_in}
 use Rattle.run_scripts.proofs.Calls.{shape_of, files_stay, disk_stays, quiet_plan}
 use Rattle.run_scripts.proofs.Joins.{got_keeps}
@@ -54,7 +54,7 @@ others_stay words c old new status is (done _ h) n ne =
     let k = got_keeps _ _ _ _ _ old h.mid (h.gets.0 c is) h.files in
     let s = shape_of words c h.plan h.mid h.script h.due is (outcome words old.shelf.file h.plan h.is_plan.comes) h.asks in
     files_stay (file_put c) h.script h.mid new h.blamed s.puts h.performs n ne ∙ k.files n
-others_stay words c old new status is (no_file d k g t) n ne = gets_files (files_of d) old new _ g n
+others_stay words c old new status is (no_file d k g) n ne = gets_files (g.before ++ g.name ∷ []) old new _ g.performs n
 others_stay words c old new status is (no_memory d k w) n ne = (wanted _ old new w).files n
 
 pub nothing_is_loaded : NothingIsLoaded
@@ -79,7 +79,7 @@ nothing_is_loaded words old new status never (done _ h) = by h.plan refl (outcom
     by p e (is_resumed d k s rows machine) = of (resume d) k
     by p e (is_put d k name bytes x) = of d k
     by p e (is_told d k text) = of d k
-nothing_is_loaded words old new status never (no_file d k g t) = disk_stays (gets (files_of d)) old new _ (gets_ask (files_of d)) g
+nothing_is_loaded words old new status never (no_file d k g) = disk_stays (gets (g.before ++ g.name ∷ [])) old new _ (gets_ask (g.before ++ g.name ∷ [])) g.performs
 nothing_is_loaded words old new status never (no_memory d k w) = (wanted _ old new w).disk
 
 pub gets_come_first : GetsComeFirst
@@ -87,9 +87,9 @@ gets_come_first words c old new status is (done _ h) =
     let w = got_names _ _ new.shelf.taken _ _ (h.gets.0 c is) in
     let s = shape_of words c h.plan h.mid h.script h.due is (outcome words old.shelf.file h.plan h.is_plan.comes) h.asks in
     were_got status h.due w.made w.rest h.mid h.script h.blamed w.all w.which (subst (λ (s : List Call). Performs s old h.mid None) w.got_is h.files) (record { gets = s.gets; puts = s.puts }) h.performs h.status_is
-gets_come_first words c old new status is (no_file d k g t) =
+gets_come_first words c old new status is (no_file d k g) =
     let e : files_of d ≡ files_of c = ap files_of (one_command words d c k is) in
-    ungot (subst (λ (names : List (List ℕ)). Performs (gets names) old new (Some TheShelf)) e g) t
+    ungot (subst (λ (names : List (List ℕ)). IsNotGot names old new) e g)
 gets_come_first words c old new status is (no_memory d k w) =
     let e : files_of d ≡ files_of c = ap files_of (one_command words d c k is) in
     wanting (subst (λ (names : List (List ℕ)). Wants names old new) e w)

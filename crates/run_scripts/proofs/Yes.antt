@@ -220,7 +220,7 @@ yes_suffices blame one read opened law words source stack s old new status (done
     (its_plan words old.shelf.file y.check y.asked h.plan h.is_plan.comes) h.asks h.performs in
     let enough : y.check.stack ≤ s.params.stack = subst (λ (n : ℕ). n ≤ s.params.stack) y.stack_is has.enough in
     never_out law y.check.stack u s room (system_unit one source stack s u (subst (λ (x : List ℕ). IsFrontAnswer x (Ok u)) (sym y.source_is) is) has) enough
-yes_suffices blame one read opened law words source stack s old new status (no_file c i f t) y has =
-    absurd (not_nothing old.sink.text y.before y.rest y.before_told (sym (ap (λ (o : Output). o.text) (gets_print (files_of c) old new (Some TheShelf) f)) ∙ y.printed))
+yes_suffices blame one read opened law words source stack s old new status (no_file c i f) y has =
+    absurd (not_nothing old.sink.text y.before y.rest y.before_told (sym (ap (λ (o : Output). o.text) (gets_print (f.before ++ f.name ∷ []) old new (Some TheShelf) f.performs)) ∙ y.printed))
 yes_suffices blame one read opened law words source stack s old new status (no_memory c i w) y has =
     absurd (not_nothing old.sink.text y.before y.rest y.before_told (sym (ap (λ (o : Output). o.text) (wanted (files_of c) old new w).sink) ∙ y.printed))

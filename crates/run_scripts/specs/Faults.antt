@@ -17,7 +17,7 @@ use Rattle.cvm_shell.specs.declared.exit_status.Status.TheVariants.{StepLimit, D
 use Rattle.cvm_shell.specs.declared.boot.Session.{Session}
 use Rattle.cvm_shell.specs.Command.{Save, IsSave, save_session}
 use Rattle.cvm_shell.specs.Plan.{boots, saves}
-use Rattle.cvm_outside.specs.Script.{Call, TheDisk, TheShelf, Performs, disk_calls, scripts}
+use Rattle.cvm_outside.specs.Script.{Call, TheDisk, Performs, disk_calls, scripts}
 use Rattle.cvm_outside.specs.Outside.{Outside, counts}
 use Rattle.boot_turns.specs.Runs.{Run, Past, IsPast, state_at, turns_at, steps_made, has_ended, cvm_at}
 use Rattle.boot_turns.specs.StepScript.{entry_script, steps_script}
@@ -27,7 +27,7 @@ use Rattle.cvm_shell.specs.Saves.{saved_row}
 use Rattle.boot_run.specs.Closing.{opening_script, closing_script}
 use Rattle.cvm_shell.specs.SessionRuns.{run_of}
 use Rattle.cvm_shell.specs.RunStatus.{saved_bytes}
-use Rattle.cvm_shell.specs.Ends.{Ends, load_of, gets}
+use Rattle.cvm_shell.specs.Ends.{Ends, IsNotGot, load_of}
 use Rattle.run_scripts.specs.Headline.{text_at, whole_text, Asked}
 
 -- what was printed is this text; or the first of a whole one, with at least this part of it
@@ -140,5 +140,5 @@ SaveFaultsLeave = (words : List (List ℕ)) (c : Save) (s : ImageSystem) (rows :
     IsSave words c → Asked words (saves (save_session c) s rows c.file) (save_session c) s rows before old →
     (status ≡ StepLimit) ⊎ ((status ≡ Disk) ⊎ ((status ≡ Shelf) ⊎ (status ≡ Sink))) → Ends words old new status →
     let r : Run = run_of (save_session c) s rows old.disk.size before in
-    ((status ≡ Shelf) × Performs (gets (c.boot.image ∷ c.boot.schedule ∷ [])) old new (Some TheShelf))
+    ((status ≡ Shelf) × IsNotGot (c.boot.image ∷ c.boot.schedule ∷ []) old new)
     ⊎ After r (sectors_needed (save_session c) s rows) before new (λ p. UnsavedBy status c r (load_of (save_session c) s rows) p old new)

@@ -6,9 +6,9 @@ use Rattle.cvm_shell.specs.declared.exit_status.Status.{Status}
 use Rattle.cvm_shell.specs.declared.exit_status.Status.TheVariants.{Shelf, Memory}
 use Rattle.cvm_shell.specs.Command.{Command, IsCommand, boot, trace, save, resume, compile_user, compile_kernel, compile_program, link, migrate, sample}
 use Rattle.cvm_shell.specs.Plan.{Plan, PlanComesTo}
-use Rattle.cvm_outside.specs.Script.{Call, Got, Stored, Who, TheShelf, Performs}
+use Rattle.cvm_outside.specs.Script.{Call, Got, Stored, Who, Performs}
 use Rattle.cvm_outside.specs.Outside.{Outside}
-use Rattle.cvm_shell.specs.Ends.{Ends, PlanAsks, Wants, AreShort, MayBeLong, answered, files_of, gets}
+use Rattle.cvm_shell.specs.Ends.{Ends, PlanAsks, IsNotGot, Wants, AreShort, MayBeLong, answered, files_of, gets}
 
 -- the file that a command may put
 abbrev pub file_put : Command → Option (List ℕ)
@@ -83,7 +83,7 @@ pub data GotInOrder (c : Command) (old new : Outside) : Status → Type 0 where
   were_got : (status due : Status) (made rest : List (List ℕ)) (mid : Outside) (script : List Call) (blamed : Option Who) → made ++ rest ≡ files_of c →
       AreGot old new made rest → Performs (gets made) old mid None → Shape c script → Performs script mid new blamed → status ≡ answered due blamed →
       GotInOrder c old new status
-  ungot : Performs (gets (files_of c)) old new (Some TheShelf) → new.shelf.taken ≢ TOO_LONG → GotInOrder c old new Shelf
+  ungot : IsNotGot (files_of c) old new → GotInOrder c old new Shelf
   wanting : Wants (files_of c) old new → GotInOrder c old new Memory
 
 abbrev pub GetsComeFirst : Type 0

@@ -67,59 +67,59 @@ returns-in-Some-Check-clause-ends g c =
     c.check_object.ensures.ends _ (drive g.D.Sectors c.args.disk.now) (subst P c.in-Some-Check.field-0-is c.in-Some-Check.ensures.found)
 
 pub returns-in-None-clause-script : goal.returns-in-None-clause-script
-returns-in-None-clause-script g c = λ other. bad_words_done _ _ _ _ c.in-None.ensures.none (c.say.ensures.does (told_files g.S.Shelf c.args.shelf.now) (told_drive g.D.Sectors c.args.disk.now))
+returns-in-None-clause-script g c = bad_words_done _ _ _ _ c.in-None.ensures.none (c.say.ensures.does (told_files g.S.Shelf c.args.shelf.now) (told_drive g.D.Sectors c.args.disk.now))
 
 pub returns-in-Some-Boot-clause-script : goal.returns-in-Some-Boot-clause-script
-returns-in-Some-Boot-clause-script g c = λ other.
+returns-in-Some-Boot-clause-script g c =
     let P : Command → Type 0 = λ x. IsCommand (texts c.args.words.now.items) (command_view x) in
     c.run_boot.ensures.does _ (subst P c.in-Some-Boot.field-0-is c.in-Some-Boot.ensures.found)
 
 pub returns-in-Some-Trace-clause-script : goal.returns-in-Some-Trace-clause-script
-returns-in-Some-Trace-clause-script g c = λ other.
+returns-in-Some-Trace-clause-script g c =
     let P : Command → Type 0 = λ x. IsCommand (texts c.args.words.now.items) (command_view x) in
     c.run_boot-in-Some-Trace.ensures.does _ (subst P c.in-Some-Trace.field-0-is c.in-Some-Trace.ensures.found)
 
 pub returns-in-Some-Save-clause-script : goal.returns-in-Some-Save-clause-script
-returns-in-Some-Save-clause-script g c = λ other.
+returns-in-Some-Save-clause-script g c =
     let P : Command → Type 0 = λ x. IsCommand (texts c.args.words.now.items) (command_view x) in
     c.run_save.ensures.does _ (subst P c.in-Some-Save.field-0-is c.in-Some-Save.ensures.found)
 
 pub returns-in-Some-Resume-clause-script : goal.returns-in-Some-Resume-clause-script
-returns-in-Some-Resume-clause-script g c = λ other.
+returns-in-Some-Resume-clause-script g c =
     let P : Command → Type 0 = λ x. IsCommand (texts c.args.words.now.items) (command_view x) in
-    absurd (other (_, subst P c.in-Some-Resume.field-0-is c.in-Some-Resume.ensures.found))
+    c.run_resume.ensures.does _ (subst P c.in-Some-Resume.field-0-is c.in-Some-Resume.ensures.found)
 
 pub returns-in-Some-CompileUser-clause-script : goal.returns-in-Some-CompileUser-clause-script
-returns-in-Some-CompileUser-clause-script g c = λ other.
+returns-in-Some-CompileUser-clause-script g c =
     let P : Command → Type 0 = λ x. IsCommand (texts c.args.words.now.items) (command_view x) in
     c.compile_user.ensures.does _ (told_drive g.D.Sectors c.args.disk.now) (subst P c.in-Some-CompileUser.field-0-is c.in-Some-CompileUser.ensures.found)
 
 pub returns-in-Some-CompileKernel-clause-script : goal.returns-in-Some-CompileKernel-clause-script
-returns-in-Some-CompileKernel-clause-script g c = λ other.
+returns-in-Some-CompileKernel-clause-script g c =
     let P : Command → Type 0 = λ x. IsCommand (texts c.args.words.now.items) (command_view x) in
     c.compile_kernel.ensures.does _ (told_drive g.D.Sectors c.args.disk.now) (subst P c.in-Some-CompileKernel.field-0-is c.in-Some-CompileKernel.ensures.found)
 
 pub returns-in-Some-CompileProgram-clause-script : goal.returns-in-Some-CompileProgram-clause-script
-returns-in-Some-CompileProgram-clause-script g c = λ other.
+returns-in-Some-CompileProgram-clause-script g c =
     let P : Command → Type 0 = λ x. IsCommand (texts c.args.words.now.items) (command_view x) in
     c.compile_program.ensures.does _ (told_drive g.D.Sectors c.args.disk.now) (subst P c.in-Some-CompileProgram.field-0-is c.in-Some-CompileProgram.ensures.found)
 
 pub returns-in-Some-Link-clause-script : goal.returns-in-Some-Link-clause-script
-returns-in-Some-Link-clause-script g c = λ other.
+returns-in-Some-Link-clause-script g c =
     let P : Command → Type 0 = λ x. IsCommand (texts c.args.words.now.items) (command_view x) in
     c.link_system.ensures.does _ (told_drive g.D.Sectors c.args.disk.now) (subst P c.in-Some-Link.field-0-is c.in-Some-Link.ensures.found)
 
 pub returns-in-Some-Migrate-clause-script : goal.returns-in-Some-Migrate-clause-script
-returns-in-Some-Migrate-clause-script g c = λ other.
+returns-in-Some-Migrate-clause-script g c =
     let P : Command → Type 0 = λ x. IsCommand (texts c.args.words.now.items) (command_view x) in
     c.migrate_image.ensures.does _ (told_drive g.D.Sectors c.args.disk.now) (subst P c.in-Some-Migrate.field-0-is c.in-Some-Migrate.ensures.found)
 
 pub returns-in-Some-Sample-clause-script : goal.returns-in-Some-Sample-clause-script
-returns-in-Some-Sample-clause-script g c = λ other.
+returns-in-Some-Sample-clause-script g c =
     let P : Command → Type 0 = λ x. IsCommand (texts c.args.words.now.items) (command_view x) in
     c.run_sample.ensures.does _ (told_files g.S.Shelf c.args.shelf.now) (subst P c.in-Some-Sample.field-0-is c.in-Some-Sample.ensures.found)
 
 pub returns-in-Some-Check-clause-script : goal.returns-in-Some-Check-clause-script
-returns-in-Some-Check-clause-script g c = λ other.
+returns-in-Some-Check-clause-script g c =
     let P : Command → Type 0 = λ x. IsCommand (texts c.args.words.now.items) (command_view x) in
     c.check_object.ensures.does _ (told_drive g.D.Sectors c.args.disk.now) (subst P c.in-Some-Check.field-0-is c.in-Some-Check.ensures.found)

@@ -1,0 +1,216 @@
+-- What is done of the plan of a resume, by the calls of the call that takes its machine up and goes on with it.
+use Rattle.std.proofs.Common.{◌≡◌, ◌≢◌, ◌⊎◌, inl, inr, ℕ, zero, suc, ◌+◌, ◌-◌, ◌<◌, ◌≤◌, Bool, true, false, List, [], ◌∷◌, ◌++◌, refl, sym, ap, ◌∙◌, subst, Some, None, Ok, Err, arith}
+use Rattle.std.specs.Prelude.{Option, Result, slice_index}
+use Rattle.std.specs.List.{flat_map}
+use Rattle.cvm_words.specs.Bytes.{word}
+use Rattle.cvm_outside.specs.Outside.{Outside, Files, output, drive}
+use Rattle.cvm_outside.specs.Script.{Call, Printed, Performs}
+use Rattle.cvm_outside.specs.declared.sink.Sink as sink_of
+use Rattle.cvm_outside.specs.declared.sectors.Sectors as sectors_of
+use Rattle.cvm_outside.proofs.Putting.{same_script}
+use Rattle.mips_machine.specs.Steps.{script_of_step as transfer_due, outside_of}
+use Rattle.saved_file.specs.Resumable.{CanBeResumed}
+use Rattle.saved_file.specs.Answer.{answer as machine_of}
+use Rattle.saved_file.specs.declared.fault.SaveFault.{SaveFault}
+use Rattle.saved_file.specs.declared.fault.SaveFault.TheVariants as saving
+use Rattle.schedule_file.specs.Rows.{Rows}
+use Rattle.boot_turns.specs.Runs.{Run, turns_at, state_at, steps_made, has_ended, cvm_at}
+use Rattle.boot_turns.specs.declared.answers.View.TheVariants as view
+use Rattle.boot_turns.proofs.ShownRows.{scripts-same}
+use Rattle.boot_run.specs.declared.whole.RunEnd.{RunEnd}
+use Rattle.boot_run.specs.declared.whole.RunEnd.TheVariants as ends
+use Rattle.boot_run.specs.AnyScripts.{end_by_power, power_end, untold_script, IsReport}
+use Rattle.boot_run.specs.Closing.{says}
+use Rattle.boot_run.specs.Loading.{system_of as loaded_system}
+use Rattle.boot_run.specs.LoadEnds.{pages_needed}
+use Rattle.boot_run.specs.RunCalls.{run_at, of_end, due_end}
+use Rattle.boot_run.specs.RunEnds.{ending_of_end}
+use Rattle.boot_run.specs.RunScript.{AreReads, untold_steps, rest_script}
+use Rattle.boot_run.specs.SavedFiles.{wanted_of}
+use Rattle.machine_save.specs.ResumeCalls.{ResumeScript}
+use Rattle.machine_save.specs.ResumeRun.{ResumeAnswers}
+use Rattle.machine_save.specs.declared.resuming.ResumeFault.TheVariants as fault
+use Rattle.kernel_linker.specs.Accept.{ImageSystem, system_of}
+use Rattle.cvm_shell.specs.declared.exit_status.Status.{Status}
+use Rattle.cvm_shell.specs.declared.exit_status.Status.TheVariants.{Done, Refused, Disk, Memory}
+use Rattle.cvm_shell.specs.declared.boot.Ready.{Ready}
+use Rattle.cvm_shell.specs.declared.boot.Session.{Session}
+use Rattle.cvm_shell.specs.declared.resuming.Resumable.{Resumable}
+use Rattle.cvm_shell.specs.declared.refusal.Refusal.TheVariants as by
+use Rattle.cvm_shell.specs.Boot.{sectors_needed, ended_as}
+use Rattle.cvm_shell.specs.Command.{Save, save_session}
+use Rattle.cvm_shell.specs.Plan.{Plan, bad_words, refuses, resumes, taken_plan}
+use Rattle.cvm_shell.specs.Refusal.{bad_save, small_disk, too_long, refusal_text}
+use Rattle.cvm_shell.specs.RunStatus.{power_status, run_status}
+use Rattle.cvm_shell.specs.SessionRuns.{run_of}
+use Rattle.cvm_shell.specs.Stages.{resumable_for}
+use Rattle.cvm_shell.specs.Ends.{small, over_told, over_untold, SavedRun, Joins, answered}
+use Rattle.cvm_shell.specs.Does.{Acts, DoesPlan, DoesOrWants}
+use Rattle.cvm_shell.proofs.Doing.{refusal_plan}
+use Rattle.cvm_shell.proofs.ResumeEndings.{answered_so}
+use Rattle.cvm_shell.proofs.StartAnswers.{same_need}
+use Rattle.cvm_shell.proofs.SystemCalls.{same_status, some_status, named}
+
+-- the plan is of a command, and refuses no file that is too long
+pub taken_words : (session : Session) (s : ImageSystem) (rows : Rows) (a : Result (List ℕ) SaveFault) → taken_plan session s rows a ≢ bad_words
+taken_words session s rows (Ok words) e = cc
+taken_words session s rows (Err f) e = cc
+
+pub taken_short : (session : Session) (s : ImageSystem) (rows : Rows) (a : Result (List ℕ) SaveFault) → taken_plan session s rows a ≢ refuses too_long
+taken_short session s rows (Ok words) e = cc
+taken_short session s rows (Err f) e = cc
+
+-- THE STATUS of an end: of the one that the power word tells
+by_power : (ended : Bool) (off : Option ℕ) → ended_as (ending_of_end (end_by_power ended off)) ≡ power_status ended off
+by_power false None = refl
+by_power false (Some zero) = refl
+by_power false (Some (suc n)) = refl
+by_power true None = refl
+by_power true (Some zero) = refl
+by_power true (Some (suc n)) = refl
+
+-- of any, where this one is due
+by_end : (e due : RunEnd) (status : Status) → (of_end e ≡ None → e ≡ due) → ended_as (ending_of_end due) ≡ status → ended_as (ending_of_end e) ≡ answered status (of_end e)
+by_end ends.Done due status is same = ap (λ (x : RunEnd). ended_as (ending_of_end x)) (is refl) ∙ same
+by_end ends.KernelFaulted due status is same = ap (λ (x : RunEnd). ended_as (ending_of_end x)) (is refl) ∙ same
+by_end ends.OutOfSteps due status is same = ap (λ (x : RunEnd). ended_as (ending_of_end x)) (is refl) ∙ same
+by_end ends.DiskFault due status is same = refl
+by_end ends.SinkFault due status is same = refl
+
+-- the report behind it
+no_reads : (report : List Call) → report ≡ [] → AreReads report
+no_reads report e = subst AreReads (sym e) tt
+
+reports : (ended : Bool) (off : Option ℕ) (report : List Call) → IsReport (end_by_power ended off) report → AreReads report × (power_status ended off ≢ Done → report ≡ [])
+reports false None report h = (no_reads report h, λ d. h)
+reports false (Some zero) report h = (no_reads report h, λ d. h)
+reports false (Some (suc n)) report h = (no_reads report h, λ d. h)
+reports true None report h = (h, λ d. absurd (d refl))
+reports true (Some zero) report h = (h, λ d. absurd (d refl))
+reports true (Some (suc n)) report h = (no_reads report h, λ d. h)
+
+-- the steps from the first on are all
+all_steps : (r : Run) → untold_script r.around r.first 0 (steps_made r - 0) ≡ untold_steps r
+all_steps r =
+    let none : steps_made r - 0 ≡ steps_made r = omega arith in
+    let step : ℕ → List Call = λ t. transfer_due r.around (state_at r t) ++ Printed None ∷ [] in
+    ap (λ (n : ℕ). untold_script r.around r.first 0 n) none
+    ∙ scripts-same (λ i. step (0 + i)) step (steps_made r) (λ i below. let from : 0 + i ≡ i = omega arith in ap step from)
+
+not_told : (left : List (List ℕ)) → None ≡ Some left → ⊥
+not_told left e = cc
+
+-- A MACHINE WAS TAKEN UP, and its run went on
+module _ {O D : Type 0} (text : sink_of.Ghosts O) (told : sectors_of.Ghosts D) (r : Ready) (c : Save) (bytes words : List ℕ) (out reout : O) (disk redisk : D) (shelf : Files) (e : RunEnd)
+    (spells : bytes ≡ flat_map word words) (can : CanBeResumed (wanted_of r.boot r.schedule c.boot.turns) words) (room : pages_needed r.boot ≤ told.size disk)
+    (script : ResumeScript text told r.boot r.schedule c.boot.turns c.boot.steps bytes (out, disk) (reout, redisk) (Ok e)) where
+  abbrev s : ImageSystem
+  s = system_of r.boot
+
+  abbrev before : Outside
+  before = record { shelf = shelf; sink = output text out; disk = drive told disk }
+
+  abbrev after : Outside
+  after = record { shelf = shelf; sink = output text reout; disk = drive told redisk }
+
+  enough : sectors_needed (save_session c) s r.schedule ≤ told.size disk
+  enough = subst (λ (n : ℕ). n ≤ told.size disk) (same_need r.boot r.schedule) room
+
+  -- what is left of each run that was saved so
+  rest_of : (due : Status) → ended_as (ending_of_end e) ≡ answered due (of_end e) → Joins (resumes (save_session c) s r.schedule words) before after (of_end e) due
+  rest_of due stands = λ left run past made fits is a.
+      let q : Run = run_of (save_session c) s r.schedule (told.size disk) a.sectors in
+      let P : Run → Type 0 = λ x. SavedRun (save_session c) s r.schedule words (told.size disk) left x past made → Performs (rest_script x past made) before after (of_end e)
+      × (answered due (of_end e) ≡ answered (run_status x past) (of_end e)) in
+      subst P (sym a.run_is) (λ b.
+      let turns : slice_index words 5 ≡ turns_at q made = ap (λ (ws : List ℕ). slice_index ws 5) b.words_are in
+      let h = script.rest a.sectors left words past made room (record { size = a.disk; each = a.pages }) is spells (record {
+        is_past = b.is_past;
+        few = b.few;
+        first = b.first;
+        some = subst (λ (n : ℕ). 1 ≤ n) turns can.a_turn;
+        less = subst (λ (n : ℕ). n ≤ c.boot.turns) turns can.turns;
+        on = b.on;
+        words_are = b.words_are;
+        left_is = b.left_is;
+      }) in
+      (h.made shelf, sym stands ∙ by_end e (due_end q past) (run_status q past) h.is (same_status (has_ended q) (cvm_at q past (steps_made q)).status))) a
+
+  pub went_on_does : machine_of (wanted_of r.boot r.schedule c.boot.turns) bytes ≡ Ok words → DoesPlan (resumes (save_session c) s r.schedule words) before after (ended_as (ending_of_end e))
+  went_on_does is = of (told.sectors disk) refl
+    where
+      of : (sectors : Option (List (List ℕ))) → told.sectors disk ≡ sectors → DoesPlan (resumes (save_session c) s r.schedule words) before after (ended_as (ending_of_end e))
+      of (Some left) t =
+          let f = script.untold words left is t in
+          let run : Run = run_at (outside_of r.schedule (told.size disk)) (loaded_system r.boot r.schedule) f.machine view.Boot (c.boot.turns - f.finished) (c.boot.steps - f.machine.time) in
+          let off : Option ℕ = (state_at run (steps_made run)).off in
+          let stands : ended_as (ending_of_end e) ≡ answered (power_status (has_ended run) off) (of_end e) =
+          by_end e (power_end run) (power_status (has_ended run) off) f.ends.ends.is (by_power (has_ended run) off) in
+          record {
+            script = untold_steps run ++ f.ends.report;
+            due = power_status (has_ended run) off;
+            asks = over_told left _ _ tt enough t (record {
+              run = run;
+              goes_on = record { machine = f.machine; done = f.finished; user = f.user; ready = f.named.ready; named = f.named.words_are; over = f.named.sectors_are; is = refl };
+              report = f.ends.report;
+              is_report = reports (has_ended run) off f.ends.report f.ends.is_report;
+              script_is = refl;
+              status_is = refl;
+            });
+            blamed = of_end e;
+            performs = same_script (untold_script run.around run.first 0 (steps_made run - 0) ++ f.ends.report) (untold_steps run ++ f.ends.report) before after (of_end e)
+                (ap (λ (l : List Call). l ++ f.ends.report) (all_steps run)) (f.ends.ends.made shelf);
+            joins = rest_of (power_status (has_ended run) off) stands;
+            status_is = stands;
+          }
+      of None t =
+          let st = some_status (Ok e) refl in
+          record {
+            script = script.some.0;
+            due = st.due;
+            asks = over_untold _ _ tt enough t (script.some.0, script.some.1, refl, st.one);
+            blamed = of_end e;
+            performs = script.some.2 shelf;
+            joins = λ left run past made fits is a. absurd (not_told left (sym t ∙ is));
+            status_is = st.is;
+          }
+
+-- of the bytes of a file
+pub taken_does : {O D : Type 0} (text : sink_of.Ghosts O) (told : sectors_of.Ghosts D) (r : Resumable) (c : Save) (out reout : O) (disk redisk : D) (shelf : Files) (e : RunEnd) →
+    ResumeAnswers r.ready.boot r.ready.schedule c.boot.turns (told.size disk) r.bytes.items (Ok e) →
+    ResumeScript text told r.ready.boot r.ready.schedule c.boot.turns c.boot.steps r.bytes.items (out, disk) (reout, redisk) (Ok e) →
+    DoesPlan (resumable_for c r) (record { shelf = shelf; sink = output text out; disk = drive told disk }) (record { shelf = shelf; sink = output text reout; disk = drive told redisk }) (ended_as (ending_of_end e))
+taken_does text told r c out reout disk redisk shelf e (words, a, spells, can, room) script =
+    answered_so r c (λ (p : Plan). DoesPlan p (record { shelf = shelf; sink = output text out; disk = drive told disk }) (record { shelf = shelf; sink = output text reout; disk = drive told redisk }) (ended_as (ending_of_end e)))
+    (Ok words) a (went_on_does text told r.ready c r.bytes.items words out reout disk redisk shelf e spells can room script a)
+
+-- IT WAS REFUSED: by a fault of the file
+pub file_does : (r : Resumable) (c : Save) (old new : Outside) (f : SaveFault) (status : Status) → ResumeAnswers r.ready.boot r.ready.schedule c.boot.turns old.disk.size r.bytes.items (Err (fault.Save f))
+    → ((status ≡ Memory) × (new ≡ old)) ⊎ ((f ≢ saving.Memory) × Acts (says (refusal_text (bad_save f))) Refused old new status) → DoesOrWants (resumable_for c r) old new status
+file_does r c old new f status answers (inl want) = inr want
+file_does r c old new f status (inl e) (inr (other, acts)) = absurd (other e)
+file_does r c old new f status (inr a) (inr (other, acts)) = inl (answered_so r c (λ (p : Plan). DoesPlan p old new status) (Err f) a (refusal_plan (by.BadSave f) old new status acts))
+
+-- what is so of both cases
+pub each_case : (M P Q N R A : Type 0) → (M × P) ⊎ (N × R) → (P → Q) → (N → A) → (M × Q) ⊎ (N × A)
+each_case M P Q N R A (inl (m, p)) f g = inl (m, f p)
+each_case M P Q N R A (inr (n, r)) f g = inr (n, g n)
+
+-- or for a disk that is too small
+pub small_resume : (r : Resumable) (c : Save) (old new : Outside) (need have : ℕ) (status : Status) → ResumeAnswers r.ready.boot r.ready.schedule c.boot.turns old.disk.size r.bytes.items (Err (fault.SmallDisk need have))
+    → Acts (says (refusal_text (small_disk need have))) Disk old new status → DoesPlan (resumable_for c r) old new status
+small_resume r c old new need have status (words, a, n, h, less) acts =
+    let session : Session = save_session c in
+    let s : ImageSystem = system_of r.ready.boot in
+    let needed : need ≡ sectors_needed session s r.ready.schedule = n ∙ same_need r.ready.boot r.ready.schedule in
+    let few : old.disk.size < sectors_needed session s r.ready.schedule = subst (λ (k : ℕ). old.disk.size < k) needed (subst (λ (k : ℕ). k < need) h less) in
+    let given = named session s r.ready.schedule need have old new status needed h acts in
+    answered_so r c (λ (p : Plan). DoesPlan p old new status) (Ok words) a (record {
+      script = says (refusal_text (small_disk (sectors_needed session s r.ready.schedule) old.disk.size));
+      due = Disk;
+      asks = small tt few;
+      blamed = given.blamed;
+      performs = given.performs;
+      joins = λ left run past made fits is b. absurd (omega (arith, few, fits));
+      status_is = given.status_is;
+    })
