@@ -37,4 +37,4 @@ pub record KernelsAnswer : Type 0 where
   pub traces : (words : List (List ℕ)) (session : Session) (u : ℕ) (s : ImageSystem) (rows : Rows) (before : List (List ℕ)) (old new : Host) (status : Status)
       → IsHonest words session s rows before old new → (a : IsolatedTrace session u s rows before old new status)
       → AnswersUser (booted s rows) a.units u (dispatches_of (booted s rows) (lines_met session s rows old before) a.units a.turns)
-          → IsAnsweredJournal a.entries
+      → IsAnsweredJournal a.entries
