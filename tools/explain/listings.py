@@ -14,6 +14,7 @@ LIST = r'(?:pub(?:\([\w ]+\))? )?const %s: \[Inst; \d+\] = code! \{$'
 BLOCK = r'(?:pub(?:\([\w ]+\))? )?fn %s(?:<[^>]*>)?\('
 PUSH = re.compile(r'code\.push\(instruction!\((.*)\)\);$')
 NUMBER = re.compile(r'((?:^/// .*\n)+)^pub const (\w+): u32 = ([^;]+);$', re.M)
+LOWER = re.compile(r'(\w+)::(\w+)$')
 
 
 def source(name):
@@ -86,9 +87,21 @@ def code(name, items):
     return '```\n' + '\n\n'.join(out) + '\n```\n'
 
 
+def written(number):
+    """A number as it is written: that of a lower crate, where the source names it."""
+    lower = LOWER.match(number)
+    if lower:
+        folder = os.path.join(pages.TOP, 'crates', lower.group(1), 'src')
+        for file in sorted(os.listdir(folder)) if os.path.isdir(folder) else []:
+            for _, it, found in NUMBER.findall(source(os.path.join(lower.group(1), 'src', file))):
+                if it == lower.group(2):
+                    return found
+    return number
+
+
 def names(name):
     """The table of a file's numbers."""
-    rows = ['| %s | %s | %s |' % (it, number, said(comment).rstrip('.').replace('|', '\\|')) for comment, it, number in NUMBER.findall(source(name))]
+    rows = ['| %s | %s | %s |' % (it, written(number), said(comment).rstrip('.').replace('|', '\\|')) for comment, it, number in NUMBER.findall(source(name))]
     if not rows:
         raise guard.Bad("'%s' has no constants" % name, 70)
     return '| Name | Number | What it is |\n|---|---|---|\n' + '\n'.join(rows) + '\n'

@@ -55,6 +55,11 @@ class Listings(unittest.TestCase):
         self.assertIsNone(listings.item(SOURCE, 'three'))
         self.assertIsNone(listings.item(SOURCE, 'five'))
 
+    def test_a_number_of_a_lower_crate(self):
+        self.assertEqual(listings.written('layer_map::BLOCKS'), '0xc000')
+        self.assertEqual(listings.written('layer_map::NONE'), 'layer_map::NONE')
+        self.assertEqual(listings.written('0xe000'), '0xe000')
+
     def test_the_page_shows_the_sources(self):
         page = pages.page('listings/LAYER.md')
         self.assertTrue(len(listings.MARK.findall(page)) > 10)

@@ -2,6 +2,7 @@
 use Rattle.std.specs.Prelude.{ℕ, ◌+◌, ◌-◌, ◌*◌, ◌/◌, ◌%◌, ◌==◌, ◌&&◌, nat_lt, if◌then◌else◌, Bool, List, [], ◌∷◌, Option, Some, slice_index, slice_index_or}
 use Rattle.std.specs.Option.{option_map}
 use Rattle.mips_table.specs.Machine.{State}
+use Rattle.mips_table.specs.declared.special.TheConstants.{IS_VALID}
 use Rattle.layer_map.specs.Map.{Map, memory_frames}
 use Rattle.cvm_model.specs.Paged.{paged_of}
 use Rattle.cvm_outside.specs.Script.{Call, Read}
@@ -12,7 +13,7 @@ entry_of m s q = (paged_of m s).entry q
 
 -- it is in a frame of the memory
 abbrev pub is_resident : Map → State → (q : ℕ) → Bool
-is_resident m s q = entry_of m s q / 2048 % 2 == 1 && nat_lt (entry_of m s q / 4096) (memory_frames m)
+is_resident m s q = entry_of m s q / IS_VALID % 2 == 1 && nat_lt (entry_of m s q / 4096) (memory_frames m)
 
 -- its words, by their numbers: those of its frame, or where it is in none of its sector, if that is told
 abbrev pub shown : Map → State → (told : Option (List (List ℕ))) → (q : ℕ) → Option (ℕ → ℕ)

@@ -4,7 +4,9 @@ use Rattle.std.specs.Prelude.{List, [], ◌∷◌, ◌++◌, codes, decimal, sli
 use Rattle.cvm_text.specs.Hex.{hex8}
 use Rattle.mips_table.specs.Processor.{Cpu}
 use Rattle.mips_table.specs.Machine.{State}
+use Rattle.mips_table.specs.declared.special.TheConstants.{IS_VALID}
 use Rattle.layer_map.specs.Map.{Map, block_at, memory_frames}
+use Rattle.layer_map.specs.declared.places.TheConstants.{BLOCK_SIZE}
 use Rattle.cvm_model.specs.Paged.{paged_of}
 use Rattle.cvm_model.specs.Stands.{block_cpu}
 use Rattle.mips_machine.specs.Machine.{Held}
@@ -55,7 +57,7 @@ cpu_of held runs u = if runs then held.hardware.cpu else block_cpu held.hardware
 
 -- a user's size in pages, as its control block has it, up to the most
 abbrev pub pages_in : Map → List ℕ → ℕ → ℕ
-pages_in m memory u = min (slice_index memory (block_at u + 32)) m.params.pages
+pages_in m memory u = min (slice_index memory (block_at u + BLOCK_SIZE)) m.params.pages
 
 -- the first row of a user
 abbrev pub user_head : ℕ → ℕ → ℕ → List ℕ
@@ -76,7 +78,7 @@ SameButViewed old new = new ≡ record old { hardware = record old.hardware { vi
 
 -- entries of page tables that are valid name frames of the memory
 abbrev pub EntriesFit : Map → State → Type 0
-EntriesFit m s = (q : ℕ) → q < m.users * m.params.pages → (paged_of m s).entry q / 2048 % 2 ≡ 1 → (paged_of m s).entry q / 4096 < memory_frames m
+EntriesFit m s = (q : ℕ) → q < m.users * m.params.pages → (paged_of m s).entry q / IS_VALID % 2 ≡ 1 → (paged_of m s).entry q / 4096 < memory_frames m
 
 -- the rows of page p of a user, which has number q of all pages, as the machine shows it
 abbrev pub page_rows : Paged → ℕ → ℕ → List ℕ

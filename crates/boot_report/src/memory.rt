@@ -15,6 +15,7 @@ use cvm_outside::single_calls::read;
 use cvm_outside::{DiskFault, Sectors, Sink, SinkFault};
 use layer_map::Map;
 use mips_machine::Machine;
+use mips_table::IS_VALID;
 
 // The words of a page that is in this frame, or was read.
 fn words_of_page<'a>(
@@ -76,7 +77,7 @@ fn is_resident(machine: &Machine, map: &Map, q: u32) -> bool
     ensures { result ≡ is_resident map.now (state_of machine.now []) q }
 {
     let entry = machine.word(map.page_tables() + 4 * q);
-    entry / 2048 % 2 == 1 && entry / 4096 < map.memory_frames()
+    entry / IS_VALID % 2 == 1 && entry / 4096 < map.memory_frames()
 }
 
 // Brings a page, by its number of all pages, where it can be read: gives its frame, or else has read its sector.

@@ -1,5 +1,6 @@
 -- THE SCRIPT OF A STEP of a run: the transfer that is due, and the rows of what the step completes.
 use Rattle.std.specs.Prelude.{ℕ, suc, ◌+◌, ◌-◌, ◌*◌, ◌/◌, ◌%◌, ◌==◌, ◌&&◌, if◌then◌else◌, Bool, false, List, [], ◌∷◌, ◌++◌, Option, Some, None, length, take, drop, slice_index}
+use Rattle.mips_table.specs.declared.special.TheConstants.{IS_VALID}
 use Rattle.mips_table.specs.Device.{Environment}
 use Rattle.mips_table.specs.Machine.{State, run}
 use Rattle.mips_table.specs.Turns.{begins_turn}
@@ -32,7 +33,7 @@ abbrev pub page_of : Map → (u p : ℕ) → ℕ
 page_of m u p = (u - 1) * m.params.pages + p
 
 abbrev pub page_reads : Map → State → (q : ℕ) → List Call
-page_reads m s q = if (paged_of m s).entry q / 2048 % 2 == 1 then [] else Read q ∷ []
+page_reads m s q = if (paged_of m s).entry q / IS_VALID % 2 == 1 then [] else Read q ∷ []
 
 -- whether the primitive that returns here copied words to user u
 abbrev pub is_copy_to : ℕ → State → Option Entered → Bool

@@ -8,7 +8,7 @@ use Rattle.mips_table.specs.Arith.{flag}
 use Rattle.mips_table.specs.Code.{put, Contents, Behind, World, Sound, at_with, Steps, Reaches, CodeAt, RunLaws}
 use Rattle.masm.specs.Says.{Gives, Reads, Writes}
 use Rattle.masm.specs.Laws.{RunsCompose, StraightRuns, JumpsLead}
-use Rattle.c0_runtime.specs.Code.{check_heap_room_code, bump_heap_code, find_object_code, zero_object_code, new_code}
+use Rattle.c0_runtime.specs.Code.{test_room_code, bump_heap_code, find_object_code, zero_object_code, new_code}
 use Rattle.c0_runtime.specs.Laws.{RoutineCalled, RoutineReturns, ComesBackIn, HeapIs, IsAsked, IsRefused, ObjectMade, NewRuns}
 use Rattle.c0_runtime.proofs.Steps.{moved, rests, put_other, four_above, two_above, flag_set, flag_clear}
 use Rattle.c0_runtime.proofs.Clear.{IsCleared, MayClear, clears}
@@ -46,7 +46,7 @@ module _ (w : World) (f : Sound w) (joins : RunLaws) (runs : RunsCompose) (strai
   branch_at n at = runs.back w n test_code (Bne 1 0 11 ∷ (bump_heap_code ++ (find_object_code ++ zero_object_code))) at
 
   refuse_at : (n : ℕ) → CodeAt w n new_code → CodeAt w (n + 16) (Addu 2 0 0 ∷ Jr 31 ∷ [])
-  refuse_at n at = runs.back w n (check_heap_room_code ++ (bump_heap_code ++ (find_object_code ++ Sw 0 3 0 ∷ Addiu 3 3 4 ∷ Bne 3 5 65533 ∷ Jr 31 ∷ [])))
+  refuse_at n at = runs.back w n (test_room_code ++ (bump_heap_code ++ (find_object_code ++ Sw 0 3 0 ∷ Addiu 3 3 4 ∷ Bne 3 5 65533 ∷ Jr 31 ∷ [])))
       (Addu 2 0 0 ∷ Jr 31 ∷ []) at
 
   refuses : (n to used heap first size : ℕ) (c : Contents) (d : Behind) → CodeAt w n new_code → RoutineCalled to c d → HeapIs w used heap first c →
@@ -89,7 +89,7 @@ module _ (w : World) (f : Sound w) (joins : RunLaws) (runs : RunsCompose) (strai
       (at_with (n + 12) (taken used first size (tested used heap size c)) d)
   take_runs n to used heap first size c d at call h q le =
       let small = f.small in let behind = h.behind in let inside = h.inside in
-      let code = runs.front w (n + 5) take_code zero_object_code (runs.back w n check_heap_room_code (take_code ++ zero_object_code) at) in
+      let code = runs.front w (n + 5) take_code zero_object_code (runs.back w n test_room_code (take_code ++ zero_object_code) at) in
       moved w 7 (at_with (n + 5) (tested used heap size c) d) (n + 5 + 7) (n + 12) (taken used first size (tested used heap size c)) d (omega arith)
       (straight.all take_code (Writes 1026 (used + size) ∷ Reads 1028 (4 * first) ∷ Gives (4 * used) ∷ Gives (4 * (first + used)) ∷ Gives
       (4 * (used + size)) ∷ Gives (4 * (first + used + size)) ∷ Gives (4 * (first + used)) ∷ [])
@@ -102,7 +102,7 @@ module _ (w : World) (f : Sound w) (joins : RunLaws) (runs : RunsCompose) (strai
       ))
 
   loop_at : (n : ℕ) → CodeAt w n new_code → CodeAt w (n + 12) (Sw 0 3 0 ∷ Addiu 3 3 4 ∷ Bne 3 5 65533 ∷ Jr 31 ∷ Addu 2 0 0 ∷ Jr 31 ∷ [])
-  loop_at n at = runs.back w n (check_heap_room_code ++ (bump_heap_code ++ find_object_code)) zero_object_code at
+  loop_at n at = runs.back w n (test_room_code ++ (bump_heap_code ++ find_object_code)) zero_object_code at
 
   -- what the loop leaves is the new object
   made : (used heap first size : ℕ) (c c' : Contents) → HeapIs w used heap first c → used + size ≤ heap → IsCleared (first + used) size

@@ -25,8 +25,8 @@ entry_code globals dispatch = Lui GLOBALS (globals / 2 ^ 16) ∷ behind_first gl
 
 -- The first part of the routine `new`: ANSWER has the object's words. The words used, with these, go to END, and where they exceed the heap the code goes
 -- on at its last two instructions.
-abbrev pub check_heap_room_code : List Inst
-check_heap_room_code = TEST_ROOM
+abbrev pub test_room_code : List Inst
+test_room_code = TEST_ROOM
 
 -- The second part: the words used are raised, and the heap's first address is read.
 abbrev pub bump_heap_code : List Inst
@@ -42,7 +42,7 @@ zero_object_code = ZERO_OBJECT ++ NO_ROOM
 
 -- The routine `new`: ANSWER has the words of an object, one or more, and becomes the object's address, or 0 where there is no room.
 abbrev pub new_code : List Inst
-new_code = check_heap_room_code ++ (bump_heap_code ++ (find_object_code ++ zero_object_code))
+new_code = test_room_code ++ (bump_heap_code ++ (find_object_code ++ zero_object_code))
 
 -- multiplication: ANSWER becomes the product of the first two arguments
 abbrev pub multiply_code : List Inst

@@ -3,7 +3,10 @@ ghost use Rattle.std.specs.Prelude.{◌≡◌, ◌<◌, ◌≤◌, length};
 
 use crate::stubs::{ARGUMENTS, PRIMITIVES, STUBS, start, stub};
 use cvm_outside::{DiskFault, MemSectors};
-use layer_map::{HEAP_FIRST, HEAP_USED, HEAP_WORDS, LAYER_WORDS, Map, STACK_FIRST, STACK_WORDS};
+use layer_map::{
+    EXITS, HEAP_FIRST, HEAP_USED, HEAP_WORDS, LAYER_WORDS, LEAVE, Map, PRIMITIVES as ENTRIES,
+    STACK_FIRST, STACK_WORDS,
+};
 use mips_machine::{Event, Machine};
 use schedule_file::{Schedule, read};
 use std::alloc::{AllocError, Global};
@@ -15,11 +18,6 @@ const WORDS: u32 = 262_144;
 
 /// The most steps of a dispatch.
 const MOST: u32 = 4_000_000;
-
-/// The address of the first fault's exit, behind the primitives, and that at which the kernel is left.
-const EXITS: u32 = 0x2028;
-
-const LEAVE: u32 = 0x2038;
 
 /// Parts of memory, each by its first address and its words.
 #[derive(Clone, Copy, Drop)]
@@ -111,7 +109,7 @@ impl Desk {
         self.place(0, &start(alloc)?);
         for number in 0..10u32 {
             let to = STUBS + 0x100 * number;
-            self.set(0x2000 + 4 * number, 0x0800_0000 + to / 4);
+            self.set(ENTRIES + 4 * number, 0x0800_0000 + to / 4);
             self.place(to, &stub(alloc, number)?);
         }
         self.set(LEAVE, 0x0800_0000);
@@ -185,8 +183,8 @@ impl Desk {
             if EXITS <= pc && pc <= LEAVE {
                 return Ok(true);
             }
-            if 0x2000 <= pc && pc < EXITS {
-                self.put_call(out, (pc - 0x2000) / 4)?;
+            if ENTRIES <= pc && pc < EXITS {
+                self.put_call(out, (pc - ENTRIES) / 4)?;
             }
         }
         Ok(false)
@@ -197,11 +195,11 @@ impl Desk {
         if !arrived {
             return out.push_str("runs on\n");
         }
-        match self.machine.pc() {
-            0x2028 => out.push_str("fault null\n"),
-            0x202c => out.push_str("fault bounds\n"),
-            0x2030 => out.push_str("fault zero\n"),
-            0x2034 => out.push_str("fault stack\n"),
+        match self.machine.pc().checked_sub(EXITS) {
+            Some(0) => out.push_str("fault null\n"),
+            Some(4) => out.push_str("fault bounds\n"),
+            Some(8) => out.push_str("fault zero\n"),
+            Some(12) => out.push_str("fault stack\n"),
             _ => {
                 out.push_str("left ")?;
                 self.put_word(out, self.machine.reg(2))?;

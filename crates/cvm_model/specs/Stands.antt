@@ -9,6 +9,7 @@ use Rattle.mips_table.specs.Machine.{State, LOG_ROOM}
 use Rattle.mips_table.specs.Turns.{is_on, in_user}
 use Rattle.mips_table.specs.Fits.{CpuFits, Fits}
 use Rattle.layer_map.specs.Map.{Map, current_at, heap_used_at, heap_words_at, stack_words_at, block_at, globals_at, heap_at, memory_words, table_of}
+use Rattle.layer_map.specs.declared.places.TheConstants.{BLOCK_SIZE, BLOCK_HI, BLOCK_LO}
 use Rattle.page_model.specs.Paging.{PagingInvariant}
 use Rattle.page_model.specs.Places.{page_layout}
 use Rattle.c0_meaning.specs.Value as value
@@ -56,8 +57,8 @@ abbrev pub block_cpu : List ℕ → ℕ → Cpu
 block_cpu memory u = record {
   pc = slice_index memory (block_at u);
   regs = 0 ∷ take 31 (drop (block_at u + 1) memory);
-  hi = slice_index memory (block_at u + 33);
-  lo = slice_index memory (block_at u + 34);
+  hi = slice_index memory (block_at u + BLOCK_HI);
+  lo = slice_index memory (block_at u + BLOCK_LO);
 }
 
 abbrev pub IsUser : Core → ℕ → Type 0
@@ -77,7 +78,7 @@ pub record RunsUser (m : Map) (s : State) (c : Core) : Type 0 where
 
 -- PART 2: sizes, registers, and who is current
 pub record UsersStand (m : Map) (s : State) (status : Status) (c : Core) : Type 0 where
-  pub sizes : (u : ℕ) → IsUser c u → slice_index s.memory (block_at u + 32) ≡ pages_of (user_of c.users u)
+  pub sizes : (u : ℕ) → IsUser c u → slice_index s.memory (block_at u + BLOCK_SIZE) ≡ pages_of (user_of c.users u)
   pub blocks : (u : ℕ) → IsUser c u → (runs_user s && u == c.current) ≡ false → block_cpu s.memory u ≡ (user_of c.users u).cpu
   pub runs : runs_user s ≡ true → RunsUser m s c
   pub current : status ≡ Running → slice_index s.memory current_at ≡ c.current

@@ -14,7 +14,7 @@ use Rattle.page_model.specs.Places.{Places}
 use Rattle.frame_table.specs.View.{Sited}
 use Rattle.cvm_primitives.specs.View.{UsersIn, WordGood, number, size_at}
 use Rattle.cvm_primitives.proofs.PartStates.{Quiet}
-use Rattle.cvm_primitives.specs.Code.{base_code, check_address_code, check_word_arguments_code}
+use Rattle.cvm_primitives.specs.Code.{first_page_code, check_address_code, check_word_arguments_code}
 use Rattle.cvm_primitives.proofs.Basics.{flag_of, put_other, small_is}
 
 -- a product's bound
@@ -35,10 +35,10 @@ pub record Based (m per : ℕ) (c0 : Contents) (d0 : Behind) (c : Contents) (d :
 
 module _ (w : World) (f : RoutineLaws w) where
   module _ (m per : ℕ) (m64 : m < 64) (p1024 : per ≤ 1024) (c0 : Contents) (d0 : Behind) (idle : d0.pending ≡ Idle) where
-    pub base_from : c0.regs 8 ≡ m → From w (base_code per) 3 c0 d0 (Based m per c0 d0)
+    pub base_from : c0.regs 8 ≡ m → From w (first_page_code per) 3 c0 d0 (Based m per c0 d0)
     base_from at =
         let bound = product_below m 64 per m64 in let e = small_is per (omega arith) in
-        from_straight w f (base_code per) (Gives per ∷ Widens 0 (m * per) ∷ Gives (m * per) ∷ []) c0 d0 (Based m per c0 d0) refl idle
+        from_straight w f (first_page_code per) (Gives per ∷ Widens 0 (m * per) ∷ Gives (m * per) ∷ []) c0 d0 (Based m per c0 d0) refl idle
         (λ n. (
           (ap (λ z. (0 + z) % 2 ^ 32) e ∙ omega arith, ((ap (λ z. z * per / 2 ^ 32) at ∙ omega arith, ap (λ z. z * per % 2 ^ 32) at ∙ omega arith), (refl, tt))),
           record { product = refl; regs = λ r n8 n10. put_other (put c0.regs 10 per) 10 (m * per) r n10 ∙ put_other c0.regs 10 per r n10; memory = refl; special = refl; disk = refl },
@@ -66,7 +66,7 @@ module _ (w : World) (f : RoutineLaws w) where
         from_when w f 12 _ (3 + (3 + m)) _ d Q (omega arith) idle
         (λ z. let even : a * 2 ^ 30 % 2 ^ 32 < 1 = ⊎_elim (λ o. o.1) (λ o. absurd (z o.0)) (flag_of (a * 2 ^ 30 % 2 ^ 32) 1) in
         let good : WordGood users size u a = (u0, u1, omega arith, inside) in
-        from_then w f (base_code per) ((Sll 10 10 10 ∷ Srl 9 21 2 ∷ Addu 26 10 9 ∷ []) ++ work) 3 (3 + m) _ d (Based (u - 1) per _ d) Q
+        from_then w f (first_page_code per) ((Sll 10 10 10 ∷ Srl 9 21 2 ∷ Addu 26 10 9 ∷ []) ++ work) 3 (3 + m) _ d (Based (u - 1) per _ d) Q
         (base_from (u - 1) per (omega arith) most _ d idle (omega arith))
         (λ c1 d1 k. let product = k.product in let r21 = k.regs 21 (omega arith) (omega arith) in let bound = product_below (u - 1) 64 per (omega arith) in let idle1 = ap (λ d. d.pending) k.disk ∙ idle in
         straight_then w f (Sll 10 10 10 ∷ Srl 9 21 2 ∷ Addu 26 10 9 ∷ []) work (Gives (1024 * ((u - 1) * per)) ∷ Gives (a / 4) ∷ Gives (number per u a) ∷ []) m c1 d1 Q refl idle1

@@ -18,7 +18,7 @@ use Rattle.frame_table.specs.View.{Sited}
 use Rattle.page_fault.specs.Asked.{PageBlock}
 use Rattle.cvm_primitives.specs.View.{page_steps, PagesHeld, Marks, CopyGood, UsersIn, RangeGood, CopyArgs, number, size_at, entry_state}
 use Rattle.cvm_primitives.proofs.PartStates.{Tests}
-use Rattle.cvm_primitives.specs.Code.{base_code, size_code, check_range_code, apart_code, check_copy_arguments_code, copies_code, vm_copy_code}
+use Rattle.cvm_primitives.specs.Code.{first_page_code, find_size_code, check_range_code, apart_code, check_copy_arguments_code, copies_code, vm_copy_code}
 use Rattle.cvm_primitives.proofs.Basics.{flag_of, small_is, held_to}
 use Rattle.cvm_primitives.proofs.Piece.{copy_law, run_short}
 use Rattle.cvm_primitives.proofs.ArgumentTests.{product_below, Based, base_from}
@@ -47,7 +47,7 @@ module _ (w : World) (f : RoutineLaws w) (p : Places) (b : ℕ) (si : Sited p w)
       (λ z. let below : (u + 4294967295) % 2 ^ 32 < users = ⊎_elim (λ o. o.1) (λ o. absurd (z o.0)) (flag_of ((u + 4294967295) % 2 ^ 32) users) in
       let u0 : 0 < u = omega arith in let u1 : u ≤ users = omega arith in
       let sz = us.sizes u u0 u1 in let fit = us.fit u u0 u1 in
-      straight_then w f (size_code ++ (Lw 11 11 0 ∷ Sll 11 11 10 ∷ Sll 12 21 30 ∷ Sltiu 12 12 1 ∷ [])) _ (Gives 49280 ∷ Gives (256 * (u - 1)) ∷ Gives (4 * size_at u) ∷ Reads (size_at u) (size u) ∷ Gives (1024 * size u) ∷ Gives (a * 2 ^ 30 % 2 ^ 32) ∷ Gives (flag (nat_lt (a * 2 ^ 30 % 2 ^ 32) 1)) ∷ []) (3 + (3 + (3 + (2 + m) + 1) + 1) + 1) _ d Q refl idle
+      straight_then w f (find_size_code ++ (Lw 11 11 0 ∷ Sll 11 11 10 ∷ Sll 12 21 30 ∷ Sltiu 12 12 1 ∷ [])) _ (Gives 49280 ∷ Gives (256 * (u - 1)) ∷ Gives (4 * size_at u) ∷ Reads (size_at u) (size u) ∷ Gives (1024 * size u) ∷ Gives (a * 2 ^ 30 % 2 ^ 32) ∷ Gives (flag (nat_lt (a * 2 ^ 30 % 2 ^ 32) 1)) ∷ []) (3 + (3 + (3 + (2 + m) + 1) + 1) + 1) _ d Q refl idle
       (λ n'. (refl, (omega arith, (omega arith, ((omega arith, omega arith, sz), (omega arith, (ap (λ z. z * 2 ^ 30 % 2 ^ 32) ra, (refl, tt))))))))
       (λ n'. from_when w f 12 _ (3 + (3 + (3 + (2 + m) + 1) + 1)) _ d Q (omega arith) idle
       (λ z. let even : a * 2 ^ 30 % 2 ^ 32 < 1 = ⊎_elim (λ o. o.1) (λ o. absurd (z o.0)) (flag_of (a * 2 ^ 30 % 2 ^ 32) 1) in
@@ -60,7 +60,7 @@ module _ (w : World) (f : RoutineLaws w) (p : Places) (b : ℕ) (si : Sited p w)
       (λ n'. from_when w f 9 _ (3 + (2 + m)) _ d Q (omega arith) idle
       (λ z. let ends : a / 4 + n ≤ 1024 * size u = ⊎_elim (λ o. o.1) (λ o. absurd (z o.0)) (not_flag (1024 * size u) (a / 4 + n)) in
       let good : RangeGood users size u a n = (u0, u1, omega arith, omega arith) in
-      from_then w f (base_code per) ((Sll 10 10 10 ∷ Addu 10 10 12 ∷ []) ++ inside) 3 (2 + m) _ d (Based (u - 1) per _ d) Q
+      from_then w f (first_page_code per) ((Sll 10 10 10 ∷ Addu 10 10 12 ∷ []) ++ inside) 3 (2 + m) _ d (Based (u - 1) per _ d) Q
       (base_from w f (u - 1) per (omega arith) most _ d idle (omega arith))
       (λ c1 d1 k. let product = k.product in let r12 = k.regs 12 (omega arith) (omega arith) in let bound = product_below (u - 1) 64 per (omega arith) in let idle1 = ap (λ d. d.pending) k.disk ∙ idle in
       straight_then w f (Sll 10 10 10 ∷ Addu 10 10 12 ∷ []) inside (Gives (1024 * ((u - 1) * per)) ∷ Gives (number per u a) ∷ []) m c1 d1 Q refl idle1

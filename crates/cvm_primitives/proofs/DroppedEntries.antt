@@ -15,7 +15,7 @@ use Rattle.page_model.specs.Places.{Places, count_at, paged_view}
 use Rattle.frame_table.specs.View.{Sited, Relisted}
 use Rattle.cvm_primitives.proofs.PartStates.{Keeps, Found, DropAsked, DropDone}
 use Rattle.frame_table.specs.Code.{walk_page_table_code, user_frame_number_code, remove_mapping_code}
-use Rattle.cvm_primitives.specs.Code.{drop_code}
+use Rattle.cvm_primitives.specs.Code.{drop_page_code}
 use Rattle.cvm_primitives.proofs.Basics.{const_is, put_same, put_other, kept_on, edit_is}
 use Rattle.page_model.specs.Rows.{SameRow}
 use Rattle.cvm_primitives.proofs.Rows.{rows_apart, lists_none, lists_parted}
@@ -115,7 +115,7 @@ module _ (w : World) (f : RoutineLaws w) (p : Places) (b : ℕ) (si : Sited p w)
       (r.behind ∙ h.disk))
       (f.leaves_list p q (e_of c q / 4096) k.0 c2 d2 si u h.excess (h.keeps.r16 ∙ a.page) (f.rows.listed p q (e_of c q / 4096) k.0 c.memory c2.memory (same (e_of c q / 4096)) k.1) (ap (λ d. d.pending) h.disk ∙ a.idle))
 
-  pub drop_from : (q : ℕ) (c : Contents) (d : Behind) → DropAsked p q c d → From w (drop_code p) 38 c d (DropDone p q c d)
+  pub drop_from : (q : ℕ) (c : Contents) (d : Behind) → DropAsked p q c d → From w (drop_page_code p) 38 c d (DropDone p q c d)
   drop_from q c d a =
       from_then w f (walk_page_table_code p) _ 9 29 c d (Found p q c d) (DropDone p q c d) (find_from q c d a.page a.inside (a.small q a.inside) a.idle)
       (λ c1 d1 h. from_when w f 24 (Sw 0 20 0 ∷ (user_frame_number_code p ++ when_code 8 (remove_mapping_code p))) 28 c1 d1 (DropDone p q c d) (omega arith) (ap (λ d. d.pending) h.disk ∙ a.idle)

@@ -17,7 +17,7 @@ use Rattle.layer_map.specs.Map.{block_at}
 use Rattle.c0_meaning.specs.Value.{bool}
 use Rattle.cvm_model.specs.Kernel.{Set, flat}
 use Rattle.cvm_model.specs.Primitives.{no_flat, KernelCall, ConGet, ConLeft, Given, user_of, with_user, pages_of, register_of, with_register, is_within, is_good, unchanged, changed, refused, granted, prim}
-use Rattle.cvm_primitives.specs.RegisterCode.{check_user_code, register_code, place_code, check_arguments_code, vm_get_code, vm_set_code, vm_size_code, con_put_code, con_get_code, con_left_code}
+use Rattle.cvm_primitives.specs.RegisterCode.{check_user_code, is_register_code, find_word_code, check_arguments_code, vm_get_code, vm_set_code, vm_size_code, con_put_code, con_get_code, con_left_code}
 use Rattle.cvm_primitives.specs.Blocks.{word_of, IsOneOf, BlocksHold, console_of, EnteredOnBlocks, LeftByCall}
 use Rattle.cvm_primitives.specs.RegisterLaws.{get_call, set_call, size_call, put_call}
 use Rattle.cvm_primitives.proofs.RegisterForms.{CodeLaws, within, straightly, straightly_then, conditionally}
@@ -174,20 +174,20 @@ module _ (w : World) (f : CodeLaws w) (users : List Flat) (c : Contents) (d : Be
         → From w (check_arguments_code bad (length users) work) (3 + (2 + (6 + m + 1) + 1)) c d Q
     asked_from m work short does refuse =
         let few = e.few in let sr = e.regs 21 in
-        user_from (2 + (6 + m + 1)) (register_code ++ when_code 9 (place_code ++ work)) (omega arith)
+        user_from (2 + (6 + m + 1)) (is_register_code ++ when_code 9 (find_word_code ++ work)) (omega arith)
         (λ yes eu one c1 q r20 r2 r8. let o0 = one.0 in let o1 = one.1 in
         let r21 = q.regs 21 (omega arith) in
-        straightly_then w f register_code (when_code 9 (place_code ++ work)) (register_says (c.regs 21)) (6 + m + 1) c1 d Q refl e.idle
+        straightly_then w f is_register_code (when_code 9 (find_word_code ++ work)) (register_says (c.regs 21)) (6 + m + 1) c1 d Q refl e.idle
         (λ n. (ap (λ z. (z + 4294967295) % 2 ^ 32) r21, (refl, tt)))
-        (λ n. let q1 : Quiet c (sayings n register_code (register_says (c.regs 21)) c1) =
-        record { memory = q.memory; regs = λ r le. f.stays low r (is_low r le) register_code (register_says (c.regs 21)) n c1 refl refl ∙ q.regs r le; hi = q.hi; lo = q.lo; special = q.special } in
-        conditionally w f 9 (place_code ++ work) (6 + m) _ d Q (omega arith) e.idle
+        (λ n. let q1 : Quiet c (sayings n is_register_code (register_says (c.regs 21)) c1) =
+        record { memory = q.memory; regs = λ r le. f.stays low r (is_low r le) is_register_code (register_says (c.regs 21)) n c1 refl refl ∙ q.regs r le; hi = q.hi; lo = q.lo; special = q.special } in
+        conditionally w f 9 (find_word_code ++ work) (6 + m) _ d Q (omega arith) e.idle
         (λ z. let lt : (c.regs 21 + 4294967295) % 2 ^ 32 < 32 = ⊎_elim (λ o. o.1) (λ o. absurd (z o.0)) (flag_of ((c.regs 21 + 4294967295) % 2 ^ 32) 32) in
         let i = word_in 32 (c.regs 21) (omega arith) sr lt in let i2 = i.2 in let i3 = i.3 in
-        straightly_then w f place_code work (place_says (c.regs 20) (c.regs 21)) m _ d Q refl e.idle
+        straightly_then w f find_word_code work (place_says (c.regs 20) (c.regs 21)) m _ d Q refl e.idle
         (λ k. (refl, (omega arith, (omega arith, (ap (λ z. z * 2 ^ 27 % 2 ^ 32) r21, (omega arith, (omega arith, tt)))))))
         (λ k. does (ap₂ (λ a b. a && b) yes i.0) eu i.1 one i.2 i.3 _
-        (record { memory = q1.memory; regs = λ r le. f.stays low r (is_low r le) place_code (place_says (c.regs 20) (c.regs 21)) k (sayings n register_code (register_says (c.regs 21)) c1) refl refl ∙ q1.regs r le; hi = q1.hi; lo = q1.lo; special = q1.special }) refl))
+        (record { memory = q1.memory; regs = λ r le. f.stays low r (is_low r le) find_word_code (place_says (c.regs 20) (c.regs 21)) k (sayings n is_register_code (register_says (c.regs 21)) c1) refl refl ∙ q1.regs r le; hi = q1.hi; lo = q1.lo; special = q1.special }) refl))
         (λ z. let le : 32 ≤ (c.regs 21 + 4294967295) % 2 ^ 32 = ⊎_elim (λ o. let o0 = o.0 in absurd (omega arith)) (λ o. o.1) (flag_of ((c.regs 21 + 4294967295) % 2 ^ 32) 32) in
         refuse (ap (λ b. b && is_within 1 32 (signed (c.regs 21))) yes ∙ word_out 32 (c.regs 21) (omega arith) sr le) _ q1 r2)))
         (λ nay c1 q r2. refuse (ap (λ b. b && is_within 1 32 (signed (c.regs 21))) nay) c1 q r2)

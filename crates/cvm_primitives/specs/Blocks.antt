@@ -37,7 +37,7 @@ pub record EnteredOnBlocks (w : World) (users : List Flat) (c : Contents) (d : B
   pub blocks : BlocksHold users c.memory
   pub whole : (u : ℕ) → IsOneOf users u → length (user_of users u).cpu.regs ≡ 32
   pub inside : layer_words ≤ w.words
-  pub free : (u i : ℕ) → IsOneOf users u → i < 32 → w.kept (block_at u + i) ≡ None
+  pub free : (u i : ℕ) → IsOneOf users u → i < BLOCK_SIZE → w.kept (block_at u + i) ≡ None
   pub system : w.system ≡ true
   pub log : w.kept LOG ≡ None
   pub regs : (r : ℕ) → c.regs r < 2 ^ 32

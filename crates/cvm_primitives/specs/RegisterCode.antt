@@ -16,21 +16,21 @@ abbrev pub check_user_code : ℕ → ℕ → List Inst
 check_user_code bad users = Addiu ANSWER ZERO bad ∷ Addiu T0 USER (minus 1) ∷ Sltiu T1 T0 users ∷ []
 
 -- T1 isn't 0 where NUMBER is that of a register, or 32
-abbrev pub register_code : List Inst
-register_code = IS_REGISTER
+abbrev pub is_register_code : List Inst
+is_register_code = IS_REGISTER
 
 -- T3 becomes the address of the word of the user's control block that holds this register
-abbrev pub place_code : List Inst
-place_code = FIND_WORD
+abbrev pub find_word_code : List Inst
+find_word_code = FIND_WORD
 
 -- the work is done where both arguments are good
 abbrev pub check_arguments_code : ℕ → ℕ → List Inst → List Inst
-check_arguments_code bad users work = check_user_code bad users ++ when_code T1 (register_code ++ when_code T1 (place_code ++ work))
+check_arguments_code bad users work = check_user_code bad users ++ when_code T1 (is_register_code ++ when_code T1 (find_word_code ++ work))
 
 -- its words
 abbrev pub check_arguments_words : (bad users : ℕ) → List ℕ → List ℕ
 check_arguments_words bad users work =
-    map encoding (check_user_code bad users) ++ when_words T1 (map encoding register_code ++ when_words T1 (map encoding place_code ++ work))
+    map encoding (check_user_code bad users) ++ when_words T1 (map encoding is_register_code ++ when_words T1 (map encoding find_word_code ++ work))
 
 -- vm_get
 abbrev pub vm_get_code : ℕ → List Inst

@@ -3,7 +3,7 @@ use Rattle.std.specs.Prelude.{◌≡◌, ◌≢◌, ℕ, ◌+◌, ◌-◌, ◌*�
 use Rattle.mips_table.specs.Device.{Idle, BUFFER}
 use Rattle.mips_table.specs.Code.{Contents, Behind}
 use Rattle.layer_map.specs.Map.{block_at, hand_at}
-use Rattle.layer_map.specs.declared.places.TheConstants.{BLOCK_SIZE}
+use Rattle.layer_map.specs.declared.places.TheConstants.{BLOCK_SIZE, BLOCK_WORDS, SLOTS}
 use Rattle.masm.specs.declared.registers.TheConstants.{GLOBALS, FRAME_END, STACK_END, RETURN}
 use Rattle.page_model.specs.Paging.{PageLayout, IsUserFrame, MapsTo, Pages, PagingInvariant, counted_entries}
 use Rattle.page_model.specs.Places.{Places, frames_end, paged_view}
@@ -64,7 +64,7 @@ pub record CopyGood (l : PageLayout) (u : Pages) (x y n : ℕ) : Type 0 where
 
 -- the word of user u's size
 abbrev pub size_at : ℕ → ℕ
-size_at u = block_at 1 + BLOCK_SIZE + 64 * (u - 1)
+size_at u = block_at 1 + BLOCK_SIZE + BLOCK_WORDS * (u - 1)
 
 -- the users' sizes in memory, and which pages are below them
 pub record UsersIn (p : Places) (users per : ℕ) (size : ℕ → ℕ) (v : Pages) (c : Contents) : Type 0 where
@@ -110,4 +110,4 @@ pub record SharesFrame (p : Places) (x y : ℕ) (m : ℕ → ℕ) : Type 0 where
 pub record FourOthers (p : Places) (x y : ℕ) (m : ℕ → ℕ) : Type 0 where
   pub names : MapsTo (m (p.tables + x)) (m (p.tables + x) / 4096)
   pub user : IsUserFrame p.layout (m (p.tables + x) / 4096)
-  pub four : 4 ≤ counted_entries (λ z. if nat_eq z y then 0 else m (p.tables + z)) (m (p.tables + x) / 4096) p.layout.pages
+  pub four : SLOTS ≤ counted_entries (λ z. if nat_eq z y then 0 else m (p.tables + z)) (m (p.tables + x) / 4096) p.layout.pages

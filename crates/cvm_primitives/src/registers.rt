@@ -1,7 +1,7 @@
 // The code of the primitives that use no page.
 ghost use Rattle.std.specs.Prelude.{◌≡◌, ◌<◌, ◌≤◌, ◌++◌, map as each, length};
 ghost use Rattle.mips_table.specs.Encoding.{encoding};
-ghost use Rattle.cvm_primitives.specs.RegisterCode.{check_user_code, register_code, place_code, check_arguments_words, vm_get_code};
+ghost use Rattle.cvm_primitives.specs.RegisterCode.{check_user_code, is_register_code, find_word_code, check_arguments_words, vm_get_code};
 ghost use Rattle.cvm_primitives.specs.RegisterCode.{vm_set_code, vm_size_code, con_put_code, con_get_code, con_left_code};
 
 use crate::parts::{FIND_SIZE, MINUS_ONE};
@@ -11,9 +11,9 @@ use masm::addresses::{BLOCKS, INPUT, INPUT_LEFT, LOG};
 use masm::registers::ARGUMENTS;
 use masm::roles::{T0, T1, T2, T3, ZERO};
 use masm::{Block, block, code};
-use mips_table::Inst;
+use mips_table::{Inst, LOG_ROOM};
 
-/// ANSWER becomes what a bad call answers, as 16 bits; T1 isn't 0 where USER is a user's number, and T0 is that less 1.
+/// ANSWER becomes what a bad call answers, as 16 bits; T1 isn't 0 where USER is a user's number, and T0 is that less 1, for those that follow.
 pub fn check_user(bad: u32, users: u32) -> Block<3>
     requires bad { bad < 65536 }
     requires users { users ≤ 64 }
@@ -106,9 +106,6 @@ pub fn vm_size(map: &Map) -> Block<8>
         when T1, work;
     }
 }
-
-/// How many words the log has room for.
-const LOG_ROOM: u32 = 4096;
 
 /// The log's port tells its length. The answer is whether a word more has room; one that hasn't is lost.
 const PUT: [Inst; 3] = code! {

@@ -1,4 +1,5 @@
 // What the primitives keep in registers, by name, beside the names that the whole layer has (masm::roles). Arguments come in 20 to 24.
+// A user's number less 1 stays in T0 from the test of the number up to FIND_SIZE, FIND_WORD and `first_page`, which ask for it.
 
 /// The user whose memory, size or registers are asked for.
 pub const USER: u32 = 20;
@@ -26,6 +27,9 @@ pub const LENGTH: u32 = 24;
 
 /// Whether what is asked can be done: an address is a multiple of 4, a size isn't too large, a frame's list has a free slot.
 pub const GOOD: u32 = 12;
+
+/// The number of the word at ADDRESS among those of its user.
+pub const FIRST_WORD: u32 = 12;
 
 /// A word's number: those of all users are counted through, 1,024 a page.
 pub const WORD_NUMBER: u32 = 26;

@@ -104,4 +104,5 @@ BeginsAs x y s c (Steps after) = RunningRelation x y (step x s) Running after ×
 BeginsAs x y s c (Traps cause edata at) =
     (before : State) × (why : Cause) × (epc : ℕ) × (coming x (latched x s) ≡ Interrupt before why edata epc) × (cause_number why ≡ cause)
     × (with_epc c epc ≡ at)
-BeginsAs x y s c (Interrupts cause edata at pending) = (coming x (latched x s) ≡ Interrupt (latched x s) External edata s.cpu.pc) × (cause ≡ 1) × (c ≡ at) × (pending ≡ 0)
+BeginsAs x y s c (Interrupts cause edata at pending) =
+    (coming x (latched x s) ≡ Interrupt (latched x s) External edata s.cpu.pc) × (cause ≡ cause_number External) × (c ≡ at) × (pending ≡ 0)

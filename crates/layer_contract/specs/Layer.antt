@@ -19,6 +19,7 @@ use Rattle.layer_contract.specs.declared.entry.Entry.{Entry}
 use Rattle.layer_contract.specs.declared.entry.Entry.TheVariants.{Dispatch, Primitive, Fault as Exit, Leave}
 use Rattle.layer_map.specs.Map.{Map, MapInRange, layer_words, current_at, hand_at, heap_used_at, heap_words_at, heap_first_at, stack_first_at, stack_words_at}
 use Rattle.layer_map.specs.Map.{primitives_at, exits_at, leave_at, block_at, code_at, heap_at, stack_at, table_of, memory_words}
+use Rattle.layer_map.specs.declared.places.TheConstants.{BLOCK_SIZE, BLOCK_WORDS}
 use Rattle.page_model.specs.Paging.{IsAccessible}
 use Rattle.cvm_model.specs.Kernel.{flat, Core, power_of}
 use Rattle.cvm_model.specs.declared.kernel_fault.KernelFault.{KernelFault}
@@ -121,8 +122,8 @@ pub record Rested (x : Environment) (y : Site) (next : Next) (c : Core) (s : Sta
 
 -- the words that a user's control block holds at load: all 0, but for the size
 pub record BlockLinked (words : List ℕ) (u pages : ℕ) : Type 0 where
-  pub size : slice_index words (block_at u + 32) ≡ pages
-  pub others : (i : ℕ) → i < 64 → i ≢ 32 → slice_index words (block_at u + i) ≡ 0
+  pub size : slice_index words (block_at u + BLOCK_SIZE) ≡ pages
+  pub others : (i : ℕ) → i < BLOCK_WORDS → i ≢ BLOCK_SIZE → slice_index words (block_at u + i) ≡ 0
 
 -- what the linked words hold in the layer's variables and in the control blocks, for users of these sizes, one for each user
 pub record Linked (m : Map) (sizes words : List ℕ) : Type 0 where
@@ -277,7 +278,8 @@ ResetStands = (x : Environment) (y : Site) (s : State) (c : Core) (sizes : List 
     Linked y.map sizes (take layer_words y.linked) → sizes ≡ map pages_of c.users → CoreFits y.map c → Starts c → AfterReset x y c s
     → RunningRelation x y s Running c
 
--- the machine as it goes on to user u: the current user's word, the processor, the page table, sr 1 and user mode
+-- The machine as it goes on to user u: the current user's word, the processor, the page table, sr 1 and user mode. The special registers stand in
+-- the order of their numbers: sr, esr, eca, epc, edata, pto, ptl, mode, emode.
 abbrev pub for_user : Map → Core → ℕ → State → State
 for_user m c u s =
     record s { cpu = (user_of c.users u).cpu; special = 1 ∷ 0 ∷ 0 ∷ 0 ∷ 0 ∷ 4 * table_of m u ∷ pages_of (user_of c.users u) ∷ 1 ∷ 0 ∷ []; memory = slice_set s.memory current_at u }

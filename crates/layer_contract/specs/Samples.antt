@@ -6,7 +6,8 @@ use Rattle.mips_table.specs.Encoding.{encoding}
 use Rattle.mips_table.specs.Device.{Environment}
 use Rattle.mips_table.specs.Machine.{State}
 use Rattle.layer_map.specs.declared.params.Params.{Params}
-use Rattle.layer_map.specs.Map.{Map, layer_words, heap_words_at, heap_first_at, stack_first_at, stack_words_at, heap_at, stack_at}
+use Rattle.layer_map.specs.Map.{Map, layer_words, heap_words_at, heap_first_at, stack_first_at, stack_words_at, heap_at, stack_at, blocks_at}
+use Rattle.layer_map.specs.declared.places.TheConstants.{BLOCK_SIZE, BLOCK_WORDS}
 use Rattle.page_model.specs.Paging.{Paged, MapsTo}
 use Rattle.c0_tree.specs.declared.tree.Kind.{Kind}
 use Rattle.c0_tree.specs.declared.tree.Kind.TheVariants.{Global, Local, Function}
@@ -26,7 +27,7 @@ plain_word m sizes k =
     if k == heap_first_at then 4 * heap_at m else
     if k == stack_first_at then 4 * stack_at m else
     if k == stack_words_at then m.params.stack else
-    if nat_le 12288 k && k % 64 == 32 then slice_index sizes ((k - 12288) / 64) else
+    if nat_le blocks_at k && k % BLOCK_WORDS == BLOCK_SIZE then slice_index sizes ((k - blocks_at) / BLOCK_WORDS) else
     0
 
 unfoldable pub plain_layer : Map → List ℕ → List ℕ

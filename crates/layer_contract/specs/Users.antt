@@ -6,6 +6,7 @@ use Rattle.mips_table.specs.declared.effect.Effect.TheVariants.{Load, Store}
 use Rattle.mips_table.specs.Decoding.{decoding}
 use Rattle.mips_table.specs.Processor.{effect_on}
 use Rattle.mips_table.specs.declared.cause.Cause.{Cause}
+use Rattle.mips_table.specs.declared.cause.Cause.TheVariants.{FetchFault, DataFault}
 use Rattle.mips_table.specs.Device.{Environment}
 use Rattle.mips_table.specs.declared.special.TheConstants.{PTL}
 use Rattle.mips_table.specs.Machine.{cause_number}
@@ -42,13 +43,13 @@ UserStepsLinked = (x : Environment) (y : Site) (s : State) (c : Core) (k : ℕ) 
     → InUserMode x y c s →
     handled x s ≡ false → StepFollows x y s c k
 
--- a handled fault: cause 3 or 8 and a page below ptl, taken at the instruction with nothing changed but the lines latched
+-- a handled fault: a fetch or a data fault and a page below ptl, taken at the instruction with nothing changed but the lines latched
 pub record TakesFault (x : Environment) (s : State) : Type 0 where
   pub handled : handled x s ≡ true
   pub why : Cause
   pub edata : ℕ
   pub comes : coming x (latched x s) ≡ Interrupt (latched x s) why edata s.cpu.pc
-  pub number : (cause_number why ≡ 3) ⊎ (cause_number why ≡ 8)
+  pub number : (cause_number why ≡ cause_number FetchFault) ⊎ (cause_number why ≡ cause_number DataFault)
   pub page : edata / 4096 < slice_index s.special PTL
 
 -- any step
@@ -97,7 +98,7 @@ pub record AsksPage (x : Environment) (y : Site) (s : State) (c : Core) : Type 0
   pub why : Cause
   pub edata : ℕ
   pub comes : coming x (latched x s) ≡ Interrupt (latched x s) why edata s.cpu.pc
-  pub number : (cause_number why ≡ 3) ⊎ (cause_number why ≡ 8)
+  pub number : (cause_number why ≡ cause_number FetchFault) ⊎ (cause_number why ≡ cause_number DataFault)
   pub page : edata / 4096 < slice_index s.special PTL
   pub store : Bool
   pub asks : AsksForPage (step_pages y.map c) (paged_of y.map s) (page_at y.map c edata) store

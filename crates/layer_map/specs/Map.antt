@@ -1,6 +1,7 @@
 -- The map of the physical memory, in words: word k stands at the address 4 * k.
 use Rattle.std.specs.Prelude.{◌≡◌, ℕ, ◌+◌, ◌-◌, ◌*◌, ◌/◌, ◌%◌, ◌≤◌}
 use Rattle.layer_map.specs.declared.params.Params.{Params}
+use Rattle.layer_map.specs.declared.places.TheConstants.{BLOCK_WORDS}
 
 -- what the map is made of: the parameters, the number of users, and the words of the kernel's code and of its globals
 pub record Map : Type 0 where
@@ -78,9 +79,13 @@ exits_at = 2058
 abbrev pub leave_at : ℕ
 leave_at = 2062
 
--- the control block of user u, from 1, of 64 words: the pc, registers 1 to 31, the size in pages, hi and lo
+-- the first word of the control blocks
+abbrev pub blocks_at : ℕ
+blocks_at = 12288
+
+-- the control block of user u, from 1, of BLOCK_WORDS words: the pc, registers 1 to 31, the size in pages, hi and lo
 abbrev pub block_at : ℕ → ℕ
-block_at u = 12288 + 64 * (u - 1)
+block_at u = blocks_at + BLOCK_WORDS * (u - 1)
 
 -- the first multiple of a page's 1,024 words from a word on
 abbrev pub next_page : ℕ → ℕ
@@ -157,8 +162,8 @@ pub record MemoryIsWhole (m : Map) : Type 0 where
 
 -- the control block of each user lies before that of the next, behind the layer's variables and in the layer's part
 pub record BlocksInOrder : Type 0 where
-  pub next : (u : ℕ) → 1 ≤ u → block_at u + 64 ≡ block_at (u + 1)
-  pub inside : (u : ℕ) → 1 ≤ u → u ≤ 64 → (variables_end ≤ block_at u) × (block_at u + 64 ≤ layer_words)
+  pub next : (u : ℕ) → 1 ≤ u → block_at u + BLOCK_WORDS ≡ block_at (u + 1)
+  pub inside : (u : ℕ) → 1 ≤ u → u ≤ 64 → (variables_end ≤ block_at u) × (block_at u + BLOCK_WORDS ≤ layer_words)
 
 -- the page table of each user lies before that of the next, and in the page tables
 pub record TablesInOrder (m : Map) : Type 0 where

@@ -19,6 +19,21 @@ pub const LEAVE: u32 = 0x2038;
 /// The register of an answer: of a primitive that has returned to the unit's code, and of the unit's first function at LEAVE.
 pub const ANSWER: u32 = 2;
 
+/// The register of the first argument, of a function of the unit and of a primitive. The further arguments come in the registers after it.
+pub const ARGUMENTS: u32 = 20;
+
+/// The register of the address of the unit's globals. A primitive leaves this register as it is, and the two that follow.
+pub const GLOBALS: u32 = 28;
+
+/// The register of the end of the frame: of the address of the word after it.
+pub const FRAME_END: u32 = 29;
+
+/// The register of the end of the stack: of the address of the word after it.
+pub const STACK_END: u32 = 30;
+
+/// The register of a call's return address.
+pub const RETURN: u32 = 31;
+
 /// A law: the constants are the addresses of the words that the map's definitions name.
 pub fn entries_are_words()
     ensures entry { UNIT_ENTRY ≡ 4 * layer_words }

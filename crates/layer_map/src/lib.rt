@@ -25,14 +25,17 @@ mod map;
 mod params;
 mod places;
 
-pub use entries::{ANSWER, EXITS, LEAVE, PRIMITIVES, UNIT_ENTRY, entries_are_words};
+pub use entries::{
+    ANSWER, ARGUMENTS, EXITS, FRAME_END, GLOBALS, LEAVE, PRIMITIVES, RETURN, STACK_END, UNIT_ENTRY,
+    entries_are_words,
+};
 pub use map::{
     Map, blocks_are_in_order, memory_is_whole, parts_are_in_order, parts_begin_pages,
     tables_are_in_order,
 };
 pub use params::Params;
 pub use places::{
-    BLOCK_HI, BLOCK_LO, BLOCK_PC, BLOCK_SIZE, CURRENT, HAND, HEAP_FIRST, HEAP_USED, HEAP_WORDS,
-    LAYER_WORDS, PAGE_WORDS, STACK_FIRST, STACK_WORDS, VARIABLES, VARIABLES_END, block_of,
-    places_are_words,
+    BLOCK_HI, BLOCK_LO, BLOCK_PC, BLOCK_SIZE, BLOCK_WORDS, BLOCKS, CURRENT, HAND, HEAP_FIRST,
+    HEAP_USED, HEAP_WORDS, LAYER_WORDS, PAGE_WORDS, SLOTS, STACK_FIRST, STACK_WORDS, VARIABLES,
+    VARIABLES_END, block_of, places_are_words,
 };

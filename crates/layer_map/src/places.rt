@@ -9,6 +9,9 @@ pub const LAYER_WORDS: u32 = 16384;
 /// The words of a page, of a frame and of a sector.
 pub const PAGE_WORDS: u32 = 1024;
 
+/// How many slots the list of a user frame has in the frame table: the most pages that may name the frame.
+pub const SLOTS: u32 = 4;
+
 /// The address of the current user, from 1.
 pub const CURRENT: u32 = 0x1000;
 
@@ -36,6 +39,12 @@ pub const VARIABLES: u32 = 0x101c;
 /// The first address behind the layer's variables.
 pub const VARIABLES_END: u32 = 0x2000;
 
+/// The address of the first control block, which is that of user 1.
+pub const BLOCKS: u32 = 0xc000;
+
+/// The words of a control block.
+pub const BLOCK_WORDS: u32 = 64;
+
 /// The word of a control block that holds the pc. The words 1 to 31 hold the registers of these numbers.
 pub const BLOCK_PC: u32 = 0;
 
@@ -48,13 +57,13 @@ pub const BLOCK_HI: u32 = 33;
 /// The word of a control block that holds lo.
 pub const BLOCK_LO: u32 = 34;
 
-/// The first address of the control block of `user`, 1 to 64. A control block has 64 words.
+/// The first address of the control block of `user`, 1 to 64.
 pub fn block_of(user: u32) -> u32
     requires some { 1 ≤ user }
     requires most { user ≤ 64 }
     ensures { result ≡ 4 * block_at user }
 {
-    0xc000 + 256 * (user - 1)
+    BLOCKS + 4 * BLOCK_WORDS * (user - 1)
 }
 
 /// A law: the constants are the addresses of the words that the map's definitions name.

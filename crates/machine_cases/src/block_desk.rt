@@ -4,6 +4,7 @@ ghost use Rattle.std.specs.Prelude.{◌≡◌, ◌<◌, length};
 use cvm_outside::{DiskFault, MemSectors};
 use cvm_text::{decimal_u64, hex8};
 use mips_machine::{Event, Machine};
+use mips_table::EPC;
 use schedule_file::{Schedule, read};
 use std::alloc::{AllocError, Global};
 use std::marker::Model;
@@ -120,7 +121,7 @@ impl Desk {
         }
         tell(told, " hi", self.machine.hi())?;
         tell(told, " lo", self.machine.lo())?;
-        tell(told, " epc", self.machine.special(3))
+        tell(told, " epc", self.machine.special(EPC))
     }
 
     /// Tells words of memory.

@@ -4,8 +4,9 @@ ghost use Rattle.std.specs.Prelude.{◌≡◌, ◌<◌, ◌≤◌, length};
 use crate::driver::{BEGIN, FIRST, LAST, PAGE, STORE, driver};
 use cvm_outside::{DiskFault, MemSectors, Sectors};
 use cvm_text::{decimal_u64, hex8};
-use layer_map::{HAND, Map, Params};
+use layer_map::{HAND, Map, Params, SLOTS};
 use mips_machine::{Event, Machine};
+use mips_table::IS_VALID;
 use schedule_file::{Schedule, read};
 use std::alloc::{AllocError, Global};
 use std::marker::Model;
@@ -238,7 +239,7 @@ impl Desk {
     // The same of what a page shows.
     fn shown_number(&mut self, page: u32) -> u32 {
         let entry = self.word(self.tables.wrapping_add(page));
-        if entry / 2048 % 2 == 1 {
+        if entry / IS_VALID % 2 == 1 {
             self.frame_number(entry / 4096)
         } else {
             self.sector_number(page)
@@ -247,7 +248,7 @@ impl Desk {
 
     // The list of a user frame, from 1: the pages in the slots below its count.
     fn tell_list(&self, told: &mut String, frame: u32) -> Result<(), AllocError> {
-        let listed = self.word(self.count_at(frame)).min(4);
+        let listed = self.word(self.count_at(frame)).min(SLOTS);
         told.push_str(if listed == 0 { " -" } else { " " })?;
         for slot in 0..listed {
             told.push_str(if slot == 0 { "" } else { "," })?;

@@ -28,7 +28,7 @@ pub const INPUT_LEFT: u32 = 0xf010;
 pub const INPUT: u32 = 0xf014;
 
 /// The control block of user 1, which those of the other users follow. As a number it goes into a register by `ori`.
-pub const BLOCKS: u32 = 0xc000;
+pub const BLOCKS: u32 = layer_map::BLOCKS;
 
 /// The disk's command by which the buffer becomes a sector.
 pub const READ_SECTOR: u32 = 1;

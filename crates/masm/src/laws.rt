@@ -76,7 +76,8 @@ pub fn a_routine_returns()
     ensures { (w : World) → Sound w → (body : List Inst) → ReturnRuns w body }
 {}
 
-/// The words of a block are those of its instructions.
+/// The words of a block are those of its instructions, also where it is made of blocks. A function that makes a block of blocks calls this law, so
+/// that its proof has it; when it runs the call does nothing.
 pub fn words_are_encodings()
     ensures { WordsAreEncodings }
 {}

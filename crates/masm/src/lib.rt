@@ -2,6 +2,8 @@
 //!
 //! A [`Block`] is machine code that stands anywhere: it is entered at its first word and left by its end. Contracts see it as
 //! the list of its words.
+//!
+//! The machine has no delay slot: the instruction behind a jump, or behind a branch that is taken, is not run.
 #![tactic(auto)]
 
 pub mod addresses;

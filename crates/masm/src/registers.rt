@@ -27,22 +27,22 @@ pub const EXPRESSIONS: u32 = 8;
 pub const EXPRESSION_COUNT: u32 = 12;
 
 /// The register of the first argument.
-pub const ARGUMENTS: u32 = 20;
+pub const ARGUMENTS: u32 = layer_map::ARGUMENTS;
 
 /// How many registers arguments have: 20 to 27.
 pub const ARGUMENT_COUNT: u32 = 8;
 
 /// The address of the globals.
-pub const GLOBALS: u32 = 28;
+pub const GLOBALS: u32 = layer_map::GLOBALS;
 
 /// The end of the frame: the address of the word after it.
-pub const FRAME_END: u32 = 29;
+pub const FRAME_END: u32 = layer_map::FRAME_END;
 
 /// The end of the stack: the address of the word after it.
-pub const STACK_END: u32 = 30;
+pub const STACK_END: u32 = layer_map::STACK_END;
 
 /// The return address.
-pub const RETURN: u32 = 31;
+pub const RETURN: u32 = layer_map::RETURN;
 
 /// First addresses, in bytes, of what the code of a unit names. Each is a multiple of 4 below 0x10000000: contracts say so by `ArePlaces`.
 #[derive(Drop)]

@@ -1,7 +1,7 @@
 //! What the layer keeps in registers, by name.
 //!
-//! T0 to T3 are temporaries: what one of them holds is for the next lines alone. Every other name but ENTRY means the same in all blocks; a
-//! number with two names has two meanings, at different times.
+//! T0 to T3 are temporaries: what one of them holds is for the next lines alone, or for the next block where the comments of both say so. Every
+//! other name here but WORDS and ENTRY means the same in all blocks; a number with two names has two meanings, at different times.
 
 /// Always 0.
 pub const ZERO: u32 = 0;

@@ -6,7 +6,7 @@ ghost use Rattle.mips_table.specs.Code.{World, Sound};
 ghost use Rattle.masm.specs.Wait.{wait_code, WaitRuns, TransfersRun};
 
 use crate::addresses::COMMAND;
-use crate::block::{Block, Code};
+use crate::block::Code;
 use crate::laws::{a_loop_turns, runs_compose, straight_code_runs};
 use crate::roles::{STATUS, ZERO};
 use crate::{block, code};
@@ -17,22 +17,15 @@ const READ_STATUS: [Inst; 1] = code! {
     lw STATUS, COMMAND(ZERO);
 };
 
-// It is, as a block.
-fn read_status() -> Block<1>
-    ensures { result ≡ map encoding READ_STATUS }
-{
-    block! {
-        code READ_STATUS;
-    }
-}
-
 /// Code that reads the disk's status until no command is under way. STATUS changes.
 pub fn wait_for_disk() -> Code
     ensures { result ≡ map encoding wait_code }
 {
-    let mut code = Code::new();
-    code.loop_while(&read_status(), STATUS, &Block::<0>::new());
-    code
+    block! {
+        code READ_STATUS;
+        beq STATUS, ZERO, 1;            // no command is under way: over the next line
+        beq ZERO, ZERO, -3;             // back to the read
+    }
 }
 
 /// Whatever command is under way, it is done within its own steps and five more, and where none is, the wait takes two, where ports may be used.

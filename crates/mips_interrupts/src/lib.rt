@@ -64,7 +64,7 @@ pub fn take(pc: u32, special: &mut Special, cause: Cause, edata: u32) -> u32
 /// new pc, which is epc.
 pub fn leave(special: &mut Special) -> u32
     ensures special { special.new.regs ≡ left special.old.regs }
-    ensures pc { result ≡ slice_index special.old.regs 3 }
+    ensures pc { result ≡ slice_index special.old.regs EPC }
 {
     special.regs[SR] = special.regs[ESR];
     special.regs[MODE] = special.regs[EMODE];

@@ -1,6 +1,7 @@
 -- The physical machine: one step of it, with the lines and the busy times that the outside gives, and its run.
 use Rattle.std.specs.Prelude.{ℕ, zero, suc, ◌+◌, ◌*◌, ◌/◌, ◌%◌, ◌^◌, Bool, true, false, not, ◌&&◌, ◌||◌, ◌==◌, nat_lt, if◌then◌else◌, List, [], ◌∷◌, ◌++◌, length, drop, replicate, slice_index, slice_set, bit_or, Option, Some, None, is_some}
-use Rattle.mips_table.specs.declared.special.TheConstants.{SR, ESR, EPC, PTO, PTL, MODE, EMODE}
+use Rattle.mips_table.specs.declared.special.TheConstants.{SR, ESR, EPC, PTO, PTL, MODE, EMODE, IS_VALID, IS_PROTECTED}
+use Rattle.mips_table.specs.declared.console.TheConstants as constants
 use Rattle.mips_table.specs.declared.inst.Inst.{Inst}
 use Rattle.mips_table.specs.declared.inst.Inst.TheVariants.{Mfc0, Mtc0, Eret}
 use Rattle.mips_table.specs.declared.cause.Cause.{Cause}
@@ -24,7 +25,7 @@ INPUT = 0x3ffffc05
 
 -- the most words that the log has
 abbrev pub LOG_ROOM : ℕ
-LOG_ROOM = 4096
+LOG_ROOM = constants.LOG_ROOM
 
 -- a log has room for one word more: a word for a log that is full is lost
 abbrev pub log_has_room : List ℕ → Bool
@@ -88,13 +89,13 @@ in_system special = slice_index special MODE == 0
 abbrev pub pte_address : ℕ → ℕ → ℕ
 pte_address address pto = (pto + 4 * (address / 4096)) % 2 ^ 32
 
--- bit 11 of an entry says that it is valid
+-- bit 11 of an entry, the mask IS_VALID, says that it is valid
 abbrev pub is_valid : ℕ → Bool
-is_valid entry = entry / 2 ^ 11 % 2 == 1
+is_valid entry = entry / IS_VALID % 2 == 1
 
--- bit 10 of an entry says that it is protected: no store goes there
+-- bit 10 of an entry, the mask IS_PROTECTED, says that it is protected: no store goes there
 abbrev pub is_protected : ℕ → Bool
-is_protected entry = entry / 2 ^ 10 % 2 == 1
+is_protected entry = entry / IS_PROTECTED % 2 == 1
 
 -- translation in user mode, by the page table's entry: the physical address, unless the address is refused
 abbrev pub translated : ℕ → ℕ → Bool → ℕ → Option ℕ

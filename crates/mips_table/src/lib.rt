@@ -6,6 +6,7 @@
 
 pub mod arith;
 pub mod cause;
+pub mod console;
 pub mod decoding;
 pub mod effect;
 pub mod encoding;
@@ -17,6 +18,7 @@ pub mod special;
 pub mod table;
 
 pub use cause::Cause;
+pub use console::LOG_ROOM;
 pub use decoding::decode;
 pub use effect::{Effect, effect_of};
 pub use encoding::encode;

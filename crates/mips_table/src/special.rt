@@ -31,10 +31,10 @@ pub const EMODE: u32 = 8;
 pub const VALID_BIT: u32 = 11;
 
 /// That bit as a mask.
-pub const IS_VALID: u32 = 2048;
+pub const IS_VALID: u32 = 1 << VALID_BIT;
 
 /// The number of the bit of an entry that says that its page is protected, so no store goes there.
 pub const PROTECTED_BIT: u32 = 10;
 
 /// That bit as a mask.
-pub const IS_PROTECTED: u32 = 1024;
+pub const IS_PROTECTED: u32 = 1 << PROTECTED_BIT;

@@ -34,10 +34,10 @@ abbrev pub save_context_code : ℕ → List Inst
 save_context_code zero = []
 save_context_code (suc n) = save_context_code n ++ (Lw SCRATCH ZERO (4 * saved_at (n + 1)) ∷ Sw SCRATCH BLOCK (4 * (n + 1)) ∷ [])
 
--- KEEP: the saved registers, epc, hi and lo go to the current user's control block
+-- SAVE USER: the saved registers, epc, hi and lo go to the current user's control block
 abbrev pub save_user_code : List Inst
 save_user_code = find_control_block_code ++ (save_context_code 31 ++ SAVE_SPECIAL)
 
--- RESUME: all of the current user's comes from its control block, register 31 as the last
+-- RESTORE USER: all of the current user's comes from its control block, register 31 as the last
 abbrev pub restore_user_code : List Inst
 restore_user_code = find_control_block_code ++ (RESTORE_SPECIAL ++ load_registers_code BLOCK 0 31)

@@ -6,7 +6,7 @@ use Rattle.mips_table.specs.declared.inst.Inst.{Inst}
 use Rattle.mips_table.specs.declared.inst.Inst.TheVariants.{J, Jr}
 use Rattle.mips_table.specs.Encoding.{encoding}
 use Rattle.layer_map.specs.Map.{Map, MapInRange, block_at, current_at, heap_at, layer_words, leave_at, primitives_at, stack_at, variables_end}
-use Rattle.layer_map.specs.declared.places.TheConstants.{BLOCK_SIZE}
+use Rattle.layer_map.specs.declared.places.TheConstants.{BLOCK_SIZE, BLOCK_WORDS}
 use Rattle.masm.specs.declared.registers.TheConstants.{RETURN}
 use Rattle.page_model.specs.Places.{places_of}
 use Rattle.page_fault.specs.Code.{handle_page_code}
@@ -74,9 +74,9 @@ zero_padded n words = words ++ replicate (n - length words) 0
 abbrev pub variables : Map → List ℕ
 variables m = 0 ∷ 0 ∷ 0 ∷ m.params.heap ∷ 4 * heap_at m ∷ 4 * stack_at m ∷ m.params.stack ∷ []
 
--- a control block at load: 64 words, all 0 but for the size
+-- a control block at load: BLOCK_WORDS words, all 0 but for the size
 abbrev pub block_words : ℕ → List ℕ
-block_words pages = replicate BLOCK_SIZE 0 ++ pages ∷ replicate (63 - BLOCK_SIZE) 0
+block_words pages = replicate BLOCK_SIZE 0 ++ pages ∷ replicate (BLOCK_WORDS - 1 - BLOCK_SIZE) 0
 
 abbrev pub blocks : List ℕ → List ℕ
 blocks [] = []

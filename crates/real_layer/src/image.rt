@@ -5,7 +5,7 @@ ghost use Rattle.mips_table.specs.Encoding.{encoding};
 ghost use Rattle.real_layer.specs.Image.{interrupt_code, zero_padded, variables, block_words, blocks, second_code, layer_image};
 
 use crate::routines::lay_routines;
-use layer_map::{BLOCK_SIZE, CURRENT, LAYER_WORDS, Map, PRIMITIVES, VARIABLES_END};
+use layer_map::{BLOCK_SIZE, BLOCK_WORDS, CURRENT, LAYER_WORDS, Map, PRIMITIVES, VARIABLES_END};
 use masm::Code;
 use masm::addresses::BLOCKS;
 use std::alloc::{AllocError, Global};
@@ -20,8 +20,8 @@ const VARIABLE_WORDS: u32 = (VARIABLES_END - CURRENT) / 4;
 /// The words of the entries and the routines, which follow these.
 const ROUTINE_WORDS: u32 = (BLOCKS - PRIMITIVES) / 4;
 
-/// The words of the control blocks, which are the last.
-const BLOCK_WORDS: u32 = LAYER_WORDS - BLOCKS / 4;
+/// The words of all control blocks, which are the last.
+const ALL_BLOCKS_WORDS: u32 = LAYER_WORDS - BLOCKS / 4;
 
 // Appends so many zeros.
 fn put_zeros(words: &mut Vec<u32>, count: usize) -> Result<(), AllocError>
@@ -41,13 +41,13 @@ fn put_filled(words: &mut Vec<u32>, count: usize, part: &[u32]) -> Result<(), Al
     put_zeros(words, count.saturating_sub(part.len()))
 }
 
-// Appends the control block of a user of so many pages: 64 words, of which one holds them.
+// Appends the control block of a user of so many pages: BLOCK_WORDS words, of which one holds them.
 fn put_block(words: &mut Vec<u32>, pages: u32) -> Result<(), AllocError>
     ensures { OnOk result (words.new.items ≡ words.old.items ++ block_words pages) }
 {
     put_zeros(words, BLOCK_SIZE as usize)?;
     words.push(pages)?;
-    put_zeros(words, (63 - BLOCK_SIZE) as usize)
+    put_zeros(words, (BLOCK_WORDS - 1 - BLOCK_SIZE) as usize)
 }
 
 // The control blocks of users of these sizes.
@@ -100,7 +100,7 @@ pub fn layer_words(alloc: Global, map: &Map, sizes: &[u32]) -> Result<Vec<u32>, 
     )?;
     put_filled(
         &mut words,
-        BLOCK_WORDS as usize,
+        ALL_BLOCKS_WORDS as usize,
         &control_blocks(alloc, sizes)?,
     )?;
     Ok(words)

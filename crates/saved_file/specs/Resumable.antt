@@ -1,6 +1,7 @@
 -- The words of a saved machine that can be taken up under an image, a schedule and a number of turns.
 use Rattle.std.specs.Prelude.{◌≡◌, ℕ, ◌+◌, ◌*◌, ◌<◌, ◌≤◌, ◌||◌, ◌&&◌, Bool, false, List, length, slice_index, nat_lt}
 use Rattle.layer_map.specs.Map.{block_at}
+use Rattle.layer_map.specs.declared.places.TheConstants.{BLOCK_SIZE}
 use Rattle.mips_machine.specs.Saved.{AreSaved}
 use Rattle.saved_file.specs.declared.reading.Sizes.{Sizes}
 
@@ -37,7 +38,7 @@ IsUnforged linked words = (place : ℕ) → place < length linked → is_left_ou
 
 -- the word of a user's size, in pages
 abbrev pub size_at : ℕ → ℕ
-size_at user = block_at user + 32
+size_at user = block_at user + BLOCK_SIZE
 
 -- no control block of a user tells more pages than a user may have
 abbrev pub HaveFitSizes : (users pages : ℕ) (words : List ℕ) → Type 0

@@ -66,7 +66,7 @@ module _ (w : World) (f : Sound w) (spared : RegistersStay) (moves : MovesRun w)
       let c1 : Contents = with_reg (record c { memory = put c.memory SECTOR s }) 5 1 in
       let named : c1.memory SECTOR ≡ s = put_same c.memory SECTOR s SECTOR refl in
       from_later w read_sector_code (2 + ((b + 5) + 1)) _ c d _ _ (omega arith) (λ c' d' k. k)
-      (straight_then w f (name_sector_code 16 1) _ (WritesDisk SECTOR s ∷ Gives 1 ∷ []) _ c d _ refl idle
+      (straight_then w f (name_sector_code 16 1) (give_command_code ++ FROM_BUFFER) (WritesDisk SECTOR s ∷ Gives 1 ∷ []) _ c d _ refl idle
       (λ n. ((refl, (refl, disk.system, idle), disk.free SECTOR (omega arith) (omega arith), r16), (refl, tt)))
       (λ n. from_then w give_command_code FROM_BUFFER (b + 5) 1 c1 d (λ c' d'. Waited (filled c1.memory (d.sectors (c1.memory SECTOR))) c1 c' × (d' ≡ record d { pending = Idle; commands = d.commands + 1 })) _
       (from_later w give_command_code (w.busy d.commands + 5) (b + 5) c1 d _ _ (let h = disk.busy d.commands in omega arith) (λ c' d' k. k)

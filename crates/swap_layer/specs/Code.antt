@@ -20,13 +20,17 @@ name_sector_code sector order = Sw sector ZERO SECTOR ∷ Addiu ORDER ZERO order
 abbrev pub give_command_code : List Inst
 give_command_code = Sw ORDER ZERO COMMAND ∷ wait_code
 
+-- both
+abbrev pub run_disk_command_code : (sector order : ℕ) → List Inst
+run_disk_command_code sector order = name_sector_code sector order ++ give_command_code
+
 -- SWAP OUT: the frame at the address in VICTIM_AT goes to the sector of OUT_PAGE
 abbrev pub swap_out_code : List Inst
-swap_out_code = FROM_FRAME_TO_BUFFER ++ (move_words_code ++ (name_sector_code OUT_PAGE WRITE_SECTOR ++ give_command_code))
+swap_out_code = FROM_FRAME_TO_BUFFER ++ (move_words_code ++ run_disk_command_code OUT_PAGE WRITE_SECTOR)
 
 -- the sector of PAGE comes into the buffer, whose address SOURCE becomes
 abbrev pub read_sector_code : List Inst
-read_sector_code = name_sector_code PAGE READ_SECTOR ++ (give_command_code ++ FROM_BUFFER)
+read_sector_code = run_disk_command_code PAGE READ_SECTOR ++ FROM_BUFFER
 
 -- the 1,024 words at the address in SOURCE come into the frame at that in VICTIM_AT
 abbrev pub copy_to_frame_code : List Inst

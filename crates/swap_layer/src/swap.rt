@@ -1,7 +1,7 @@
 // The blocks.
-ghost use Rattle.std.specs.Prelude.{◌≡◌, ◌<◌, ◌++◌, map};
+ghost use Rattle.std.specs.Prelude.{◌≡◌, ◌<◌, map};
 ghost use Rattle.mips_table.specs.Encoding.{encoding};
-ghost use Rattle.swap_layer.specs.Code.{move_words_code, name_sector_code, give_command_code, swap_out_code, read_sector_code, copy_to_frame_code, swap_in_code};
+ghost use Rattle.swap_layer.specs.Code.{move_words_code, run_disk_command_code, swap_out_code, read_sector_code, copy_to_frame_code, swap_in_code};
 
 use masm::addresses::{BUFFER, COMMAND, READ_SECTOR, SECTOR, WRITE_SECTOR};
 use masm::roles::{ORDER, OUT_PAGE, PAGE, SOURCE, TARGET, VICTIM_AT, WORD, WORDS, ZERO};
@@ -51,7 +51,7 @@ pub fn move_words() -> Block<21>
 fn run_disk_command(sector: u32, order: u32) -> Block<6>
     requires register { sector < 32 }
     requires order { order < 65536 }
-    ensures { result ≡ map encoding (name_sector_code sector order ++ give_command_code) }
+    ensures { result ≡ map encoding (run_disk_command_code sector order) }
 {
     block! {
         sw sector, SECTOR(ZERO);

@@ -3,6 +3,7 @@ ghost use Rattle.std.specs.Prelude.{◌≤◌};
 
 use cvm_outside::{MemSectors, Sectors};
 use mips_machine::{Event, Machine};
+use mips_table::MODE;
 use schedule_file::Schedule;
 use std::alloc::{AllocError, Global};
 use std::marker::Model;
@@ -144,6 +145,6 @@ impl Desk {
 
     /// Whether the machine is in user mode.
     pub fn is_user(&self) -> bool {
-        self.special(7) == 1
+        self.special(MODE) == 1
     }
 }

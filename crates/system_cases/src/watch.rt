@@ -5,6 +5,7 @@ use crate::system::KERNEL;
 use cvm_text::hex8;
 use layer_map::{EXITS, LEAVE, PRIMITIVES};
 use mips_machine::{Cause, Event};
+use mips_table::{EDATA, PTL};
 use std::alloc::AllocError;
 use std::fmt::Write;
 
@@ -67,7 +68,7 @@ impl Watch {
 
     // Whether the fault that was taken concerns a page of the user.
     fn is_handled(desk: &Desk) -> bool {
-        desk.special(4) / 4096 < desk.special(6)
+        desk.special(EDATA) / 4096 < desk.special(PTL)
     }
 
     // Looks at a step that was done.

@@ -23,7 +23,7 @@ fn switch_page_table(map: &Map) -> Code
         sw ANSWER, CURRENT(ZERO);
         addiu T1, ANSWER, -1;           // users are counted from 1
         addiu T2, ZERO, map.params().pages;
-        multu T1, T2;
+        multu T1, T2;                   // how many entries stand before its own: each user has as many
         mflo T1;
         sll T1, T1, 2;                  // an entry has four bytes
         then load_immediate(T2, map.page_tables());

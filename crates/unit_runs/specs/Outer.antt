@@ -4,6 +4,7 @@ use Rattle.mips_table.specs.Code.{Contents, Behind}
 use Rattle.mips_table.specs.Machine.{LOG_ROOM}
 use Rattle.mips_table.specs.Processor.{Cpu}
 use Rattle.layer_map.specs.Map.{current_at, heap_words_at, stack_words_at, block_at}
+use Rattle.layer_map.specs.declared.places.TheConstants.{BLOCK_SIZE, BLOCK_HI, BLOCK_LO}
 use Rattle.page_model.specs.Paging.{PagingInvariant}
 use Rattle.page_model.specs.Places.{page_layout, places_of, paged_view}
 use Rattle.cvm_model.specs.KernelMeaning.{Machines}
@@ -15,15 +16,15 @@ use Rattle.cvm_model.specs.Stands.{Site, UserFits, input_room, is_own}
 pub record BlockIs (m : ℕ → ℕ) (u : ℕ) (cpu : Cpu) : Type 0 where
   pub pc : m (block_at u) ≡ cpu.pc
   pub regs : (r : ℕ) → 1 ≤ r → r < 32 → m (block_at u + r) ≡ slice_index cpu.regs r
-  pub hi : m (block_at u + 33) ≡ cpu.hi
-  pub lo : m (block_at u + 34) ≡ cpu.lo
+  pub hi : m (block_at u + BLOCK_HI) ≡ cpu.hi
+  pub lo : m (block_at u + BLOCK_LO) ≡ cpu.lo
 
 -- Users and console stand in the machine, where the kernel runs for user `current`. No word of the kernel's data is looked at.
 pub record Outer (y : Site) (current : ℕ) (v : Machines) (c : Contents) (d : Behind) : Type 0 where
   pub most : v.most ≡ y.map.params.pages
   pub count : length v.users ≡ y.map.users
   pub each : All (UserFits y.map.params.pages) v.users
-  pub sizes : (u : ℕ) → 1 ≤ u → u ≤ length v.users → c.memory (block_at u + 32) ≡ pages_of (user_of v.users u)
+  pub sizes : (u : ℕ) → 1 ≤ u → u ≤ length v.users → c.memory (block_at u + BLOCK_SIZE) ≡ pages_of (user_of v.users u)
   pub blocks : (u : ℕ) → 1 ≤ u → u ≤ length v.users → BlockIs c.memory u (user_of v.users u).cpu
   pub user : c.memory current_at ≡ current
   pub places : (k : ℕ) → heap_words_at ≤ k → k ≤ stack_words_at → c.memory k ≡ slice_index y.linked k

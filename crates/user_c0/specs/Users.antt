@@ -8,6 +8,7 @@ use Rattle.mips_table.specs.declared.cause.Cause.TheVariants as causes
 use Rattle.mips_table.specs.Flat.{Flat, Goes, Trap, vstep}
 use Rattle.mips_table.specs.Machine.{cause_number}
 use Rattle.layer_map.specs.Map.{tables_at}
+use Rattle.layer_map.specs.declared.entries.TheConstants.{ANSWER}
 use Rattle.c0_tree.specs.declared.primitive.Program.TheVariants.{User}
 use Rattle.c0_tree.specs.Tree.{CUnit}
 use Rattle.c0_meaning.specs.Unit.{IsCheckedAs}
@@ -30,10 +31,11 @@ pub record UserHasCome (u : CUnit) (es : List Event) (f : Flat) : Type 0 where
 pub record UsersGoOn : Type 0 where
   pub starts : (u : CUnit) → UserHasCome u [] (first_flat (image_words u))
   pub steps : (u : CUnit) (es : List Event) (f g : Flat) → UserHasCome u es f → vstep f ≡ Goes g → UserHasCome u (es ++ step ∷ []) g
-  -- a call for whose answer nothing is set, or register 2
+  -- a call for whose answer nothing is set, or ANSWER
   pub calls : (u : CUnit) (es : List Event) (f g : Flat) → UserHasCome u es f → vstep f ≡ Trap g causes.Syscall CALL_CAUSE
       → UserHasCome u (es ++ call None ∷ []) g
-  pub answered : (u : CUnit) (es : List Event) (f g : Flat) (x : ℕ) → x < 2 ^ 32 → UserHasCome u es f → vstep f ≡ Trap g causes.Syscall CALL_CAUSE → UserHasCome u (es ++ call (Some x) ∷ []) (with_register g 2 x)
+  pub answered : (u : CUnit) (es : List Event) (f g : Flat) (x : ℕ) → x < 2 ^ 32 → UserHasCome u es f → vstep f ≡ Trap g causes.Syscall CALL_CAUSE
+      → UserHasCome u (es ++ call (Some x) ∷ []) (with_register g ANSWER x)
   -- any other trap
   pub others : (u : CUnit) (es : List Event) (f g : Flat) (cause : Cause) (edata : ℕ) → (cause_number cause ≡ SYSCALL → edata ≡ CALL_CAUSE → ⊥) → UserHasCome u es f → vstep f ≡ Trap g cause edata
       → UserHasCome u (es ++ other (cause_number cause) edata ∷ []) g
