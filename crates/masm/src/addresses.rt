@@ -12,7 +12,7 @@ pub const BUFFER: u32 = 0xe000;
 /// The disk's sector register: the sector that the next command concerns.
 pub const SECTOR: u32 = 0xf000;
 
-/// The disk's command port: a store of 1 reads a sector, one of 2 writes it, and a load tells the status.
+/// The disk's command port: a store of READ_SECTOR or WRITE_SECTOR gives that command, and a load tells the status, 0 where none is under way.
 pub const COMMAND: u32 = 0xf004;
 
 /// The power port: a store turns the machine off.
@@ -30,10 +30,10 @@ pub const INPUT: u32 = 0xf014;
 /// The control block of user 1, which those of the other users follow. As a number it goes into a register by `ori`.
 pub const BLOCKS: u32 = layer_map::BLOCKS;
 
-/// The disk's command by which the buffer becomes a sector.
+/// The disk's command that reads a sector into the buffer.
 pub const READ_SECTOR: u32 = 1;
 
-/// The disk's command by which a sector becomes the buffer.
+/// The disk's command that writes the buffer to a sector.
 pub const WRITE_SECTOR: u32 = 2;
 
 /// A law: the constants are the addresses of the words that the machine's and the map's definitions name.

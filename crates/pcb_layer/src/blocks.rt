@@ -43,12 +43,12 @@ pub fn restore_registers() -> Block<31>
     load_registers(ZERO, VARIABLES / 4 - 1, 31)
 }
 
-/// BLOCK becomes the address of the current user's control block, which has 256 bytes.
+/// BLOCK becomes the address of the current user's control block.
 const FIND_CONTROL_BLOCK: [Inst; 5] = code! {
     lw BLOCK, CURRENT(ZERO);
     addiu BLOCK, BLOCK, -1;         // users are counted from 1
-    sll BLOCK, BLOCK, 8;
-    ori SCRATCH, ZERO, BLOCKS;      // no sign is extended, as an addiu would
+    sll BLOCK, BLOCK, 8;            // a control block has 256 bytes
+    ori SCRATCH, ZERO, BLOCKS;      // no sign is extended, as that of an addiu would be
     addu BLOCK, BLOCK, SCRATCH;
 };
 
@@ -83,7 +83,7 @@ const SAVE_SPECIAL: [Inst; 6] = code! {
     sw SCRATCH, (4 * BLOCK_LO)(BLOCK);
 };
 
-/// They come from it.
+/// The pc, to which an eret goes, hi and lo come from the control block.
 const RESTORE_SPECIAL: [Inst; 6] = code! {
     lw SCRATCH, (4 * BLOCK_PC)(BLOCK);
     mtc0 SCRATCH, EPC;

@@ -30,12 +30,13 @@ const MOVE_EIGHT_WORDS: [Inst; 19] = code! {
     sw WORD, 24(TARGET);
     lw WORD, 28(SOURCE);
     sw WORD, 28(TARGET);
-    addiu SOURCE, SOURCE, 32;
+    addiu SOURCE, SOURCE, 32;       // eight words have 32 bytes
     addiu TARGET, TARGET, 32;
     addiu WORDS, WORDS, -1;
 };
 
-/// Code that moves 1,024 words from the address in SOURCE to that in TARGET, where WORDS is TURNS, which is 128.
+/// Code that moves 1,024 words from the address in SOURCE to that in TARGET, where WORDS is TURNS, which is 128. Eight a turn take 2,689 steps;
+/// by `copy_words` of masm, which copies any number of words one by one, they would be 7,169.
 pub fn move_words() -> Block<21>
     ensures { result ≡ map encoding move_words_code }
 {
@@ -81,7 +82,7 @@ pub fn swap_out() -> Block<30>
 
 /// The words that were read stand in the disk's buffer.
 const FROM_BUFFER: [Inst; 1] = code! {
-    addiu SOURCE, ZERO, BUFFER;     // its sign is extended
+    addiu SOURCE, ZERO, BUFFER;     // its sign is extended, so it is 0xffffe000
 };
 
 /// Code that reads the sector of PAGE into the buffer, whose address SOURCE becomes.

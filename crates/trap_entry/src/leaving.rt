@@ -37,8 +37,8 @@ const SET_USER_LIMITS: [Inst; 5] = code! {
     lw T1, (4 * BLOCK_SIZE)(BLOCK);
     mtc0 T1, PTL;
     addiu T1, ZERO, 1;
-    mtc0 T1, ESR;
-    mtc0 T1, EMODE;
+    mtc0 T1, ESR;                   // interrupts are taken behind the eret,
+    mtc0 T1, EMODE;                 // and the mode is user mode
 };
 
 // The user in ANSWER goes on, with the eret.
@@ -50,7 +50,7 @@ fn return_to_user(map: &Map) -> Code
         then find_control_block();
         code SET_USER_LIMITS;
         then restore_user();
-        eret;
+        eret;                           // to the user's pc
     }
 }
 
@@ -72,9 +72,9 @@ pub fn act_on_answer(map: &Map) -> Code
     block! {
         sltiu T0, ANSWER, 1;            // whether the answer is 0
         when T0 {
-            sw ZERO, POWER(ZERO);
+            sw ZERO, POWER(ZERO);       // the machine is off: nothing more is run
         }
-        addiu T1, ANSWER, -1;
+        addiu T1, ANSWER, -1;           // users are counted from 1
         sltiu T1, T1, map.users();      // whether it is a user's number
         when T1, return_to_user(map);
         then exit_with(BAD_USER);
