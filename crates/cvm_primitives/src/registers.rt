@@ -32,7 +32,7 @@ const IS_REGISTER: [Inst; 2] = code! {
     sltiu T1, T2, 32;
 };
 
-/// By the user's number less 1 in T0, T3 becomes the address of the word of its control block for NUMBER: that of 32 is word 0.
+/// By the user's number less 1 in T0, T3 becomes the address of the word of its control block for NUMBER: that of 32, the pc, is word 0.
 const FIND_WORD: [Inst; 6] = code! {
     ori T3, ZERO, BLOCKS;
     sll T1, T0, 8;                  // a control block has 256 bytes

@@ -8,6 +8,7 @@
 //! | Block | Steps | Does |
 //! |---|---|---|
 //! | [`save_registers`] | 31 | registers 1 to 31 go to the save area |
+//! | [`find_control_block`] | 5 | BLOCK becomes the address of the current user's control block; SCRATCH changes |
 //! | [`restore_registers`] | 31 | registers 1 to 31 come from the save area |
 //! | [`save_user`] | 73 | the save area, epc, hi and lo go to the current user's control block; SCRATCH and BLOCK change |
 //! | [`restore_user`] | 42 | registers 1 to 31, epc, hi and lo come from the current user's control block |

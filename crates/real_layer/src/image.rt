@@ -61,7 +61,7 @@ fn control_blocks(alloc: Global, sizes: &[u32]) -> Result<Vec<u32>, AllocError>
     Ok(words)
 }
 
-// The layer's variables that aren't 0 for good.
+// The layer's variables from the current user on, as they are at load. The further ones are 0 then.
 fn first_variables(map: &Map) -> [u32; 7]
     ensures { result ≡ variables map.now }
 {
