@@ -28,8 +28,8 @@ const TEST_ROOM: [Inst; 5] = code! {
     lw USED, HEAP_USED(ZERO);
     lw HEAP, HEAP_WORDS(ZERO);
     addu END, USED, ANSWER;
-    sltu SCRATCH, HEAP, END;
-    bne SCRATCH, ZERO, 11;
+    sltu SCRATCH, HEAP, END;        // whether there are fewer than END
+    bne SCRATCH, ZERO, 11;          // to NO_ROOM
 };
 
 /// The words are taken.
@@ -42,7 +42,7 @@ const BUMP_HEAP: [Inst; 2] = code! {
 const FIND_OBJECT: [Inst; 5] = code! {
     sll USED, USED, 2;              // words to bytes
     addu ANSWER, HEAP, USED;
-    sll END, END, 2;
+    sll END, END, 2;                // words to bytes, too
     addu END, HEAP, END;
     addu NEXT, ANSWER, ZERO;
 };

@@ -29,16 +29,16 @@ pub fn check_user(bad: u32, users: u32) -> Block<3>
 /// T1 isn't 0 where NUMBER is that of a register, 1 to 31, or 32.
 const IS_REGISTER: [Inst; 2] = code! {
     addiu T2, NUMBER, -1;
-    sltiu T1, T2, 32;
+    sltiu T1, T2, 32;               // a NUMBER of 0 gives 2^32 - 1, which is too large
 };
 
 /// By the user's number less 1 in T0, T3 becomes the address of the word of its control block for NUMBER: that of 32, the pc, is word 0.
 const FIND_WORD: [Inst; 6] = code! {
-    ori T3, ZERO, BLOCKS;
+    ori T3, ZERO, BLOCKS;           // no sign is extended, as that of an addiu would be
     sll T1, T0, 8;                  // a control block has 256 bytes
     addu T3, T3, T1;
-    sll T2, NUMBER, 27;             // NUMBER modulo 32, as an offset in bytes
-    srl T2, T2, 25;
+    sll T2, NUMBER, 27;             // NUMBER modulo 32: its lowest five bits stand alone,
+    srl T2, T2, 25;                 // and come to bits 6 to 2, since a word has four bytes
     addu T3, T3, T2;
 };
 
