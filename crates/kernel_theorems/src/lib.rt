@@ -1,4 +1,4 @@
-//! Properties of kernels, proved of all their runs: each function is a law, and docs/VERIFYING.md goes through them line by line.
+//! Properties of kernels, proved of all their runs: each function is a law, and docs/VERIFYING.md says what each is for.
 #![tactic(auto)]
 
 ghost use Rattle.kernel_theorems.specs.Text.{ProgramTextsMeanTrees, TextsMeanTrees};
