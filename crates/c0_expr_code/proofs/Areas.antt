@@ -24,12 +24,16 @@ use Rattle.c0_meaning.specs.Typed.{IsDeclarable, IsTypedStruct, IsTypedFunction,
 use Rattle.c0_meaning.specs.Unit.{IsWellFormed}
 use Rattle.c0_meaning.specs.RunLaws.{TypesHaveWords}
 use Rattle.c0_meaning.specs.Value.{Region, globals, heap, locals, Location}
-use Rattle.c0_meaning.specs.TypedState.{types_of, variable_types, PathLeads, LeadsFrom, PointsTo}
+use Rattle.c0_meaning.specs.TypedState.{types_of, variable_types, PathLeads, LeadsFrom, PointsTo, AreDeclared}
 use Rattle.c0_expr_code.specs.Scope.{keeps_registers, scope_of, is_leaf, MAX_REGISTER_VARIABLES}
 use Rattle.c0_expr_code.specs.Bases.{words_of_all, Bases, types_in, location_word}
 use Rattle.c0_expr_code.specs.Relation.{layout, Area}
-use Rattle.c0_expr_code.specs.Laws.{IsDeclared, AreDeclared, RegionsApart, RegionsHaveRoom}
+use Rattle.c0_expr_code.specs.Laws.{RegionsApart, RegionsHaveRoom}
 use Rattle.c0_expr_code.proofs.Offsets.{room_from}
+
+-- a type is one that may be declared
+abbrev IsDeclared : List Shape → Ty → Type 0
+IsDeclared structs t = (c : CTy) × (ty_of c ≡ t) × IsDeclarable structs c
 
 get_all : {X : Type 0} (P : X → Type 0) (xs : List X) (i : ℕ) (x : X) → All P xs → slice_get xs i ≡ Some x → P x
 get_all P [] i x h e = absurd (cc)

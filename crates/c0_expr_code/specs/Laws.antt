@@ -4,22 +4,21 @@ use Rattle.mips_table.specs.Code.{put, Contents, reg, with_reg, Behind, World, S
 use Rattle.mips_table.specs.Device.{Idle}
 use Rattle.masm.specs.declared.registers.TheConstants.{SCRATCH, ARGUMENTS}
 use Rattle.c0_tree.specs.Primitives.{CPrimitive}
-use Rattle.c0_tree.specs.Tree.{CTy, CExpr, CFunction, CUnit}
+use Rattle.c0_tree.specs.Tree.{CExpr, CFunction, CUnit}
 use Rattle.mips_table.specs.Encoding.{InRange}
 use Rattle.std.specs.List.{All}
 use Rattle.c0_tree.specs.Size.{need, nodes}
 use Rattle.c0_meaning.specs.Operators.{KernelFault}
-use Rattle.c0_meaning.specs.Ty.{Ty, bool, named, ty_of, is_scalar}
+use Rattle.c0_meaning.specs.Ty.{Ty, bool, named, is_scalar}
 use Rattle.c0_meaning.specs.Env.{Env, Shape}
 use Rattle.c0_meaning.specs.Words.{fields_named, words}
 use Rattle.c0_meaning.specs.Addresses.{words_to_part}
 use Rattle.c0_meaning.specs.Value.{locals, Location, Value, value_with as put_value}
-use Rattle.c0_meaning.specs.TypedState.{StoreTyping, types_of, LeadsFrom, Fits, AreParts}
+use Rattle.c0_meaning.specs.TypedState.{StoreTyping, types_of, LeadsFrom, Fits, AreParts, AreDeclared}
 use Rattle.c0_meaning.specs.Evaluation.{value_of, place_of}
 use Rattle.c0_meaning.specs.Numbered.{HasNumberedType, IsNumberedGiven}
 use Rattle.c0_meaning.specs.State.{C0State, write}
 use Rattle.c0_meaning.specs.Sound.{shapes}
-use Rattle.c0_meaning.specs.Typed.{IsDeclarable}
 use Rattle.c0_meaning.specs.Unit.{IsWellFormed}
 use Rattle.masm.specs.declared.registers.Places.{Places}
 use Rattle.masm.specs.Places.{ArePlaces}
@@ -119,13 +118,6 @@ pub record PartsFit : Type 0 where
       → AreParts structs (with_more layout objects) types v
   pub more_of : (structs : List Shape) (layout : StoreTyping) (objects : List Ty) (t : Ty) (v : Value) → Fits structs layout t v
       → Fits structs (with_more layout objects) t v
-
--- a type is one that may be declared, and so are types
-abbrev pub IsDeclared : List Shape → Ty → Type 0
-IsDeclared structs t = (c : CTy) × (ty_of c ≡ t) × IsDeclarable structs c
-
-abbrev pub AreDeclared : List Shape → List Ty → Type 0
-AreDeclared structs types = (i : ℕ) (t : Ty) → slice_get types i ≡ Some t → IsDeclared structs t
 
 -- heap and frame lie in memory, the globals don't begin at word 0, and the frame is in the stack whole
 pub record RegionsHaveRoom (w : World) (sc : Scope) (p : Bases) : Type 0 where

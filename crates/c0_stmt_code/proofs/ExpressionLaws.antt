@@ -18,13 +18,13 @@ use Rattle.c0_meaning.specs.State.{Frame, C0State, stack_words, variables_of}
 use Rattle.c0_meaning.specs.Numbered.{IsNumberedGiven, a_value, a_null, IsNumberedBody, NumbersTell}
 use Rattle.c0_meaning.specs.Typed.{IsDeclarable, IsTypedUnit, IsTypedFunction, UnitsAreFaultless}
 use Rattle.c0_meaning.specs.Unit.{IsWellFormed}
-use Rattle.c0_meaning.specs.TypedState.{types_of, AreParts, variable_types, IsTypedFrame, store_typing, IsTypedWith}
+use Rattle.c0_meaning.specs.TypedState.{types_of, AreParts, variable_types, IsTypedFrame, store_typing, IsTypedWith, AreDeclared}
 use Rattle.c0_expr_code.specs.Bases.{words_of_all}
 use Rattle.c0_expr_code.specs.Relation.{StateIsTyped, Area}
 use Rattle.c0_expr_code.specs.Laws as below
 use Rattle.c0_stmt_code.specs.Setup.{Setup}
 use Rattle.c0_stmt_code.specs.Ahead.{env_in}
-use Rattle.c0_stmt_code.specs.Standing.{AreDeclared, text, scope, bases}
+use Rattle.c0_stmt_code.specs.Standing.{text, scope, bases}
 use Rattle.c0_stmt_code.proofs.Premises.{AreInts, FunctionsAre, AllScalar}
 use Rattle.c0_stmt_code.proofs.Rooms.{frame_on, words_by_types}
 use Rattle.c0_stmt_code.proofs.State.{Exprs}

@@ -10,14 +10,14 @@ use Rattle.c0_meaning.specs.Value.{Value}
 use Rattle.c0_meaning.specs.State.{Frame, C0State, stack_words}
 use Rattle.c0_meaning.specs.World.{Configuration}
 use Rattle.c0_meaning.specs.Limits.{words_of_frame}
-use Rattle.c0_meaning.specs.TypedState.{types_of, IsTypedWith}
+use Rattle.c0_meaning.specs.TypedState.{types_of, IsTypedWith, AreDeclared}
 use Rattle.c0_expr_code.specs.Scope.{Scope}
 use Rattle.c0_expr_code.specs.Bases.{words_of_all, RegionHeld}
 use Rattle.c0_expr_code.specs.Relation.{Ready, KeepsRegisters}
 use Rattle.c0_stmt_code.specs.Code.{calls_in}
 use Rattle.c0_stmt_code.specs.Setup.{Setup}
 use Rattle.c0_stmt_code.specs.Ahead.{Activation, env_in}
-use Rattle.c0_stmt_code.specs.Standing.{AreDeclared, text, scope, bases, end_of, unit_scope, Waiting, FunctionRuns, UnderWay, ConfigurationStands}
+use Rattle.c0_stmt_code.specs.Standing.{text, scope, bases, end_of, unit_scope, Waiting, FunctionRuns, UnderWay, ConfigurationStands}
 use Rattle.c0_stmt_code.proofs.Premises.{ExpressionsDo, HeldStays}
 use Rattle.c0_stmt_code.proofs.ValuesStay.{Rest, region}
 

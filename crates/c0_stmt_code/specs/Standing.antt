@@ -4,10 +4,9 @@ use Rattle.mips_table.specs.Device.{Idle}
 use Rattle.mips_table.specs.Code.{Contents, Behind, CodeState, Steps}
 use Rattle.c0_tree.specs.Primitives.{CPrimitive}
 use Rattle.c0_tree.specs.declared.tree.Kind.TheVariants.{Primitive}
-use Rattle.c0_tree.specs.Tree.{CTy, call, CFunction, CUnit}
+use Rattle.c0_tree.specs.Tree.{call, CFunction, CUnit}
 use Rattle.c0_meaning.specs.Ty.{Ty, ty_of}
-use Rattle.c0_meaning.specs.Env.{Shape, typed_of, env_of}
-use Rattle.c0_meaning.specs.Typed.{IsDeclarable}
+use Rattle.c0_meaning.specs.Env.{typed_of, env_of}
 use Rattle.c0_meaning.specs.Sound.{shapes}
 use Rattle.c0_meaning.specs.Value.{Value, Values, empty, part}
 use Rattle.c0_meaning.specs.State.{Frame, variables_of, stack_words}
@@ -15,7 +14,7 @@ use Rattle.c0_meaning.specs.World.{Cost, total, Configuration, calls_ended, afte
 use Rattle.c0_meaning.specs.Operators.{KernelFault, faulted, stuck}
 use Rattle.c0_meaning.specs.Evaluation.{costs, values_of}
 use Rattle.c0_meaning.specs.Running.{Target, into, outward, Work, act_on, finish, again, leave, begin, Step, Go, Stop, act}
-use Rattle.c0_meaning.specs.TypedState.{types_of, Fits, AllFit, store_typing, IsTypedWith, IsScalar}
+use Rattle.c0_meaning.specs.TypedState.{types_of, Fits, AllFit, store_typing, IsTypedWith, AreDeclared, IsScalar}
 use Rattle.c0_expr_code.specs.Scope.{Scope, scope_of, exit_of}
 use Rattle.c0_expr_code.specs.Bases.{Bases, words_of_all, locals_start, word, RegionHeld}
 use Rattle.c0_stmt_code.specs.Code.{links_of, calls_in}
@@ -37,10 +36,6 @@ abbrev pub IsPrimitiveCall : {W E : Type 0} → Configuration W E → Work → (
 IsPrimitiveCall h (act_on (call span place call_span callee args) rest) number values =
     (callee.kind ≡ Primitive) × (callee.number ≡ number) × ((cost : ℕ) × (values_of args h.state ≡ costs cost (Ok values)))
 IsPrimitiveCall h item number values = ⊥
-
--- each of these types is one that may be declared
-abbrev pub AreDeclared : List Shape → List Ty → Type 0
-AreDeclared structs types = (i : ℕ) (t : Ty) → slice_get types i ≡ Some t → (c : CTy) × (ty_of c ≡ t) × IsDeclarable structs c
 
 module _ (W E : Type 0) (Outer : W → Contents → Behind → Type 0) (z : Setup W E Outer) where
   -- what is the same for all functions
