@@ -1,11 +1,11 @@
 -- What sizes need of a unit: its structs are defined, small and resolved.
-use Rattle.std.specs.Prelude.{◌≡◌, ◌+◌, ◌≤◌, false, List, map, length}
+use Rattle.std.specs.Prelude.{◌≡◌, ℕ, ◌+◌, ◌≤◌, false, List, map, length}
 use Rattle.std.specs.List.{All}
 use Rattle.c0_tree.specs.Tree.{CTy, CStruct, CFunction, CUnit}
 use Rattle.c0_meaning.specs.Ty.{ty_of}
 use Rattle.c0_meaning.specs.Ty as ty
 use Rattle.c0_meaning.specs.Env.{Shape, shape_of, typed_of}
-use Rattle.c0_meaning.specs.Words.{fields_named, holds, words}
+use Rattle.c0_meaning.specs.Words.{fields_named, holds, words, all_words}
 use Rattle.c0_meaning.specs.DeclaredTypes.{MAX_TYPE_WORDS}
 use Rattle.c0_meaning.specs.Resolved.{IsResolved}
 use Rattle.c0_meaning.specs.Limits.{MAX_FUNCTION_NODES, locals_of}
@@ -13,6 +13,10 @@ use Rattle.c0_meaning.specs.Limits.{MAX_FUNCTION_NODES, locals_of}
 -- the shapes of a unit's structs
 abbrev pub shapes : CUnit → List Shape
 shapes u = map shape_of u.structs
+
+-- the words of a unit's globals
+abbrev pub global_words : CUnit → ℕ
+global_words u = all_words (shapes u) (map typed_of u.globals)
 
 -- a type of few words, its names resolved
 pub record IsSized (structs : List Shape) (t : CTy) : Type 0 where

@@ -1,5 +1,5 @@
 -- What is fixed while a unit's code runs over a machine with primitives.
-use Rattle.std.specs.Prelude.{◌≡◌, ◌≢◌, ℕ, suc, ◌+◌, ◌*◌, ◌<◌, ◌≤◌, ◌⊎◌, List, length, map, Some, None, slice_get}
+use Rattle.std.specs.Prelude.{◌≡◌, ◌≢◌, ℕ, suc, ◌+◌, ◌*◌, ◌<◌, ◌≤◌, ◌⊎◌, List, length, Some, None, slice_get}
 use Rattle.mips_table.specs.declared.inst.Inst.{Inst}
 use Rattle.mips_table.specs.declared.inst.Inst.TheVariants.{Jal}
 use Rattle.mips_table.specs.Arith.{flag}
@@ -9,9 +9,7 @@ use Rattle.masm.specs.declared.registers.Places.{Places}
 use Rattle.cvm_words.specs.Words.{word_of}
 use Rattle.c0_tree.specs.Primitives.{CPrimitive}
 use Rattle.c0_tree.specs.Tree.{CFunction, CUnit}
-use Rattle.c0_meaning.specs.Env.{typed_of}
-use Rattle.c0_meaning.specs.Words.{all_words}
-use Rattle.c0_meaning.specs.Sound.{shapes}
+use Rattle.c0_meaning.specs.Sound.{global_words}
 use Rattle.c0_meaning.specs.Unit.{IsWellFormed}
 use Rattle.c0_meaning.specs.Value.{Value, int, bool, Values, empty, part}
 use Rattle.c0_meaning.specs.World.{Setting}
@@ -37,10 +35,6 @@ pub record UnitData : Type 0 where
   pub heap : ℕ
   pub stack : ℕ
   pub back : ℕ
-
--- the words of all globals
-abbrev pub global_words : CUnit → ℕ
-global_words u = all_words (shapes u) (map typed_of u.globals)
 
 -- a word that a call of a primitive leaves as it was: of the globals, of the heap as far as it is used, and of the stack
 abbrev pub IsKept : CUnit → UnitData → (used stack : ℕ) → ℕ → Type 0

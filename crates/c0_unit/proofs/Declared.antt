@@ -8,11 +8,10 @@ use Rattle.c0_tree.specs.View.{decl_view, type_view}
 use Rattle.c0_meaning.specs.Ty.{ty_of}
 use Rattle.c0_meaning.specs.Env.{Shape, typed_of}
 use Rattle.c0_meaning.specs.Words.{words, all_words}
-use Rattle.c0_meaning.specs.Sound.{IsSized}
+use Rattle.c0_meaning.specs.Sound.{IsSized, global_words}
 use Rattle.c0_meaning.specs.Typed.{UnitsAreFaultless}
 use Rattle.c0_meaning.specs.Unit.{IsWellFormed}
 use Rattle.c0_tree.specs.Primitives.{CPrimitive}
-use Rattle.c0_stmt_code.specs.Setup.{global_words}
 
 -- the words of what is left of declarations, one of them taken
 pub words_left : (structs : List Shape) (decls : List Decl) (i : ℕ) (d : Decl) → i < length decls →

@@ -10,6 +10,7 @@ use Rattle.c0_tree.specs.Tree.{CUnit}
 use Rattle.c0_meaning.specs.Limits.{first_number}
 use Rattle.c0_meaning.specs.Operators.{KernelFault}
 use Rattle.c0_meaning.specs.Running.{Work, begin, act}
+use Rattle.c0_meaning.specs.Sound.{global_words}
 use Rattle.c0_meaning.specs.State.{first_state}
 use Rattle.c0_meaning.specs.Unit.{IsCheckedAs}
 use Rattle.c0_meaning.specs.UserProgram.{trap}
@@ -17,7 +18,7 @@ use Rattle.c0_meaning.specs.Value.{empty}
 use Rattle.c0_meaning.specs.World.{Setting, Configuration, beginning}
 use Rattle.c0_expr_code.specs.Scope.{exit_number, exit_of}
 use Rattle.c0_stmt_code.specs.Code.{MAX_STACK, links_of}
-use Rattle.c0_stmt_code.specs.Setup.{UnitData, global_words, IsOurs, Setup}
+use Rattle.c0_stmt_code.specs.Setup.{UnitData, IsOurs, Setup}
 use Rattle.c0_stmt_code.specs.Standing.{Simulated, StepIs}
 use Rattle.c0_stmt_code.specs.Zeros.{AreZeros}
 use Rattle.c0_unit.specs.Code.{code_words, unit_code}

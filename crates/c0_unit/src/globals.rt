@@ -6,8 +6,7 @@ ghost use Rattle.c0_tree.specs.View.{decl_view, unit_view};
 ghost use Rattle.c0_meaning.specs.Env.{typed_of};
 ghost use Rattle.c0_meaning.specs.Words.{all_words};
 ghost use Rattle.c0_meaning.specs.DeclaredTypes.{MAX_TYPE_WORDS};
-ghost use Rattle.c0_meaning.specs.Sound.{shapes, IsSized};
-ghost use Rattle.c0_stmt_code.specs.Setup.{global_words as words_of_globals};
+ghost use Rattle.c0_meaning.specs.Sound.{shapes, IsSized, global_words as words_of_globals};
 
 use c0_meaning::laws::{units_are_typed_or_faulty, well_formed_units_are_sized};
 use c0_meaning::{Measured, words_of};

@@ -9,12 +9,12 @@ use Rattle.c0_meaning.specs.Ty.{ty_of}
 use Rattle.c0_meaning.specs.Env.{Shape, typed_of}
 use Rattle.c0_meaning.specs.Words.{words, all_words}
 use Rattle.c0_meaning.specs.Limits.{all_nodes}
-use Rattle.c0_meaning.specs.Sound.{IsSized}
+use Rattle.c0_meaning.specs.Sound.{IsSized, global_words}
 use Rattle.c0_meaning.specs.Typed.{UnitsAreFaultless}
 use Rattle.c0_meaning.specs.Unit.{IsWellFormed}
 use Rattle.c0_tree.specs.Primitives.{CPrimitive}
 use Rattle.boot_image.specs.Format.{most_words}
-use Rattle.kernel_linker.specs.Linked.{global_words, pages_for, sizes_of}
+use Rattle.kernel_linker.specs.Linked.{pages_for, sizes_of}
 
 -- what holds of all that is seen of a list holds of what is seen of an element
 pub all_at : {A B : Type 0} (P : B → Type 0) (f : A → B) (xs : List A) (i : ℕ) (d : A) → All P (map f xs) → i < length xs → P (f (get_or xs i d))

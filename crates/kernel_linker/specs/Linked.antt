@@ -3,14 +3,8 @@ use Rattle.std.specs.Prelude.{ℕ, ◌+◌, ◌/◌, List, ◌++◌, length, map
 use Rattle.layer_map.specs.declared.params.Params.{Params}
 use Rattle.layer_map.specs.Map.{Map}
 use Rattle.c0_tree.specs.Tree.{CUnit}
-use Rattle.c0_meaning.specs.Env.{typed_of}
-use Rattle.c0_meaning.specs.Sound.{shapes}
-use Rattle.c0_meaning.specs.Words.{all_words}
+use Rattle.c0_meaning.specs.Sound.{global_words}
 use Rattle.c0_unit.specs.Code.{unit_words}
-
--- the words of a unit's globals
-abbrev pub global_words : CUnit → ℕ
-global_words u = all_words (shapes u) (map typed_of u.globals)
 
 -- the map of a system of a unit, with these parameters and so many users
 abbrev pub map_for : CUnit → Params → ℕ → Map

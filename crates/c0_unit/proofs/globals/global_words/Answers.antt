@@ -5,9 +5,8 @@ use Rattle.c0_tree.specs.declared.tree.Decl.{Decl}
 use Rattle.c0_tree.specs.declared.tree.Unit.{Unit as Source}
 use Rattle.c0_tree.specs.View.{decl_view, unit_view}
 use Rattle.c0_meaning.specs.Env.{typed_of}
-use Rattle.c0_meaning.specs.Sound.{shapes, IsSized}
+use Rattle.c0_meaning.specs.Sound.{shapes, IsSized, global_words}
 use Rattle.c0_meaning.specs.Words.{all_words}
-use Rattle.c0_stmt_code.specs.Setup.{global_words}
 use Rattle.c0_unit.proofs.Declared.{few_words}
 use Rattle.c0_unit.proofs.globals.global_words.Goals as goal
 

@@ -8,7 +8,7 @@ use Rattle.c0_tree.specs.declared.tree.Unit.{Unit as Source}
 use Rattle.c0_tree.specs.Primitives.{user_primitives}
 use Rattle.c0_tree.specs.View.{unit_view}
 use Rattle.c0_meaning.specs.Limits.{first_number}
-use Rattle.c0_stmt_code.specs.Setup.{global_words}
+use Rattle.c0_meaning.specs.Sound.{global_words}
 use Rattle.c0_unit.specs.Code.{code_words, unit_code}
 use Rattle.user_c0.specs.Image.{ROOM}
 use Rattle.user_c0.proofs.compile.image_map.Goals as goal
