@@ -20,7 +20,7 @@ use Rattle.c0_expr_code.specs.Scope.{Scope}
 use Rattle.c0_expr_code.specs.Bases.{Bases, locals_start, types_in, location_word, word, RegionHeld}
 use Rattle.c0_meaning.specs.Sizes.{words_before}
 use Rattle.c0_meaning.specs.Addresses.{words_to_part}
-use Rattle.c0_expr_code.specs.Code.{AddressingMode, is_near, low, high, on_spot, load_code, frame_back}
+use Rattle.c0_expr_code.specs.Code.{AddressingMode, is_near, low, high, access_code, load_code, frame_back}
 use Rattle.c0_expr_code.specs.Relation.{StateIsTyped, Ready, KeepsRegisters, Area, Evaluates, HoldsValue, HoldsAddress, Source}
 use Rattle.c0_expr_code.proofs.Words.{near_is, far_is}
 use Rattle.c0_expr_code.proofs.Offsets.{one_word, room_from, Seen, region_seen, scalar_held}
@@ -71,20 +71,20 @@ module _ (w : World) (sc : Scope) (p : Bases) (s : C0State) (f : Machine w) (are
     pub run : Reaches w 3 (at_with n b k) (at_with to core k)
 
   pub on_place : (i : ℕ → ℕ → Inst) (x : AddressingMode) (d r v n : ℕ) (b : Contents) (k : Behind) → k.pending ≡ Idle → 8 ≤ r → r < 20 → d ≢ 0
-      → Source r x.base → CodeAt w n (on_spot i r x) →
+      → Source r x.base → CodeAt w n (access_code i r x) →
       ((q m : ℕ) (a : Contents) → w.code m ≡ Some (i q (low x.displacement)) → a.memory ≡ b.memory → sum (reg a.regs q) (extended (low x.displacement)) ≡ (reg b.regs x.base + x.displacement) % 2 ^ 32 → Reaches w 1 (at_with m a k) (at_with (m + 1) (with_reg a d v) k)) →
-      Done d r v (n + length x.code) (n + length (on_spot i r x)) b k
+      Done d r v (n + length x.code) (n + length (access_code i r x)) b k
   on_place i x d r v n b k idle lo hi nz source code law = elim (cases_Bool (is_near x.displacement)) [
     | inl e ↦
         let tail : List Inst = i x.base (low x.displacement) ∷ [] in
-        let same : on_spot i r x ≡ x.code ++ tail = ap (λ is. x.code ++ is) (cond-true (is_near x.displacement) (i x.base (low x.displacement) ∷ []) _ e) in
+        let same : access_code i r x ≡ x.code ++ tail = ap (λ is. x.code ++ is) (cond-true (is_near x.displacement) (i x.base (low x.displacement) ∷ []) _ e) in
         let there = code_back w n x.code (i x.base (low x.displacement) ∷ []) (subst (CodeAt w n) same code) in
         let run = law x.base (n + length x.code) b there.0 refl (near_is x.displacement (reg b.regs x.base) (eqb-true (extended (low x.displacement)) x.displacement e)) in
-        let len : n + length x.code + 1 ≡ n + length (on_spot i r x) = omega (arith, ap length same, length-append x.code (i x.base (low x.displacement) ∷ [])) in
+        let len : n + length x.code + 1 ≡ n + length (access_code i r x) = omega (arith, ap length same, length-append x.code (i x.base (low x.displacement) ∷ [])) in
         record { core = with_reg b d v; is = same_read b.regs d v nz; keeps = keeps_put r d v b; memory = refl; run = subst (λ t. Reaches w 3 (at_with (n + length x.code) b k) (at_with t (with_reg b d v) k)) len (later w 1 3 _ _ (omega arith) run) }
     | inr e ↦
         let tail : List Inst = Lui 1 (high x.displacement) ∷ Addu r x.base 1 ∷ i r (low x.displacement) ∷ [] in
-        let same : on_spot i r x ≡ x.code ++ (Lui 1 (high x.displacement) ∷ Addu r x.base 1 ∷ i r (low x.displacement) ∷ []) = ap (λ is. x.code ++ is) (cond-false (is_near x.displacement) (i x.base (low x.displacement) ∷ []) (Lui 1 (high x.displacement) ∷ Addu r x.base 1 ∷ i r (low x.displacement) ∷ []) e) in
+        let same : access_code i r x ≡ x.code ++ (Lui 1 (high x.displacement) ∷ Addu r x.base 1 ∷ i r (low x.displacement) ∷ []) = ap (λ is. x.code ++ is) (cond-false (is_near x.displacement) (i x.base (low x.displacement) ∷ []) (Lui 1 (high x.displacement) ∷ Addu r x.base 1 ∷ i r (low x.displacement) ∷ []) e) in
         let there = code_back w n x.code (Lui 1 (high x.displacement) ∷ Addu r x.base 1 ∷ i r (low x.displacement) ∷ []) (subst (CodeAt w n) same code) in
         let rz : r ≢ 0 = λ z. absurd (omega (arith, z, lo)) in
         let b1 : Contents = with_reg b 1 (high x.displacement * 2 ^ 16) in
@@ -95,7 +95,7 @@ module _ (w : World) (sc : Scope) (p : Bases) (s : C0State) (f : Machine w) (are
         let two = said_step w f (Addu r x.base 1) (Becomes (sum (reg b.regs x.base) (high x.displacement * 2 ^ 16))) (n + length x.code + 1) b1 k there.1.0 refl idle whole in
         let address : sum (reg b2.regs r) (extended (low x.displacement)) ≡ (reg b.regs x.base + x.displacement) % 2 ^ 32 = ap (λ y. sum y (extended (low x.displacement))) (same_read b1.regs r (sum (reg b.regs x.base) (high x.displacement * 2 ^ 16)) rz) ∙ far_is x.displacement (reg b.regs x.base) in
         let three = law r (n + length x.code + 1 + 1) b2 there.1.1.0 refl address in
-        let len : n + length x.code + 1 + 1 + 1 ≡ n + length (on_spot i r x) = omega (arith, ap length same, length-append x.code (Lui 1 (high x.displacement) ∷ Addu r x.base 1 ∷ i r (low x.displacement) ∷ [])) in
+        let len : n + length x.code + 1 + 1 + 1 ≡ n + length (access_code i r x) = omega (arith, ap length same, length-append x.code (Lui 1 (high x.displacement) ∷ Addu r x.base 1 ∷ i r (low x.displacement) ∷ [])) in
         let run = joined w 1 2 _ _ _ one (joined w 1 1 _ _ _ two three) in
         let before : KeepsRegisters r d b b2 = keeps_on r d b b1 b2 (keeps_one r d (high x.displacement * 2 ^ 16) b) (keeps_in r r d b1 b2 (omega arith) hi (keeps_put r r (sum (reg b.regs x.base) (high x.displacement * 2 ^ 16)) b1)) in
         record { core = with_reg b2 d v; is = same_read b2.regs d v nz; keeps = keeps_on r d b b2 (with_reg b2 d v) before (keeps_put r d v b2); memory = refl; run = subst (λ t. Reaches w 3 (at_with (n + length x.code) b k) (at_with t (with_reg b2 d v) k)) len run }
@@ -122,14 +122,14 @@ module _ (w : World) (sc : Scope) (p : Bases) (s : C0State) (f : Machine w) (are
   -- an address as value
   pub addresses : (t : Ty) (x : AddressingMode) (m d r n : ℕ) (c : Contents) (k : Behind) (e : Costed Location) → k.pending ≡ Idle → 8 ≤ r → r < 20 → d ≢ 0
       → Source r x.base →
-      CodeAt w n (on_spot (λ y z. Addiu d y z) r x) → Evaluates w sc m n (n + length x.code) c k (HoldsAddress sc p x.base x.displacement r false t c) e → Evaluates w sc (m + 3) n (n + length (on_spot (λ y z. Addiu d y z) r x)) c k (HoldsValue sc p d r d (ty.pointer t) c) (e >>= λ l. at_no_cost (Ok (at l)))
+      CodeAt w n (access_code (λ y z. Addiu d y z) r x) → Evaluates w sc m n (n + length x.code) c k (HoldsAddress sc p x.base x.displacement r false t c) e → Evaluates w sc (m + 3) n (n + length (access_code (λ y z. Addiu d y z) r x)) c k (HoldsValue sc p d r d (ty.pointer t) c) (e >>= λ l. at_no_cost (Ok (at l)))
   addresses t x m d r n c k e idle lo hi nz source code h =
-      binds w sc m 3 n (n + length x.code) (n + length (on_spot (λ y z. Addiu d y z) r x)) c k (HoldsAddress sc p x.base x.displacement r false t c) (HoldsValue sc p d r d (ty.pointer t) c) e _ h
+      binds w sc m 3 n (n + length x.code) (n + length (access_code (λ y z. Addiu d y z) r x)) c k (HoldsAddress sc p x.base x.displacement r false t c) (HoldsValue sc p d r d (ty.pointer t) c) e _ h
       (λ l b q. keeps_low r r c b hi q.keeps)
       (λ l b q.
       let done = on_place (λ y z. Addiu d y z) x d r (4 * location_word sc p l) n b k idle lo hi nz source code
       (λ y z a there same address. said_step w f (Addiu d y (low x.displacement)) (Becomes (4 * location_word sc p l)) z a k there refl idle (address ∙ q.is)) in
-      arrives w sc 3 (n + length x.code) (n + length (on_spot (λ y z. Addiu d y z) r x)) b done.core k (HoldsValue sc p d r d (ty.pointer t) c) (at l)
+      arrives w sc 3 (n + length x.code) (n + length (access_code (λ y z. Addiu d y z) r x)) b done.core k (HoldsValue sc p d r d (ty.pointer t) c) (at l)
       (record { is = done.is; fits = q.away refl; keeps = keeps_on r d c b done.core (keeps_in r r d c b (omega arith) hi q.keeps) done.keeps }) done.run)
 
   -- variables

@@ -21,7 +21,7 @@ use Rattle.c0_expr_code.proofs.Machine.{Machine, joined, later, code_front, code
 use Rattle.cvm_words.specs.Words.{word_of}
 use Rattle.c0_expr_code.specs.Scope.{Scope}
 use Rattle.c0_expr_code.specs.Bases.{Bases, types_in, location_word}
-use Rattle.c0_expr_code.specs.Code.{AddressingMode, Made, constant_code, operand_code, operand_register, bound_code, scale_code, element_code, tested_spot}
+use Rattle.c0_expr_code.specs.Code.{AddressingMode, Made, constant_code, operand_code, operand_register, bound_code, scale_code, element_code, tested_address}
 use Rattle.c0_expr_code.specs.Relation.{layout, StateIsTyped, Ready, KeepsRegisters, Area, Evaluates, HoldsValue, HoldsAddress, Source}
 use Rattle.c0_expr_code.proofs.Words.{plain, word_pos, word_negsuc, pos_small}
 use Rattle.c0_expr_code.proofs.Offsets.{offset_from_on}
@@ -68,10 +68,10 @@ module _ (w : World) (sc : Scope) (p : Bases) (s : C0State) (f : Machine w) (are
 
   -- an index that is tested
   pub indexes : (len : ℕ) (t : Ty) (local : Bool) (x : AddressingMode) (m : Made) (r n : ℕ) (c : Contents) (k : Behind) (e : Costed Location) (i : Costed Value) → k.pending ≡ Idle → 8 ≤ r → r < 19 → Ready sc p s c → Source r x.base →
-      CodeAt w n (tested_spot sc (words sc.env.structs t) len x m r).code →
+      CodeAt w n (tested_address sc (words sc.env.structs t) len x m r).code →
       Evaluates w sc 0 n (n + length x.code) c k (HoldsAddress sc p x.base x.displacement r local (ty.array t len) c) e →
       ((b : Contents) → Ready sc p s b → CodeAt w (n + length x.code) (operand_code m (r + 1)) → Source (r + 1) (operand_register m (r + 1)) × Evaluates w sc 0 (n + length x.code) (n + length x.code + length (operand_code m (r + 1))) b k (HoldsValue sc p (operand_register m (r + 1)) (r + 1) (r + 1) ty.int b) i) →
-      Evaluates w sc 10 n (n + length (tested_spot sc (words sc.env.structs t) len x m r).code) c k (HoldsAddress sc p r x.displacement r local t c) (indexed s e i)
+      Evaluates w sc 10 n (n + length (tested_address sc (words sc.env.structs t) len x m r).code) c k (HoldsAddress sc p r x.displacement r local t c) (indexed s e i)
   indexes len t local x m r n c k e i idle lo hi ready source code h op =
       binds w sc 0 10 n n1 to c k (HoldsAddress sc p x.base x.displacement r local (ty.array t len) c) (HoldsAddress sc p r x.displacement r local t c) e _ h
       (λ l b q. keeps_low r r c b (omega arith) q.keeps)
@@ -95,7 +95,7 @@ module _ (w : World) (sc : Scope) (p : Bases) (s : C0State) (f : Machine w) (are
       n2 = n + length x.code + length (operand_code m (r + 1))
 
       to : ℕ
-      to = n + length (tested_spot sc (words sc.env.structs t) len x m r).code
+      to = n + length (tested_address sc (words sc.env.structs t) len x m r).code
 
       rest : List Inst
       rest = element_code sc q x.base r (words sc.env.structs t) len

@@ -9,7 +9,7 @@ use Rattle.c0_tree.specs.declared.tree.BinaryOp.{BinaryOp}
 use Rattle.c0_tree.specs.declared.tree.BinaryOp.TheVariants.{Add, Sub, Mul, Div, Rem, Lt, Le, Gt, Ge, Eq, Ne, And, Or}
 use Rattle.c0_tree.specs.Tree.{CExpr, num, true_, false_, null, var, field, arrow, index, deref, address, unary, binary}
 use Rattle.c0_expr_code.specs.Scope.{Scope}
-use Rattle.c0_expr_code.specs.Code.{Made, Immediate, made, unary_made, binary_made, negative_made, operator_made, sum_made, immediate_of, variable_made, no_spot, AddressingMode, scaled_code, constant_code, element_spot, tested_spot, displaced, element_words, length_in, shift_within, POWERS, scale_code, operand_code, operand_register, element_code, bound_code}
+use Rattle.c0_expr_code.specs.Code.{Made, Immediate, made, unary_made, binary_made, negative_made, operator_made, sum_made, immediate_of, variable_made, no_address, AddressingMode, scaled_code, constant_code, element_address, tested_address, displaced, element_words, length_in, shift_within, POWERS, scale_code, operand_code, operand_register, element_code, bound_code}
 use Rattle.std.proofs.lemmas.Nat.{mul-mod_first}
 use Rattle.std.proofs.lemmas.List.{append_assoc, map-append}
 use Rattle.c0_tree.specs.declared.tree.Expr as rust
@@ -20,9 +20,9 @@ use Rattle.c0_meaning.specs.TypeAt.{type_at}
 use Rattle.c0_meaning.specs.Operators.{Bounds}
 use Rattle.mips_table.specs.declared.inst.Inst.{Inst}
 use Rattle.mips_table.specs.Encoding.{encoding}
-use Rattle.c0_expr_code.specs.declared.spot.Spot.{Spot as Near}
+use Rattle.c0_expr_code.specs.declared.address.Address.{Address as Near}
 use Rattle.c0_expr_code.specs.declared.element.Elements.{Elements}
-use Rattle.c0_expr_code.specs.Emit.{below_of, scaled_at, scaled_by, HasWords, IsSpot, index_spot, tested_code}
+use Rattle.c0_expr_code.specs.Emit.{below_of, scaled_at, scaled_by, HasWords, IsSameAddress, index_address, tested_code}
 use Rattle.mips_table.specs.declared.inst.Inst.TheVariants.{Mult, Mflo, Bne, J, Addu}
 use Rattle.masm.specs.declared.registers.TheConstants.{SCRATCH}
 use Rattle.c0_expr_code.specs.Known.{literal_of, known_of, stands_of, negative_of, zero_register, variable_register, local_register}
@@ -32,7 +32,7 @@ record IsPlain (m : Made) : Type 0 where
   known : m.known ≡ None
   literal : m.literal ≡ None
   stands : m.stands ≡ None
-  place : (r : ℕ) → m.place r ≡ no_spot r
+  place : (r : ℕ) → m.place r ≡ no_address r
 
 operator_plain : (i : Immediate) (o : BinaryOp) (a b : Made) → IsPlain (operator_made i o a b)
 operator_plain None o a b = record { known = refl; literal = refl; stands = refl; place = λ r. refl }
@@ -58,7 +58,7 @@ binary_plain sc Ne a b = operator_plain (immediate_of Ne b.known) Ne a b
 binary_plain sc And a b = record { known = refl; literal = refl; stands = refl; place = λ r. refl }
 binary_plain sc Or a b = record { known = refl; literal = refl; stands = refl; place = λ r. refl }
 
-pub binary_place : (sc : Scope) (o : BinaryOp) (a b : Made) (r : ℕ) → (binary_made sc o a b).place r ≡ no_spot r
+pub binary_place : (sc : Scope) (o : BinaryOp) (a b : Made) (r : ℕ) → (binary_made sc o a b).place r ≡ no_address r
 binary_place sc o a b = (binary_plain sc o a b).place
 
 -- what is so of two is so of either
@@ -167,18 +167,18 @@ stands_is sc (unary p o e) = ap (λ (l : Option ℕ). zero_register (negative_of
 stands_is sc (binary p o a b) = sym (binary_plain sc o (made sc a) (made sc b)).stands
 
 below_near : (sc : Scope) (w n k : ℕ) (x : AddressingMode) (m : Made) (r c : ℕ) (b : Bool) → ◌≡◌ {A = Option ℕ} (if b then Some k else None) (Some c)
-    → (if b then displaced (4 * (k * w)) x else tested_spot sc w n x m r) ≡ displaced (4 * (c * w)) x
+    → (if b then displaced (4 * (k * w)) x else tested_address sc w n x m r) ≡ displaced (4 * (c * w)) x
 below_near sc w n k x m r c true h = let e : k ≡ c = cc in ap (λ (j : ℕ). displaced (4 * (j * w)) x) e
 below_near sc w n k x m r c false h = cc
 
 below_far : (sc : Scope) (w n k : ℕ) (x : AddressingMode) (m : Made) (r : ℕ) (b : Bool) → ◌≡◌ {A = Option ℕ} (if b then Some k else None) None
-    → (if b then displaced (4 * (k * w)) x else tested_spot sc w n x m r) ≡ tested_spot sc w n x m r
+    → (if b then displaced (4 * (k * w)) x else tested_address sc w n x m r) ≡ tested_address sc w n x m r
 below_far sc w n k x m r true h = cc
 below_far sc w n k x m r false h = refl
 
 -- an operator between operands is no place
-pub binary_spot : (sc : Scope) (e : CExpr) (s : _) (o : BinaryOp) (a b : CExpr) (r : ℕ) → e ≡ binary s o a b → (made sc e).place r ≡ no_spot r
-binary_spot sc e s o a b r h = ap (λ (x : CExpr). (made sc x).place r) h ∙ binary_place sc o (made sc a) (made sc b) r
+pub binary_address : (sc : Scope) (e : CExpr) (s : _) (o : BinaryOp) (a b : CExpr) (r : ℕ) → e ≡ binary s o a b → (made sc e).place r ≡ no_address r
+binary_address sc e s o a b r h = ap (λ (x : CExpr). (made sc x).place r) h ∙ binary_place sc o (made sc a) (made sc b) r
 
 -- what multiplies by the words of an element
 pub scaled_same : (s : Option ℕ) (w q b : ℕ) → b ≡ 4 * w % 2 ^ 32 → scaled_at s b q ≡ scaled_code s w q
@@ -186,11 +186,11 @@ scaled_same (Some by) w q b h = refl
 scaled_same None w q b h = ap (λ (k : ℕ). constant_code SCRATCH k ++ (Mult q SCRATCH ∷ Mflo SCRATCH ∷ [])) h
 
 -- an element of a number below the length, and any other
-pub near_element : (sc : Scope) (w n : ℕ) (l : Option ℕ) (x : AddressingMode) (m : Made) (r c : ℕ) → below_of l n ≡ Some c → element_spot sc w n l x m r ≡ displaced (4 * (c * w)) x
+pub near_element : (sc : Scope) (w n : ℕ) (l : Option ℕ) (x : AddressingMode) (m : Made) (r c : ℕ) → below_of l n ≡ Some c → element_address sc w n l x m r ≡ displaced (4 * (c * w)) x
 near_element sc w n None x m r c h = cc
 near_element sc w n (Some k) x m r c h = below_near sc w n k x m r c (nat_lt k n) h
 
-pub far_element : (sc : Scope) (w n : ℕ) (l : Option ℕ) (x : AddressingMode) (m : Made) (r : ℕ) → below_of l n ≡ None → element_spot sc w n l x m r ≡ tested_spot sc w n x m r
+pub far_element : (sc : Scope) (w n : ℕ) (l : Option ℕ) (x : AddressingMode) (m : Made) (r : ℕ) → below_of l n ≡ None → element_address sc w n l x m r ≡ tested_address sc w n x m r
 far_element sc w n None x m r h = refl
 far_element sc w n (Some k) x m r h = below_far sc w n k x m r (nat_lt k n) h
 
@@ -209,11 +209,11 @@ before_element b c w s h =
 
 -- the place of an element of a number below the length
 pub near_place : (sc : Scope) (e i : CExpr) (r c : ℕ) (x : Elements) (near moved_to : Near) {found : Option Ty} → HasWords x (element_words sc.env.structs found) → x.count ≡ length_in found → found ≡ type_at sc.env e
-    → below_of (made sc i).literal x.count ≡ Some c → IsSpot near ((made sc e).place r) → moved_to.base ≡ near.base → moved_to.displacement ≡ (near.displacement + x.bytes * c % 2 ^ 32) % 2 ^ 32 → IsSpot moved_to (index_spot sc e i r)
+    → below_of (made sc i).literal x.count ≡ Some c → IsSameAddress near ((made sc e).place r) → moved_to.base ≡ near.base → moved_to.displacement ≡ (near.displacement + x.bytes * c % 2 ^ 32) % 2 ^ 32 → IsSameAddress moved_to (index_address sc e i r)
 near_place sc e i r c x near to words count type below place base shift =
     let n : x.count ≡ length_in (type_at sc.env e) = count ∙ ap length_in type in
     let w : x.bytes ≡ 4 * element_words sc.env.structs (type_at sc.env e) % 2 ^ 32 = words.1 ∙ ap (λ (t : Option Ty). 4 * element_words sc.env.structs t % 2 ^ 32) type in
-    let m : index_spot sc e i r ≡ displaced (4 * (c * element_words sc.env.structs (type_at sc.env e))) ((made sc e).place r) =
+    let m : index_address sc e i r ≡ displaced (4 * (c * element_words sc.env.structs (type_at sc.env e))) ((made sc e).place r) =
     near_element sc _ _ (made sc i).literal ((made sc e).place r) (made sc i) r c (subst (λ (k : ℕ). below_of (made sc i).literal k ≡ Some c) n below) in (
       base ∙ place.0 ∙ sym (ap (λ (y : AddressingMode). y.base) m),
       shift ∙ ap (λ (k : ℕ). (k + x.bytes * c % 2 ^ 32) % 2 ^ 32) place.1 ∙ before_element x.bytes c _ ((made sc e).place r).displacement w ∙ sym (ap (λ (y : AddressingMode). y.displacement) m),
@@ -225,8 +225,8 @@ on_ok (Err a) P Q f h = h
 
 -- the code of any other element
 pub far_code : (sc : Scope) (e i : CExpr) (r : ℕ) (x : Elements) (near : Near) {A E : Type 0} (result : Result A E) (old mid new : List ℕ) {found : Option Ty} → HasWords x (element_words sc.env.structs found) → x.count ≡ length_in found
-    → found ≡ type_at sc.env e → below_of (made sc i).literal x.count ≡ None → IsSpot near ((made sc e).place r) → mid ≡ old ++ map encoding ((made sc e).place r).code
-    → OnOk result (new ≡ mid ++ map encoding (tested_code sc x near.base (made sc i) r)) → OnOk result (new ≡ old ++ map encoding (index_spot sc e i r).code)
+    → found ≡ type_at sc.env e → below_of (made sc i).literal x.count ≡ None → IsSameAddress near ((made sc e).place r) → mid ≡ old ++ map encoding ((made sc e).place r).code
+    → OnOk result (new ≡ mid ++ map encoding (tested_code sc x near.base (made sc i) r)) → OnOk result (new ≡ old ++ map encoding (index_address sc e i r).code)
 far_code sc e i r x near result old mid new words count type below place m =
     let w : ℕ = element_words sc.env.structs (type_at sc.env e) in
     let n : x.count ≡ length_in (type_at sc.env e) = count ∙ ap length_in type in
@@ -239,7 +239,7 @@ far_code sc e i r x near result old mid new words count type below place m =
     ap (λ (k : ℕ). operand_code (made sc i) (r + 1) ++ (bound_code q x.count ++ (Bne SCRATCH 0 1 ∷ J (sc.exit Bounds) ∷ (scaled_by x q ++ (Addu r k SCRATCH ∷ []))))) place.0
     ∙ ap (λ (k : ℕ). operand_code (made sc i) (r + 1) ++ (bound_code q k ++ (Bne SCRATCH 0 1 ∷ J (sc.exit Bounds) ∷ (scaled_by x q ++ (Addu r base SCRATCH ∷ []))))) n
     ∙ ap (λ (l : List Inst). operand_code (made sc i) (r + 1) ++ (bound_code q (length_in (type_at sc.env e)) ++ (Bne SCRATCH 0 1 ∷ J (sc.exit Bounds) ∷ (l ++ (Addu r base SCRATCH ∷ []))))) scaled in
-    let far : index_spot sc e i r ≡ tested_spot sc w (length_in (type_at sc.env e)) ((made sc e).place r) (made sc i) r =
+    let far : index_address sc e i r ≡ tested_address sc w (length_in (type_at sc.env e)) ((made sc e).place r) (made sc i) r =
     far_element sc w _ (made sc i).literal ((made sc e).place r) (made sc i) r (subst (λ (k : ℕ). below_of (made sc i).literal k ≡ None) n below) in
     let here : List Inst = ((made sc e).place r).code in
     on_ok result _ _ (λ h.

@@ -33,7 +33,7 @@ use Rattle.c0_meaning.specs.TypedState.{types_of, Fits, PathLeads}
 use Rattle.cvm_words.specs.Words.{word_of}
 use Rattle.c0_expr_code.specs.Scope.{Scope}
 use Rattle.c0_expr_code.specs.Bases.{Bases, types_in, word}
-use Rattle.c0_expr_code.specs.Code.{fields_in, element_words, length_in, AddressingMode, Made, constant_code, or_code, on_spot, load_code, operand_code, operand_register, at_place, constant, global_spot, local_spot, register_made, register_of, local_made, variable_made, displaced, target_spot, tested_spot, element_spot, operator_code, two_code, one_code, logic_code, negative_made, unary_made, Immediate, immediate, immediate_of, operator_made, sum_made, is_sure, divisor_code, division_made, binary_made, field_made, made}
+use Rattle.c0_expr_code.specs.Code.{fields_in, element_words, length_in, AddressingMode, Made, constant_code, or_code, access_code, load_code, operand_code, operand_register, at_place, constant, global_address, local_address, register_made, register_of, local_made, variable_made, displaced, target_address, tested_address, element_address, operator_code, two_code, one_code, logic_code, negative_made, unary_made, Immediate, immediate, immediate_of, operator_made, sum_made, is_sure, divisor_code, division_made, binary_made, field_made, made}
 use Rattle.c0_expr_code.specs.Relation.{layout, StateIsTyped, Ready, Area, Evaluates, HoldsValue, HoldsAddress, Source, nought, its, far, ValueRuns, OperandRuns, Claims, Right}
 use Rattle.c0_expr_code.proofs.Machine.{Machine, later, stays, code_front, code_back}
 use Rattle.c0_expr_code.proofs.Paths.{leads_from_on, length_fits, typed_there}
@@ -65,13 +65,13 @@ need_some _ = omega arith
 
 module _ (w : World) (sc : Scope) (p : Bases) (s : C0State) (f : Machine w) (area : Area w sc p) (is_typed : StateIsTyped sc p s) where
   -- where only the free register matters
-  abbrev SpotRuns : (ℕ → AddressingMode) → ℕ → Bool → Ty → ℕ → Costed Location → Type 0
-  SpotRuns place need local t own e = (r n : ℕ) (c : Contents) (k : Behind) → k.pending ≡ Idle → Ready sc p s c → CodeAt w n (place r).code → 8 ≤ r
+  abbrev AddressRuns : (ℕ → AddressingMode) → ℕ → Bool → Ty → ℕ → Costed Location → Type 0
+  AddressRuns place need local t own e = (r n : ℕ) (c : Contents) (k : Behind) → k.pending ≡ Idle → Ready sc p s c → CodeAt w n (place r).code → 8 ≤ r
       → r + need ≤ 20 → Source r (place r).base × Evaluates w sc own n (n + length (place r).code) c k (HoldsAddress sc p (place r).base (place r).displacement r local t c) e
 
   -- a node that is a place, by what its place's code does for its parts
   pub placed : (place : ℕ → AddressingMode) (need : ℕ) (is local : Bool) (t : Ty) (own : ℕ) (e : Costed Location) → 1 ≤ need → own ≤ 13
-      → SpotRuns place need local t own e → Claims w sc p s (at_place place) need is local t (paying 1 (load_from s e)) (paying 1 e)
+      → AddressRuns place need local t own e → Claims w sc p s (at_place place) need is local t (paying 1 (load_from s e)) (paying 1 e)
   placed place need is local t own e some few runs = record {
     value = λ scalar d r n c k idle ready code lo hi nz no1. as_value scalar d r n c k idle ready code lo hi nz;
     operand = λ scalar r n c k idle ready code lo hi. (its, as_value scalar r r n c k idle ready code lo hi (λ z. absurd (omega (arith, z, lo))));
@@ -124,11 +124,11 @@ module _ (w : World) (sc : Scope) (p : Bases) (s : C0State) (f : Machine w) (are
   -- variables
   global_variables : (x : ℕ) (t : Ty) → slice_get (types_of sc.env.globals) x ≡ Some t
       → Claims w sc p s (variable_made sc Global x) 1 true false t (paying 1 (load_from s (at_no_cost (variable_location Global x)))) (paying 1 (at_no_cost (variable_location Global x)))
-  global_variables x t h = placed (λ r. global_spot sc x) 1 true false t 0 (at_no_cost (variable_location Global x)) (omega arith) (omega arith) (λ r n c k idle ready code lo hi. (far (omega arith), global_place w sc p s f area is_typed x n r t c k ready h))
+  global_variables x t h = placed (λ r. global_address sc x) 1 true false t 0 (at_no_cost (variable_location Global x)) (omega arith) (omega arith) (λ r n c k idle ready code lo hi. (far (omega arith), global_place w sc p s f area is_typed x n r t c k ready h))
 
   local_variables : (x : ℕ) (t : Ty) → slice_get (types_of sc.env.locals) x ≡ Some t → (b : Bool) → sc.in_registers ≡ b
-      → Claims w sc p s (cond b (register_made (register_of x)) (at_place (λ r. local_spot sc x))) 1 true true t (paying 1 (load_from s (at_no_cost (variable_location Local x)))) (paying 1 (at_no_cost (variable_location Local x)))
-  local_variables x t h false form = placed (λ r. local_spot sc x) 1 true true t 0 (at_no_cost (variable_location Local x)) (omega arith) (omega arith) (λ r n c k idle ready code lo hi. (far (omega arith), local_place w sc p s f area is_typed x n r t c k ready form h))
+      → Claims w sc p s (cond b (register_made (register_of x)) (at_place (λ r. local_address sc x))) 1 true true t (paying 1 (load_from s (at_no_cost (variable_location Local x)))) (paying 1 (at_no_cost (variable_location Local x)))
+  local_variables x t h false form = placed (λ r. local_address sc x) 1 true true t 0 (at_no_cost (variable_location Local x)) (omega arith) (omega arith) (λ r n c k idle ready code lo hi. (far (omega arith), local_place w sc p s f area is_typed x n r t c k ready form h))
   local_variables x t h true form =
       let low = (area.scalars form x t h).1 in
       let e : 20 + x ≡ register_of x = omega (arith, low) in
@@ -150,19 +150,19 @@ module _ (w : World) (sc : Scope) (p : Bases) (s : C0State) (f : Machine w) (are
 
   -- targets of pointers
   target_runs : (m : Made) (need : ℕ) (t : Ty) (e : Costed Value) → OperandRuns w sc p s m need (ty.pointer t) e → 1 ≤ need
-      → SpotRuns (λ r. target_spot sc m r) need false t 2 (pointed e)
+      → AddressRuns (λ r. target_address sc m r) need false t 2 (pointed e)
   target_runs m need t e o some r n c k idle ready code lo hi =
       let a = o r n c k idle ready (code_front w n (operand_code m r) _ code) lo hi in
       let tail = code_back w n (operand_code m r) _ code in
       let run = targets w sc p s f area is_typed t (operand_register m r) r n (n + length (operand_code m r)) c k e idle (omega arith) tail a.1 in
-      let len : n + length (operand_code m r) + 2 ≡ n + length (target_spot sc m r).code = omega (arith, length-append (operand_code m r) (Bne (operand_register m r) 0 1 ∷ J (sc.exit NullUse) ∷ [])) in
+      let len : n + length (operand_code m r) + 2 ≡ n + length (target_address sc m r).code = omega (arith, length-append (operand_code m r) (Bne (operand_register m r) 0 1 ∷ J (sc.exit NullUse) ∷ [])) in
       (a.0, subst (λ to. Evaluates w sc 2 n to c k (HoldsAddress sc p (operand_register m r) 0 r false t c) (pointed e)) len run)
 
   -- fields
   field_runs : (place : ℕ → AddressingMode) (need own : ℕ) (local : Bool) (x : List ℕ) (g : CName) (t : Ty) (u : Option Ty) (e : Costed Location) → 1 ≤ need
       → u ≡ Some (ty.named x) → slice_get (types_of (fields_named sc.env.structs x)) g.number ≡ Some t
-      → SpotRuns place need local (ty.named x) own e →
-      SpotRuns (λ r. displaced (4 * words_before sc.env.structs (fields_in sc.env.structs u) g.number) (place r)) need local t own (field_of g e)
+      → AddressRuns place need local (ty.named x) own e →
+      AddressRuns (λ r. displaced (4 * words_before sc.env.structs (fields_in sc.env.structs u) g.number) (place r)) need local t own (field_of g e)
   field_runs place need own local x g t u e some q h runs r n c k idle ready code lo hi =
       let a = runs r n c k idle ready code lo hi in
       let b = fields w sc p s f area is_typed x g (place r).base own r n (n + length (place r).code) (place r).displacement local t c k e (omega arith) ready h a.1 in
@@ -170,8 +170,8 @@ module _ (w : World) (sc : Scope) (p : Bases) (s : C0State) (f : Machine w) (are
 
   -- elements
   known_runs : (place : ℕ → AddressingMode) (na nb : ℕ) (local : Bool) (len j : ℕ) (t : Ty) (e : Costed Location) (i : Costed Value)
-      → i ≡ costs 1 (Ok (int (pos j))) → 1 ≤ na → nat_lt j len ≡ true → FitsSigned w32 (pos j) → SpotRuns place na local (ty.array t len) 0 e →
-      SpotRuns (λ r. displaced (4 * (j * words sc.env.structs t)) (place r)) (max na (nb + 1)) local t 10 (indexed s e i)
+      → i ≡ costs 1 (Ok (int (pos j))) → 1 ≤ na → nat_lt j len ≡ true → FitsSigned w32 (pos j) → AddressRuns place na local (ty.array t len) 0 e →
+      AddressRuns (λ r. displaced (4 * (j * words sc.env.structs t)) (place r)) (max na (nb + 1)) local t 10 (indexed s e i)
   known_runs place na nb local len j t e i is some less fits runs r n c k idle ready code lo hi =
       let a = runs r n c k idle ready code lo (omega arith) in
       let to : ℕ = n + length (place r).code in
@@ -207,27 +207,27 @@ module _ (w : World) (sc : Scope) (p : Bases) (s : C0State) (f : Machine w) (are
       by_value l b g ready_b (at z) h = absurd h
 
   tested_runs : (place : ℕ → AddressingMode) (m : Made) (na nb : ℕ) (local : Bool) (len : ℕ) (t : Ty) (e : Costed Location) (i : Costed Value) → 1 ≤ na
-      → 1 ≤ nb → SpotRuns place na local (ty.array t len) 0 e → OperandRuns w sc p s m nb ty.int i →
-      SpotRuns (λ r. tested_spot sc (words sc.env.structs t) len (place r) m r) (max na (nb + 1)) local t 10 (indexed s e i)
+      → 1 ≤ nb → AddressRuns place na local (ty.array t len) 0 e → OperandRuns w sc p s m nb ty.int i →
+      AddressRuns (λ r. tested_address sc (words sc.env.structs t) len (place r) m r) (max na (nb + 1)) local t 10 (indexed s e i)
   tested_runs place m na nb local len t e i some more_than runs o r n c k idle ready code lo hi =
       let a = runs r n c k idle ready (code_front w n (place r).code _ code) lo (omega arith) in
       (its, indexes w sc p s f area is_typed len t local (place r) m r n c k e i idle lo (omega arith) ready a.0 code a.1 (λ b ready_b there. o (r + 1) (n + length (place r).code) b k idle ready_b there (omega arith) (omega arith)))
 
   element_runs : (place : ℕ → AddressingMode) (m : Made) (na nb : ℕ) (local : Bool) (len : ℕ) (t : Ty) (e : Costed Location) (i : Costed Value) → 1 ≤ na
-      → 1 ≤ nb → SpotRuns place na local (ty.array t len) 0 e → OperandRuns w sc p s m nb ty.int i → (o : Option ℕ)
+      → 1 ≤ nb → AddressRuns place na local (ty.array t len) 0 e → OperandRuns w sc p s m nb ty.int i → (o : Option ℕ)
       → ((j : ℕ) → o ≡ Some j → (i ≡ costs 1 (Ok (int (pos j)))) × FitsSigned w32 (pos j)) →
-      SpotRuns (λ r. element_spot sc (words sc.env.structs t) len o (place r) m r) (max na (nb + 1)) local t 10 (indexed s e i)
+      AddressRuns (λ r. element_address sc (words sc.env.structs t) len o (place r) m r) (max na (nb + 1)) local t 10 (indexed s e i)
   element_runs place m na nb local len t e i some more_than runs o None known = tested_runs place m na nb local len t e i some more_than runs o
   element_runs place m na nb local len t e i some more_than runs o (Some j) known = by_test (nat_lt j len) refl
     where
       by_test : (b : Bool) → nat_lt j len ≡ b
-          → SpotRuns (λ r. cond b (displaced (4 * (j * words sc.env.structs t)) (place r)) (tested_spot sc (words sc.env.structs t) len (place r) m r)) (max na (nb + 1)) local t 10 (indexed s e i)
+          → AddressRuns (λ r. cond b (displaced (4 * (j * words sc.env.structs t)) (place r)) (tested_address sc (words sc.env.structs t) len (place r) m r)) (max na (nb + 1)) local t 10 (indexed s e i)
       by_test true less = let q = known j refl in known_runs place na nb local len j t e i q.0 some less q.1 runs
       by_test false less = tested_runs place m na nb local len t e i some more_than runs o
 
   -- what doesn't stand in a register: all that isn't scalar, and what isn't local
   in_memory : (b : Bool) (x : ℕ) (t : Ty) → sc.in_registers ≡ b → slice_get (types_of sc.env.locals) x ≡ Some t → is_scalar t ≡ false
-      → (cond b (register_made (register_of x)) (at_place (λ r. local_spot sc x))).stands ≡ None
+      → (cond b (register_made (register_of x)) (at_place (λ r. local_address sc x))).stands ≡ None
   in_memory false x t form h e = refl
   in_memory true x t form h e = let q : false ≡ true = sym e ∙ (area.scalars form x t h).0 in absurd (cc)
 
@@ -445,12 +445,12 @@ module _ (w : World) (sc : Scope) (p : Bases) (s : C0State) (f : Machine w) (are
   right _ _ (a_target_field {e = e} {f = g} {x = x} {d = d} h q) few =
       let part = right e (ty.pointer (ty.named x)) h (omega arith) in
       placed _ (need e) true false d.ty 2 (field_of g (pointed (value_of e s))) (need_some e) (omega arith)
-      (field_runs (λ r. target_spot sc (made sc e) r) (need e) 2 false x g d.ty (target (type_at sc.env e)) (pointed (value_of e s)) (need_some e) (ap target (type_is sc.env e (ty.pointer (ty.named x)) h)) (typed_there (fields_named sc.env.structs x) g.number d q) (target_runs (made sc e) (need e) (ty.named x) (value_of e s) (part.operand refl) (need_some e)))
+      (field_runs (λ r. target_address sc (made sc e) r) (need e) 2 false x g d.ty (target (type_at sc.env e)) (pointed (value_of e s)) (need_some e) (ap target (type_is sc.env e (ty.pointer (ty.named x)) h)) (typed_there (fields_named sc.env.structs x) g.number d q) (target_runs (made sc e) (need e) (ty.named x) (value_of e s) (part.operand refl) (need_some e)))
   right _ t (an_element {e = e} {i = i} {n = n} pl h g) few =
       let part = right e (ty.array t n) h (omega arith) in
       let number = right i ty.int g (omega arith) in
       placed _ (max (need e) (need i + 1)) true (is_frame_place e) t 10 (indexed s (place_of e s) (value_of i s)) (let a = need_some e in omega (arith, a)) (omega arith)
-      (subst (λ u. SpotRuns (λ r. element_spot sc (element_words sc.env.structs u) (length_in u) (made sc i).literal ((made sc e).place r) (made sc i) r) (max (need e) (need i + 1)) (is_frame_place e) t 10 (indexed s (place_of e s) (value_of i s))) (sym (type_is sc.env e (ty.array t n) h))
+      (subst (λ u. AddressRuns (λ r. element_address sc (element_words sc.env.structs u) (length_in u) (made sc i).literal ((made sc e).place r) (made sc i) r) (max (need e) (need i + 1)) (is_frame_place e) t 10 (indexed s (place_of e s) (value_of i s))) (sym (type_is sc.env e (ty.array t n) h))
       (element_runs (λ r. (made sc e).place r) (made sc i) (need e) (need i) (is_frame_place e) n t (place_of e s) (value_of i s) (need_some e) (need_some i) (part.place pl (stands_not e (ty.array t n) h pl refl)) (number.operand refl) (made sc i).literal (λ j q. (literal_is sc i j s q, small_literal sc i j g q))))
   right _ t (a_target {e = e} h) few =
       let part = right e (ty.pointer t) h (omega arith) in
@@ -460,7 +460,7 @@ module _ (w : World) (sc : Scope) (p : Bases) (s : C0State) (f : Machine w) (are
       valued _ (need e) false (ty.pointer t) _ _ refl (λ d r n c k idle ready code lo hi nz no1.
       let some = need_some e in
       let a = part.place pl (stands_away e pl away) r n c k idle ready (code_front w n ((made sc e).place r).code _ code) lo hi in
-      node w sc 3 n (n + length (on_spot (λ b j. Addiu d b j) r ((made sc e).place r))) c k (HoldsValue sc p d r d (ty.pointer t) c) (place_of e s >>= λ l. at_no_cost (Ok (at l))) (omega arith)
+      node w sc 3 n (n + length (access_code (λ b j. Addiu d b j) r ((made sc e).place r))) c k (HoldsValue sc p d r d (ty.pointer t) c) (place_of e s >>= λ l. at_no_cost (Ok (at l))) (omega arith)
       (addresses w sc p s f area is_typed t ((made sc e).place r) 0 d r n c k (place_of e s) idle lo (omega arith) nz a.0 code
       (subst (λ b. Evaluates w sc 0 n (n + length ((made sc e).place r).code) c k (HoldsAddress sc p ((made sc e).place r).base ((made sc e).place r).displacement r b t c) (place_of e s)) away a.1)))
   right _ _ (a_negative {e = e} h) few =

@@ -10,7 +10,7 @@ use Rattle.c0_tree.specs.declared.tree.BinaryOp.{BinaryOp}
 use Rattle.c0_tree.specs.declared.tree.BinaryOp.TheVariants.{Add, Sub, Mul, Div, Rem, Lt, Le, Gt, Ge, Eq, Ne, And, Or}
 use Rattle.c0_tree.specs.Tree.{CExpr, num, true_, false_, null, var, field, arrow, index, deref, address, unary, binary}
 use Rattle.c0_expr_code.specs.Scope.{Scope}
-use Rattle.c0_expr_code.specs.Code.{is_near, negated, AddressingMode, Made, constant_code, on_spot, operand_code, operand_register, at_place, no_spot, global_spot, register_made, register_of, local_spot, variable_made, one_code, two_code, operator_code, Immediate, when_near, equality_with, immediate, immediate_of, operator_made, sum_made, is_sure, divisor_code, division_made, binary_made, negative_made, unary_made, made}
+use Rattle.c0_expr_code.specs.Code.{is_near, negated, AddressingMode, Made, constant_code, access_code, operand_code, operand_register, at_place, no_address, global_address, register_made, register_of, local_address, variable_made, one_code, two_code, operator_code, Immediate, when_near, equality_with, immediate, immediate_of, operator_made, sum_made, is_sure, divisor_code, division_made, binary_made, negative_made, unary_made, made}
 use Rattle.c0_expr_code.specs.Test.{branch_code, compare_code, ImmediateTest, immediate_test, immediate_test_of, Testing, compare_test, both_code, binary_test, plain_test, test_code}
 
 -- two codes of lengths
@@ -24,25 +24,25 @@ cond_some false is js h g = g
 constant_some : (d n : ℕ) → 1 ≤ length (constant_code d n)
 constant_some d n = cond_some (nat_lt n (2 ^ 16)) _ _ (omega arith) (cond_some (is_near n) _ _ (omega arith) (omega arith))
 
-spot_some : (i : ℕ → ℕ → Inst) (r : ℕ) (x : AddressingMode) → 1 ≤ length (on_spot i r x)
-spot_some i r x = behind x.code _ (cond_some (is_near x.displacement) _ _ (omega arith) (omega arith))
+access_some : (i : ℕ → ℕ → Inst) (r : ℕ) (x : AddressingMode) → 1 ≤ length (access_code i r x)
+access_some i r x = behind x.code _ (cond_some (is_near x.displacement) _ _ (omega arith) (omega arith))
 
 -- a value's code has a word
 abbrev Filled : Made → Type 0
 Filled m = (d r : ℕ) → 1 ≤ length (m.value d r)
 
 variables : (sc : Scope) (k : Kind) (n : ℕ) → Filled (variable_made sc k n)
-variables sc Global n d r = spot_some (λ b k. Lw d b k) r (global_spot sc n)
+variables sc Global n d r = access_some (λ b k. Lw d b k) r (global_address sc n)
 variables sc Local n d r = by_form sc.in_registers
   where
-    by_form : (b : Bool) → 1 ≤ length ((cond b (register_made (register_of n)) (at_place (λ r. local_spot sc n))).value d r)
+    by_form : (b : Bool) → 1 ≤ length ((cond b (register_made (register_of n)) (at_place (λ r. local_address sc n))).value d r)
     by_form true = omega arith
-    by_form false = spot_some (λ b k. Lw d b k) r (local_spot sc n)
-variables sc Unresolved n d r = spot_some (λ b k. Lw d b k) r (no_spot r)
-variables sc Struct n d r = spot_some (λ b k. Lw d b k) r (no_spot r)
-variables sc Field n d r = spot_some (λ b k. Lw d b k) r (no_spot r)
-variables sc Function n d r = spot_some (λ b k. Lw d b k) r (no_spot r)
-variables sc Primitive n d r = spot_some (λ b k. Lw d b k) r (no_spot r)
+    by_form false = access_some (λ b k. Lw d b k) r (local_address sc n)
+variables sc Unresolved n d r = access_some (λ b k. Lw d b k) r (no_address r)
+variables sc Struct n d r = access_some (λ b k. Lw d b k) r (no_address r)
+variables sc Field n d r = access_some (λ b k. Lw d b k) r (no_address r)
+variables sc Function n d r = access_some (λ b k. Lw d b k) r (no_address r)
+variables sc Primitive n d r = access_some (λ b k. Lw d b k) r (no_address r)
 
 one_some : (g : ℕ → List Inst) (m : Made) (r : ℕ) → ((q : ℕ) → 1 ≤ length (g q)) → 1 ≤ length (one_code g m r)
 one_some g m r h = behind (operand_code m r) (g (operand_register m r)) (h (operand_register m r))
@@ -131,11 +131,11 @@ module _ (sc : Scope) where
   value_some (false_ p) d r = constant_some d 0
   value_some (null p) d r = constant_some d 0
   value_some (var x) d r = variables sc x.kind x.number d r
-  value_some (field p e f) d r = spot_some (λ b k. Lw d b k) r ((made sc (field p e f)).place r)
-  value_some (arrow p e f) d r = spot_some (λ b k. Lw d b k) r ((made sc (arrow p e f)).place r)
-  value_some (index p e i) d r = spot_some (λ b k. Lw d b k) r ((made sc (index p e i)).place r)
-  value_some (deref p e) d r = spot_some (λ b k. Lw d b k) r ((made sc (deref p e)).place r)
-  value_some (address p e) d r = spot_some (λ b k. Addiu d b k) r ((made sc e).place r)
+  value_some (field p e f) d r = access_some (λ b k. Lw d b k) r ((made sc (field p e f)).place r)
+  value_some (arrow p e f) d r = access_some (λ b k. Lw d b k) r ((made sc (arrow p e f)).place r)
+  value_some (index p e i) d r = access_some (λ b k. Lw d b k) r ((made sc (index p e i)).place r)
+  value_some (deref p e) d r = access_some (λ b k. Lw d b k) r ((made sc (deref p e)).place r)
+  value_some (address p e) d r = access_some (λ b k. Addiu d b k) r ((made sc e).place r)
   value_some (unary p o e) d r = unaries o (made sc e) d r
   value_some (binary p o a b) d r = binaries o (made sc a) (made sc b) d r
 

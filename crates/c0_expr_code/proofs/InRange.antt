@@ -17,7 +17,7 @@ use Rattle.c0_tree.specs.Size.{need, binary_need}
 use Rattle.c0_meaning.specs.Operators.{KernelFault, NullUse, Bounds, DivZero}
 use Rattle.c0_meaning.specs.TypeAt.{type_at}
 use Rattle.c0_expr_code.specs.Scope.{Scope}
-use Rattle.c0_expr_code.specs.Code.{element_words, length_in, AddressingMode, Made, constant_code, is_near, low, high, on_spot, store_code, or_code, operand_code, operand_register, no_spot, at_place, constant, only_value, global_spot, local_spot, register_made, register_of, variable_made, displaced, target_spot, bound_code, shift_within, POWERS, scaled_code, scale_code, tested_spot, element_spot, to_code, two_code, one_code, logic_code, negated, negative_made, unary_made, operator_code, Immediate, when_near, equality_with, immediate, immediate_of, operator_made, sum_made, is_sure, divisor_code, division_made, binary_made, made}
+use Rattle.c0_expr_code.specs.Code.{element_words, length_in, AddressingMode, Made, constant_code, is_near, low, high, access_code, store_code, or_code, operand_code, operand_register, no_address, at_place, constant, only_value, global_address, local_address, register_made, register_of, variable_made, displaced, target_address, bound_code, shift_within, POWERS, scaled_code, scale_code, tested_address, element_address, to_code, two_code, one_code, logic_code, negated, negative_made, unary_made, operator_code, Immediate, when_near, equality_with, immediate, immediate_of, operator_made, sum_made, is_sure, divisor_code, division_made, binary_made, made}
 use Rattle.c0_expr_code.specs.Test.{branch_code, negative_branch, positive_branch, below_code, compare_code, ImmediateTest, immediate_test, immediate_test_of, Testing, compare_test, both_code, binary_test, plain_test, test_code}
 use Rattle.c0_expr_code.proofs.EveryExpression.{need_some}
 
@@ -52,22 +52,22 @@ constants d n h = elim (cases_Bool (nat_lt n (2 ^ 16))) [
 ]
 
 -- a place
-pub record FineSpot (x : AddressingMode) : Type 0 where
+pub record FineAddress (x : AddressingMode) : Type 0 where
   pub code : Ranged x.code
   pub base : x.base < 32
 
-spots : (f : ℕ → ℕ → Inst) (r : ℕ) (x : AddressingMode) → r < 32 → FineSpot x → ((b k : ℕ) → b < 32 → k < 2 ^ 16 → InRange (f b k)) → Ranged (on_spot f r x)
-spots f r x h g i = both x.code _ g.code (either (is_near x.displacement) (f x.base (low x.displacement) ∷ []) (Lui 1 (high x.displacement) ∷ Addu r x.base 1 ∷ f r (low x.displacement) ∷ [])
+accesses : (f : ℕ → ℕ → Inst) (r : ℕ) (x : AddressingMode) → r < 32 → FineAddress x → ((b k : ℕ) → b < 32 → k < 2 ^ 16 → InRange (f b k)) → Ranged (access_code f r x)
+accesses f r x h g i = both x.code _ g.code (either (is_near x.displacement) (f x.base (low x.displacement) ∷ []) (Lui 1 (high x.displacement) ∷ Addu r x.base 1 ∷ f r (low x.displacement) ∷ [])
     (i x.base (low x.displacement) g.base (low_small x.displacement), tt) ((omega arith, high_small x.displacement), ((h, g.base, omega arith), (i r (low x.displacement) h (low_small x.displacement), tt))))
 
-loads : (d r : ℕ) (x : AddressingMode) → d < 32 → r < 32 → FineSpot x → Ranged (on_spot (λ b k. Lw d b k) r x)
-loads d r x h g i = spots (λ b k. Lw d b k) r x g i (λ b k low l. (h, low, l))
+loads : (d r : ℕ) (x : AddressingMode) → d < 32 → r < 32 → FineAddress x → Ranged (access_code (λ b k. Lw d b k) r x)
+loads d r x h g i = accesses (λ b k. Lw d b k) r x g i (λ b k low l. (h, low, l))
 
 -- a node that needs so many registers
 pub record Fine (m : Made) (need : ℕ) : Type 0 where
   pub some : 1 ≤ need
   pub value : (d r : ℕ) → d < 32 → r + need ≤ 32 → Ranged (m.value d r)
-  pub place : (r : ℕ) → r + need ≤ 32 → FineSpot (m.place r)
+  pub place : (r : ℕ) → r + need ≤ 32 → FineAddress (m.place r)
   pub stands : (q : ℕ) → m.stands ≡ Some q → q < 32
 
 operand_at : (o : Option ℕ) (is : List Inst) → Ranged is → Ranged (or_code o is)
@@ -84,10 +84,10 @@ register_at (Some q) r h g = g q refl
 registers : (m : Made) (need r : ℕ) → Fine m need → r + need ≤ 32 → operand_register m r < 32
 registers m need r h le = register_at m.stands r (let s = h.some in omega (arith, s, le)) h.stands
 
-no_place : (r : ℕ) → FineSpot (no_spot r)
+no_place : (r : ℕ) → FineAddress (no_address r)
 no_place r = record { code = tt; base = omega arith }
 
-places : (place : ℕ → AddressingMode) (need : ℕ) → 1 ≤ need → ((r : ℕ) → r + need ≤ 32 → FineSpot (place r)) → Fine (at_place place) need
+places : (place : ℕ → AddressingMode) (need : ℕ) → 1 ≤ need → ((r : ℕ) → r + need ≤ 32 → FineAddress (place r)) → Fine (at_place place) need
 places place need some h = record { some = some; value = λ d r l le. loads d r (place r) l (omega (arith, some, le)) (h r le); place = h; stands = λ q e. absurd (cc) }
 
 values : (code : ℕ → ℕ → List Inst) (need : ℕ) → 1 ≤ need → ((d r : ℕ) → d < 32 → r + need ≤ 32 → Ranged (code d r)) → Fine (only_value code) need
@@ -101,17 +101,17 @@ constant_fine n need literal some = record { some = some; value = λ d r l le. c
     by_zero false q e = absurd (cc)
 
 variables : (sc : Scope) (k : Kind) (n : ℕ) → Fine (variable_made sc k n) 1
-variables sc Global n = places (λ r. global_spot sc n) 1 (omega arith) (λ r le. record { code = tt; base = omega arith })
+variables sc Global n = places (λ r. global_address sc n) 1 (omega arith) (λ r le. record { code = tt; base = omega arith })
 variables sc Local n = by_form sc.in_registers
   where
-    by_form : (b : Bool) → Fine (cond b (register_made (register_of n)) (at_place (λ r. local_spot sc n))) 1
+    by_form : (b : Bool) → Fine (cond b (register_made (register_of n)) (at_place (λ r. local_address sc n))) 1
     by_form true = record { some = omega arith; value = λ d r l le. ((l, omega arith, omega arith), tt); place = λ r le. no_place r; stands = λ q e. let z : register_of n ≡ q = cc in omega (arith, z) }
-    by_form false = places (λ r. local_spot sc n) 1 (omega arith) (λ r le. record { code = tt; base = omega arith })
-variables sc Unresolved n = places no_spot 1 (omega arith) (λ r le. no_place r)
-variables sc Struct n = places no_spot 1 (omega arith) (λ r le. no_place r)
-variables sc Field n = places no_spot 1 (omega arith) (λ r le. no_place r)
-variables sc Function n = places no_spot 1 (omega arith) (λ r le. no_place r)
-variables sc Primitive n = places no_spot 1 (omega arith) (λ r le. no_place r)
+    by_form false = places (λ r. local_address sc n) 1 (omega arith) (λ r le. record { code = tt; base = omega arith })
+variables sc Unresolved n = places no_address 1 (omega arith) (λ r le. no_place r)
+variables sc Struct n = places no_address 1 (omega arith) (λ r le. no_place r)
+variables sc Field n = places no_address 1 (omega arith) (λ r le. no_place r)
+variables sc Function n = places no_address 1 (omega arith) (λ r le. no_place r)
+variables sc Primitive n = places no_address 1 (omega arith) (λ r le. no_place r)
 
 shift_small : (n w by : ℕ) → shift_within n w ≡ Some by → by ≤ n + 1
 shift_small zero w by e = absurd (cc)
@@ -250,10 +250,10 @@ module _ (sc : Scope) (exits : (f : KernelFault) → sc.exit f < 2 ^ 26) where
   unaries Negate m need h = negatives m.literal m need h
   unaries Not m need h = values (λ d r. one_code (λ q. Xori d q 1 ∷ []) m r) need h.some (λ d r l le. one_fine (λ q. Xori d q 1 ∷ []) m need r h le (λ q lq. ((l, lq, omega arith), tt)))
 
-  targets : (m : Made) (need r : ℕ) → Fine m need → r + need ≤ 32 → FineSpot (target_spot sc m r)
+  targets : (m : Made) (need r : ℕ) → Fine m need → r + need ≤ 32 → FineAddress (target_address sc m r)
   targets m need r h le = record { code = both (operand_code m r) _ (operands m need r h le) ((registers m need r h le, omega arith, omega arith), (exits NullUse, tt)); base = registers m need r h le }
 
-  tested : (w n : ℕ) (x : AddressingMode) (m : Made) (nm r : ℕ) → FineSpot x → Fine m nm → r + 1 + nm ≤ 32 → FineSpot (tested_spot sc w n x m r)
+  tested : (w n : ℕ) (x : AddressingMode) (m : Made) (nm r : ℕ) → FineAddress x → Fine m nm → r + 1 + nm ≤ 32 → FineAddress (tested_address sc w n x m r)
   tested w n x m nm r h g le =
       let q = registers m nm (r + 1) g le in
       let low : r < 32 = omega (arith, le) in
@@ -263,12 +263,12 @@ module _ (sc : Scope) (exits : (f : KernelFault) → sc.exit f < 2 ^ 26) where
         base = low;
       }
 
-  elements : (o : Option ℕ) (w n : ℕ) (x : AddressingMode) (m : Made) (nm r : ℕ) → FineSpot x → Fine m nm → r + 1 + nm ≤ 32
-      → FineSpot (element_spot sc w n o x m r)
+  elements : (o : Option ℕ) (w n : ℕ) (x : AddressingMode) (m : Made) (nm r : ℕ) → FineAddress x → Fine m nm → r + 1 + nm ≤ 32
+      → FineAddress (element_address sc w n o x m r)
   elements None w n x m nm r h g le = tested w n x m nm r h g le
   elements (Some c) w n x m nm r h g le = by_test (nat_lt c n)
     where
-      by_test : (b : Bool) → FineSpot (cond b (displaced (4 * (c * w)) x) (tested_spot sc w n x m r))
+      by_test : (b : Bool) → FineAddress (cond b (displaced (4 * (c * w)) x) (tested_address sc w n x m r))
       by_test true = record { code = h.code; base = h.base }
       by_test false = tested w n x m nm r h g le
 
@@ -282,7 +282,7 @@ module _ (sc : Scope) (exits : (f : KernelFault) → sc.exit f < 2 ^ 26) where
   fine (arrow p e f) = places _ (need e) (need_some e) (λ r le. let h = targets (made sc e) (need e) r (fine e) le in record { code = h.code; base = h.base })
   fine (index p e i) = places _ (max (need e) (need i + 1)) (let s = need_some e in omega (arith, s)) (λ r le. elements (made sc i).literal (element_words sc.env.structs (type_at sc.env e)) (length_in (type_at sc.env e)) ((made sc e).place r) (made sc i) (need i) r ((fine e).place r (omega (arith, le))) (fine i) (omega (arith, le)))
   fine (deref p e) = places _ (need e) (need_some e) (λ r le. targets (made sc e) (need e) r (fine e) le)
-  fine (address p e) = values _ (need e) (need_some e) (λ d r l le. let s = need_some e in spots (λ b k. Addiu d b k) r ((made sc e).place r) (omega (arith, s, le)) ((fine e).place r le) (λ b k low m. (l, low, m)))
+  fine (address p e) = values _ (need e) (need_some e) (λ d r l le. let s = need_some e in accesses (λ b k. Addiu d b k) r ((made sc e).place r) (omega (arith, s, le)) ((fine e).place r le) (λ b k low m. (l, low, m)))
   fine (unary p o e) = unaries o (made sc e) (need e) (fine e)
   fine (binary p o a b) = binaries o (made sc a) (made sc b) (need a) (need b) (fine a) (fine b)
 
@@ -395,7 +395,7 @@ module _ (sc : Scope) (exits : (f : KernelFault) → sc.exit f < 2 ^ 26) where
   register_in_range e r le = registers (made sc e) (need e) r (fine e) le
 
   pub store_in_range : (e : CExpr) (q r : ℕ) → q < 32 → r + need e ≤ 32 → All InRange (store_code q r ((made sc e).place r))
-  store_in_range e q r l le = let s = need_some e in all_of (store_code q r ((made sc e).place r)) (spots (λ b k. Sw q b k) r ((made sc e).place r) (omega (arith, s, le)) ((fine e).place r le) (λ b k low m. (l, low, m)))
+  store_in_range e q r l le = let s = need_some e in all_of (store_code q r ((made sc e).place r)) (accesses (λ b k. Sw q b k) r ((made sc e).place r) (omega (arith, s, le)) ((fine e).place r le) (λ b k low m. (l, low, m)))
 
   pub place_in_range : (e : CExpr) (r : ℕ) → r + need e ≤ 32 → All InRange ((made sc e).place r).code
   place_in_range e r le = all_of ((made sc e).place r).code ((fine e).place r le).code

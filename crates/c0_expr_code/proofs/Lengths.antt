@@ -13,7 +13,7 @@ use Rattle.c0_tree.specs.Size.{nodes}
 use Rattle.c0_meaning.specs.Operators.{NullUse, Bounds}
 use Rattle.c0_meaning.specs.TypeAt.{type_at}
 use Rattle.c0_expr_code.specs.Scope.{Scope}
-use Rattle.c0_expr_code.specs.Code.{element_words, length_in, AddressingMode, Made, constant_code, is_near, low, high, on_spot, or_code, operand_code, operand_register, no_spot, at_place, constant, only_value, global_spot, local_spot, register_made, register_of, variable_made, displaced, target_spot, bound_code, shift_within, POWERS, scaled_code, scale_code, element_code, tested_spot, element_spot, to_code, two_code, one_code, logic_code, negated, negative_made, unary_made, operator_code, Immediate, when_near, equality_with, immediate, immediate_of, operator_made, sum_made, is_sure, divisor_code, division_made, binary_made, made}
+use Rattle.c0_expr_code.specs.Code.{element_words, length_in, AddressingMode, Made, constant_code, is_near, low, high, access_code, or_code, operand_code, operand_register, no_address, at_place, constant, only_value, global_address, local_address, register_made, register_of, variable_made, displaced, target_address, bound_code, shift_within, POWERS, scaled_code, scale_code, element_code, tested_address, element_address, to_code, two_code, one_code, logic_code, negated, negative_made, unary_made, operator_code, Immediate, when_near, equality_with, immediate, immediate_of, operator_made, sum_made, is_sure, divisor_code, division_made, binary_made, made}
 
 cond_length : (b : Bool) (is js : List Inst) (n : ℕ) → length is ≤ n → length js ≤ n → length (cond b is js) ≤ n
 cond_length true is js n h g = h
@@ -29,8 +29,8 @@ constant_length d n =
     cond_length (nat_lt n (2 ^ 16)) (Ori d 0 n ∷ []) _ 2 (omega arith)
     (cond_length (is_near n) (Addiu d 0 (low n) ∷ []) (Lui d (n / 2 ^ 16 % 2 ^ 16) ∷ Ori d d (low n) ∷ []) 2 (omega arith) (omega arith))
 
-spot_length : (i : ℕ → ℕ → Inst) (r : ℕ) (x : AddressingMode) → length (on_spot i r x) ≤ length x.code + 3
-spot_length i r x =
+access_length : (i : ℕ → ℕ → Inst) (r : ℕ) (x : AddressingMode) → length (access_code i r x) ≤ length x.code + 3
+access_length i r x =
     let a = length-append x.code (cond (is_near x.displacement) (i x.base (low x.displacement) ∷ []) (Lui 1 (high x.displacement) ∷ Addu r x.base 1 ∷ i r (low x.displacement) ∷ [])) in
     let b = cond_length (is_near x.displacement) (i x.base (low x.displacement) ∷ []) (Lui 1 (high x.displacement) ∷ Addu r x.base 1 ∷ i r (low x.displacement) ∷ []) 3 (omega arith) (omega arith) in
     omega (arith, a, b)
@@ -43,7 +43,7 @@ pub operand_length : (m : Made) (k r : ℕ) → Short m k → length (operand_co
 operand_length m k r h = or_length m.stands (m.value r r) (14 * k) (h.value r r)
 
 places : (place : ℕ → AddressingMode) (k : ℕ) → ((r : ℕ) → length (place r).code + 3 ≤ 14 * k) → Short (at_place place) k
-places place k h = record { value = λ d r. let a = spot_length (λ b x. Lw d b x) r (place r) in let g = h r in omega (arith, a, g); place = h }
+places place k h = record { value = λ d r. let a = access_length (λ b x. Lw d b x) r (place r) in let g = h r in omega (arith, a, g); place = h }
 
 values : (code : ℕ → ℕ → List Inst) (k : ℕ) → 1 ≤ k → ((d r : ℕ) → length (code d r) ≤ 14 * k) → Short (only_value code) k
 values code k some h = record { value = h; place = λ r. omega (arith, some) }
@@ -106,17 +106,17 @@ few_of o None = tt
 few_of o (Some k) = few o k
 
 variables : (sc : Scope) (k : Kind) (n : ℕ) → Short (variable_made sc k n) 1
-variables sc Global n = places (λ r. global_spot sc n) 1 (λ r. omega arith)
+variables sc Global n = places (λ r. global_address sc n) 1 (λ r. omega arith)
 variables sc Local n = by_form sc.in_registers
   where
-    by_form : (b : Bool) → Short (cond b (register_made (register_of n)) (at_place (λ r. local_spot sc n))) 1
+    by_form : (b : Bool) → Short (cond b (register_made (register_of n)) (at_place (λ r. local_address sc n))) 1
     by_form true = record { value = λ d r. omega arith; place = λ r. omega arith }
-    by_form false = places (λ r. local_spot sc n) 1 (λ r. omega arith)
-variables sc Unresolved n = places no_spot 1 (λ r. omega arith)
-variables sc Struct n = places no_spot 1 (λ r. omega arith)
-variables sc Field n = places no_spot 1 (λ r. omega arith)
-variables sc Function n = places no_spot 1 (λ r. omega arith)
-variables sc Primitive n = places no_spot 1 (λ r. omega arith)
+    by_form false = places (λ r. local_address sc n) 1 (λ r. omega arith)
+variables sc Unresolved n = places no_address 1 (λ r. omega arith)
+variables sc Struct n = places no_address 1 (λ r. omega arith)
+variables sc Field n = places no_address 1 (λ r. omega arith)
+variables sc Function n = places no_address 1 (λ r. omega arith)
+variables sc Primitive n = places no_address 1 (λ r. omega arith)
 
 scaled_length : (o : Option ℕ) (w q : ℕ) → length (scaled_code o w q) ≤ 4
 scaled_length (Some by) w q = omega arith
@@ -126,7 +126,7 @@ scaled_length None w q =
     omega (arith, a, b)
 
 module _ (sc : Scope) where
-  targets : (m : Made) (k : ℕ) → Short m k → (r : ℕ) → length (target_spot sc m r).code + 3 ≤ 14 * (k + 1)
+  targets : (m : Made) (k : ℕ) → Short m k → (r : ℕ) → length (target_address sc m r).code + 3 ≤ 14 * (k + 1)
   targets m k h r =
       let a = operand_length m k r h in
       let b = length-append (operand_code m r) (Bne (operand_register m r) 0 1 ∷ J (sc.exit NullUse) ∷ []) in
@@ -144,7 +144,7 @@ module _ (sc : Scope) where
       omega (arith, a, d, e, g)
 
   tested_length : (w n : ℕ) (x : AddressingMode) (m : Made) (j k r : ℕ) → length x.code + 3 ≤ 14 * j → Short m k
-      → length (tested_spot sc w n x m r).code + 3 ≤ 14 * (j + k + 1)
+      → length (tested_address sc w n x m r).code + 3 ≤ 14 * (j + k + 1)
   tested_length w n x m j k r h g =
       let a = operand_length m k (r + 1) g in
       let b = element_length (operand_register m (r + 1)) x.base r w n in
@@ -153,11 +153,11 @@ module _ (sc : Scope) where
       omega (arith, a, b, c, d, h)
 
   elements : (o : Option ℕ) (w n : ℕ) (x : AddressingMode) (m : Made) (j k r : ℕ) → length x.code + 3 ≤ 14 * j → Short m k
-      → length (element_spot sc w n o x m r).code + 3 ≤ 14 * (j + k + 1)
+      → length (element_address sc w n o x m r).code + 3 ≤ 14 * (j + k + 1)
   elements None w n x m j k r h g = tested_length w n x m j k r h g
   elements (Some c) w n x m j k r h g = by_test (nat_lt c n)
     where
-      by_test : (b : Bool) → length (cond b (displaced (4 * (c * w)) x) (tested_spot sc w n x m r)).code + 3 ≤ 14 * (j + k + 1)
+      by_test : (b : Bool) → length (cond b (displaced (4 * (c * w)) x) (tested_address sc w n x m r)).code + 3 ≤ 14 * (j + k + 1)
       by_test true = omega (arith, h)
       by_test false = tested_length w n x m j k r h g
 
@@ -240,7 +240,7 @@ module _ (sc : Scope) where
   short (arrow p e g) = places _ (nodes e + 1) (λ r. targets (made sc e) (nodes e) (short e) r)
   short (index p e i) = places _ (nodes e + nodes i + 1) (λ r. elements (made sc i).literal (element_words sc.env.structs (type_at sc.env e)) (length_in (type_at sc.env e)) ((made sc e).place r) (made sc i) (nodes e) (nodes i) r ((short e).place r) (short i))
   short (deref p e) = places _ (nodes e + 1) (λ r. targets (made sc e) (nodes e) (short e) r)
-  short (address p e) = values _ (nodes e + 1) (omega arith) (λ d r. let h = (short e).place r in let a = spot_length (λ b k. Addiu d b k) r ((made sc e).place r) in omega (arith, h, a))
+  short (address p e) = values _ (nodes e + 1) (omega arith) (λ d r. let h = (short e).place r in let a = access_length (λ b k. Addiu d b k) r ((made sc e).place r) in omega (arith, h, a))
   short (unary p o e) = unaries o (made sc e) (nodes e) (short e)
   short (binary p o a b) = binaries o (made sc a) (made sc b) (nodes a) (nodes b) (short a) (short b)
 

@@ -31,7 +31,7 @@ mod Patches
 mod Exits
 mod Emitted
 mod Patched
-mod Openings
+mod UnpatchedTests
 mod Scopes
 mod Shifts
 mod Structs

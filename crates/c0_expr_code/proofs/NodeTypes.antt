@@ -25,7 +25,7 @@ use Rattle.c0_meaning.specs.Operators.{on_unary}
 use Rattle.c0_meaning.specs.Evaluation.{Costed, costs, at_no_cost, paying, ◌>>=◌, value_of}
 use Rattle.cvm_words.specs.Words.{word_of}
 use Rattle.c0_expr_code.specs.Scope.{Scope}
-use Rattle.c0_expr_code.specs.Code.{Made, at_place, register_made, register_of, local_spot, variable_made, negated, negative_made, Immediate, immediate_of, operator_made, sum_made, binary_made, made}
+use Rattle.c0_expr_code.specs.Code.{Made, at_place, register_made, register_of, local_address, variable_made, negated, negative_made, Immediate, immediate_of, operator_made, sum_made, binary_made, made}
 use Rattle.c0_expr_code.specs.Bases.{Bases, word}
 use Rattle.c0_expr_code.specs.Relation.{layout}
 use Rattle.c0_expr_code.proofs.Words.{word_pos, word_negative}
@@ -74,47 +74,47 @@ type_is env _ _ (null_left {o = o} k h) = ap Some (equality_gives o k)
 type_is env _ _ (null_right {o = o} k h) = ap Some (equality_gives o k)
 
 -- a node that is no constant
-pub record IsOpen (m : Made) : Type 0 where
+pub record IsNotConstant (m : Made) : Type 0 where
   pub literal : m.literal ≡ None
   pub known : m.known ≡ None
 
-operator_open : (im : Immediate) (o : BinaryOp) (a b : Made) → IsOpen (operator_made im o a b)
-operator_open (Some g) o a b = record { literal = refl; known = refl }
-operator_open None o a b = record { literal = refl; known = refl }
+operator_not_constant : (im : Immediate) (o : BinaryOp) (a b : Made) → IsNotConstant (operator_made im o a b)
+operator_not_constant (Some g) o a b = record { literal = refl; known = refl }
+operator_not_constant None o a b = record { literal = refl; known = refl }
 
-sum_open : (i j : Immediate) (a b : Made) → IsOpen (sum_made i j a b)
-sum_open (Some g) j a b = record { literal = refl; known = refl }
-sum_open None (Some g) a b = record { literal = refl; known = refl }
-sum_open None None a b = record { literal = refl; known = refl }
+sum_not_constant : (i j : Immediate) (a b : Made) → IsNotConstant (sum_made i j a b)
+sum_not_constant (Some g) j a b = record { literal = refl; known = refl }
+sum_not_constant None (Some g) a b = record { literal = refl; known = refl }
+sum_not_constant None None a b = record { literal = refl; known = refl }
 
 module _ (sc : Scope) where
-  binary_open : (o : BinaryOp) (a b : Made) → IsOpen (binary_made sc o a b)
-  binary_open Add a b = sum_open (immediate_of Add b.known) (immediate_of Add a.known) a b
-  binary_open Sub a b = operator_open (immediate_of Sub b.known) Sub a b
-  binary_open Mul a b = record { literal = refl; known = refl }
-  binary_open Div a b = record { literal = refl; known = refl }
-  binary_open Rem a b = record { literal = refl; known = refl }
-  binary_open Lt a b = operator_open (immediate_of Lt b.known) Lt a b
-  binary_open Le a b = operator_open (immediate_of Le b.known) Le a b
-  binary_open Gt a b = record { literal = refl; known = refl }
-  binary_open Ge a b = operator_open (immediate_of Ge b.known) Ge a b
-  binary_open Eq a b = operator_open (immediate_of Eq b.known) Eq a b
-  binary_open Ne a b = operator_open (immediate_of Ne b.known) Ne a b
-  binary_open And a b = record { literal = refl; known = refl }
-  binary_open Or a b = record { literal = refl; known = refl }
+  binary_not_constant : (o : BinaryOp) (a b : Made) → IsNotConstant (binary_made sc o a b)
+  binary_not_constant Add a b = sum_not_constant (immediate_of Add b.known) (immediate_of Add a.known) a b
+  binary_not_constant Sub a b = operator_not_constant (immediate_of Sub b.known) Sub a b
+  binary_not_constant Mul a b = record { literal = refl; known = refl }
+  binary_not_constant Div a b = record { literal = refl; known = refl }
+  binary_not_constant Rem a b = record { literal = refl; known = refl }
+  binary_not_constant Lt a b = operator_not_constant (immediate_of Lt b.known) Lt a b
+  binary_not_constant Le a b = operator_not_constant (immediate_of Le b.known) Le a b
+  binary_not_constant Gt a b = record { literal = refl; known = refl }
+  binary_not_constant Ge a b = operator_not_constant (immediate_of Ge b.known) Ge a b
+  binary_not_constant Eq a b = operator_not_constant (immediate_of Eq b.known) Eq a b
+  binary_not_constant Ne a b = operator_not_constant (immediate_of Ne b.known) Ne a b
+  binary_not_constant And a b = record { literal = refl; known = refl }
+  binary_not_constant Or a b = record { literal = refl; known = refl }
 
-  variable_open : (k : Kind) (n : ℕ) → IsOpen (variable_made sc k n)
-  variable_open Global n = record { literal = refl; known = refl }
-  variable_open Local n = by_form sc.in_registers
+  variable_not_constant : (k : Kind) (n : ℕ) → IsNotConstant (variable_made sc k n)
+  variable_not_constant Global n = record { literal = refl; known = refl }
+  variable_not_constant Local n = by_form sc.in_registers
     where
-      by_form : (b : Bool) → IsOpen (cond b (register_made (register_of n)) (at_place (λ r. local_spot sc n)))
+      by_form : (b : Bool) → IsNotConstant (cond b (register_made (register_of n)) (at_place (λ r. local_address sc n)))
       by_form true = record { literal = refl; known = refl }
       by_form false = record { literal = refl; known = refl }
-  variable_open Unresolved n = record { literal = refl; known = refl }
-  variable_open Struct n = record { literal = refl; known = refl }
-  variable_open Field n = record { literal = refl; known = refl }
-  variable_open Function n = record { literal = refl; known = refl }
-  variable_open Primitive n = record { literal = refl; known = refl }
+  variable_not_constant Unresolved n = record { literal = refl; known = refl }
+  variable_not_constant Struct n = record { literal = refl; known = refl }
+  variable_not_constant Field n = record { literal = refl; known = refl }
+  variable_not_constant Function n = record { literal = refl; known = refl }
+  variable_not_constant Primitive n = record { literal = refl; known = refl }
 
   negative_literal : (o : Option ℕ) (m : Made) → (negative_made o m).literal ≡ None
   negative_literal (Some n) m = refl
@@ -126,10 +126,10 @@ module _ (sc : Scope) where
   -- the number that is written
   pub literal_is : (e : CExpr) (c : ℕ) (s : C0State) → (made sc e).literal ≡ Some c → value_of e s ≡ costs 1 (Ok (int (pos c)))
   literal_is (num p n) c s e = let q : n ≡ c = cc in ap (λ m. costs 1 (Ok (int (pos m)))) q
-  literal_is (var x) c s e = absurd (none_some _ c (variable_open x.kind x.number).literal e)
+  literal_is (var x) c s e = absurd (none_some _ c (variable_not_constant x.kind x.number).literal e)
   literal_is (unary p Negate a) c s e = absurd (none_some _ c (negative_literal (made sc a).literal (made sc a)) e)
   literal_is (unary p Not a) c s e = absurd (cc)
-  literal_is (binary p o a b) c s e = absurd (none_some _ c (binary_open o (made sc a) (made sc b)).literal e)
+  literal_is (binary p o a b) c s e = absurd (none_some _ c (binary_not_constant o (made sc a) (made sc b)).literal e)
   literal_is (true_ p) c s e = absurd (cc)
   literal_is (false_ p) c s e = absurd (cc)
   literal_is (null p) c s e = absurd (cc)
@@ -141,9 +141,9 @@ module _ (sc : Scope) where
 
   pub small_literal : (e : CExpr) (c : ℕ) → HasNumberedType sc.env e ty.int → (made sc e).literal ≡ Some c → FitsSigned w32 (pos c)
   small_literal _ c (a_number {n = n} h) e = let q : n ≡ c = cc in subst (λ m. FitsSigned w32 (pos m)) q (record { sfits = omega (arith, h) })
-  small_literal (var x) c h e = absurd (none_some _ c (variable_open x.kind x.number).literal e)
+  small_literal (var x) c h e = absurd (none_some _ c (variable_not_constant x.kind x.number).literal e)
   small_literal (unary p Negate a) c h e = absurd (none_some _ c (negative_literal (made sc a).literal (made sc a)) e)
-  small_literal (binary p o a b) c h e = absurd (none_some _ c (binary_open o (made sc a) (made sc b)).literal e)
+  small_literal (binary p o a b) c h e = absurd (none_some _ c (binary_not_constant o (made sc a) (made sc b)).literal e)
   small_literal (field p a f) c h e = absurd (cc)
   small_literal (arrow p a f) c h e = absurd (cc)
   small_literal (index p a i) c h e = absurd (cc)
@@ -184,7 +184,7 @@ module _ (sc : Scope) where
         record { units = 1; value = int (pos n); is = refl; some = omega arith; fits = fits; word_is = word_pos n fits ∙ q }
     known_is _ _ s k a_true e = let q : 1 ≡ k = cc in record { units = 1; value = bool true; is = refl; some = omega arith; fits = tt; word_is = q }
     known_is _ _ s k a_false e = let q : 0 ≡ k = cc in record { units = 1; value = bool false; is = refl; some = omega arith; fits = tt; word_is = q }
-    known_is (var x) t s k h e = absurd (none_some _ k (variable_open x.kind x.number).known e)
+    known_is (var x) t s k h e = absurd (none_some _ k (variable_not_constant x.kind x.number).known e)
     known_is (field p a f) t s k h e = absurd (cc)
     known_is (arrow p a f) t s k h e = absurd (cc)
     known_is (index p a i) t s k h e = absurd (cc)
@@ -192,7 +192,7 @@ module _ (sc : Scope) where
     known_is (address p a) t s k h e = absurd (cc)
     known_is _ _ s k (a_negative {e = a} h) e = negative_known a s k (made sc a).literal h refl e
     known_is _ _ s k (a_negation {e = a} h) e = absurd (cc)
-    known_is (binary p o a b) t s k h e = absurd (none_some _ k (binary_open o (made sc a) (made sc b)).known e)
+    known_is (binary p o a b) t s k h e = absurd (none_some _ k (binary_not_constant o (made sc a) (made sc b)).known e)
 
     pub null_known : (t : Ty) (k : ℕ) → ◌≡◌ {A = Option ℕ} (Some 0) (Some k) → KnownAs (ty.pointer t) k (costs 1 (Ok value.null))
     null_known t k e = let q : 0 ≡ k = cc in record { units = 1; value = value.null; is = refl; some = omega arith; fits = tt; word_is = q }

@@ -12,7 +12,7 @@ use Rattle.c0_tree.specs.Tree.{CExpr, unary, binary}
 use Rattle.c0_expr_code.specs.Scope.{Scope}
 use Rattle.c0_expr_code.specs.Code.{low, is_near, Made, operand_code, operand_register, made}
 use Rattle.c0_expr_code.specs.Test.{branch_code, negative_branch, positive_branch, below_code, compare_code, ImmediateTest, immediate_test, immediate_test_of, compare_test, both_code, plain_test, test_code}
-use Rattle.c0_expr_code.specs.Jumps.{Unpatched, last_open, behind_open, joined_open, both_open, test_open, aimed_word, patched}
+use Rattle.c0_expr_code.specs.Jumps.{Unpatched, last_unpatched, behind_unpatched, joined_unpatched, both_unpatched, test_unpatched, aimed_word, patched}
 
 -- lists
 pub assoc : {A : Type 0} (xs ys zs : List A) → (xs ++ ys) ++ zs ≡ xs ++ (ys ++ zs)
@@ -64,7 +64,7 @@ words_of : (is : List Inst) (b : Inst) (before after : List ℕ) → before ++ (
 words_of is b before after =
     ap (λ l. before ++ (l ++ after)) (map_append encoding is (b ∷ [])) ∙ ap (λ l. before ++ l) (assoc (map encoding is) (encoding b ∷ []) after) ∙ sym (assoc before (map encoding is) (encoding b ∷ after))
 
-lasts : (f : ℕ → List Inst) → EndsIn f → AimsAt (last_open (f 0)) f
+lasts : (f : ℕ → List Inst) → EndsIn f → AimsAt (last_unpatched (f 0)) f
 lasts f h = record { same = λ far. len far ∙ sym (len 0); within = within; law = law }
   where
     len : (far : ℕ) → length (f far) ≡ length h.before + 1
@@ -86,7 +86,7 @@ lasts f h = record { same = λ far. len far ∙ sym (len 0); within = within; la
         ∙ patch_one (before ++ map encoding h.before) (encoding (h.branch 0)) after (length before + (length (f 0) - 1)) to (encoding (h.branch far)) there value
         ∙ sym end
 
-behinds : (is : List Inst) (x : Unpatched) (f : ℕ → List Inst) → AimsAt x f → AimsAt (behind_open is x) (λ far. is ++ f far)
+behinds : (is : List Inst) (x : Unpatched) (f : ℕ → List Inst) → AimsAt x f → AimsAt (behind_unpatched is x) (λ far. is ++ f far)
 behinds is x f h = record { same = same; within = within; law = law }
   where
     within : (at n : ℕ) → at + length (is ++ x.code) ≤ n → All (λ j. j < n) (map (λ j. at + j) (map (λ j. length is + j) x.jumps))
@@ -109,7 +109,7 @@ behinds is x f h = record { same = same; within = within; law = law }
         ∙ h.law far to (before ++ map encoding is) after short (omega (arith, n, m, small)) (let z : length (before ++ map encoding is) + length x.code + far ≡ length before + length (is ++ x.code) + far = omega (arith, n, m) in ap (λ y. y % 2 ^ 16) z ∙ aim)
         ∙ sym (over (f far))
 
-joins : (x y : Unpatched) (f g : ℕ → List Inst) → AimsAt x f → AimsAt y g → AimsAt (joined_open x y) (λ far. f ((far + length (g far)) % 2 ^ 16) ++ g far)
+joins : (x y : Unpatched) (f g : ℕ → List Inst) → AimsAt x f → AimsAt y g → AimsAt (joined_unpatched x y) (λ far. f ((far + length (g far)) % 2 ^ 16) ++ g far)
 joins x y f g h k = record { same = same; within = within; law = law }
   where
     within : (at n : ℕ) → at + length (x.code ++ y.code) ≤ n → All (λ j. j < n) (map (λ j. at + j) (x.jumps ++ map (λ j. length x.code + j) y.jumps))
@@ -224,14 +224,14 @@ compared None o a b s r h i =
     after (operand_code a r) (λ far. operand_code b (r + 1) ++ compare_code o s far (operand_register a r) (operand_register b (r + 1)))
     (after (operand_code b (r + 1)) (λ far. compare_code o s far (operand_register a r) (operand_register b (r + 1))) (compare_ends o i s (operand_register a r) (operand_register b (r + 1))))
 
-compares : (im : ImmediateTest) (o : BinaryOp) (a b : Made) (s : Bool) (r : ℕ) → EndsTest im → IsCompared o → AimsAt (last_open (compare_test im o a b s 0 r)) (λ far. compare_test im o a b s far r)
+compares : (im : ImmediateTest) (o : BinaryOp) (a b : Made) (s : Bool) (r : ℕ) → EndsTest im → IsCompared o → AimsAt (last_unpatched (compare_test im o a b s 0 r)) (λ far. compare_test im o a b s far r)
 compares im o a b s r h i = lasts (λ far. compare_test im o a b s far r) (compared im o a b s r h i)
 
-plains : (m : Made) (s : Bool) (r : ℕ) → AimsAt (last_open (plain_test m s 0 r)) (λ far. plain_test m s far r)
+plains : (m : Made) (s : Bool) (r : ℕ) → AimsAt (last_unpatched (plain_test m s 0 r)) (λ far. plain_test m s far r)
 plains m s r = lasts (λ far. plain_test m s far r) (plain_ends m s r)
 
 -- code of a test that is passed over has a fixed distance
-over : (one : ℕ → List Inst) (y : Unpatched) (g : ℕ → List Inst) → AimsAt y g → AimsAt (behind_open (one (length y.code % 2 ^ 16)) y) (λ far. one (length (g far) % 2 ^ 16) ++ g far)
+over : (one : ℕ → List Inst) (y : Unpatched) (g : ℕ → List Inst) → AimsAt y g → AimsAt (behind_unpatched (one (length y.code % 2 ^ 16)) y) (λ far. one (length (g far) % 2 ^ 16) ++ g far)
 over one y g h =
     let b = behinds (one (length y.code % 2 ^ 16)) y g h in
     record {
@@ -241,14 +241,14 @@ over one y g h =
     }
 
 module _ (sc : Scope) where
-  boths : (decides s : Bool) (a b : CExpr) (r : ℕ) → ((s : Bool) → AimsAt (test_open sc a s r) (λ far. test_code sc a s far r)) → ((s : Bool) → AimsAt (test_open sc b s r) (λ far. test_code sc b s far r))
-      → AimsAt (both_open decides s (test_code sc a) (test_open sc a) (test_open sc b) r) (λ far. both_code decides s (test_code sc a) (test_code sc b) far r)
-  boths true true a b r h k = joins (test_open sc a true r) (test_open sc b true r) (λ far. test_code sc a true far r) (λ far. test_code sc b true far r) (h true) (k true)
-  boths true false a b r h k = over (λ n. test_code sc a true n r) (test_open sc b false r) (λ far. test_code sc b false far r) (k false)
-  boths false true a b r h k = over (λ n. test_code sc a false n r) (test_open sc b true r) (λ far. test_code sc b true far r) (k true)
-  boths false false a b r h k = joins (test_open sc a false r) (test_open sc b false r) (λ far. test_code sc a false far r) (λ far. test_code sc b false far r) (h false) (k false)
+  boths : (decides s : Bool) (a b : CExpr) (r : ℕ) → ((s : Bool) → AimsAt (test_unpatched sc a s r) (λ far. test_code sc a s far r)) → ((s : Bool) → AimsAt (test_unpatched sc b s r) (λ far. test_code sc b s far r))
+      → AimsAt (both_unpatched decides s (test_code sc a) (test_unpatched sc a) (test_unpatched sc b) r) (λ far. both_code decides s (test_code sc a) (test_code sc b) far r)
+  boths true true a b r h k = joins (test_unpatched sc a true r) (test_unpatched sc b true r) (λ far. test_code sc a true far r) (λ far. test_code sc b true far r) (h true) (k true)
+  boths true false a b r h k = over (λ n. test_code sc a true n r) (test_unpatched sc b false r) (λ far. test_code sc b false far r) (k false)
+  boths false true a b r h k = over (λ n. test_code sc a false n r) (test_unpatched sc b true r) (λ far. test_code sc b true far r) (k true)
+  boths false false a b r h k = joins (test_unpatched sc a false r) (test_unpatched sc b false r) (λ far. test_code sc a false far r) (λ far. test_code sc b false far r) (h false) (k false)
 
-  pub aims : (e : CExpr) (s : Bool) (r : ℕ) → AimsAt (test_open sc e s r) (λ far. test_code sc e s far r)
+  pub aims : (e : CExpr) (s : Bool) (r : ℕ) → AimsAt (test_unpatched sc e s r) (λ far. test_code sc e s far r)
   aims (unary p Not e) s r = aims e (not s) r
   aims (unary p Negate e) s r = plains (made sc (unary p Negate e)) s r
   aims (binary p And a b) s r = boths false s a b r (λ s. aims a s r) (λ s. aims b s r)
@@ -266,10 +266,10 @@ module _ (sc : Scope) where
   aims (binary p Rem a b) s r = plains (made sc (binary p Rem a b)) s r
   aims e s r = plains (made sc e) s r
 
-  pub patches : (e : CExpr) (s : Bool) (r far to : ℕ) (before after : List ℕ) → far < 2 ^ 16 → length before + length (test_open sc e s r).code < 2 ^ 64
-      → (length before + length (test_open sc e s r).code + far) % 2 ^ 16 ≡ to % 2 ^ 16
-      → patched to (map (λ j. length before + j) (test_open sc e s r).jumps) (before ++ (map encoding (test_open sc e s r).code ++ after)) ≡ before ++ (map encoding (test_code sc e s far r) ++ after)
+  pub patches : (e : CExpr) (s : Bool) (r far to : ℕ) (before after : List ℕ) → far < 2 ^ 16 → length before + length (test_unpatched sc e s r).code < 2 ^ 64
+      → (length before + length (test_unpatched sc e s r).code + far) % 2 ^ 16 ≡ to % 2 ^ 16
+      → patched to (map (λ j. length before + j) (test_unpatched sc e s r).jumps) (before ++ (map encoding (test_unpatched sc e s r).code ++ after)) ≡ before ++ (map encoding (test_code sc e s far r) ++ after)
   patches e s r far to before after short small aim = (aims e s r).law far to before after short small aim
 
-  pub within : (e : CExpr) (s : Bool) (r at n : ℕ) → at + length (test_open sc e s r).code ≤ n → All (λ j. j < n) (map (λ j. at + j) (test_open sc e s r).jumps)
+  pub within : (e : CExpr) (s : Bool) (r at n : ℕ) → at + length (test_unpatched sc e s r).code ≤ n → All (λ j. j < n) (map (λ j. at + j) (test_unpatched sc e s r).jumps)
   within e s r at n h = (aims e s r).within at n h

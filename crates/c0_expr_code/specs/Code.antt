@@ -54,8 +54,8 @@ pub record Made : Type 0 where
   pub known : Option ℕ
 
 -- no place
-abbrev pub no_spot : ℕ → AddressingMode
-no_spot r = record { code = []; base = 0; displacement = 0 }
+abbrev pub no_address : ℕ → AddressingMode
+no_address r = record { code = []; base = 0; displacement = 0 }
 
 -- the lower half of a word
 abbrev pub low : ℕ → ℕ
@@ -75,18 +75,18 @@ constant_code d n =
     if nat_lt n (2 ^ 16) then Ori d 0 n ∷ [] else if is_near n then Addiu d 0 (low n) ∷ [] else Lui d (n / 2 ^ 16 % 2 ^ 16) ∷ Ori d d (low n) ∷ []
 
 -- an instruction on a place, with a register for the address where the displacement is far
-abbrev pub on_spot : (ℕ → ℕ → Inst) → ℕ → AddressingMode → List Inst
-on_spot f r x =
+abbrev pub access_code : (ℕ → ℕ → Inst) → ℕ → AddressingMode → List Inst
+access_code f r x =
     x.code ++ (if is_near x.displacement then f x.base (low x.displacement) ∷ []
     else Lui SCRATCH (high x.displacement) ∷ Addu r x.base SCRATCH ∷ f r (low x.displacement) ∷ [])
 
 -- what stands at a place, into a register
 abbrev pub load_code : ℕ → ℕ → AddressingMode → List Inst
-load_code d r x = on_spot (λ b k. Lw d b k) r x
+load_code d r x = access_code (λ b k. Lw d b k) r x
 
 -- a register's word, to a place
 abbrev pub store_code : ℕ → ℕ → AddressingMode → List Inst
-store_code q r x = on_spot (λ b k. Sw q b k) r x
+store_code q r x = access_code (λ b k. Sw q b k) r x
 
 -- no code, where a value stands already
 abbrev pub or_code : Option ℕ → List Inst → List Inst
@@ -107,28 +107,28 @@ at_place place = record { value = λ d r. load_code d r (place r); place = place
 -- a constant word, which a number may be written for
 abbrev pub constant : ℕ → Option ℕ → Made
 constant n literal =
-    record { value = λ d r. constant_code d n; place = no_spot; stands = if n == 0 then Some 0 else None; literal = literal; known = Some n }
+    record { value = λ d r. constant_code d n; place = no_address; stands = if n == 0 then Some 0 else None; literal = literal; known = Some n }
 
 -- a value that is no place
 abbrev pub only_value : (ℕ → ℕ → List Inst) → Made
-only_value code = record { value = code; place = no_spot; stands = None; literal = None; known = None }
+only_value code = record { value = code; place = no_address; stands = None; literal = None; known = None }
 
 -- the global of a number
-abbrev pub global_spot : Scope → ℕ → AddressingMode
-global_spot sc n = record { code = []; base = GLOBALS; displacement = 4 * words_before sc.env.structs (types_of sc.env.globals) n % 2 ^ 32 }
+abbrev pub global_address : Scope → ℕ → AddressingMode
+global_address sc n = record { code = []; base = GLOBALS; displacement = 4 * words_before sc.env.structs (types_of sc.env.globals) n % 2 ^ 32 }
 
 -- the bytes from the frame's end back to its beginning, modulo 2 ^ 32
 abbrev pub frame_back : Scope → ℕ
 frame_back sc = 2 ^ 32 - 4 * sc.frame % 2 ^ 32
 
 -- the variable of a number in the frame, which begins with three words of its own
-abbrev pub local_spot : Scope → ℕ → AddressingMode
-local_spot sc n =
+abbrev pub local_address : Scope → ℕ → AddressingMode
+local_address sc n =
     record { code = []; base = FRAME_END; displacement = (frame_back sc + (12 + 4 * words_before sc.env.structs (types_of sc.env.locals) n)) % 2 ^ 32 }
 
 -- what stands in a register
 abbrev pub register_made : ℕ → Made
-register_made q = record { value = λ d r. Addu d q 0 ∷ []; place = no_spot; stands = Some q; literal = None; known = None }
+register_made q = record { value = λ d r. Addu d q 0 ∷ []; place = no_address; stands = Some q; literal = None; known = None }
 
 -- the register of the variable of a number, where variables stand in registers
 abbrev pub register_of : ℕ → ℕ
@@ -136,25 +136,25 @@ register_of n = (ARGUMENTS + n) % 2 ^ 5
 
 -- a parameter or local
 abbrev pub local_made : Scope → ℕ → Made
-local_made sc n = if sc.in_registers then register_made (register_of n) else at_place (λ r. local_spot sc n)
+local_made sc n = if sc.in_registers then register_made (register_of n) else at_place (λ r. local_address sc n)
 
 -- a variable
 abbrev pub variable_made : Scope → Kind → ℕ → Made
-variable_made sc Unresolved n = at_place no_spot
-variable_made sc Struct n = at_place no_spot
-variable_made sc Field n = at_place no_spot
-variable_made sc Global n = at_place (λ r. global_spot sc n)
+variable_made sc Unresolved n = at_place no_address
+variable_made sc Struct n = at_place no_address
+variable_made sc Field n = at_place no_address
+variable_made sc Global n = at_place (λ r. global_address sc n)
 variable_made sc Local n = local_made sc n
-variable_made sc Function n = at_place no_spot
-variable_made sc Primitive n = at_place no_spot
+variable_made sc Function n = at_place no_address
+variable_made sc Primitive n = at_place no_address
 
 -- the place so many bytes further
 abbrev pub displaced : ℕ → AddressingMode → AddressingMode
 displaced k x = record { code = x.code; base = x.base; displacement = (x.displacement + k) % 2 ^ 32 }
 
 -- what a pointer points to
-abbrev pub target_spot : Scope → Made → ℕ → AddressingMode
-target_spot sc m r =
+abbrev pub target_address : Scope → Made → ℕ → AddressingMode
+target_address sc m r =
     record { code = operand_code m r ++ (Bne (operand_register m r) 0 1 ∷ J (sc.exit NullUse) ∷ []); base = operand_register m r; displacement = 0 }
 
 -- whether an index is below a length, into the scratch register
@@ -183,14 +183,14 @@ abbrev pub element_code : Scope → (q b r w n : ℕ) → List Inst
 element_code sc q b r w n = bound_code q n ++ (Bne SCRATCH 0 1 ∷ J (sc.exit Bounds) ∷ (scale_code w q ++ (Addu r b SCRATCH ∷ [])))
 
 -- an element whose index is tested
-abbrev pub tested_spot : Scope → (w n : ℕ) → AddressingMode → Made → ℕ → AddressingMode
-tested_spot sc w n x m r =
+abbrev pub tested_address : Scope → (w n : ℕ) → AddressingMode → Made → ℕ → AddressingMode
+tested_address sc w n x m r =
     record { code = x.code ++ (operand_code m (r + 1) ++ element_code sc (operand_register m (r + 1)) x.base r w n); base = r; displacement = x.displacement }
 
 -- an element: a number below the length needs no test
-abbrev pub element_spot : Scope → (w n : ℕ) → Option ℕ → AddressingMode → Made → ℕ → AddressingMode
-element_spot sc w n None x m r = tested_spot sc w n x m r
-element_spot sc w n (Some c) x m r = if nat_lt c n then displaced (4 * (c * w)) x else tested_spot sc w n x m r
+abbrev pub element_address : Scope → (w n : ℕ) → Option ℕ → AddressingMode → Made → ℕ → AddressingMode
+element_address sc w n None x m r = tested_address sc w n x m r
+element_address sc w n (Some c) x m r = if nat_lt c n then displaced (4 * (c * w)) x else tested_address sc w n x m r
 
 -- both sides, and then code that has them in registers
 abbrev pub two_code : (ℕ → ℕ → List Inst) → Made → Made → ℕ → List Inst
@@ -318,7 +318,7 @@ field_made sc t place n = at_place (λ r. displaced (4 * words_before sc.env.str
 
 -- an element of a place
 abbrev pub index_made : Scope → Option Ty → (ℕ → AddressingMode) → Made → Made
-index_made sc t place m = at_place (λ r. element_spot sc (element_words sc.env.structs t) (length_in t) m.literal (place r) m r)
+index_made sc t place m = at_place (λ r. element_address sc (element_words sc.env.structs t) (length_in t) m.literal (place r) m r)
 
 -- every node
 abbrev pub made : Scope → CExpr → Made
@@ -328,10 +328,10 @@ made sc (false_ p) = constant 0 None
 made sc (null p) = constant 0 None
 made sc (var x) = variable_made sc x.kind x.number
 made sc (field p e f) = field_made sc (type_at sc.env e) (made sc e).place f.number
-made sc (arrow p e f) = field_made sc (target (type_at sc.env e)) (λ r. target_spot sc (made sc e) r) f.number
+made sc (arrow p e f) = field_made sc (target (type_at sc.env e)) (λ r. target_address sc (made sc e) r) f.number
 made sc (index p e i) = index_made sc (type_at sc.env e) (made sc e).place (made sc i)
-made sc (deref p e) = at_place (λ r. target_spot sc (made sc e) r)
-made sc (address p e) = only_value (λ d r. on_spot (λ b k. Addiu d b k) r ((made sc e).place r))
+made sc (deref p e) = at_place (λ r. target_address sc (made sc e) r)
+made sc (address p e) = only_value (λ d r. access_code (λ b k. Addiu d b k) r ((made sc e).place r))
 made sc (unary p o e) = unary_made o (made sc e)
 made sc (binary p o a b) = binary_made sc o (made sc a) (made sc b)
 
@@ -340,5 +340,5 @@ abbrev pub value_code : Scope → CExpr → (d r : ℕ) → List Inst
 value_code sc e d r = (made sc e).value d r
 
 -- the place of an expression that is one, with free registers from r
-abbrev pub place_spot : Scope → CExpr → (r : ℕ) → AddressingMode
-place_spot sc e r = (made sc e).place r
+abbrev pub place_address : Scope → CExpr → (r : ℕ) → AddressingMode
+place_address sc e r = (made sc e).place r

@@ -3,9 +3,9 @@ use Rattle.std.specs.Prelude.{◌≡◌, ℕ, ◌*◌, ◌%◌, ◌^◌, Bool, t
 use Rattle.mips_table.specs.declared.inst.Inst.{Inst}
 use Rattle.mips_table.specs.declared.inst.Inst.TheVariants.{Lw, Sw, Addiu, Lui, Addu, Sltiu, Sltu, Xori, Mflo, Mfhi, Div, Beq, Bne, J, Sll, Mult}
 use Rattle.mips_table.specs.Encoding.{encoding}
-use Rattle.c0_expr_code.specs.declared.spot.Spot.{Spot as Near}
-use Rattle.c0_expr_code.specs.declared.spot.Access.{Access}
-use Rattle.c0_expr_code.specs.declared.spot.Access.TheVariants.{Load, Store, Address}
+use Rattle.c0_expr_code.specs.declared.address.Address.{Address as Near}
+use Rattle.c0_expr_code.specs.declared.address.Access.{Access}
+use Rattle.c0_expr_code.specs.declared.address.Access.TheVariants.{Load, Store, Address}
 use Rattle.masm.specs.declared.registers.TheConstants.{SCRATCH}
 use Rattle.c0_expr_code.specs.declared.element.Elements.{Elements}
 use Rattle.c0_tree.specs.Tree.{CExpr}
@@ -19,7 +19,7 @@ use Rattle.c0_meaning.specs.TypeAt.{type_at}
 use Rattle.c0_expr_code.specs.declared.scene.Scene.{Scene}
 use Rattle.c0_expr_code.specs.Scope.{Scope}
 use Rattle.c0_expr_code.specs.Scene.{made_in, scope_in}
-use Rattle.c0_expr_code.specs.Code.{AddressingMode, Made, made, low, high, shift_within, POWERS, Immediate, immediate_of, load_code, element_spot, element_words, fields_in, length_in}
+use Rattle.c0_expr_code.specs.Code.{AddressingMode, Made, made, low, high, shift_within, POWERS, Immediate, immediate_of, load_code, element_address, element_words, fields_in, length_in}
 use Rattle.c0_expr_code.specs.Code.{one_code, two_code, logic_code, operator_code, operator_made, binary_made, is_sure, divisor_code, operand_code, operand_register, bound_code, constant_code}
 
 -- the words of this code were appended, unless memory was wanting
@@ -34,8 +34,8 @@ access_inst Store d b k = Sw d b k
 access_inst Address d b k = Addiu d b k
 
 -- a place whose code stands already
-abbrev pub spot_at : Near → AddressingMode
-spot_at x = record { code = []; base = x.base; displacement = x.displacement }
+abbrev pub address_view : Near → AddressingMode
+address_view x = record { code = []; base = x.base; displacement = x.displacement }
 
 -- the access to a place that is too far for an immediate
 abbrev pub far_code : (ℕ → ℕ → Inst) → ℕ → AddressingMode → List Inst
@@ -74,8 +74,8 @@ taken_inst true d = Mflo d
 taken_inst false d = Mfhi d
 
 -- a place whose code stands already is another place
-abbrev pub IsSpot : Near → AddressingMode → Type 0
-IsSpot x y = (x.base ≡ y.base) × (x.displacement ≡ y.displacement)
+abbrev pub IsSameAddress : Near → AddressingMode → Type 0
+IsSameAddress x y = (x.base ≡ y.base) × (x.displacement ≡ y.displacement)
 
 -- a variable as value: it stands in a register, or is loaded
 abbrev pub held_code : Option ℕ → AddressingMode → (d r : ℕ) → List Inst
@@ -87,9 +87,9 @@ abbrev pub held_in : Scene → Expr → (d r : ℕ) → List Inst
 held_in scene e d r = held_code (made_in scene e).stands ((made_in scene e).place r) d r
 
 -- the place of an element
-abbrev pub index_spot : Scope → CExpr → CExpr → ℕ → AddressingMode
-index_spot sc e i r =
-    element_spot sc (element_words sc.env.structs (type_at sc.env e)) (length_in (type_at sc.env e)) (made sc i).literal ((made sc e).place r) (made sc i) r
+abbrev pub index_address : Scope → CExpr → CExpr → ℕ → AddressingMode
+index_address sc e i r =
+    element_address sc (element_words sc.env.structs (type_at sc.env e)) (length_in (type_at sc.env e)) (made sc i).literal ((made sc e).place r) (made sc i) r
 
 -- an operator between two expressions in a scene
 abbrev pub binary_in : Scene → BinaryOp → Expr → Expr → Made

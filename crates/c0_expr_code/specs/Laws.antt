@@ -23,7 +23,7 @@ use Rattle.c0_meaning.specs.Unit.{IsWellFormed}
 use Rattle.masm.specs.declared.registers.Places.{Places}
 use Rattle.masm.specs.Places.{ArePlaces}
 use Rattle.c0_expr_code.specs.Scope.{Scope, scope_of}
-use Rattle.c0_expr_code.specs.Code.{AddressingMode, store_code, operand_code, operand_register, made, value_code, place_spot}
+use Rattle.c0_expr_code.specs.Code.{AddressingMode, store_code, operand_code, operand_register, made, value_code, place_address}
 use Rattle.c0_expr_code.specs.Test.{test_code}
 use Rattle.c0_expr_code.specs.Bases.{words_of_all, Bases, types_in, location_word, word, RegionHeld}
 use Rattle.c0_expr_code.specs.Relation.{layout, StateIsTyped, Ready, KeepsRegisters, Area, Source, units_of, Right, TestRuns}
@@ -48,7 +48,7 @@ TestsRun = (w : World) (sc : Scope) (p : Bases) (s : C0State) → Sound w → Ar
 pub record CodesAreShort : Type 0 where
   pub value : (sc : Scope) (e : CExpr) (d r : ℕ) → length (value_code sc e d r) ≤ 14 * nodes e
   pub operand : (sc : Scope) (e : CExpr) (r : ℕ) → length (operand_code (made sc e) r) ≤ 14 * nodes e
-  pub place : (sc : Scope) (e : CExpr) (r : ℕ) → length (place_spot sc e r).code + 3 ≤ 14 * nodes e
+  pub place : (sc : Scope) (e : CExpr) (r : ℕ) → length (place_address sc e r).code + 3 ≤ 14 * nodes e
   pub test : (sc : Scope) (e : CExpr) (s : Bool) (far r : ℕ) → length (test_code sc e s far r) ≤ 15 * nodes e
   pub some : (sc : Scope) (e : CExpr) (d r : ℕ) → 1 ≤ length (value_code sc e d r)
   pub test_some : (sc : Scope) (e : CExpr) (s : Bool) (far r : ℕ) → 1 ≤ length (test_code sc e s far r)
@@ -168,6 +168,6 @@ pub record CodesInRange : Type 0 where
   pub value : (sc : Scope) → HasNearExits sc → (e : CExpr) (d r : ℕ) → d < 32 → r + need e ≤ 32 → All InRange (value_code sc e d r)
   pub operand : (sc : Scope) → HasNearExits sc → (e : CExpr) (r : ℕ) → r + need e ≤ 32 → All InRange (operand_code (made sc e) r)
   pub register : (sc : Scope) → HasNearExits sc → (e : CExpr) (r : ℕ) → r + need e ≤ 32 → operand_register (made sc e) r < 32
-  pub place : (sc : Scope) → HasNearExits sc → (e : CExpr) (r : ℕ) → r + need e ≤ 32 → All InRange (place_spot sc e r).code
-  pub store : (sc : Scope) → HasNearExits sc → (e : CExpr) (q r : ℕ) → q < 32 → r + need e ≤ 32 → All InRange (store_code q r (place_spot sc e r))
+  pub place : (sc : Scope) → HasNearExits sc → (e : CExpr) (r : ℕ) → r + need e ≤ 32 → All InRange (place_address sc e r).code
+  pub store : (sc : Scope) → HasNearExits sc → (e : CExpr) (q r : ℕ) → q < 32 → r + need e ≤ 32 → All InRange (store_code q r (place_address sc e r))
   pub test : (sc : Scope) → HasNearExits sc → (e : CExpr) (s : Bool) (far r : ℕ) → far < 2 ^ 16 → r + need e ≤ 32 → All InRange (test_code sc e s far r)

@@ -13,4 +13,4 @@ pub mod Layout
 pub mod Exits
 pub mod Scene
 pub mod Patch
-pub mod Opened
+pub mod EmitTest

@@ -12,7 +12,7 @@ use Rattle.c0_meaning.specs.Ty as ty
 use Rattle.c0_meaning.specs.Env.{Typed}
 use Rattle.c0_meaning.specs.Operators.{KernelFault, NullUse, Bounds, DivZero, StackOut}
 use Rattle.c0_expr_code.specs.Scope.{Scope}
-use Rattle.c0_expr_code.specs.Code.{constant_code, scale_code, store_code, value_code, place_spot}
+use Rattle.c0_expr_code.specs.Code.{constant_code, scale_code, store_code, value_code, place_address}
 use Rattle.c0_expr_code.specs.Test.{test_code}
 
 -- no place in a source
@@ -89,7 +89,7 @@ pub record AreSums : Type 0 where
   pub by_zero : value_code (scope true) (binary z Rem i (number 0)) 20 8 ≡ Bne 0 0 1 ∷ J 102 ∷ Divide 20 0 ∷ Mfhi 20 ∷ []
 
 -- Places: elements with and without a test, a path through pointers, an address, a far element, a store, and sizes of elements.
-pub record AreSpots : Type 0 where
+pub record AreAddresses : Type 0 where
   pub known : value_code (scope false) (index z a (number 3)) 8 8 ≡ Lw 8 28 16 ∷ []
   pub last : value_code (scope false) (index z a (number 9)) 8 8 ≡ Lw 8 28 40 ∷ []
   pub outside : value_code (scope false) (index z a (number 10)) 8 8
@@ -101,7 +101,7 @@ pub record AreSpots : Type 0 where
   pub path : value_code (scope true) (arrow z (arrow z n (name Field 1)) (name Field 0)) 8 8
       ≡ Bne 21 0 1 ∷ J 100 ∷ Lw 8 21 4 ∷ Bne 8 0 1 ∷ J 100 ∷ Lw 8 8 0 ∷ []
   pub place : value_code (scope true) (address z (index z a i)) 8 8 ≡ Sltiu 1 20 10 ∷ Bne 1 0 1 ∷ J 101 ∷ Sll 1 20 2 ∷ Addu 8 28 1 ∷ Addiu 8 8 4 ∷ []
-  pub stored : store_code 8 9 (place_spot (scope false) i 9) ≡ Sw 8 29 65528 ∷ []
+  pub stored : store_code 8 9 (place_address (scope false) i 9) ≡ Sw 8 29 65528 ∷ []
   pub power : scale_code 1024 9 ≡ Sll 1 9 12 ∷ []
   pub other : scale_code 3 9 ≡ Ori 1 0 12 ∷ Mult 9 1 ∷ Mflo 1 ∷ []
   pub large : scale_code 16385 9 ≡ Lui 1 1 ∷ Ori 1 1 4 ∷ Mult 9 1 ∷ Mflo 1 ∷ []

@@ -4,12 +4,12 @@ ghost use Rattle.std.specs.Prelude.{◌≡◌, ◌+◌, ◌≤◌, ◌<◌, IfOk
 ghost use Rattle.c0_tree.specs.Size.{need};
 ghost use Rattle.c0_tree.specs.View.{expr_view};
 ghost use Rattle.c0_expr_code.specs.Code.{operand_code, operand_register, value_code};
-ghost use Rattle.c0_expr_code.specs.Emit.{Appends, IsSpot};
+ghost use Rattle.c0_expr_code.specs.Emit.{Appends, IsSameAddress};
 ghost use Rattle.c0_expr_code.specs.Scene.{HasNumbers, made_in, scope_in};
 
+use crate::address::Address;
 use crate::node;
 use crate::scene::Scene;
-use crate::spot::Spot;
 use c0_tree::Expr;
 use std::alloc::AllocError;
 
@@ -65,16 +65,16 @@ pub fn emit_place(
     expr: &Expr,
     free: u32,
     code: &mut Vec<u32>,
-) -> Result<Spot, AllocError>
+) -> Result<Address, AllocError>
     requires room { free + need (expr_view expr.now) ≤ 20 }
     requires numbers { HasNumbers (scope_in scene.now).env (expr_view expr.now) }
     ensures code { Appends code.old.items code.new.items ((made_in scene.now expr.now).place free).code result }
-    ensures place { IfOk result (λ x. IsSpot x ((made_in scene.now expr.now).place free)) }
+    ensures place { IfOk result (λ x. IsSameAddress x ((made_in scene.now expr.now).place free)) }
     ensures small { IfOk result (λ x. x.base < 32) }
     ensures unchanged { OnErr result (code.new.items ≡ code.old.items) }
 {
     let mut own = Vec::new(*code.allocator());
-    let spot = node::emit_place(scene, expr, free, &mut own)?;
+    let address = node::emit_place(scene, expr, free, &mut own)?;
     code.extend_from_slice(&own)?;
-    Ok(spot)
+    Ok(address)
 }

@@ -4,7 +4,7 @@ ghost use Rattle.c0_expr_code.specs.Laws.{AreasHold, CodesAreShort, CodesInRange
 ghost use Rattle.c0_expr_code.specs.Laws.{HeldElsewhere, HeldStays, NamesAreEnough, PartsFit, StoresHold, StoresRun, TestsRun};
 ghost use Rattle.mips_table.specs.Code.{World, Sound};
 ghost use Rattle.c0_expr_code.specs.Jumps.{JumpsAreWithin, PatchesAim};
-ghost use Rattle.c0_expr_code.specs.Rows.{AreSpots, AreSums, AreTests};
+ghost use Rattle.c0_expr_code.specs.Rows.{AreAddresses, AreSums, AreTests};
 
 use c0_meaning::laws::{units_are_typed_or_faulty, words_are_those_of_the_parts};
 use c0_meaning::run_laws::{declared_types_have_words, parts_of_a_type_are_apart};
@@ -83,7 +83,7 @@ pub fn held_elsewhere()
 /// The code of some expressions, word by word.
 pub fn worked_rows()
     ensures sums { AreSums }
-    ensures places { AreSpots }
+    ensures places { AreAddresses }
     ensures tests { AreTests }
 {}
 

@@ -1,6 +1,7 @@
 //! The code of C0's expressions, and that it comes to what they mean.
 #![tactic(auto)]
 
+mod address;
 mod bytes;
 mod constant;
 mod element;
@@ -17,11 +18,11 @@ mod patching;
 mod scene;
 mod scene_of;
 mod sorted;
-mod spot;
 mod test;
 mod variable;
 mod word;
 
+pub use address::{Access, Address, emit_access};
 pub use constant::emit_constant;
 pub use expression::{emit_operand, emit_place, emit_value};
 pub use fault_exits::FaultExits;
@@ -31,7 +32,6 @@ pub use leaf::keeps_registers;
 pub use patching::{patch, patch_all};
 pub use scene::Scene;
 pub use scene_of::begun_scene;
-pub use spot::{Access, Spot, emit_access};
 pub use test::emit_test;
 pub use variable::frame_displacement;
 pub use word::emit;

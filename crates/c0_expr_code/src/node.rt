@@ -10,12 +10,13 @@ ghost use Rattle.c0_meaning.specs.TypeAt as types;
 ghost use Rattle.c0_tree.specs.declared.tree.BinaryOp.TheVariants.{Add};
 ghost use Rattle.c0_tree.specs.declared.tree.UnaryOp.TheVariants.{Negate};
 ghost use Rattle.c0_expr_code.specs.Code as spec;
-ghost use Rattle.c0_expr_code.specs.Code.{immediate, on_spot, operand_code, operand_register, target_spot, to_code, unary_made, value_code};
-ghost use Rattle.c0_expr_code.specs.Emit.{Appends, IsSpot, access_inst, binary_in, held_in, index_spot, is_immediate, logic_in, logic_skip};
+ghost use Rattle.c0_expr_code.specs.Code.{immediate, access_code, operand_code, operand_register, target_address, to_code, unary_made, value_code};
+ghost use Rattle.c0_expr_code.specs.Emit.{Appends, IsSameAddress, access_inst, binary_in, held_in, index_address, is_immediate, logic_in, logic_skip};
 ghost use Rattle.c0_expr_code.specs.Emit.{operator_in, quotient_in, right_code, side_in, sides_in, tested_code};
 ghost use Rattle.c0_expr_code.specs.Scene.{HasNumbers, made_in, scope_in, unit_in};
 ghost use Rattle.c0_expr_code.specs.Sorted.{operator_of, plain_of};
 
+use crate::address::{Access, Address, emit_access};
 use crate::constant::emit_constant;
 use crate::element::{Elements, emit_element, emit_guard};
 use crate::known::{constant_below, known_of, literal_of, stands_in};
@@ -23,8 +24,7 @@ use crate::operator::{emit_division, emit_operator, emit_with_constant, takes_co
 use crate::patching::patch;
 use crate::scene::Scene;
 use crate::sorted::{Plain, Sorted, sort_of};
-use crate::spot::{Access, Spot, emit_access};
-use crate::variable::{elements_of, field_bytes, target_of, variable_spot};
+use crate::variable::{elements_of, field_bytes, target_of, variable_address};
 use crate::word::emit;
 use c0_meaning::form::Found;
 use c0_meaning::type_at::type_at;
@@ -69,33 +69,33 @@ pub fn emit_place(
     expr: &Expr,
     free: u32,
     code: &mut Vec<u32>,
-) -> Result<Spot, AllocError>
+) -> Result<Address, AllocError>
     requires room { free + need (expr_view expr.now) ≤ 20 }
     requires numbers { HasNumbers (scope_in scene.now).env (expr_view expr.now) }
     ensures code { Appends code.old.items code.new.items ((made_in scene.now expr.now).place free).code result }
-    ensures place { IfOk result (λ x. IsSpot x ((made_in scene.now expr.now).place free)) }
+    ensures place { IfOk result (λ x. IsSameAddress x ((made_in scene.now expr.now).place free)) }
     ensures small { IfOk result (λ x. x.base < 32) }
 {
     match expr {
-        Expr::Var(name) => Ok(variable_spot(scene, name.kind, name.number)),
+        Expr::Var(name) => Ok(variable_address(scene, name.kind, name.number)),
         Expr::Field(_, part, name) => {
-            let spot = emit_place(scene, part, free, code)?;
-            Ok(spot.moved(field_bytes(scene, type_of(scene, part), name.number)))
+            let address = emit_place(scene, part, free, code)?;
+            Ok(address.moved(field_bytes(scene, type_of(scene, part), name.number)))
         }
         Expr::Arrow(_, part, name) => {
-            let spot = emit_target(scene, part, free, code)?;
+            let address = emit_target(scene, part, free, code)?;
             let found = target_of(type_of(scene, part));
-            Ok(spot.moved(field_bytes(scene, found, name.number)))
+            Ok(address.moved(field_bytes(scene, found, name.number)))
         }
         Expr::Index(_, part, index) => emit_index(scene, part, index, free, code),
         Expr::Deref(_, part) => emit_target(scene, part, free, code),
-        Expr::Num(_, _) => Ok(Spot::none()),
-        Expr::True(_) => Ok(Spot::none()),
-        Expr::False(_) => Ok(Spot::none()),
-        Expr::Null(_) => Ok(Spot::none()),
-        Expr::AddressOf(_, _) => Ok(Spot::none()),
-        Expr::Unary(_, _, _) => Ok(Spot::none()),
-        Expr::Binary(_, _, _, _) => Ok(Spot::none()),
+        Expr::Num(_, _) => Ok(Address::none()),
+        Expr::True(_) => Ok(Address::none()),
+        Expr::False(_) => Ok(Address::none()),
+        Expr::Null(_) => Ok(Address::none()),
+        Expr::AddressOf(_, _) => Ok(Address::none()),
+        Expr::Unary(_, _, _) => Ok(Address::none()),
+        Expr::Binary(_, _, _, _) => Ok(Address::none()),
     }
 }
 
@@ -106,16 +106,16 @@ fn emit_target(
     part: &Expr,
     free: u32,
     code: &mut Vec<u32>,
-) -> Result<Spot, AllocError>
+) -> Result<Address, AllocError>
     requires room { free + need (expr_view part.now) ≤ 20 }
     requires numbers { HasNumbers (scope_in scene.now).env (expr_view part.now) }
-    ensures code { Appends code.old.items code.new.items (target_spot (scope_in scene.now) (made_in scene.now part.now) free).code result }
-    ensures place { IfOk result (λ x. IsSpot x (target_spot (scope_in scene.now) (made_in scene.now part.now) free)) }
+    ensures code { Appends code.old.items code.new.items (target_address (scope_in scene.now) (made_in scene.now part.now) free).code result }
+    ensures place { IfOk result (λ x. IsSameAddress x (target_address (scope_in scene.now) (made_in scene.now part.now) free)) }
     ensures small { IfOk result (λ x. x.base < 32) }
 {
     let base = emit_operand(scene, part, free, code)?;
     emit_guard(code, base, scene.exits.null_use)?;
-    Ok(Spot {
+    Ok(Address {
         base,
         displacement: 0,
     })
@@ -129,20 +129,20 @@ fn emit_index(
     index: &Expr,
     free: u32,
     code: &mut Vec<u32>,
-) -> Result<Spot, AllocError>
+) -> Result<Address, AllocError>
     requires first { free + need (expr_view part.now) ≤ 20 }
     requires second { free + 1 + need (expr_view index.now) ≤ 20 }
     requires part { HasNumbers (scope_in scene.now).env (expr_view part.now) }
     requires index { HasNumbers (scope_in scene.now).env (expr_view index.now) }
-    ensures code { Appends code.old.items code.new.items (index_spot (scope_in scene.now) (expr_view part.now) (expr_view index.now) free).code result }
-    ensures place { IfOk result (λ x. IsSpot x (index_spot (scope_in scene.now) (expr_view part.now) (expr_view index.now) free)) }
+    ensures code { Appends code.old.items code.new.items (index_address (scope_in scene.now) (expr_view part.now) (expr_view index.now) free).code result }
+    ensures place { IfOk result (λ x. IsSameAddress x (index_address (scope_in scene.now) (expr_view part.now) (expr_view index.now) free)) }
     ensures small { IfOk result (λ x. x.base < 32) }
 {
-    let spot = emit_place(scene, part, free, code)?;
+    let address = emit_place(scene, part, free, code)?;
     let elements = elements_of(scene, type_of(scene, part));
     match constant_below(index, elements.count) {
-        Some(number) => Ok(spot.moved(elements.bytes.wrapping_mul(number))),
-        None => emit_tested(scene, spot, elements, index, free, code),
+        Some(number) => Ok(address.moved(elements.bytes.wrapping_mul(number))),
+        None => emit_tested(scene, address, elements, index, free, code),
     }
 }
 
@@ -150,25 +150,25 @@ fn emit_index(
 #[cycle(node)]
 fn emit_tested(
     scene: &Scene<'_>,
-    spot: Spot,
+    address: Address,
     elements: Elements,
     index: &Expr,
     free: u32,
     code: &mut Vec<u32>,
-) -> Result<Spot, AllocError>
+) -> Result<Address, AllocError>
     requires room { free + 1 + need (expr_view index.now) ≤ 20 }
     requires numbers { HasNumbers (scope_in scene.now).env (expr_view index.now) }
-    requires base { spot.base < 32 }
+    requires base { address.base < 32 }
     requires shift { IfSome elements.shift (λ by. by < 32) }
-    ensures code { Appends code.old.items code.new.items (tested_code (scope_in scene.now) elements spot.base (made_in scene.now index.now) free) result }
+    ensures code { Appends code.old.items code.new.items (tested_code (scope_in scene.now) elements address.base (made_in scene.now index.now) free) result }
     ensures base { IfOk result (λ x. x.base ≡ free) }
-    ensures displacement { IfOk result (λ x. x.displacement ≡ spot.displacement) }
+    ensures displacement { IfOk result (λ x. x.displacement ≡ address.displacement) }
 {
     let register = emit_operand(scene, index, free + 1, code)?;
-    emit_element(code, scene, free, spot.base, register, elements)?;
-    Ok(Spot {
+    emit_element(code, scene, free, address.base, register, elements)?;
+    Ok(Address {
         base: free,
-        displacement: spot.displacement,
+        displacement: address.displacement,
     })
 }
 
@@ -217,10 +217,10 @@ fn emit_held(
     requires room { free + need (expr_view expr.now) ≤ 20 }
     requires target { target < 32 }
     requires numbers { HasNumbers (scope_in scene.now).env (expr_view expr.now) }
-    ensures { Appends code.old.items code.new.items (on_spot (access_inst access target) free ((made_in scene.now expr.now).place free)) result }
+    ensures { Appends code.old.items code.new.items (access_code (access_inst access target) free ((made_in scene.now expr.now).place free)) result }
 {
-    let spot = emit_place(scene, expr, free, code)?;
-    emit_access(code, access, target, free, spot)
+    let address = emit_place(scene, expr, free, code)?;
+    emit_access(code, access, target, free, address)
 }
 
 // Appends the code of a variable as value.

@@ -9,8 +9,8 @@ ghost use Rattle.c0_tree.specs.Size.{need, binary_need};
 ghost use Rattle.c0_tree.specs.View.{expr_view};
 ghost use Rattle.c0_tree.specs.declared.tree.BinaryOp.TheVariants.{Eq};
 ghost use Rattle.c0_expr_code.specs.Emit.{Appends};
-ghost use Rattle.c0_expr_code.specs.Opened.{AppendsOpen, bool_code, bool_open, either_open, equality_open, higher_code, is_test_immediate, logic_open};
-ghost use Rattle.c0_expr_code.specs.Opened.{lower_code, open_in, operation_open, order_in, order_open, over_in, registers_in, side_code, test_with};
+ghost use Rattle.c0_expr_code.specs.EmitTest.{AppendsTest, bool_code, bool_unpatched, either_unpatched, equality_unpatched, higher_code, is_test_immediate, logic_unpatched};
+ghost use Rattle.c0_expr_code.specs.EmitTest.{lower_code, unpatched_in, operation_in, order_in, order_unpatched, over_in, registers_in, side_code, test_with};
 ghost use Rattle.c0_expr_code.specs.Scene.{HasNumbers, scope_in};
 ghost use Rattle.c0_expr_code.specs.Sorted.{operator_of, order_of};
 ghost use Rattle.c0_expr_code.specs.Test.{below_code, branch_code, compare_code, immediate_test, negative_branch, positive_branch};
@@ -290,7 +290,7 @@ fn emit_bool(
 ) -> Result<(), AllocError>
     requires room { free + need (expr_view expr.now) ≤ 20 }
     requires numbers { HasNumbers (scope_in scene.now).env (expr_view expr.now) }
-    ensures { AppendsOpen code.old code.new jumps.old jumps.new (bool_open scene.now expr.now wanted free) result }
+    ensures { AppendsTest code.old code.new jumps.old jumps.new (bool_unpatched scene.now expr.now wanted free) result }
 {
     emit_bool_code(scene, expr, wanted, free, code)?;
     note_last(code, jumps)
@@ -311,7 +311,7 @@ fn emit_order_test(
     requires second { free + 1 + need (expr_view right.now) ≤ 20 }
     requires left { HasNumbers (scope_in scene.now).env (expr_view left.now) }
     requires right { HasNumbers (scope_in scene.now).env (expr_view right.now) }
-    ensures { AppendsOpen code.old code.new jumps.old jumps.new (order_open scene.now (order_of order) left.now right.now wanted free) result }
+    ensures { AppendsTest code.old code.new jumps.old jumps.new (order_unpatched scene.now (order_of order) left.now right.now wanted free) result }
 {
     emit_order(scene, order, left, right, wanted, free, code)?;
     note_last(code, jumps)
@@ -351,7 +351,7 @@ fn emit_equality_test(
     requires second { free + 1 + need (expr_view right.now) ≤ 20 }
     requires left { HasNumbers (scope_in scene.now).env (expr_view left.now) }
     requires right { HasNumbers (scope_in scene.now).env (expr_view right.now) }
-    ensures { AppendsOpen code.old code.new jumps.old jumps.new (equality_open scene.now left.now right.now wanted free) result }
+    ensures { AppendsTest code.old code.new jumps.old jumps.new (equality_unpatched scene.now left.now right.now wanted free) result }
 {
     emit_equality(scene, left, right, wanted, free, code)?;
     note_last(code, jumps)
@@ -373,7 +373,7 @@ pub fn emit_test(
 ) -> Result<(), AllocError>
     requires room { free + need (expr_view expr.now) ≤ 20 }
     requires numbers { HasNumbers (scope_in scene.now).env (expr_view expr.now) }
-    ensures { AppendsOpen code.old code.new jumps.old jumps.new (open_in scene.now expr.now wanted free) result }
+    ensures { AppendsTest code.old code.new jumps.old jumps.new (unpatched_in scene.now expr.now wanted free) result }
 {
     match expr {
         Expr::Num(_, _) => emit_bool(scene, expr, wanted, free, code, jumps),
@@ -426,7 +426,7 @@ fn emit_operation(
     requires numbers { HasNumbers (scope_in scene.now).env (expr_view whole.now) }
     requires left { HasNumbers (scope_in scene.now).env (expr_view left.now) }
     requires right { HasNumbers (scope_in scene.now).env (expr_view right.now) }
-    ensures { AppendsOpen code.old code.new jumps.old jumps.new (operation_open scene.now whole.now (operator_of op) left.now right.now wanted free) result }
+    ensures { AppendsTest code.old code.new jumps.old jumps.new (operation_in scene.now whole.now (operator_of op) left.now right.now wanted free) result }
 {
     match op {
         Sorted::Plain(op) => match op {
@@ -463,7 +463,7 @@ fn emit_both(
     requires second { free + need (expr_view right.now) ≤ 20 }
     requires left { HasNumbers (scope_in scene.now).env (expr_view left.now) }
     requires right { HasNumbers (scope_in scene.now).env (expr_view right.now) }
-    ensures { AppendsOpen code.old code.new jumps.old jumps.new (logic_open scene.now decides left.now right.now wanted free) result }
+    ensures { AppendsTest code.old code.new jumps.old jumps.new (logic_unpatched scene.now decides left.now right.now wanted free) result }
 {
     if decides == wanted {
         emit_joined(alloc, scene, left, right, wanted, free, code, jumps)
@@ -488,7 +488,7 @@ fn emit_joined(
     requires second { free + need (expr_view right.now) ≤ 20 }
     requires left { HasNumbers (scope_in scene.now).env (expr_view left.now) }
     requires right { HasNumbers (scope_in scene.now).env (expr_view right.now) }
-    ensures { AppendsOpen code.old code.new jumps.old jumps.new (either_open scene.now left.now right.now wanted free) result }
+    ensures { AppendsTest code.old code.new jumps.old jumps.new (either_unpatched scene.now left.now right.now wanted free) result }
 {
     emit_test(alloc, scene, left, wanted, free, code, jumps)?;
     emit_test(alloc, scene, right, wanted, free, code, jumps)
@@ -510,7 +510,7 @@ fn emit_over(
     requires second { free + need (expr_view right.now) ≤ 20 }
     requires left { HasNumbers (scope_in scene.now).env (expr_view left.now) }
     requires right { HasNumbers (scope_in scene.now).env (expr_view right.now) }
-    ensures { AppendsOpen code.old code.new jumps.old jumps.new (over_in scene.now left.now right.now wanted free) result }
+    ensures { AppendsTest code.old code.new jumps.old jumps.new (over_in scene.now left.now right.now wanted free) result }
 {
     let mut over = Vec::new(alloc);
     emit_test(alloc, scene, left, !wanted, free, code, &mut over)?;

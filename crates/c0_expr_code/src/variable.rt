@@ -10,13 +10,13 @@ ghost use Rattle.c0_meaning.specs.Sound.{shapes};
 ghost use Rattle.c0_meaning.specs.TypedState.{types_of};
 ghost use Rattle.c0_expr_code.specs.Code as spec;
 ghost use Rattle.c0_expr_code.specs.Code.{element_words, length_in, local_made, variable_made};
-ghost use Rattle.c0_expr_code.specs.Emit.{HasWords, IsSpot, bytes_to_field};
+ghost use Rattle.c0_expr_code.specs.Emit.{HasWords, IsSameAddress, bytes_to_field};
 ghost use Rattle.c0_expr_code.specs.Scene.{IsFieldThere, IsThere, scope_in, unit_in};
 
+use crate::address::Address;
 use crate::bytes::{bytes_of, words_to_field};
 use crate::element::{Elements, shift_of};
 use crate::scene::Scene;
-use crate::spot::Spot;
 use crate::word::wrapped;
 use c0_meaning::form::Found;
 use c0_meaning::laws::offsets_are_those;
@@ -41,15 +41,15 @@ fn words_to_local(scene: &Scene<'_>, number: u32) -> u64
 }
 
 // The place of a variable of the frame; no place where it stands in a register.
-fn local_spot(scene: &Scene<'_>, number: u32) -> Spot
+fn local_address(scene: &Scene<'_>, number: u32) -> Address
     requires { number < length (scope_in scene.now).env.locals }
-    ensures place { (r : ℕ) → IsSpot result ((local_made (scope_in scene.now) number).place r) }
+    ensures place { (r : ℕ) → IsSameAddress result ((local_made (scope_in scene.now) number).place r) }
     ensures base { result.base < 32 }
 {
     if scene.in_registers {
-        Spot::none()
+        Address::none()
     } else {
-        Spot {
+        Address {
             base: FRAME_END,
             displacement: frame_displacement(scene, words_to_local(scene, number).wrapping_add(3)),
         }
@@ -57,30 +57,30 @@ fn local_spot(scene: &Scene<'_>, number: u32) -> Spot
 }
 
 // The place of a global.
-fn global_spot(scene: &Scene<'_>, number: u32) -> Spot
+fn global_address(scene: &Scene<'_>, number: u32) -> Address
     requires { number < length (scope_in scene.now).env.globals }
-    ensures { IsSpot result (spec.global_spot (scope_in scene.now) number) }
+    ensures { IsSameAddress result (spec.global_address (scope_in scene.now) number) }
 {
-    Spot {
+    Address {
         base: GLOBALS,
         displacement: wrapped(scene.layout.global(number).wrapping_mul(4)),
     }
 }
 
 /// The place of a variable; no place where it stands in a register.
-pub fn variable_spot(scene: &Scene<'_>, kind: Kind, number: u32) -> Spot
+pub fn variable_address(scene: &Scene<'_>, kind: Kind, number: u32) -> Address
     requires { IsThere (scope_in scene.now).env kind number }
-    ensures place { (r : ℕ) → IsSpot result ((variable_made (scope_in scene.now) kind number).place r) }
+    ensures place { (r : ℕ) → IsSameAddress result ((variable_made (scope_in scene.now) kind number).place r) }
     ensures base { result.base < 32 }
 {
     match kind {
-        Kind::Unresolved => Spot::none(),
-        Kind::Struct => Spot::none(),
-        Kind::Field => Spot::none(),
-        Kind::Global => global_spot(scene, number),
-        Kind::Local => local_spot(scene, number),
-        Kind::Function => Spot::none(),
-        Kind::Primitive => Spot::none(),
+        Kind::Unresolved => Address::none(),
+        Kind::Struct => Address::none(),
+        Kind::Field => Address::none(),
+        Kind::Global => global_address(scene, number),
+        Kind::Local => local_address(scene, number),
+        Kind::Function => Address::none(),
+        Kind::Primitive => Address::none(),
     }
 }
 

@@ -22,7 +22,7 @@ use Rattle.c0_stmt_code.specs.Code.{args_code}
 use Rattle.c0_stmt_code.specs.Standing.{AreIn}
 use Rattle.c0_stmt_code.proofs.Premises.{ExpressionsDo, AllScalar}
 use Rattle.c0_stmt_code.proofs.Blocks.{front, back}
-use Rattle.c0_stmt_code.proofs.Spots.{read_is}
+use Rattle.c0_stmt_code.proofs.MemoryAccess.{read_is}
 
 -- memory and the registers from 28 on are as they were
 pub record Soft (c c' : Contents) : Type 0 where

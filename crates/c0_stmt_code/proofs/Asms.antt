@@ -36,7 +36,7 @@ use Rattle.c0_stmt_code.proofs.Premises.{HeldStays, AreInts}
 use Rattle.c0_stmt_code.proofs.RunStretches.{Way, on, of, away}
 use Rattle.c0_stmt_code.proofs.Blocks.{front, back}
 use Rattle.c0_stmt_code.proofs.State.{standing_at}
-use Rattle.c0_stmt_code.proofs.Spots.{read_is}
+use Rattle.c0_stmt_code.proofs.MemoryAccess.{read_is}
 use Rattle.c0_stmt_code.proofs.Rooms.{variables_same}
 use Rattle.c0_stmt_code.proofs.Frames.{tested}
 use Rattle.c0_stmt_code.proofs.Returns.{led}

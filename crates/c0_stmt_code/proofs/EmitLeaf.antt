@@ -16,8 +16,8 @@ use Rattle.c0_meaning.specs.Typed.{UnitsAreFaultless}
 use Rattle.c0_meaning.specs.TypedState.{types_of}
 use Rattle.c0_meaning.specs.Words.{words, all_words}
 use Rattle.c0_expr_code.specs.Scope.{Scope}
-use Rattle.c0_expr_code.specs.Code.{on_spot, register_of}
-use Rattle.c0_stmt_code.specs.Code.{clear_code, frame_spot, params_code, zeros_code}
+use Rattle.c0_expr_code.specs.Code.{access_code, register_of}
+use Rattle.c0_stmt_code.specs.Code.{clear_code, frame_slot, params_code, zeros_code}
 use Rattle.c0_stmt_code.specs.EmitLeaf.{FramesAreThose}
 use Rattle.c0_stmt_code.proofs.Premises.{AllScalar}
 use Rattle.c0_stmt_code.proofs.ExpressionLaws.{functions_are}
@@ -35,18 +35,18 @@ one_less n i h = omega (arith, h)
 
 -- the stores of arguments to the frame
 pub params_next : (sc : Scope) (n i : ℕ) → i < n
-    → params_code sc (n - i) i ≡ on_spot (λ b k. Sw (register_of i) b k) SCRATCH (frame_spot sc (3 + i)) ++ params_code sc (n - (i + 1)) (i + 1)
+    → params_code sc (n - i) i ≡ access_code (λ b k. Sw (register_of i) b k) SCRATCH (frame_slot sc (3 + i)) ++ params_code sc (n - (i + 1)) (i + 1)
 params_next sc n i h =
     ap (λ (k : ℕ). params_code sc k i) (one_less n i h)
-    ∙ ap (λ (j : ℕ). on_spot (λ b k. Sw (register_of i) b k) SCRATCH (frame_spot sc (3 + i)) ++ params_code sc (n - (i + 1)) j) (sym (add-one i))
+    ∙ ap (λ (j : ℕ). access_code (λ b k. Sw (register_of i) b k) SCRATCH (frame_slot sc (3 + i)) ++ params_code sc (n - (i + 1)) j) (sym (add-one i))
 
 -- the stores of 0 to words of the frame
 pub zeros_next : (sc : Scope) (n first i : ℕ) → i < n
-    → zeros_code sc (n - i) (first + i) ≡ on_spot (λ b k. Sw 0 b k) SCRATCH (frame_spot sc (first + i)) ++ zeros_code sc (n - (i + 1)) (first + (i + 1))
+    → zeros_code sc (n - i) (first + i) ≡ access_code (λ b k. Sw 0 b k) SCRATCH (frame_slot sc (first + i)) ++ zeros_code sc (n - (i + 1)) (first + (i + 1))
 zeros_next sc n first i h =
     let e : suc (first + i) ≡ first + (i + 1) = omega arith in
     ap (λ (k : ℕ). zeros_code sc k (first + i)) (one_less n i h)
-    ∙ ap (λ (j : ℕ). on_spot (λ b k. Sw 0 b k) SCRATCH (frame_spot sc (first + i)) ++ zeros_code sc (n - (i + 1)) j) e
+    ∙ ap (λ (j : ℕ). access_code (λ b k. Sw 0 b k) SCRATCH (frame_slot sc (first + i)) ++ zeros_code sc (n - (i + 1)) j) e
 
 -- the registers of variables that become 0
 pub clear_next : (n first i : ℕ) → i < n → clear_code (n - i) (first + i) ≡ Addu (register_of (first + i)) 0 0 ∷ clear_code (n - (i + 1)) (first + (i + 1))

@@ -11,8 +11,8 @@ use Rattle.c0_tree.specs.View.{expr_view, stmts_view}
 use Rattle.c0_meaning.specs.Env.{Env}
 use Rattle.c0_expr_code.specs.Scope.{Scope}
 use Rattle.c0_expr_code.specs.Test.{test_code}
-use Rattle.c0_expr_code.specs.Jumps.{JumpsAreWithin, Unpatched, PatchesAim, test_open, patched}
-use Rattle.c0_expr_code.specs.Opened.{IsOpened}
+use Rattle.c0_expr_code.specs.Jumps.{JumpsAreWithin, Unpatched, PatchesAim, test_unpatched, patched}
+use Rattle.c0_expr_code.specs.EmitTest.{StandsUnpatched}
 use Rattle.c0_stmt_code.specs.Code.{otherwise, otherwise_at, choice_code, back, while_code}
 use Rattle.c0_stmt_code.specs.Emit.{skipped_code}
 use Rattle.c0_stmt_code.specs.EmitLeaf.{CanStand}
@@ -40,33 +40,33 @@ pub otherwise_fits : (old new : List ℕ) (ss : CStmts) (is : List Inst) → new
 otherwise_fits old new ss is e = omega (arith, ap length e, length-append old (map encoding (otherwise ss is)), length-map (otherwise ss is) encoding, otherwise_long ss is)
 
 -- a list of places that was empty
-pub from_none : (old new marked marks : List ℕ) (x : Unpatched) → marked ≡ [] → IsOpened old new marked marks x → IsOpened old new [] marks x
-from_none old new marked marks x none opened = subst (λ m. IsOpened old new m marks x) none opened
+pub from_none : (old new marked marks : List ℕ) (x : Unpatched) → marked ≡ [] → StandsUnpatched old new marked marks x → StandsUnpatched old new [] marks x
+from_none old new marked marks x none opened = subst (λ m. StandsUnpatched old new m marks x) none opened
 
 -- words are not taken back
 pub two_longer : (a b c : List ℕ) (x y : List ℕ) → b ≡ a ++ x → c ≡ b ++ y → length a ≤ length c
 two_longer a b c x y e q = omega (arith, ap length e, ap length q, length-append a x, length-append b y)
 
 -- the branches of a test stand in the words so far
-pub jumps_within : JumpsAreWithin → (sc : Scope) (e : CExpr) (s : Bool) (old new js words : List ℕ) → IsOpened old new [] js (test_open sc e s 8) → length new ≤ length words → All (λ j. j < length words) js
+pub jumps_within : JumpsAreWithin → (sc : Scope) (e : CExpr) (s : Bool) (old new js words : List ℕ) → StandsUnpatched old new [] js (test_unpatched sc e s 8) → length new ≤ length words → All (λ j. j < length words) js
 jumps_within within sc e s old new js words opened longer =
-    let long : length old + length (test_open sc e s 8).code ≤ length words
-    = omega (arith, longer, ap length opened.words, length-append old (map encoding (test_open sc e s 8).code), length-map (test_open sc e s 8).code encoding) in
+    let long : length old + length (test_unpatched sc e s 8).code ≤ length words
+    = omega (arith, longer, ap length opened.words, length-append old (map encoding (test_unpatched sc e s 8).code), length-map (test_unpatched sc e s 8).code encoding) in
     let P : List ℕ → Type 0 = λ l. All (λ j. j < length words) l in
     subst P (sym opened.places) (within sc e s 8 (length old) (length words) long)
 
 -- a test's words, patched, and words behind them
-aimed : PatchesAim → (sc : Scope) (e : CExpr) (s : Bool) (far to : ℕ) (old new js after : List ℕ) → IsOpened old new [] js (test_open sc e s 8) → far < 2 ^ 16 → length new < 2 ^ 64 → (length new + far) % 2 ^ 16 ≡ to % 2 ^ 16
+aimed : PatchesAim → (sc : Scope) (e : CExpr) (s : Bool) (far to : ℕ) (old new js after : List ℕ) → StandsUnpatched old new [] js (test_unpatched sc e s 8) → far < 2 ^ 16 → length new < 2 ^ 64 → (length new + far) % 2 ^ 16 ≡ to % 2 ^ 16
     → patched to js (new ++ after) ≡ old ++ (map encoding (test_code sc e s far 8) ++ after)
 aimed aim sc e s far to old new js after opened small fits same =
-    let long : length new ≡ length old + length (test_open sc e s 8).code
-    = ap length opened.words ∙ length-append old (map encoding (test_open sc e s 8).code) ∙ ap (λ n. length old + n) (length-map (test_open sc e s 8).code encoding) in
+    let long : length new ≡ length old + length (test_unpatched sc e s 8).code
+    = ap length opened.words ∙ length-append old (map encoding (test_unpatched sc e s 8).code) ∙ ap (λ n. length old + n) (length-map (test_unpatched sc e s 8).code encoding) in
     ap (λ l. patched to l (new ++ after)) opened.places
-    ∙ ap (λ l. patched to (map (λ j. length old + j) (test_open sc e s 8).jumps) l) (ap (λ (l : List ℕ). l ++ after) opened.words ∙ append_assoc old (map encoding (test_open sc e s 8).code) after)
+    ∙ ap (λ l. patched to (map (λ j. length old + j) (test_unpatched sc e s 8).jumps) l) (ap (λ (l : List ℕ). l ++ after) opened.words ∙ append_assoc old (map encoding (test_unpatched sc e s 8).code) after)
     ∙ aim sc e s 8 far to old after small (omega (arith, long, fits)) (subst (λ n. (n + far) % 2 ^ 16 ≡ to % 2 ^ 16) long same)
 
 -- an `if`
-pub choice_words : PatchesAim → (sc : Scope) (e : CExpr) (ss : CStmts) (old c1 c2 c3 c4 js : List ℕ) (first other : List Inst) (to : ℕ) → IsOpened old c1 [] js (test_open sc e false 8)
+pub choice_words : PatchesAim → (sc : Scope) (e : CExpr) (ss : CStmts) (old c1 c2 c3 c4 js : List ℕ) (first other : List Inst) (to : ℕ) → StandsUnpatched old c1 [] js (test_unpatched sc e false 8)
     → c2 ≡ c1 ++ map encoding first → c3 ≡ c2 ++ map encoding (otherwise ss other) → length c3 < 2 ^ 64 → to ≡ length c2 + otherwise_at ss → c4 ≡ patched to js c3
     → c4 ≡ old ++ map encoding (choice_code sc e ss first other)
 choice_words aim sc e ss old c1 c2 c3 c4 js first other to opened two three fits at four =
@@ -93,8 +93,8 @@ patched_long to [] ws = refl
 patched_long to (j ∷ js) ws = patched_long to js _ ∙ set_long ws j _
 
 -- a test is as long with no distance
-open_long : PatchesAim → (sc : Scope) (e : CExpr) (s : Bool) (old new js : List ℕ) → IsOpened old new [] js (test_open sc e s 8) → length new < 2 ^ 64 → length new ≡ length old + length (test_code sc e s 0 8)
-open_long aim sc e s old new js opened fits =
+unpatched_long : PatchesAim → (sc : Scope) (e : CExpr) (s : Bool) (old new js : List ℕ) → StandsUnpatched old new [] js (test_unpatched sc e s 8) → length new < 2 ^ 64 → length new ≡ length old + length (test_code sc e s 0 8)
+unpatched_long aim sc e s old new js opened fits =
     let is = aimed aim sc e s 0 (length new) old new js [] opened (omega arith) fits (ap (λ n. n % 2 ^ 16) (omega arith)) in
     let test = map encoding (test_code sc e s 0 8) in
     let p = patched_long (length new) js (new ++ []) in
@@ -107,11 +107,11 @@ pub skipped_long : (old new : List ℕ) (is : List Inst) → new ≡ old ++ map 
 skipped_long old new is e = omega (arith, ap length e, length-append old (map encoding (skipped_code is)), length-map (skipped_code is) encoding)
 
 -- a loop
-pub while_words : PatchesAim → (sc : Scope) (e : CExpr) (old c1 c2 c3 js : List ℕ) (body : List Inst) (to : ℕ) → c1 ≡ old ++ map encoding (skipped_code body) → IsOpened c1 c2 [] js (test_open sc e true 8)
+pub while_words : PatchesAim → (sc : Scope) (e : CExpr) (old c1 c2 c3 js : List ℕ) (body : List Inst) (to : ℕ) → c1 ≡ old ++ map encoding (skipped_code body) → StandsUnpatched c1 c2 [] js (test_unpatched sc e true 8)
     → length c2 < 2 ^ 64 → to + max (length body) 1 ≡ length c1 → c3 ≡ patched to js c2 → c3 ≡ old ++ map encoding (while_code sc e body)
 while_words aim sc e old c1 c2 c3 js body to one opened fits at three =
     let far = back sc e body in
-    let long = open_long aim sc e true c1 c2 js opened fits in
+    let long = unpatched_long aim sc e true c1 c2 js opened fits in
     let same : (length c2 + far) % 2 ^ 16 ≡ to % 2 ^ 16 = omega (arith, long, at) in
     let test = map encoding (test_code sc e true far 8) in
     let joined : map encoding (while_code sc e body) ≡ map encoding (skipped_code body) ++ test = map-append encoding (skipped_code body) (test_code sc e true far 8) in

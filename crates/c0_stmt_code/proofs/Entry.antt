@@ -9,13 +9,13 @@ use Rattle.mips_table.specs.Code.{Contents, reg, with_reg, Behind, World, Sound,
 use Rattle.masm.specs.Says.{Gives}
 use Rattle.masm.specs.Laws.{RunsCompose, StraightRuns, JumpsLead}
 use Rattle.c0_expr_code.specs.Scope.{Scope}
-use Rattle.c0_expr_code.specs.Code.{is_near, low, frame_back, on_spot}
-use Rattle.c0_stmt_code.specs.Code.{frame_spot, save_code, params_code, zeros_code, zeros_loop, locals_code}
+use Rattle.c0_expr_code.specs.Code.{is_near, low, frame_back, access_code}
+use Rattle.c0_stmt_code.specs.Code.{frame_slot, save_code, params_code, zeros_code, zeros_loop, locals_code}
 use Rattle.c0_stmt_code.specs.Frames.{FrameMade, FramesAreMade}
 use Rattle.c0_stmt_code.proofs.RunStretches.{Way, on, of, within}
 use Rattle.c0_stmt_code.proofs.Blocks.{front, back}
 use Rattle.c0_stmt_code.proofs.Rooms.{put_same, put_other}
-use Rattle.c0_stmt_code.proofs.Spots.{other_reg, place_steps, few_steps, on_place}
+use Rattle.c0_stmt_code.proofs.MemoryAccess.{other_reg, place_steps, few_steps, on_place}
 use Rattle.c0_stmt_code.proofs.Frames.{frame_address, frame_is_near, Filled, to_frame, params_run, zeros_run, loop_run}
 
 module _ (compose : RunsCompose) (w : World) (sound : Sound w) (straight : StraightRuns w) (jumps : JumpsLead w) (runs : RunLaws) (sc : Scope) (e : ℕ) (inside : sc.frame ≤ e) (small : 4 * e < 2 ^ 32) (fits : e ≤ w.words) (free : (x : ℕ) → e - sc.frame ≤ x → x < e → w.kept x ≡ None) where
@@ -35,21 +35,21 @@ module _ (compose : RunsCompose) (w : World) (sound : Sound w) (straight : Strai
 
   loop_begins : (i n k : ℕ) (c : Contents) (d : Behind) → d.pending ≡ Idle → i + suc n ≡ sc.frame → c.regs 29 ≡ 4 * e → CodeAt w k (zeros_loop sc i) → LocalsDone ((e - sc.frame) + i) (suc n) k (k + length (zeros_loop sc i)) c d
   loop_begins i n k c d idle sum at code =
-      let spot = on_spot (λ y x. Addiu 2 y x) 2 (frame_spot sc i) in
+      let access = access_code (λ y x. Addiu 2 y x) 2 (frame_slot sc i) in
       let tail : List Inst = Sw 0 2 0 ∷ Addiu 2 2 4 ∷ Bne 2 29 65533 ∷ [] in
-      let first = on_place compose w straight (λ c'. (c'.regs 2 ≡ 4 * ((e - sc.frame) + i)) × (c'.memory ≡ c.memory) × (c'.special ≡ c.special) × ((x : ℕ) → x ≢ 1 → x ≢ 2 → c'.regs x ≡ c.regs x)) (λ y x. Addiu 2 y x) (frame_spot sc i) 2 k c d idle (λ z. absurd (omega (arith, z))) (λ z. absurd (omega (arith, z)))
-      (front w k (on_spot (λ y x. Addiu 2 y x) 2 (frame_spot sc i)) (Sw 0 2 0 ∷ Addiu 2 2 4 ∷ Bne 2 29 65533 ∷ []) code)
+      let first = on_place compose w straight (λ c'. (c'.regs 2 ≡ 4 * ((e - sc.frame) + i)) × (c'.memory ≡ c.memory) × (c'.special ≡ c.special) × ((x : ℕ) → x ≢ 1 → x ≢ 2 → c'.regs x ≡ c.regs x)) (λ y x. Addiu 2 y x) (frame_slot sc i) 2 k c d idle (λ z. absurd (omega (arith, z))) (λ z. absurd (omega (arith, z)))
+      (front w k (access_code (λ y x. Addiu 2 y x) 2 (frame_slot sc i)) (Sw 0 2 0 ∷ Addiu 2 2 4 ∷ Bne 2 29 65533 ∷ []) code)
       (λ y m a there near address. (
         with_reg a 2 (4 * ((e - sc.frame) + i)),
         (refl, near.memory, near.special, λ x ne me. other_reg a.regs 2 (4 * ((e - sc.frame) + i)) x me ∙ near.others x ne me),
         straight.next (Addiu 2 y (low ((frame_back sc + 4 * i) % 2 ^ 32))) (Gives (4 * ((e - sc.frame) + i))) m a d there refl idle (address ∙ ap (λ v. (v + (frame_back sc + 4 * i) % 2 ^ 32) % 2 ^ 32) at ∙ frame_address sc e i inside small (omega (arith, sum))),
       )) in
       let c1 : Contents = first.0 in
-      let rest = loop_run compose w sound straight jumps sc e inside small fits free runs n ((e - sc.frame) + i) (k + length (on_spot (λ y x. Addiu 2 y x) 2 (frame_spot sc i))) first.0 d idle (omega arith) (omega (arith, sum, inside)) first.1.0
-      (first.1.3 29 (λ z. absurd (omega (arith, z))) (λ z. absurd (omega (arith, z))) ∙ at) (back w k (on_spot (λ y x. Addiu 2 y x) 2 (frame_spot sc i)) (Sw 0 2 0 ∷ Addiu 2 2 4 ∷ Bne 2 29 65533 ∷ []) code) in
-      let len : k + length (on_spot (λ y x. Addiu 2 y x) 2 (frame_spot sc i)) + 3 ≡ k + length (zeros_loop sc i) = omega (arith, length-append (on_spot (λ y x. Addiu 2 y x) 2 (frame_spot sc i)) (Sw 0 2 0 ∷ Addiu 2 2 4 ∷ Bne 2 29 65533 ∷ [])) in
+      let rest = loop_run compose w sound straight jumps sc e inside small fits free runs n ((e - sc.frame) + i) (k + length (access_code (λ y x. Addiu 2 y x) 2 (frame_slot sc i))) first.0 d idle (omega arith) (omega (arith, sum, inside)) first.1.0
+      (first.1.3 29 (λ z. absurd (omega (arith, z))) (λ z. absurd (omega (arith, z))) ∙ at) (back w k (access_code (λ y x. Addiu 2 y x) 2 (frame_slot sc i)) (Sw 0 2 0 ∷ Addiu 2 2 4 ∷ Bne 2 29 65533 ∷ []) code) in
+      let len : k + length (access_code (λ y x. Addiu 2 y x) 2 (frame_slot sc i)) + 3 ≡ k + length (zeros_loop sc i) = omega (arith, length-append (access_code (λ y x. Addiu 2 y x) 2 (frame_slot sc i)) (Sw 0 2 0 ∷ Addiu 2 2 4 ∷ Bne 2 29 65533 ∷ [])) in
       let here : k + 0 ≡ k = omega arith in
-      let go : Way runs w 0 3 (at_with k c d) (at_with (k + length (on_spot (λ y x. Addiu 2 y x) 2 (frame_spot sc i))) first.0 d) = of runs w 3 _ _ (subst (λ m. Reaches w 3 (at_with m c d) (at_with (k + length (on_spot (λ y x. Addiu 2 y x) 2 (frame_spot sc i))) first.0 d)) here (compose.later w (place_steps (frame_spot sc i)) 3 _ _ (few_steps (frame_spot sc i)) first.2)) in
+      let go : Way runs w 0 3 (at_with k c d) (at_with (k + length (access_code (λ y x. Addiu 2 y x) 2 (frame_slot sc i))) first.0 d) = of runs w 3 _ _ (subst (λ m. Reaches w 3 (at_with m c d) (at_with (k + length (access_code (λ y x. Addiu 2 y x) 2 (frame_slot sc i))) first.0 d)) here (compose.later w (place_steps (frame_slot sc i)) 3 _ _ (few_steps (frame_slot sc i)) first.2)) in
       record {
         contents = rest.0;
         cleared = record {
@@ -64,7 +64,7 @@ module _ (compose : RunsCompose) (w : World) (sound : Sound w) (straight : Strai
         few = omega arith;
         none = λ e. absurd (omega (arith, e));
         way = within runs w (0 + suc n) (3 + 3 * suc n) (suc n) (3 * suc n + 3) (at_with k c d) (at_with (k + length (zeros_loop sc i)) rest.0 d) (omega arith) (omega arith)
-            (on runs w 0 3 (suc n) (3 * suc n) (at_with k c d) (at_with (k + length (on_spot (λ y x. Addiu 2 y x) 2 (frame_spot sc i))) first.0 d) (at_with (k + length (zeros_loop sc i)) rest.0 d) go (subst (λ m. Way runs w (suc n) (3 * suc n) (at_with (k + length (on_spot (λ y x. Addiu 2 y x) 2 (frame_spot sc i))) first.0 d) (at_with m rest.0 d)) len rest.2));
+            (on runs w 0 3 (suc n) (3 * suc n) (at_with k c d) (at_with (k + length (access_code (λ y x. Addiu 2 y x) 2 (frame_slot sc i))) first.0 d) (at_with (k + length (zeros_loop sc i)) rest.0 d) go (subst (λ m. Way runs w (suc n) (3 * suc n) (at_with (k + length (access_code (λ y x. Addiu 2 y x) 2 (frame_slot sc i))) first.0 d) (at_with m rest.0 d)) len rest.2));
       }
 
   pub locals_run : (n i k : ℕ) (c : Contents) (d : Behind) → d.pending ≡ Idle → i + n ≡ sc.frame → c.regs 29 ≡ 4 * e → CodeAt w k (locals_code sc n i) → LocalsDone ((e - sc.frame) + i) n k (k + length (locals_code sc n i)) c d
@@ -127,9 +127,9 @@ module _ (compose : RunsCompose) (w : World) (sound : Sound w) (straight : Strai
         others = λ x ne. ap (λ m. m x) r.1.memory ∙ put_other c.memory ((e - sc.frame) + 0) (reg c.regs 31) x (λ q. ne (q ∙ here));
         special = r.1.special;
         regs = λ x ne. r.1.others x ne ne;
-        most = place_steps (frame_spot sc 0);
-        few = few_steps (frame_spot sc 0);
-        near = λ small. let one : place_steps (frame_spot sc 0) ≡ 1 = cond-true (is_near (frame_spot sc 0).displacement) 1 3 (frame_is_near sc 0 some small) in omega (arith, one);
+        most = place_steps (frame_slot sc 0);
+        few = few_steps (frame_slot sc 0);
+        near = λ small. let one : place_steps (frame_slot sc 0) ≡ 1 = cond-true (is_near (frame_slot sc 0).displacement) 1 3 (frame_is_near sc 0 some small) in omega (arith, one);
         run = r.2;
       }
 

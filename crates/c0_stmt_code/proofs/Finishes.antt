@@ -30,7 +30,7 @@ use Rattle.c0_stmt_code.proofs.LowerLaws.{room_from}
 use Rattle.c0_stmt_code.proofs.ValuesStay.{word_same}
 use Rattle.c0_stmt_code.proofs.RunStretches.{away}
 use Rattle.c0_stmt_code.proofs.Rooms.{words_by_types}
-use Rattle.c0_stmt_code.proofs.Spots.{same_reg, other_reg}
+use Rattle.c0_stmt_code.proofs.MemoryAccess.{same_reg, other_reg}
 use Rattle.c0_stmt_code.proofs.State.{rest_of, standing_at, Exprs}
 use Rattle.c0_stmt_code.proofs.Locals.{IsVariable, its_place, stores_light}
 use Rattle.c0_stmt_code.proofs.StepSimulation.{GoesOn}

@@ -10,12 +10,12 @@ use Rattle.masm.specs.Says.{Gives, Writes}
 use Rattle.masm.specs.Laws.{RunsCompose, StraightRuns, JumpsLead}
 use Rattle.c0_meaning.specs.Operators.{StackOut}
 use Rattle.c0_expr_code.specs.Scope.{Scope}
-use Rattle.c0_expr_code.specs.Code.{is_near, low, frame_back, register_of, on_spot}
-use Rattle.c0_stmt_code.specs.Code.{MAX_STACK, frame_spot, end_code, stack_test, params_code, zeros_code}
+use Rattle.c0_expr_code.specs.Code.{is_near, low, frame_back, register_of, access_code}
+use Rattle.c0_stmt_code.specs.Code.{MAX_STACK, frame_slot, end_code, stack_test, params_code, zeros_code}
 use Rattle.c0_stmt_code.proofs.RunStretches.{Way, on, of, away, within}
 use Rattle.c0_stmt_code.proofs.Blocks.{front, back}
 use Rattle.c0_stmt_code.proofs.Rooms.{put_same, put_other}
-use Rattle.c0_stmt_code.proofs.Spots.{other_reg, same_read, read_is, place_steps, few_steps, back_is_near, on_place, Wrote, writes}
+use Rattle.c0_stmt_code.proofs.MemoryAccess.{other_reg, same_read, read_is, place_steps, few_steps, back_is_near, on_place, Wrote, writes}
 
 -- a word of the frame, by its address
 pub frame_address : (sc : Scope) (e i : ℕ) → sc.frame ≤ e → 4 * e < 2 ^ 32 → i ≤ sc.frame → (4 * e + (frame_back sc + 4 * i) % 2 ^ 32) % 2 ^ 32 ≡ 4 * ((e - sc.frame) + i)
@@ -152,31 +152,31 @@ module _ (compose : RunsCompose) (w : World) (sound : Sound w) (straight : Strai
 
   module _ (sc : Scope) (e : ℕ) (inside : sc.frame ≤ e) (small : 4 * e < 2 ^ 32) (fits : e ≤ w.words) (free : (x : ℕ) → e - sc.frame ≤ x → x < e → w.kept x ≡ None) where
     -- a register goes to a word of the frame
-    pub to_frame : (q i k : ℕ) (c : Contents) (d : Behind) → d.pending ≡ Idle → q ≢ 1 → i < sc.frame → c.regs 29 ≡ 4 * e → CodeAt w k (on_spot (λ y x. Sw q y x) 1 (frame_spot sc i))
-        → (c' : Contents) × Wrote compose w straight 1 ((e - sc.frame) + i) (reg c.regs q) c c' × Reaches w (place_steps (frame_spot sc i)) (at_with k c d) (at_with (k + length (on_spot (λ y x. Sw q y x) 1 (frame_spot sc i))) c' d)
+    pub to_frame : (q i k : ℕ) (c : Contents) (d : Behind) → d.pending ≡ Idle → q ≢ 1 → i < sc.frame → c.regs 29 ≡ 4 * e → CodeAt w k (access_code (λ y x. Sw q y x) 1 (frame_slot sc i))
+        → (c' : Contents) × Wrote compose w straight 1 ((e - sc.frame) + i) (reg c.regs q) c c' × Reaches w (place_steps (frame_slot sc i)) (at_with k c d) (at_with (k + length (access_code (λ y x. Sw q y x) 1 (frame_slot sc i))) c' d)
     to_frame q i k c d idle qz lt at code =
-        let r = writes compose w straight q (frame_spot sc i) 1 k ((e - sc.frame) + i) (reg c.regs q) c d idle (λ z. absurd (omega (arith, z))) (λ z. absurd (omega (arith, z))) qz qz code
+        let r = writes compose w straight q (frame_slot sc i) 1 k ((e - sc.frame) + i) (reg c.regs q) c d idle (λ z. absurd (omega (arith, z))) (λ z. absurd (omega (arith, z))) qz qz code
         (ap (λ v. (v + (frame_back sc + 4 * i) % 2 ^ 32) % 2 ^ 32) at ∙ frame_address sc e i inside small (omega (arith, lt))) (omega (arith, lt, inside, fits)) (free ((e - sc.frame) + i) (omega arith) (omega (arith, lt, inside))) refl in
-        (r.0, r.1, subst (λ m. Reaches w (place_steps (frame_spot sc i)) (at_with m c d) (at_with (k + length (on_spot (λ y x. Sw q y x) 1 (frame_spot sc i))) r.0 d)) (omega arith) r.2)
+        (r.0, r.1, subst (λ m. Reaches w (place_steps (frame_slot sc i)) (at_with m c d) (at_with (k + length (access_code (λ y x. Sw q y x) 1 (frame_slot sc i))) r.0 d)) (omega arith) r.2)
 
     -- the parameters go to the frame
     pub params_run : (n i k : ℕ) (c : Contents) (d : Behind) → d.pending ≡ Idle → 3 + i + n ≤ sc.frame → i + n ≤ 8 → c.regs 29 ≡ 4 * e → CodeAt w k (params_code sc n i)
         → (c' : Contents) × Filled ((e - sc.frame) + 3 + i) n (λ j. c.regs (20 + i + j)) c c' × Reaches w (3 * n) (at_with k c d) (at_with (k + length (params_code sc n i)) c' d)
     params_run zero i k c d idle room few at code = (c, filled_none ((e - sc.frame) + 3 + i) (λ j. c.regs (20 + i + j)) c, subst (λ m. Reaches w 0 (at_with k c d) (at_with m c d)) (omega arith) (compose.none w (at_with k c d)))
     params_run (suc n) i k c d idle room few at code =
-        let spot = on_spot (λ y x. Sw (register_of i) y x) 1 (frame_spot sc (3 + i)) in
+        let access = access_code (λ y x. Sw (register_of i) y x) 1 (frame_slot sc (3 + i)) in
         let q : register_of i ≡ 20 + i = omega (arith, few) in
-        let first = to_frame (register_of i) (3 + i) k c d idle (λ z. absurd (omega (arith, z, q))) (omega (arith, room)) at (front w k (on_spot (λ y x. Sw (register_of i) y x) 1 (frame_spot sc (3 + i))) (params_code sc n (suc i)) code) in
+        let first = to_frame (register_of i) (3 + i) k c d idle (λ z. absurd (omega (arith, z, q))) (omega (arith, room)) at (front w k (access_code (λ y x. Sw (register_of i) y x) 1 (frame_slot sc (3 + i))) (params_code sc n (suc i)) code) in
         let kept : first.0.regs 29 ≡ 4 * e = first.1.others 29 (λ z. absurd (omega (arith, z))) (λ z. absurd (omega (arith, z))) ∙ at in
-        let rest = params_run n (suc i) (k + length (on_spot (λ y x. Sw (register_of i) y x) 1 (frame_spot sc (3 + i)))) first.0 d idle (omega (arith, room)) (omega (arith, few)) kept (back w k (on_spot (λ y x. Sw (register_of i) y x) 1 (frame_spot sc (3 + i))) (params_code sc n (suc i)) code) in
-        let len : k + length (on_spot (λ y x. Sw (register_of i) y x) 1 (frame_spot sc (3 + i))) + length (params_code sc n (suc i)) ≡ k + length (params_code sc (suc n) i) = omega (arith, length-append (on_spot (λ y x. Sw (register_of i) y x) 1 (frame_spot sc (3 + i))) (params_code sc n (suc i))) in
+        let rest = params_run n (suc i) (k + length (access_code (λ y x. Sw (register_of i) y x) 1 (frame_slot sc (3 + i)))) first.0 d idle (omega (arith, room)) (omega (arith, few)) kept (back w k (access_code (λ y x. Sw (register_of i) y x) 1 (frame_slot sc (3 + i))) (params_code sc n (suc i)) code) in
+        let len : k + length (access_code (λ y x. Sw (register_of i) y x) 1 (frame_slot sc (3 + i))) + length (params_code sc n (suc i)) ≡ k + length (params_code sc (suc n) i) = omega (arith, length-append (access_code (λ y x. Sw (register_of i) y x) 1 (frame_slot sc (3 + i))) (params_code sc n (suc i))) in
         let value : reg c.regs (register_of i) ≡ c.regs (20 + i + 0) = read_is c.regs (register_of i) (λ z. absurd (omega (arith, z, q))) ∙ ap c.regs (omega (arith, q)) in
         let place : (e - sc.frame) + 3 + suc i ≡ (e - sc.frame) + (3 + i) + 1 = omega arith in
         let place0 : (e - sc.frame) + (3 + i) ≡ (e - sc.frame) + 3 + i = omega arith in (
           rest.0,
           subst (λ m. Filled m (suc n) (λ j. c.regs (20 + i + j)) c rest.0) place0 (filled_on ((e - sc.frame) + (3 + i)) n (reg c.regs (register_of i)) (λ j. c.regs (20 + i + j)) c first.0 rest.0 first.1
               (params_moved n i c first.0 rest.0 first.1 few (subst (λ m. Filled m n (λ j. first.0.regs (20 + suc i + j)) first.0 rest.0) place rest.1)) (sym value)),
-          compose.later w (3 + 3 * n) (3 * suc n) _ _ (omega arith) (compose.joined w 3 (3 * n) _ _ _ (compose.later w (place_steps (frame_spot sc (3 + i))) 3 _ _ (few_steps (frame_spot sc (3 + i))) first.2) (subst (λ m. Reaches w (3 * n) (at_with (k + length (on_spot (λ y x. Sw (register_of i) y x) 1 (frame_spot sc (3 + i)))) first.0 d) (at_with m rest.0 d)) len rest.2)),
+          compose.later w (3 + 3 * n) (3 * suc n) _ _ (omega arith) (compose.joined w 3 (3 * n) _ _ _ (compose.later w (place_steps (frame_slot sc (3 + i))) 3 _ _ (few_steps (frame_slot sc (3 + i))) first.2) (subst (λ m. Reaches w (3 * n) (at_with (k + length (access_code (λ y x. Sw (register_of i) y x) 1 (frame_slot sc (3 + i)))) first.0 d) (at_with m rest.0 d)) len rest.2)),
         )
       where
         params_moved : (n i : ℕ) (c b r : Contents) → Wrote compose w straight 1 ((e - sc.frame) + (3 + i)) (reg c.regs (register_of i)) c b → i + suc n ≤ 8 → Filled ((e - sc.frame) + (3 + i) + 1) n (λ j. b.regs (20 + suc i + j)) b r → Filled ((e - sc.frame) + (3 + i) + 1) n (λ j. c.regs (20 + i + suc j)) b r
@@ -192,14 +192,14 @@ module _ (compose : RunsCompose) (w : World) (sound : Sound w) (straight : Strai
         → (c' : Contents) × Filled ((e - sc.frame) + i) n (λ j. 0) c c' × Reaches w (3 * n) (at_with k c d) (at_with (k + length (zeros_code sc n i)) c' d)
     zeros_run zero i k c d idle room at code = (c, filled_none ((e - sc.frame) + i) (λ j. 0) c, subst (λ m. Reaches w 0 (at_with k c d) (at_with m c d)) (omega arith) (compose.none w (at_with k c d)))
     zeros_run (suc n) i k c d idle room at code =
-        let first = to_frame 0 i k c d idle (λ z. absurd (omega (arith, z))) (omega (arith, room)) at (front w k (on_spot (λ y x. Sw 0 y x) 1 (frame_spot sc i)) (zeros_code sc n (suc i)) code) in
+        let first = to_frame 0 i k c d idle (λ z. absurd (omega (arith, z))) (omega (arith, room)) at (front w k (access_code (λ y x. Sw 0 y x) 1 (frame_slot sc i)) (zeros_code sc n (suc i)) code) in
         let kept : first.0.regs 29 ≡ 4 * e = first.1.others 29 (λ z. absurd (omega (arith, z))) (λ z. absurd (omega (arith, z))) ∙ at in
-        let rest = zeros_run n (suc i) (k + length (on_spot (λ y x. Sw 0 y x) 1 (frame_spot sc i))) first.0 d idle (omega (arith, room)) kept (back w k (on_spot (λ y x. Sw 0 y x) 1 (frame_spot sc i)) (zeros_code sc n (suc i)) code) in
-        let len : k + length (on_spot (λ y x. Sw 0 y x) 1 (frame_spot sc i)) + length (zeros_code sc n (suc i)) ≡ k + length (zeros_code sc (suc n) i) = omega (arith, length-append (on_spot (λ y x. Sw 0 y x) 1 (frame_spot sc i)) (zeros_code sc n (suc i))) in
+        let rest = zeros_run n (suc i) (k + length (access_code (λ y x. Sw 0 y x) 1 (frame_slot sc i))) first.0 d idle (omega (arith, room)) kept (back w k (access_code (λ y x. Sw 0 y x) 1 (frame_slot sc i)) (zeros_code sc n (suc i)) code) in
+        let len : k + length (access_code (λ y x. Sw 0 y x) 1 (frame_slot sc i)) + length (zeros_code sc n (suc i)) ≡ k + length (zeros_code sc (suc n) i) = omega (arith, length-append (access_code (λ y x. Sw 0 y x) 1 (frame_slot sc i)) (zeros_code sc n (suc i))) in
         let place : (e - sc.frame) + suc i ≡ (e - sc.frame) + i + 1 = omega arith in (
           rest.0,
           filled_on ((e - sc.frame) + i) n 0 (λ j. 0) c first.0 rest.0 first.1 (subst (λ m. Filled m n (λ j. 0) first.0 rest.0) place rest.1) refl,
-          compose.later w (3 + 3 * n) (3 * suc n) _ _ (omega arith) (compose.joined w 3 (3 * n) _ _ _ (compose.later w (place_steps (frame_spot sc i)) 3 _ _ (few_steps (frame_spot sc i)) first.2) (subst (λ m. Reaches w (3 * n) (at_with (k + length (on_spot (λ y x. Sw 0 y x) 1 (frame_spot sc i))) first.0 d) (at_with m rest.0 d)) len rest.2)),
+          compose.later w (3 + 3 * n) (3 * suc n) _ _ (omega arith) (compose.joined w 3 (3 * n) _ _ _ (compose.later w (place_steps (frame_slot sc i)) 3 _ _ (few_steps (frame_slot sc i)) first.2) (subst (λ m. Reaches w (3 * n) (at_with (k + length (access_code (λ y x. Sw 0 y x) 1 (frame_slot sc i))) first.0 d) (at_with m rest.0 d)) len rest.2)),
         )
 
     -- the locals' words become 0, in a loop: a turn for each

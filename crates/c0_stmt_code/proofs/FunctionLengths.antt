@@ -14,11 +14,11 @@ use Rattle.c0_meaning.specs.Limits.{nodes_of, words_held}
 use Rattle.c0_tree.specs.Size.{body_nodes}
 use Rattle.c0_asm_body.specs.Code.{asm_code, arguments_code, instruction_of}
 use Rattle.c0_expr_code.specs.Scope.{Scope}
-use Rattle.c0_expr_code.specs.Code.{frame_back, register_of, constant_code, on_spot, value_code}
+use Rattle.c0_expr_code.specs.Code.{frame_back, register_of, constant_code, access_code, value_code}
 use Rattle.c0_expr_code.specs.Test.{test_code}
-use Rattle.c0_stmt_code.specs.Code.{Links, callee_index, answer_code, args_code, otherwise, otherwise_at, turn_code, stmt_code, stmts_code, are_calling, frame_spot, end_code, large_code, stack_test, save_code, restore_code, params_code, zeros_code, zeros_loop, locals_code, clear_code, frame_entry, frame_return, register_entry, register_return, entry_code, exit_code, return_code, body_code as code_of_body}
+use Rattle.c0_stmt_code.specs.Code.{Links, callee_index, answer_code, args_code, otherwise, otherwise_at, turn_code, stmt_code, stmts_code, are_calling, frame_slot, end_code, large_code, stack_test, save_code, restore_code, params_code, zeros_code, zeros_loop, locals_code, clear_code, frame_entry, frame_return, register_entry, register_return, entry_code, exit_code, return_code, body_code as code_of_body}
 use Rattle.c0_stmt_code.proofs.Premises.{LengthsFit}
-use Rattle.c0_stmt_code.proofs.Lengths.{spot_length, stmts_length}
+use Rattle.c0_stmt_code.proofs.Lengths.{access_length, stmts_length}
 
 -- another branch is as long where its code is
 otherwise_same : (b : CStmts) (c d : List Inst) → length c ≡ length d → length (otherwise b c) ≡ length (otherwise b d)
@@ -79,11 +79,11 @@ function_same sc x y f = body_same sc x y (length f.params) f.body
 
 module _ (sc : Scope) (x : Links) (fit : LengthsFit sc) where
   -- code on a word of the frame
-  framed : (f : ℕ → ℕ → Inst) (r i : ℕ) → length (on_spot f r (frame_spot sc i)) ≤ 3
-  framed f r i = spot_length f r (frame_spot sc i)
+  framed : (f : ℕ → ℕ → Inst) (r i : ℕ) → length (access_code f r (frame_slot sc i)) ≤ 3
+  framed f r i = access_length f r (frame_slot sc i)
 
   end_length : (d n : ℕ) → length (end_code d n) ≤ 3
-  end_length d n = spot_length (λ b k. Addiu d b k) d (record { code = []; base = 29; displacement = n % 2 ^ 32 })
+  end_length d n = access_length (λ b k. Addiu d b k) d (record { code = []; base = 29; displacement = n % 2 ^ 32 })
 
   large_length : (b : Bool) (k : ℕ) → length (if b then J k ∷ [] else []) ≤ 1
   large_length true k = omega arith
@@ -108,19 +108,19 @@ module _ (sc : Scope) (x : Links) (fit : LengthsFit sc) where
   params_length (suc n) i =
       let a = framed (λ b k. Sw (register_of i) b k) 1 (3 + i) in
       let r = params_length n (suc i) in
-      omega (arith, a, r, length-append (on_spot (λ b k. Sw (register_of i) b k) 1 (frame_spot sc (3 + i))) (params_code sc n (suc i)))
+      omega (arith, a, r, length-append (access_code (λ b k. Sw (register_of i) b k) 1 (frame_slot sc (3 + i))) (params_code sc n (suc i)))
 
   zeros_length : (n i : ℕ) → length (zeros_code sc n i) ≤ 3 * n
   zeros_length zero i = omega arith
   zeros_length (suc n) i =
       let a = framed (λ b k. Sw 0 b k) 1 i in
       let r = zeros_length n (suc i) in
-      omega (arith, a, r, length-append (on_spot (λ b k. Sw 0 b k) 1 (frame_spot sc i)) (zeros_code sc n (suc i)))
+      omega (arith, a, r, length-append (access_code (λ b k. Sw 0 b k) 1 (frame_slot sc i)) (zeros_code sc n (suc i)))
 
   loop_length : (i : ℕ) → length (zeros_loop sc i) ≤ 6
   loop_length i =
       let a = framed (λ b k. Addiu 2 b k) 2 i in
-      omega (arith, a, length-append (on_spot (λ b k. Addiu 2 b k) 2 (frame_spot sc i)) (Sw 0 2 0 ∷ Addiu 2 2 4 ∷ Bne 2 29 65533 ∷ []))
+      omega (arith, a, length-append (access_code (λ b k. Addiu 2 b k) 2 (frame_slot sc i)) (Sw 0 2 0 ∷ Addiu 2 2 4 ∷ Bne 2 29 65533 ∷ []))
 
   locals_length : (n i : ℕ) → length (locals_code sc n i) ≤ 24
   locals_length n i = elim (cases_Bool (nat_le n 8)) [

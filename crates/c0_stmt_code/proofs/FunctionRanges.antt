@@ -20,9 +20,9 @@ use Rattle.c0_asm_body.specs.Code.{argument_code, arguments_code, asm_code, body
 use Rattle.c0_asm_body.specs.Laws.{AreEncoded}
 use Rattle.c0_expr_code.specs.Laws.{CodesInRange, HasNearExits}
 use Rattle.c0_expr_code.specs.Scope.{Scope}
-use Rattle.c0_expr_code.specs.Code.{AddressingMode, is_near, low, high, frame_back, register_of, constant_code, on_spot, store_code, operand_code, operand_register, made, value_code}
+use Rattle.c0_expr_code.specs.Code.{AddressingMode, is_near, low, high, frame_back, register_of, constant_code, access_code, store_code, operand_code, operand_register, made, value_code}
 use Rattle.c0_expr_code.specs.Test.{test_code}
-use Rattle.c0_stmt_code.specs.Code.{Links, callee_index, skip, stored_code, answer_code, assigned_code, args_code, otherwise, otherwise_at, back, turn_code, stmt_code, stmts_code, are_calling, frame_spot, end_code, large_code, stack_test, save_code, restore_code, params_code, zeros_code, zeros_loop, locals_code, clear_code, frame_entry, frame_return, register_entry, register_return, entry_code, exit_code, return_code, body_code as code_of_body}
+use Rattle.c0_stmt_code.specs.Code.{Links, callee_index, skip, stored_code, answer_code, assigned_code, args_code, otherwise, otherwise_at, back, turn_code, stmt_code, stmts_code, are_calling, frame_slot, end_code, large_code, stack_test, save_code, restore_code, params_code, zeros_code, zeros_loop, locals_code, clear_code, frame_entry, frame_return, register_entry, register_return, entry_code, exit_code, return_code, body_code as code_of_body}
 use Rattle.c0_stmt_code.specs.Emit.{IsEmittable, AreEmittable, IsEmittableBody}
 use Rattle.c0_stmt_code.specs.EmitLeaf.{CanStand}
 use Rattle.c0_stmt_code.specs.Ranges.{AreNear}
@@ -55,8 +55,8 @@ constants d n h = elim (cases_Bool (nat_lt n (2 ^ 16))) [
 ]
 
 -- a place without code of its own
-spots : (f : ℕ → ℕ → Inst) (r : ℕ) (x : AddressingMode) → r < 32 → x.base < 32 → Fine x.code → ((b k : ℕ) → b < 32 → k < 2 ^ 16 → InRange (f b k)) → Fine (on_spot f r x)
-spots f r x h b c i =
+accesses : (f : ℕ → ℕ → Inst) (r : ℕ) (x : AddressingMode) → r < 32 → x.base < 32 → Fine x.code → ((b k : ℕ) → b < 32 → k < 2 ^ 16 → InRange (f b k)) → Fine (access_code f r x)
+accesses f r x h b c i =
     both x.code (if is_near x.displacement then f x.base (low x.displacement) ∷ [] else Lui 1 (high x.displacement) ∷ Addu r x.base 1 ∷ f r (low x.displacement) ∷ []) c
     (either (is_near x.displacement) (f x.base (low x.displacement) ∷ []) (Lui 1 (high x.displacement) ∷ Addu r x.base 1 ∷ f r (low x.displacement) ∷ [])
     (front (f x.base (low x.displacement)) [] (i x.base (low x.displacement) b (omega arith)) none)
@@ -123,11 +123,11 @@ module _ (sc : Scope) (x : Links) (codes : CodesInRange) (exits : HasNearExits s
     statements (next s rest) h = both (stmt_code sc x s) (stmts_code sc x rest) (statement s h.0) (statements rest h.1)
 
   -- code on a word of the frame
-  framed : (f : ℕ → ℕ → Inst) (r i : ℕ) → r < 32 → ((b k : ℕ) → b < 32 → k < 2 ^ 16 → InRange (f b k)) → Fine (on_spot f r (frame_spot sc i))
-  framed f r i h g = spots f r (frame_spot sc i) h (omega arith) none g
+  framed : (f : ℕ → ℕ → Inst) (r i : ℕ) → r < 32 → ((b k : ℕ) → b < 32 → k < 2 ^ 16 → InRange (f b k)) → Fine (access_code f r (frame_slot sc i))
+  framed f r i h g = accesses f r (frame_slot sc i) h (omega arith) none g
 
   ends : (d n : ℕ) → d < 32 → Fine (end_code d n)
-  ends d n h = spots (λ b k. Addiu d b k) d (record { code = []; base = 29; displacement = n % 2 ^ 32 }) h (omega arith) none (λ b k l m. (h, l, m))
+  ends d n h = accesses (λ b k. Addiu d b k) d (record { code = []; base = 29; displacement = n % 2 ^ 32 }) h (omega arith) none (λ b k l m. (h, l, m))
 
   tests_stack : (d : ℕ) → d < 32 → Fine (stack_test sc d)
   tests_stack d h =
@@ -146,15 +146,15 @@ module _ (sc : Scope) (x : Links) (codes : CodesInRange) (exits : HasNearExits s
   params_stored : (n i : ℕ) → Fine (params_code sc n i)
   params_stored zero i = none
   params_stored (suc n) i =
-      both (on_spot (λ b k. Sw (register_of i) b k) 1 (frame_spot sc (3 + i))) (params_code sc n (suc i)) (framed (λ b k. Sw (register_of i) b k) 1 (3 + i) (omega arith) (λ b k l m. (omega arith, l, m))) (params_stored n (suc i))
+      both (access_code (λ b k. Sw (register_of i) b k) 1 (frame_slot sc (3 + i))) (params_code sc n (suc i)) (framed (λ b k. Sw (register_of i) b k) 1 (3 + i) (omega arith) (λ b k l m. (omega arith, l, m))) (params_stored n (suc i))
 
   zeros_stored : (n i : ℕ) → Fine (zeros_code sc n i)
   zeros_stored zero i = none
-  zeros_stored (suc n) i = both (on_spot (λ b k. Sw 0 b k) 1 (frame_spot sc i)) (zeros_code sc n (suc i)) (framed (λ b k. Sw 0 b k) 1 i (omega arith) (λ b k l m. (omega arith, l, m))) (zeros_stored n (suc i))
+  zeros_stored (suc n) i = both (access_code (λ b k. Sw 0 b k) 1 (frame_slot sc i)) (zeros_code sc n (suc i)) (framed (λ b k. Sw 0 b k) 1 i (omega arith) (λ b k l m. (omega arith, l, m))) (zeros_stored n (suc i))
 
   zeros_looped : (i : ℕ) → Fine (zeros_loop sc i)
   zeros_looped i =
-      both (on_spot (λ b k. Addiu 2 b k) 2 (frame_spot sc i)) (Sw 0 2 0 ∷ Addiu 2 2 4 ∷ Bne 2 29 65533 ∷ []) (framed (λ b k. Addiu 2 b k) 2 i (omega arith) (λ b k l m. (omega arith, l, m)))
+      both (access_code (λ b k. Addiu 2 b k) 2 (frame_slot sc i)) (Sw 0 2 0 ∷ Addiu 2 2 4 ∷ Bne 2 29 65533 ∷ []) (framed (λ b k. Addiu 2 b k) 2 i (omega arith) (λ b k l m. (omega arith, l, m)))
       (front (Sw 0 2 0) (Addiu 2 2 4 ∷ Bne 2 29 65533 ∷ []) (omega arith, omega arith, omega arith) (front (Addiu 2 2 4) (Bne 2 29 65533 ∷ []) (omega arith, omega arith, omega arith) (front (Bne 2 29 65533) [] (omega arith, omega arith, omega arith) none)))
 
   clears : (n i : ℕ) → Fine (clear_code n i)

@@ -9,14 +9,14 @@ use Rattle.c0_tree.specs.Tree.{CExpr, CStmt, assign, call, new, choice, loop, CS
 use Rattle.c0_meaning.specs.Ty.{ty_of}
 use Rattle.c0_meaning.specs.Words.{words}
 use Rattle.c0_expr_code.specs.Scope.{Scope}
-use Rattle.c0_expr_code.specs.Code.{AddressingMode, is_near, low, high, on_spot, constant_code, operand_code, operand_register, made, value_code, register_of}
+use Rattle.c0_expr_code.specs.Code.{AddressingMode, is_near, low, high, access_code, constant_code, operand_code, operand_register, made, value_code, register_of}
 use Rattle.c0_expr_code.specs.Test.{test_code}
 use Rattle.c0_stmt_code.specs.Code.{Links, callee_index, answer_code, stored_code, assigned_code, args_code, otherwise, otherwise_at, back, turn_code, stmt_code, stmts_code}
 use Rattle.c0_stmt_code.proofs.Premises.{LengthsFit}
-use Rattle.c0_stmt_code.proofs.Spots.{spot_longer}
+use Rattle.c0_stmt_code.proofs.MemoryAccess.{access_longer}
 
-pub spot_length : (i : ℕ → ℕ → Inst) (r : ℕ) (x : AddressingMode) → length (on_spot i r x) ≤ length x.code + 3
-spot_length i r x = elim (cases_Bool (is_near x.displacement)) [
+pub access_length : (i : ℕ → ℕ → Inst) (r : ℕ) (x : AddressingMode) → length (access_code i r x) ≤ length x.code + 3
+access_length i r x = elim (cases_Bool (is_near x.displacement)) [
   | inl e ↦ let same = ap (λ is. length (x.code ++ is)) (cond-true (is_near x.displacement) (i x.base (low x.displacement) ∷ []) (Lui 1 (high x.displacement) ∷ Addu r x.base 1 ∷ i r (low x.displacement) ∷ []) e) in omega (arith, same, length-append x.code (i x.base (low x.displacement) ∷ []))
   | inr e ↦ let same = ap (λ is. length (x.code ++ is)) (cond-false (is_near x.displacement) (i x.base (low x.displacement) ∷ []) (Lui 1 (high x.displacement) ∷ Addu r x.base 1 ∷ i r (low x.displacement) ∷ []) e) in omega (arith, same, length-append x.code (Lui 1 (high x.displacement) ∷ Addu r x.base 1 ∷ i r (low x.displacement) ∷ []))
 ]
@@ -32,7 +32,7 @@ constant_length d n = by_tests (nat_lt n (2 ^ 16)) (is_near n)
 module _ (sc : Scope) (x : Links) (fit : LengthsFit sc) where
   stored_length : (q r : ℕ) (p : CExpr) (o : Option ℕ) → length (stored_code q r o (made sc p).place) ≤ 14 * nodes p
   stored_length q r p (Some y) = let n = fit.place p r in omega (arith, n)
-  stored_length q r p None = let n = fit.place p r in let s = spot_length (λ b k. Sw q b k) r ((made sc p).place r) in omega (arith, n, s)
+  stored_length q r p None = let n = fit.place p r in let s = access_length (λ b k. Sw q b k) r ((made sc p).place r) in omega (arith, n, s)
 
   pub answer_length : (p : CExpr) → length (answer_code sc p) ≤ 14 * nodes p
   answer_length p = stored_length 2 8 p (made sc p).stands
@@ -42,8 +42,8 @@ module _ (sc : Scope) (x : Links) (fit : LengthsFit sc) where
   assigned_length p v None =
       let n = fit.operand v 8 in
       let m = fit.place p 9 in
-      let s = spot_length (λ b k. Sw (operand_register (made sc v) 8) b k) 9 ((made sc p).place 9) in
-      omega (arith, n, m, s, length-append (operand_code (made sc v) 8) (on_spot (λ b k. Sw (operand_register (made sc v) 8) b k) 9 ((made sc p).place 9)))
+      let s = access_length (λ b k. Sw (operand_register (made sc v) 8) b k) 9 ((made sc p).place 9) in
+      omega (arith, n, m, s, length-append (operand_code (made sc v) 8) (access_code (λ b k. Sw (operand_register (made sc v) 8) b k) 9 ((made sc p).place 9)))
 
   pub args_length : (es : List CExpr) (i : ℕ) → length (args_code sc es i) ≤ 14 * args_nodes es
   args_length [] i = omega arith
@@ -89,8 +89,8 @@ module _ (sc : Scope) (x : Links) (fit : LengthsFit sc) where
   assigned_some : (p v : CExpr) (o : Option ℕ) → 1 ≤ length (assigned_code o (made sc p) (made sc v))
   assigned_some p v (Some y) = fit.value_some v y 8
   assigned_some p v None =
-      let s = spot_longer (λ b k. Sw (operand_register (made sc v) 8) b k) 9 ((made sc p).place 9) in
-      omega (arith, s, length-append (operand_code (made sc v) 8) (on_spot (λ b k. Sw (operand_register (made sc v) 8) b k) 9 ((made sc p).place 9)))
+      let s = access_longer (λ b k. Sw (operand_register (made sc v) 8) b k) 9 ((made sc p).place 9) in
+      omega (arith, s, length-append (operand_code (made sc v) 8) (access_code (λ b k. Sw (operand_register (made sc v) 8) b k) 9 ((made sc p).place 9)))
 
   -- no statement is without code
   pub stmt_some : (t : CStmt) → 1 ≤ length (stmt_code sc x t)

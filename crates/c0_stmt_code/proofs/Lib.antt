@@ -27,7 +27,7 @@ pub mod FunctionRanges
 pub mod Returns
 pub mod Rooms
 pub mod StepSimulation
-pub mod Spots
+pub mod MemoryAccess
 pub mod State
 pub mod Statements
 pub mod Steps

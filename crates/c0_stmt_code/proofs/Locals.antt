@@ -28,7 +28,7 @@ use Rattle.c0_meaning.specs.World.{Cost, units, plus, Configuration, with_state}
 use Rattle.c0_meaning.specs.Running.{Work, push, Go, then_go, store}
 use Rattle.c0_meaning.specs.TypedState.{types_of, Fits, store_typing, variable_types}
 use Rattle.c0_expr_code.specs.Scope.{Scope, is_leaf}
-use Rattle.c0_expr_code.specs.Code.{register_of, variable_made, register_made, at_place, local_spot, made, value_code}
+use Rattle.c0_expr_code.specs.Code.{register_of, variable_made, register_made, at_place, local_address, made, value_code}
 use Rattle.c0_expr_code.specs.Bases.{Bases, word, RegionHeld}
 use Rattle.c0_expr_code.specs.Relation.{HoldsValue}
 use Rattle.c0_stmt_code.specs.Code.{calls_in, assign_code, assigned_code}
@@ -39,7 +39,7 @@ use Rattle.c0_stmt_code.proofs.Premises.{HeldStays, TypedStays, LengthsFit, AllS
 use Rattle.c0_stmt_code.proofs.RunStretches.{none}
 use Rattle.c0_stmt_code.proofs.Rooms.{put_same, put_other}
 use Rattle.c0_stmt_code.proofs.Costs.{value_within}
-use Rattle.c0_stmt_code.proofs.Spots.{read_is}
+use Rattle.c0_stmt_code.proofs.MemoryAccess.{read_is}
 use Rattle.c0_stmt_code.proofs.State.{state_of, standing_at, Exprs}
 use Rattle.c0_stmt_code.proofs.Places.{its_exprs, its_ready}
 use Rattle.c0_stmt_code.proofs.RegisterFrames.{each_scalar}
@@ -65,7 +65,7 @@ module _ (env : Env) (sc : Scope) (x : ℕ) where
   by_kind : (y : CName) (kd : Kind) (d : Typed) → y.kind ≡ kd → variable_at env kd y.number ≡ Some d → (variable_made sc kd y.number).stands ≡ Some x → IsVariable env sc (var y) x d.ty
   by_kind y Local d e at h = by_form sc.in_registers refl h
     where
-      by_form : (b : Bool) → sc.in_registers ≡ b → (if b then register_made (register_of y.number) else at_place (λ r. local_spot sc y.number)).stands ≡ Some x → IsVariable env sc (var y) x d.ty
+      by_form : (b : Bool) → sc.in_registers ≡ b → (if b then register_made (register_of y.number) else at_place (λ r. local_address sc y.number)).stands ≡ Some x → IsVariable env sc (var y) x d.ty
       by_form true f h = let q : register_of y.number ≡ x = cc in record { name = y; is = refl; kind = e; form = f; register = q; there = typed_at env.locals y.number d at }
       by_form false f h = absurd (cc)
   by_kind y Unresolved d e at h = absurd (cc)

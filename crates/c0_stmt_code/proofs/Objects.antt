@@ -35,7 +35,7 @@ use Rattle.c0_stmt_code.proofs.Premises.{HeldStays, TypedStays}
 use Rattle.c0_stmt_code.proofs.RunStretches.{Way, on, of, away}
 use Rattle.c0_stmt_code.proofs.Blocks.{front, back}
 use Rattle.c0_stmt_code.proofs.State.{standing_at, Exprs}
-use Rattle.c0_stmt_code.proofs.Spots.{other_reg, same_reg, read_is}
+use Rattle.c0_stmt_code.proofs.MemoryAccess.{other_reg, same_reg, read_is}
 use Rattle.c0_stmt_code.proofs.Places.{its_exprs, its_ready}
 use Rattle.c0_stmt_code.proofs.CallActs.{stands_soft, calls_to}
 use Rattle.c0_stmt_code.proofs.HeapGrows.{last_there, last_behind, parts_count, under_kept, under_more, stands_more}

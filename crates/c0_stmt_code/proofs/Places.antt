@@ -15,7 +15,7 @@ use Rattle.c0_meaning.specs.Evaluation.{place_of}
 use Rattle.c0_meaning.specs.World.{Cost, units, plus, Configuration, with_state, calls_ended}
 use Rattle.c0_meaning.specs.Running.{Work, store}
 use Rattle.c0_meaning.specs.TypedState.{LeadsFrom, Fits, store_typing}
-use Rattle.c0_expr_code.specs.Code.{AddressingMode, on_spot, made}
+use Rattle.c0_expr_code.specs.Code.{AddressingMode, access_code, made}
 use Rattle.c0_expr_code.specs.Scope.{Scope}
 use Rattle.c0_expr_code.specs.Bases.{Bases, types_in, location_word, word}
 use Rattle.c0_expr_code.specs.Relation.{Ready, KeepsRegisters, HoldsAddress, Source, nought, its, far}
@@ -25,9 +25,9 @@ use Rattle.c0_stmt_code.specs.Standing.{text, scope, bases, Waiting, FunctionRun
 use Rattle.c0_stmt_code.proofs.Premises.{ExpressionsDo, HeldStays, TypedStays, types_for}
 use Rattle.c0_stmt_code.proofs.RunStretches.{on, away}
 use Rattle.c0_stmt_code.proofs.Costs.{place_within}
-use Rattle.c0_stmt_code.proofs.Spots.{spot_front, spot_longer, place_steps, few_steps, writes}
+use Rattle.c0_stmt_code.proofs.MemoryAccess.{access_front, access_longer, place_steps, few_steps, writes}
 use Rattle.c0_stmt_code.proofs.State.{state_of, standing_at, Exprs, ready}
-use Rattle.c0_stmt_code.proofs.Stores.{spot, stored}
+use Rattle.c0_stmt_code.proofs.Stores.{in_data, stored}
 use Rattle.c0_stmt_code.proofs.StepSimulation.{GoesOn, Path, arrives, then_comes}
 
 pub source_not_one : (r q : ℕ) → 8 ≤ r → Source r q → q ≢ 1
@@ -66,29 +66,29 @@ module _ (runs : RunLaws) (compose : RunsCompose) (W E : Type 0) (Outer : W → 
       → Path runs compose W E Outer z jumps 0 n s (at_with k c d) → n + 3 + debt' ≤ 30 * cost.own + 14 + debt → n ≤ 30 * cost.own + debt → cost.own + nodes p ≤ 2048 → nodes p ≤ 2000 → length calls ≡ calls_ended h0 → 8 ≤ free → free + need p ≤ 20 → free < 20
       → q ≢ 1 → q ≢ free → ((b : Contents) → KeepsRegisters free free c b → reg b.regs q ≡ reg c.regs q) → reg c.regs q ≡ word sc (bases W E Outer z objects (g ∷ fs)) v
       → Fits (shapes z.p.unit) (store_typing z.p.unit objects) t v → IsNumberedLeft (env_in (text W E Outer z) a.function) p t → (made sc p).stands ≡ None
-      → CodeAt z.w k (on_spot (λ y x. Sw q y x) free ((made sc p).place free))
-      → Block (text W E Outer z) a.function (k + length (on_spot (λ y x. Sw q y x) free ((made sc p).place free))) debt' rest (λ to left. Ahead (text W E Outer z) (a ∷ others) to left work)
+      → CodeAt z.w k (access_code (λ y x. Sw q y x) free ((made sc p).place free))
+      → Block (text W E Outer z) a.function (k + length (access_code (λ y x. Sw q y x) free ((made sc p).place free))) debt' rest (λ to left. Ahead (text W E Outer z) (a ∷ others) to left work)
       → GoesOn W E Outer z debt h0 s (store cost p v rest work here)
   store_in n debt debt' free q k cost h0 s p t v rest work path high early low few en lo need_fits hi qz qr kept holds fits left stands code block =
       let x : AddressingMode = (made sc p).place free in
       let b : Bases = bases W E Outer z objects (g ∷ fs) in
-      let runs_p = its_exprs.place p t left few stands free k c d st.idle its_ready (spot_front z.w k (λ y x. Sw q y x) free x code) lo need_fits in
+      let runs_p = its_exprs.place p t left few stands free k c d st.idle its_ready (access_front z.w k (λ y x. Sw q y x) free x code) lo need_fits in
       then_comes runs compose W E Outer z jumps 0 n 0 debt 1 (nodes p) cost here h0 s a.function k (k + length x.code) c d objects (HoldsAddress sc (bases W E Outer z objects (g ∷ fs)) x.base x.displacement free (is_frame_place p) t c) (place_of p here.state) _ path
       (omega (arith, early)) en st (place_within p here.state) runs_p.1
       (λ u l c1 least most found path1.
       let leads = leads_for z objects (g ∷ fs) a.function l.region l.path t found.leads in
-      let room = spot W E Outer z held typing objects gv hv hw g fs world calls answer c d a others st r waits l.region l.path t leads left.scalar found.standing in
+      let room = in_data W E Outer z held typing objects gv hv hw g fs world calls answer c d a others st r waits l.region l.path t leads left.scalar found.standing in
       let at = location_word sc (bases W E Outer z objects (g ∷ fs)) l in
       let its = word sc (bases W E Outer z objects (g ∷ fs)) v in
       let from = room.from in
       let to = room.to in
       let stack = z.stack_fits in
       let wrote = writes compose z.w straight q x free k at its c1 d st.idle (λ e. absurd (omega (arith, e, lo))) (source_not_one free x.base lo runs_p.0) qz qr code found.is (omega (arith, to, stack)) (z.ours at (inl (from, to))) (kept c1 found.keeps ∙ holds) in
-      let longer = spot_longer (λ y x. Sw q y x) free x in
-      let go = away runs z.w 3 (at_with (k + length x.code) c1 d) (at_with (k + length (on_spot (λ y x. Sw q y x) free x)) wrote.0 d) (λ e. absurd (omega (arith, e, longer))) (compose.later z.w (place_steps x) 3 _ _ (few_steps x) wrote.2) in
+      let longer = access_longer (λ y x. Sw q y x) free x in
+      let go = away runs z.w 3 (at_with (k + length x.code) c1 d) (at_with (k + length (access_code (λ y x. Sw q y x) free x)) wrote.0 d) (λ e. absurd (omega (arith, e, longer))) (compose.later z.w (place_steps x) 3 _ _ (few_steps x) wrote.2) in
       let way = on runs z.w 0 (n + (0 + 16 * u)) 1 3 s _ _ path1 go in
       let done = stored W E Outer z held typing objects gv hv hw g fs world calls answer c d a others st r waits wrote.0 t v (wrote.1.special ∙ found.keeps.special)
       (λ y ge. wrote.1.others y (λ e. absurd (omega (arith, e, ge))) (λ e. absurd (omega (arith, e, ge, hi))) ∙ found.keeps.above y (λ e. absurd (omega (arith, e, ge, hi))) ge) left.scalar fits l.region l.path leads found.standing
       (wrote.1.memory ∙ ap (λ m. put_word m at its) found.keeps.memory) in
-      arrives runs compose W E Outer z jumps (0 + 1) (n + (0 + 16 * u) + 3) debt debt' (plus cost (units u)) h0 (with_state here (write here.state l v)) s (k + length (on_spot (λ y x. Sw q y x) free x)) wrote.0 d objects a others rest work way
+      arrives runs compose W E Outer z jumps (0 + 1) (n + (0 + 16 * u) + 3) debt debt' (plus cost (units u)) h0 (with_state here (write here.state l v)) s (k + length (access_code (λ y x. Sw q y x) free x)) wrote.0 d objects a others rest work way
       (omega (arith, low, most)) (omega (arith, high, least)) (omega (arith, en)) done.0 done.1 block)

@@ -33,7 +33,7 @@ use Rattle.c0_stmt_code.proofs.RunStretches.{none, on, away}
 use Rattle.c0_stmt_code.proofs.Blocks.{front, back}
 use Rattle.c0_stmt_code.proofs.Costs.{values_within}
 use Rattle.c0_stmt_code.proofs.State.{state_of, standing_at, Exprs}
-use Rattle.c0_stmt_code.proofs.Spots.{other_reg, same_reg}
+use Rattle.c0_stmt_code.proofs.MemoryAccess.{other_reg, same_reg}
 use Rattle.c0_stmt_code.proofs.Rooms.{variables_same, waiting_same, frame_words, frame_on, words_by_types}
 use Rattle.c0_stmt_code.proofs.Places.{its_exprs, its_ready}
 use Rattle.c0_stmt_code.proofs.Args.{InRegisters, args_run}

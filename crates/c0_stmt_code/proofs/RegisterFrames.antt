@@ -13,7 +13,7 @@ use Rattle.c0_expr_code.specs.Code.{register_of}
 use Rattle.c0_stmt_code.specs.Code.{clear_code}
 use Rattle.c0_stmt_code.proofs.Premises.{AllScalar}
 use Rattle.c0_stmt_code.proofs.Rooms.{put_same, put_other}
-use Rattle.c0_stmt_code.proofs.Spots.{same_reg, other_reg, read_is}
+use Rattle.c0_stmt_code.proofs.MemoryAccess.{same_reg, other_reg, read_is}
 
 pub each_scalar : (ts : List Ty) → list_all is_scalar ts ≡ true → AllScalar ts
 each_scalar [] h = tt

@@ -22,9 +22,9 @@ use Rattle.c0_meaning.specs.World.{Cost, units, plus, Configuration, calls_ended
 use Rattle.c0_meaning.specs.Running.{Target, into, outward, Work, then_go, deliver, store}
 use Rattle.c0_meaning.specs.TypedState.{Fits, store_typing}
 use Rattle.c0_expr_code.specs.Scope.{Scope}
-use Rattle.c0_expr_code.specs.Code.{frame_back, on_spot, low, made, value_code}
+use Rattle.c0_expr_code.specs.Code.{frame_back, access_code, low, made, value_code}
 use Rattle.c0_expr_code.specs.Relation.{KeepsRegisters, HoldsValue, Evaluates, Splits}
-use Rattle.c0_stmt_code.specs.Code.{calls_in, frame_spot, end_code, restore_code, frame_return, register_return, exit_code, answer_code, stored_code}
+use Rattle.c0_stmt_code.specs.Code.{calls_in, frame_slot, end_code, restore_code, frame_return, register_return, exit_code, answer_code, stored_code}
 use Rattle.c0_stmt_code.specs.Setup.{Setup}
 use Rattle.c0_stmt_code.specs.Journey.{Led}
 use Rattle.c0_stmt_code.specs.Ahead.{Activation, HasAnswerPlace, Block, Awaits, ReturnStands, Ahead}
@@ -36,7 +36,7 @@ use Rattle.c0_stmt_code.proofs.Costs.{value_within}
 use Rattle.c0_stmt_code.proofs.ValuesStay.{word_same}
 use Rattle.c0_stmt_code.proofs.Places.{its_exprs, its_ready, store_in}
 use Rattle.c0_stmt_code.proofs.State.{rest_of, state_of, standing_at, Exprs}
-use Rattle.c0_stmt_code.proofs.Spots.{other_reg, same_reg, read_is, like_read, place_steps, few_steps, on_place}
+use Rattle.c0_stmt_code.proofs.MemoryAccess.{other_reg, same_reg, read_is, like_read, place_steps, few_steps, on_place}
 use Rattle.c0_stmt_code.proofs.Rooms.{frame_words, frame_on, variables_same}
 use Rattle.c0_stmt_code.proofs.Frames.{frame_address, ends}
 use Rattle.c0_stmt_code.proofs.StepSimulation.{GoesOn, Path, stands_on, then_splits}
@@ -64,7 +64,7 @@ module _ (compose : RunsCompose) (w : World) (sound : Sound w) (straight : Strai
         → (c' : Contents) × Restored to c c' × Reaches w 3 (at_with k c d) (at_with (k + length (restore_code sc calling)) c' d)
     restores false to k c d idle at is code = (c, record { is = is; memory = refl; special = refl; others = λ x ne me. refl }, subst (λ m. Reaches w 3 (at_with k c d) (at_with m c d)) (omega arith) (compose.later w 0 3 _ _ (omega arith) (compose.none w (at_with k c d))))
     restores true to k c d idle at is code =
-        let r = on_place compose w straight (Restored to c) (λ y x. Lw 31 y x) (frame_spot sc 0) 1 k c d idle (λ q. absurd (omega (arith, q))) (λ q. absurd (omega (arith, q))) code
+        let r = on_place compose w straight (Restored to c) (λ y x. Lw 31 y x) (frame_slot sc 0) 1 k c d idle (λ q. absurd (omega (arith, q))) (λ q. absurd (omega (arith, q))) code
         (λ y m a there near address. (
           with_reg a 31 (4 * to),
           record {
@@ -76,7 +76,7 @@ module _ (compose : RunsCompose) (w : World) (sound : Sound w) (straight : Strai
           straight.next (Lw 31 y (low ((frame_back sc + 4 * 0) % 2 ^ 32))) (Reads (e - sc.frame) (4 * to)) m a d there refl idle
               (address ∙ ap (λ v. (v + (frame_back sc + 4 * 0) % 2 ^ 32) % 2 ^ 32) at ∙ frame_address sc e 0 inside small (omega arith) ∙ omega arith, omega (arith, inside, some, fits), ap (λ f. f (e - sc.frame)) near.memory ∙ is),
         )) in
-        (r.0, r.1, subst (λ m. Reaches w 3 (at_with m c d) (at_with (k + length (restore_code sc true)) r.0 d)) (omega arith) (compose.later w (place_steps (frame_spot sc 0)) 3 _ _ (few_steps (frame_spot sc 0)) r.2))
+        (r.0, r.1, subst (λ m. Reaches w 3 (at_with m c d) (at_with (k + length (restore_code sc true)) r.0 d)) (omega arith) (compose.later w (place_steps (frame_slot sc 0)) 3 _ _ (few_steps (frame_slot sc 0)) r.2))
 
     pub returns : (calling : Bool) (to k : ℕ) (c : Contents) (d : Behind) → d.pending ≡ Idle → c.regs 29 ≡ 4 * e → (if calling then c.memory (e - sc.frame) else c.regs 31) ≡ 4 * to → CodeAt w k (frame_return sc calling)
         → (c' : Contents) × Returned (e - sc.frame) c c' × Reaches w 7 (at_with k c d) (at_with to c' d)
@@ -319,7 +319,7 @@ module _ (runs : RunLaws) (compose : RunsCompose) (W E : Type 0) (Outer : W → 
       → HasAnswerPlace (text W E Outer z) a.function place t → CodeAt z.w k (answer_code sc place) → Block (text W E Outer z) a.function (k + length (answer_code sc place)) debt rest (λ to left. Ahead (text W E Outer z) (a ∷ others) to left work)
       → GoesOn W E Outer z debt here (at_with k c d) (store (units 0) place v rest work here)
   finishes place v rest work t fits is stands answered code block =
-      let same : answer_code sc place ≡ on_spot (λ b y. Sw 2 b y) 8 ((made sc place).place 8) = ap (λ o. stored_code 2 8 o (made sc place).place) stands in
+      let same : answer_code sc place ≡ access_code (λ b y. Sw 2 b y) 8 ((made sc place).place 8) = ap (λ o. stored_code 2 8 o (made sc place).place) stands in
       let shallow = answered.shallow in
       let few = answered.few in
       let canonical = word_same (shapes z.p.unit) (map typed_of z.p.unit.globals) z.a.globals z.a.heap objects objects (λ path t h. refl) (rest_of (unit_scope z.p.unit)) (rest_of sc) (end_of W E Outer z []) (end_of W E Outer z (g ∷ fs)) t v fits in

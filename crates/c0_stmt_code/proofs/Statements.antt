@@ -18,7 +18,7 @@ use Rattle.c0_meaning.specs.World.{units, plus, Configuration}
 use Rattle.c0_meaning.specs.Running.{Work, again, push, Go, then_go, test_loop, store}
 use Rattle.std.proofs.lemmas.Bool.{and_parts}
 use Rattle.c0_expr_code.specs.Scope.{Scope, are_free_of_calls}
-use Rattle.c0_expr_code.specs.Code.{on_spot, made, operand_code, operand_register}
+use Rattle.c0_expr_code.specs.Code.{access_code, made, operand_code, operand_register}
 use Rattle.c0_expr_code.specs.Bases.{Bases}
 use Rattle.c0_expr_code.specs.Test.{test_code}
 use Rattle.c0_expr_code.specs.Relation.{Ready, KeepsRegisters, HoldsValue, Source, nought, its, far, ends}
@@ -34,7 +34,7 @@ use Rattle.c0_stmt_code.proofs.Costs.{value_within, truth_within}
 use Rattle.c0_stmt_code.proofs.Lengths.{stmts_length, stmt_some}
 use Rattle.c0_stmt_code.proofs.Places.{source_not_one, keeps_low, its_exprs, its_ready, store_in}
 use Rattle.c0_stmt_code.proofs.State.{state_of, standing_at, Exprs, under_on}
-use Rattle.c0_stmt_code.proofs.Spots.{like_read}
+use Rattle.c0_stmt_code.proofs.MemoryAccess.{like_read}
 use Rattle.c0_stmt_code.proofs.StepSimulation.{GoesOn, Path, stands_on, arrives, then_comes, then_splits}
 
 -- the greater of two
@@ -102,12 +102,12 @@ module _ (runs : RunLaws) (compose : RunsCompose) (W E : Type 0) (Outer : W → 
   assigns p v t left given need_fits few stands code block =
       let op : List Inst = operand_code (made sc v) 8 in
       let q : ℕ = operand_register (made sc v) 8 in
-      let same : assign_code sc p v ≡ operand_code (made sc v) 8 ++ on_spot (λ y x. Sw (operand_register (made sc v) 8) y x) 9 ((made sc p).place 9) = ap (λ o. assigned_code o (made sc p) (made sc v)) stands in
+      let same : assign_code sc p v ≡ operand_code (made sc v) 8 ++ access_code (λ y x. Sw (operand_register (made sc v) 8) y x) 9 ((made sc p).place 9) = ap (λ o. assigned_code o (made sc p) (made sc v)) stands in
       let there = subst (CodeAt z.w k) same code in
-      let len : k + length (assign_code sc p v) ≡ k + length (operand_code (made sc v) 8) + length (on_spot (λ y x. Sw (operand_register (made sc v) 8) y x) 9 ((made sc p).place 9)) = omega (arith, ap length same, length-append (operand_code (made sc v) 8) (on_spot (λ y x. Sw (operand_register (made sc v) 8) y x) 9 ((made sc p).place 9))) in
+      let len : k + length (assign_code sc p v) ≡ k + length (operand_code (made sc v) 8) + length (access_code (λ y x. Sw (operand_register (made sc v) 8) y x) 9 ((made sc p).place 9)) = omega (arith, ap length same, length-append (operand_code (made sc v) 8) (access_code (λ y x. Sw (operand_register (made sc v) 8) y x) 9 ((made sc p).place 9))) in
       let nv = max_left (need v) (need p + 1) 12 need_fits in
       let np = max_right (need v) (need p + 1) 12 need_fits in
-      let run = do_exprs.operand v t given left.scalar (omega (arith, few)) 8 k c d st.idle do_ready (front z.w k (operand_code (made sc v) 8) (on_spot (λ y x. Sw (operand_register (made sc v) 8) y x) 9 ((made sc p).place 9)) there) (omega arith) (omega (arith, nv)) in
+      let run = do_exprs.operand v t given left.scalar (omega (arith, few)) 8 k c d st.idle do_ready (front z.w k (operand_code (made sc v) 8) (access_code (λ y x. Sw (operand_register (made sc v) 8) y x) 9 ((made sc p).place 9)) there) (omega arith) (omega (arith, nv)) in
       then_comes runs compose W E Outer z jumps 0 0 0 debt 1 (nodes v) (units 1) here here s a.function k (k + length (operand_code (made sc v) 8)) c d objects (HoldsValue sc frame_bases (operand_register (made sc v) 8) 8 8 t c) (value_of v here.state) (λ cost x. store cost p x rest work here)
       (none runs z.w s) (omega arith) (omega arith) st (value_within v here.state) run.1
       (λ u x c1 least most gives path1.
@@ -119,7 +119,7 @@ module _ (runs : RunLaws) (compose : RunsCompose) (W E : Type 0) (Outer : W → 
       (omega arith) (omega arith) (omega (arith, most, few)) (omega (arith, few)) (omega arith) (omega arith) (omega (arith, np)) (omega arith)
       (source_not_one 8 (operand_register (made sc v) 8) (omega arith) run.0) (source_apart 8 (operand_register (made sc v) 8) (omega arith) run.0)
       (λ b kept. source_kept 8 (operand_register (made sc v) 8) c1 b (omega arith) (omega arith) run.0 kept) gives.is gives.fits left stands
-      (blocks.back z.w k (operand_code (made sc v) 8) (on_spot (λ y x. Sw (operand_register (made sc v) 8) y x) 9 ((made sc p).place 9)) there) (subst (λ y. Behind_it y debt) len block))
+      (blocks.back z.w k (operand_code (made sc v) 8) (access_code (λ y x. Sw (operand_register (made sc v) 8) y x) 9 ((made sc p).place 9)) there) (subst (λ y. Behind_it y debt) len block))
 
   -- an `if`
   abbrev yes_words : CStmts → ℕ

@@ -45,7 +45,7 @@ use Rattle.c0_stmt_code.proofs.Asms.{enters_asm}
 use Rattle.c0_stmt_code.proofs.Calls.{enters, enters_light}
 use Rattle.c0_stmt_code.proofs.CallActs.{signature_from, calls_function}
 use Rattle.c0_stmt_code.proofs.Primitives.{calls_primitive}
-use Rattle.c0_stmt_code.proofs.Spots.{spot_longer}
+use Rattle.c0_stmt_code.proofs.MemoryAccess.{access_longer}
 use Rattle.c0_stmt_code.proofs.Returns.{leaves, leaves_light, finishes}
 use Rattle.c0_stmt_code.proofs.StepSimulation.{GoesOn, goes_on, Path}
 
@@ -82,7 +82,7 @@ answer_some sc p = by_stands (made sc p).stands
   where
     by_stands : (o : Option ℕ) → 1 ≤ length (stored_code 2 8 o (made sc p).place)
     by_stands (Some x) = omega arith
-    by_stands None = let n = spot_longer (λ b k. Sw 2 b k) 8 ((made sc p).place 8) in omega (arith, n)
+    by_stands None = let n = access_longer (λ b k. Sw 2 b k) 8 ((made sc p).place 8) in omega (arith, n)
 
 given_length : (env : Env) (es : List CExpr) (ts : List Ty) → AreNumberedGiven env es ts → length es ≡ length ts
 given_length env [] [] none = refl

@@ -31,7 +31,7 @@ module _ (W E : Type 0) (Outer : W → Contents → Behind → Type 0) (z : Setu
   its_word v = word (scope W E Outer z a.function) (bases W E Outer z objects (g ∷ fs)) v
 
   -- where it lies
-  pub record Spot (region : Region) (path : List ℕ) : Type 0 where
+  pub record IsInData (region : Region) (path : List ℕ) : Type 0 where
     pub from : z.a.globals ≤ place region path
     pub to : place region path < z.a.stack + z.p.stack
 
@@ -40,21 +40,21 @@ module _ (W E : Type 0) (Outer : W → Contents → Behind → Type 0) (z : Setu
   local_at path true e = absurd (cc)
   local_at path false e = let on = frame_on z.p.unit g fs a.function r.is in omega (arith, on)
 
-  pub spot : (region : Region) (path : List ℕ) (t : Ty) → LeadsFrom (shapes z.p.unit) (types_for z.p.unit objects a.function region) path t → IsTrue (is_scalar t) → (region ≡ locals → (scope W E Outer z a.function).in_registers ≡ false) → Spot region path
-  spot globals path t l scalar form =
+  pub in_data : (region : Region) (path : List ℕ) (t : Ty) → LeadsFrom (shapes z.p.unit) (types_for z.p.unit objects a.function region) path t → IsTrue (is_scalar t) → (region ≡ locals → (scope W E Outer z a.function).in_registers ≡ false) → IsInData region path
+  in_data globals path t l scalar form =
       let i = held.inside (types_of (map typed_of z.p.unit.globals)) path t l scalar in
       let w = words_by_types (shapes z.p.unit) (map typed_of z.p.unit.globals) in
       let f = z.globals_fit in
       let g = z.heap_fits in
       record { from = omega arith; to = omega (arith, i, w, f, g) }
-  spot heap path t l scalar form =
+  in_data heap path t l scalar form =
       let i = held.inside objects path t l scalar in
       let f = z.globals_fit in
       let g = z.heap_fits in
       let u = st.used in
       let o = st.room in
       record { from = omega (arith, f); to = omega (arith, i, f, g, u, o) }
-  spot locals path t l scalar form =
+  in_data locals path t l scalar form =
       let i = held.inside (types_of (scope W E Outer z a.function).env.locals) path t l scalar in
       let at = local_at path (scope W E Outer z a.function).in_registers (form refl) in
       let on = frame_on z.p.unit g fs a.function r.is in
@@ -79,7 +79,7 @@ module _ (W E : Type 0) (Outer : W → Contents → Behind → Type 0) (z : Setu
         let u = st.used in
         let o = st.room in
         let low = z.low in
-        let s = spot globals path t l scalar form in
+        let s = in_data globals path t l scalar form in
         let from = s.from in
         let to = s.to in
         let other : (k : ℕ) → k ≢ place globals path → c'.memory k ≡ c.memory k = λ k ne. ap (λ f. f k) m ∙ put_other c.memory (place globals path) (its_word v) k ne in
@@ -115,7 +115,7 @@ module _ (W E : Type 0) (Outer : W → Contents → Behind → Type 0) (z : Setu
         let u = st.used in
         let o = st.room in
         let low = z.low in
-        let s = spot heap path t l scalar form in
+        let s = in_data heap path t l scalar form in
         let from = s.from in
         let to = s.to in
         let other : (k : ℕ) → k ≢ place heap path → c'.memory k ≡ c.memory k = λ k ne. ap (λ f. f k) m ∙ put_other c.memory (place heap path) (its_word v) k ne in
@@ -154,7 +154,7 @@ module _ (W E : Type 0) (Outer : W → Contents → Behind → Type 0) (z : Setu
         let u = st.used in
         let o = st.room in
         let low = z.low in
-        let s = spot locals path t l scalar form in
+        let s = in_data locals path t l scalar form in
         let from = s.from in
         let to = s.to in
         let other : (k : ℕ) → k ≢ place locals path → c'.memory k ≡ c.memory k = λ k ne. ap (λ f. f k) m ∙ put_other c.memory (place locals path) (its_word v) k ne in

@@ -12,7 +12,7 @@ use Rattle.c0_meaning.specs.Env.{typed_of}
 use Rattle.c0_meaning.specs.Words.{words, all_words}
 use Rattle.c0_meaning.specs.Operators.{StackOut}
 use Rattle.c0_expr_code.specs.Scope.{Scope}
-use Rattle.c0_expr_code.specs.Code.{AddressingMode, Made, frame_back, register_of, constant_code, on_spot, operand_code, operand_register, made, value_code}
+use Rattle.c0_expr_code.specs.Code.{AddressingMode, Made, frame_back, register_of, constant_code, access_code, operand_code, operand_register, made, value_code}
 use Rattle.c0_expr_code.specs.Test.{test_code}
 use Rattle.c0_asm_body.specs.Code.{asm_code}
 
@@ -35,7 +35,7 @@ skip n = Beq 0 0 (n % 2 ^ 16)
 -- the value of register q goes to a variable that stands in a register, or to a place, with the free registers from r
 abbrev pub stored_code : (q r : ℕ) → Option ℕ → (ℕ → AddressingMode) → List Inst
 stored_code q r (Some x) place = Addu x q 0 ∷ []
-stored_code q r None place = on_spot (λ b k. Sw q b k) r (place r)
+stored_code q r None place = access_code (λ b k. Sw q b k) r (place r)
 
 -- an answer in register 2 goes to a place
 abbrev pub answer_code : Scope → CExpr → List Inst
@@ -44,7 +44,7 @@ answer_code sc p = stored_code ANSWER EXPRESSIONS (made sc p).stands (made sc p)
 -- a value goes to a variable that stands in a register, or first to a register and from there to a place
 abbrev pub assigned_code : Option ℕ → Made → Made → List Inst
 assigned_code (Some x) p v = v.value x EXPRESSIONS
-assigned_code None p v = operand_code v EXPRESSIONS ++ on_spot (λ b k. Sw (operand_register v EXPRESSIONS) b k) 9 (p.place 9)
+assigned_code None p v = operand_code v EXPRESSIONS ++ access_code (λ b k. Sw (operand_register v EXPRESSIONS) b k) 9 (p.place 9)
 
 -- an assignment
 abbrev pub assign_code : Scope → CExpr → CExpr → List Inst
@@ -117,12 +117,12 @@ abbrev mutual
   are_calling (next s rest) = is_calling s || are_calling rest
 
 -- the frame's word of a number: register 29 is the frame's end
-abbrev pub frame_spot : Scope → ℕ → AddressingMode
-frame_spot sc i = record { code = []; base = FRAME_END; displacement = (frame_back sc + 4 * i) % 2 ^ 32 }
+abbrev pub frame_slot : Scope → ℕ → AddressingMode
+frame_slot sc i = record { code = []; base = FRAME_END; displacement = (frame_back sc + 4 * i) % 2 ^ 32 }
 
 -- a register becomes register 29 and so many bytes, modulo 2 ^ 32
 abbrev pub end_code : (d bytes : ℕ) → List Inst
-end_code d bytes = on_spot (λ b k. Addiu d b k) d (record { code = []; base = FRAME_END; displacement = bytes % 2 ^ 32 })
+end_code d bytes = access_code (λ b k. Addiu d b k) d (record { code = []; base = FRAME_END; displacement = bytes % 2 ^ 32 })
 
 -- the words of the largest stack
 abbrev pub MAX_STACK : ℕ
@@ -138,24 +138,24 @@ stack_test sc d = large_code sc ++ (end_code d (4 * sc.frame) ++ (Sltu SCRATCH S
 
 -- the return address goes to the frame's first word, and comes back from it, where it is written in between
 abbrev pub save_code : Scope → Bool → List Inst
-save_code sc calling = if calling then on_spot (λ b k. Sw RETURN b k) SCRATCH (frame_spot sc 0) else []
+save_code sc calling = if calling then access_code (λ b k. Sw RETURN b k) SCRATCH (frame_slot sc 0) else []
 
 abbrev pub restore_code : Scope → Bool → List Inst
-restore_code sc calling = if calling then on_spot (λ b k. Lw RETURN b k) SCRATCH (frame_spot sc 0) else []
+restore_code sc calling = if calling then access_code (λ b k. Lw RETURN b k) SCRATCH (frame_slot sc 0) else []
 
 -- so many arguments, of which the first has the number i, go from their registers to the frame, behind its three words
 abbrev pub params_code : Scope → (n i : ℕ) → List Inst
 params_code sc zero i = []
-params_code sc (suc n) i = on_spot (λ b k. Sw (register_of i) b k) SCRATCH (frame_spot sc (3 + i)) ++ params_code sc n (suc i)
+params_code sc (suc n) i = access_code (λ b k. Sw (register_of i) b k) SCRATCH (frame_slot sc (3 + i)) ++ params_code sc n (suc i)
 
 -- so many words of the frame from i on become 0, a store each
 abbrev pub zeros_code : Scope → (n i : ℕ) → List Inst
 zeros_code sc zero i = []
-zeros_code sc (suc n) i = on_spot (λ b k. Sw 0 b k) SCRATCH (frame_spot sc i) ++ zeros_code sc n (suc i)
+zeros_code sc (suc n) i = access_code (λ b k. Sw 0 b k) SCRATCH (frame_slot sc i) ++ zeros_code sc n (suc i)
 
 -- the frame's words from i to its end become 0, in a loop
 abbrev pub zeros_loop : Scope → ℕ → List Inst
-zeros_loop sc i = on_spot (λ b k. Addiu ANSWER b k) ANSWER (frame_spot sc i) ++ (Sw 0 ANSWER 0 ∷ Addiu ANSWER ANSWER 4 ∷ Bne ANSWER FRAME_END 65533 ∷ [])
+zeros_loop sc i = access_code (λ b k. Addiu ANSWER b k) ANSWER (frame_slot sc i) ++ (Sw 0 ANSWER 0 ∷ Addiu ANSWER ANSWER 4 ∷ Bne ANSWER FRAME_END 65533 ∷ [])
 
 -- the locals' words, of which there are n, from i to the frame's end
 abbrev pub locals_code : Scope → (n i : ℕ) → List Inst

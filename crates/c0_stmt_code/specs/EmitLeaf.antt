@@ -10,12 +10,12 @@ use Rattle.c0_meaning.specs.Env.{Env, typed_of}
 use Rattle.c0_meaning.specs.Limits.{locals_of}
 use Rattle.c0_meaning.specs.Unit.{IsWellFormed}
 use Rattle.c0_meaning.specs.Words.{all_words}
-use Rattle.c0_expr_code.specs.declared.spot.Access.{Access}
-use Rattle.c0_expr_code.specs.Code.{on_spot}
+use Rattle.c0_expr_code.specs.declared.address.Access.{Access}
+use Rattle.c0_expr_code.specs.Code.{access_code}
 use Rattle.c0_expr_code.specs.Emit.{access_inst}
 use Rattle.c0_expr_code.specs.Scene.{HasNumbers}
 use Rattle.c0_expr_code.specs.Scope.{Scope, scope_of}
-use Rattle.c0_stmt_code.specs.Code.{frame_spot}
+use Rattle.c0_stmt_code.specs.Code.{frame_slot}
 
 -- an expression whose variables and fields there are, and that needs at most so many registers
 pub record CanStand (env : Env) (registers : ℕ) (e : CExpr) : Type 0 where
@@ -24,7 +24,7 @@ pub record CanStand (env : Env) (registers : ℕ) (e : CExpr) : Type 0 where
 
 -- the access to the frame's first word, which keeps the return address where something is called
 abbrev pub kept_code : Scope → Access → (calling : Bool) → List Inst
-kept_code sc access calling = if calling then on_spot (access_inst access RETURN) SCRATCH (frame_spot sc 0) else []
+kept_code sc access calling = if calling then access_code (access_inst access RETURN) SCRATCH (frame_slot sc 0) else []
 
 -- a frame has three words of its own, one for each parameter, and those of the locals
 abbrev pub HasFrame : Scope → (params : ℕ) → List CDecl → Type 0

@@ -8,10 +8,10 @@ ghost use Rattle.c0_tree.specs.View.{expr_view, type_view};
 ghost use Rattle.c0_meaning.specs.Sound.{IsSized};
 ghost use Rattle.c0_meaning.specs.Ty.{ty_of};
 ghost use Rattle.c0_meaning.specs.Words.{words};
-ghost use Rattle.c0_expr_code.specs.Code.{on_spot};
+ghost use Rattle.c0_expr_code.specs.Code.{access_code};
 ghost use Rattle.c0_expr_code.specs.Emit.{Appends, access_inst};
 ghost use Rattle.c0_expr_code.specs.Scene.{HasNumbers, made_in, scope_in};
-ghost use Rattle.c0_expr_code.specs.declared.spot.Access.TheVariants.{Store};
+ghost use Rattle.c0_expr_code.specs.declared.address.Access.TheVariants.{Store};
 ghost use Rattle.c0_stmt_code.specs.Code.{answer_code, args_code, assign_code, callee_index, links_of};
 ghost use Rattle.c0_stmt_code.specs.Emit.{call_in, new_in};
 ghost use Rattle.c0_stmt_code.specs.EmitLeaf.{CanStand};
@@ -64,10 +64,10 @@ fn emit_stored(
     requires register { register < 32 }
     requires room { free + need (expr_view place.now) ≤ 20 }
     requires numbers { HasNumbers (scope_in scene.now).env (expr_view place.now) }
-    ensures { Appends code.old.items code.new.items (on_spot (access_inst Store register) free ((made_in scene.now place.now).place free)) result }
+    ensures { Appends code.old.items code.new.items (access_code (access_inst Store register) free ((made_in scene.now place.now).place free)) result }
 {
-    let spot = emit_place(scene, place, free, code)?;
-    emit_access(code, Access::Store, register, free, spot)
+    let address = emit_place(scene, place, free, code)?;
+    emit_access(code, Access::Store, register, free, address)
 }
 
 // Appends the code that takes an answer to its place.

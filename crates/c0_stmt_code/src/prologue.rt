@@ -7,14 +7,14 @@ ghost use Rattle.c0_meaning.specs.Env.{typed_of};
 ghost use Rattle.c0_meaning.specs.Operators.{StackOut};
 ghost use Rattle.c0_meaning.specs.Words.{all_words};
 ghost use Rattle.c0_expr_code.specs.Code as expressions;
-ghost use Rattle.c0_expr_code.specs.Code.{on_spot};
+ghost use Rattle.c0_expr_code.specs.Code.{access_code};
 ghost use Rattle.c0_expr_code.specs.Emit.{Appends, access_inst};
 ghost use Rattle.c0_expr_code.specs.Scene.{scope_in};
-ghost use Rattle.c0_stmt_code.specs.Code.{clear_code, end_code, entry_code, exit_code, frame_entry, frame_return, frame_spot, large_code, locals_code};
+ghost use Rattle.c0_stmt_code.specs.Code.{clear_code, end_code, entry_code, exit_code, frame_entry, frame_return, frame_slot, large_code, locals_code};
 ghost use Rattle.c0_stmt_code.specs.Code.{params_code, register_entry, register_return, stack_test, zeros_code, zeros_loop};
 ghost use Rattle.c0_stmt_code.specs.EmitLeaf.{FramesAreThose, HasFrame, kept_code};
 
-use c0_expr_code::{Access, Scene, Spot, emit, emit_access, frame_displacement};
+use c0_expr_code::{Access, Address, Scene, emit, emit_access, frame_displacement};
 use c0_meaning::laws::{numbers_tell, units_are_typed_or_faulty};
 use c0_tree::Decl;
 use masm::registers::{ANSWER, ARGUMENTS, FRAME_END, RETURN, SCRATCH, STACK_END};
@@ -46,13 +46,13 @@ fn emit_word(
 ) -> Result<(), AllocError>
     requires register { register < 32 }
     requires free { free < 32 }
-    ensures { Appends code.old.items code.new.items (on_spot (access_inst access register) free (frame_spot (scope_in scene.now) word)) result }
+    ensures { Appends code.old.items code.new.items (access_code (access_inst access register) free (frame_slot (scope_in scene.now) word)) result }
 {
-    let spot = Spot {
+    let address = Address {
         base: FRAME_END,
         displacement: frame_displacement(scene, word),
     };
-    emit_access(code, access, register, free, spot)
+    emit_access(code, access, register, free, address)
 }
 
 // A number of words as bytes, modulo 2^32.
@@ -67,11 +67,11 @@ fn emit_end(scene: &Scene<'_>, target: u32, code: &mut Vec<u32>) -> Result<(), A
     requires { target < 32 }
     ensures { Appends code.old.items code.new.items (end_code target (4 * (scope_in scene.now).frame)) result }
 {
-    let spot = Spot {
+    let address = Address {
         base: FRAME_END,
         displacement: bytes(scene.frame),
     };
-    emit_access(code, Access::Address, target, target, spot)
+    emit_access(code, Access::Address, target, target, address)
 }
 
 // Appends a jump to the exit of a want of stack, where no stack has room for the frame.
@@ -265,11 +265,11 @@ fn emit_kept_behind(access: Access, calling: bool, code: &mut Vec<u32>) -> Resul
     ensures { Appends code.old.items code.new.items (if calling then access_inst access RETURN FRAME_END 0 ∷ [] else []) result }
 {
     if calling {
-        let spot = Spot {
+        let address = Address {
             base: FRAME_END,
             displacement: 0,
         };
-        return emit_access(code, access, RETURN, SCRATCH, spot);
+        return emit_access(code, access, RETURN, SCRATCH, address);
     }
     Ok(())
 }

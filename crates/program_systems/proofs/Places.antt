@@ -23,7 +23,7 @@ use Rattle.c0_runtime.specs.declared.entry.TheConstants.{ENTRY_WORDS}
 use Rattle.c0_runtime.specs.declared.runtime.TheConstants.{RUNTIME_WORDS}
 use Rattle.c0_runtime.specs.Code as runtime
 use Rattle.c0_expr_code.specs.Scope.{Scope, is_free_of_calls, are_free_of_calls, is_leaf, keeps_registers, MAX_REGISTER_VARIABLES, exit_number}
-use Rattle.c0_expr_code.specs.Code.{field_made, index_made, target_spot, at_place, only_value, on_spot, unary_made, binary_made, made, constant_code, register_of}
+use Rattle.c0_expr_code.specs.Code.{field_made, index_made, target_address, at_place, only_value, access_code, unary_made, binary_made, made, constant_code, register_of}
 use Rattle.c0_expr_code.specs.Test.{plain_test, unary_test, binary_test, test_code}
 use Rattle.c0_stmt_code.specs.Code.{Links, callee_index, skip, stored_code, assigned_code, args_code, otherwise, otherwise_at, stmt_code, stmts_code, is_calling, are_calling, register_entry, frame_entry, exit_code, body_code, function_code}
 use Rattle.c0_unit.specs.Code.{fault_exits, scope, links, functions_code, words_of_functions, starts_from, function_starts, functions_at, code_words, routines_code, program_words}
@@ -95,10 +95,10 @@ type_bare env _ = refl
 
 made_bare : (sc : Scope) (e : CExpr) → made sc (bare_expr e) ≡ made sc e
 made_bare sc (field s e f) = λ j. field_made sc (type_bare sc.env e j) (made_bare sc e j).place f.number
-made_bare sc (arrow s e f) = λ j. field_made sc (target (type_bare sc.env e j)) (λ r. target_spot sc (made_bare sc e j) r) f.number
+made_bare sc (arrow s e f) = λ j. field_made sc (target (type_bare sc.env e j)) (λ r. target_address sc (made_bare sc e j) r) f.number
 made_bare sc (index s e i) = λ j. index_made sc (type_bare sc.env e j) (made_bare sc e j).place (made_bare sc i j)
-made_bare sc (deref s e) = λ j. at_place (λ r. target_spot sc (made_bare sc e j) r)
-made_bare sc (address s e) = λ j. only_value (λ d r. on_spot (λ b k. Addiu d b k) r ((made_bare sc e j).place r))
+made_bare sc (deref s e) = λ j. at_place (λ r. target_address sc (made_bare sc e j) r)
+made_bare sc (address s e) = λ j. only_value (λ d r. access_code (λ b k. Addiu d b k) r ((made_bare sc e j).place r))
 made_bare sc (unary s o e) = λ j. unary_made o (made_bare sc e j)
 made_bare sc (binary s o a b) = λ j. binary_made sc o (made_bare sc a j) (made_bare sc b j)
 made_bare sc _ = refl

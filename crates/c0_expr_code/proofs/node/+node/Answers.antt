@@ -5,7 +5,7 @@ use Rattle.mips_table.specs.Encoding.{encoding}
 use Rattle.c0_tree.specs.View.{expr_view}
 use Rattle.c0_expr_code.specs.Code.{AddressingMode, value_code}
 use Rattle.c0_expr_code.specs.Scene.{scope_in}
-use Rattle.c0_expr_code.proofs.Emitted.{binary_spot, view_binary, near_place, far_code}
+use Rattle.c0_expr_code.proofs.Emitted.{binary_address, view_binary, near_place, far_code}
 use Rattle.c0_expr_code.proofs.Patched.{patched}
 use Rattle.c0_expr_code.proofs.node.+node.Goals as goal
 
@@ -14,12 +14,12 @@ emit_place-field_bytes-requires-in-Arrow-clause-resolved t c = c.target_of-found
 
 pub emit_place-returns-in-Binary-clause-code : goal.emit_place-returns-in-Binary-clause-code
 emit_place-returns-in-Binary-clause-code t c =
-    let e = binary_spot (scope_in c.args.scene.now) (expr_view c.args.expr.now) _ _ _ _ c.args.free (ap expr_view c.in-Binary.is ∙ view_binary _ _ _ _) in
+    let e = binary_address (scope_in c.args.scene.now) (expr_view c.args.expr.now) _ _ _ _ c.args.free (ap expr_view c.in-Binary.is ∙ view_binary _ _ _ _) in
     sym (append-nil c.args.code.now.items) ∙ sym (ap (λ (x : AddressingMode). c.args.code.now.items ++ map encoding x.code) e)
 
 pub emit_place-returns-in-Binary-clause-place : goal.emit_place-returns-in-Binary-clause-place
 emit_place-returns-in-Binary-clause-place t c =
-    let e = binary_spot (scope_in c.args.scene.now) (expr_view c.args.expr.now) _ _ _ _ c.args.free (ap expr_view c.in-Binary.is ∙ view_binary _ _ _ _) in
+    let e = binary_address (scope_in c.args.scene.now) (expr_view c.args.expr.now) _ _ _ _ c.args.free (ap expr_view c.in-Binary.is ∙ view_binary _ _ _ _) in
     (c.none-in-Binary.ensures.base ∙ sym (ap (λ (x : AddressingMode). x.base) e), c.none-in-Binary.ensures.displacement ∙ sym (ap (λ (x : AddressingMode). x.displacement) e))
 
 pub emit_right-returns : goal.emit_right-returns
@@ -33,11 +33,11 @@ emit_right-returns t c =
 pub emit_index-returns-in-Some-clause-place : goal.emit_index-returns-in-Some-clause-place
 emit_index-returns-in-Some-clause-place t c =
     let sc = scope_in c.args.scene.now in
-    near_place sc (expr_view c.args.part.now) (expr_view c.args.index.now) c.args.free c.in-Some.number c.elements_of-elements.result c.in_ok-spot.spot c.moved.result
-    (c.elements_of-elements.ensures.words) (c.elements_of-elements.ensures.count) (c.type_of.ensures.gives) (sym (c.constant_below.ensures sc) ∙ c.in-Some.is) c.in_ok-spot.ensures.place c.moved.ensures.base c.moved.ensures.displacement
+    near_place sc (expr_view c.args.part.now) (expr_view c.args.index.now) c.args.free c.in-Some.number c.elements_of-elements.result c.in_ok-address.address c.moved.result
+    (c.elements_of-elements.ensures.words) (c.elements_of-elements.ensures.count) (c.type_of.ensures.gives) (sym (c.constant_below.ensures sc) ∙ c.in-Some.is) c.in_ok-address.ensures.place c.moved.ensures.base c.moved.ensures.displacement
 
 pub emit_index-returns-in-None-clause-code : goal.emit_index-returns-in-None-clause-code
 emit_index-returns-in-None-clause-code t c =
     let sc = scope_in c.args.scene.now in
-    far_code sc (expr_view c.args.part.now) (expr_view c.args.index.now) c.args.free c.elements_of-elements.result c.in_ok-spot.spot c.emit_tested.result c.args.code.now.items c.emit_place.new.code.items c.emit_tested.new.code.items
-    (c.elements_of-elements.ensures.words) (c.elements_of-elements.ensures.count) (c.type_of.ensures.gives) (sym (c.constant_below.ensures sc) ∙ c.in-None.is) c.in_ok-spot.ensures.place c.in_ok-spot.ensures.code c.emit_tested.ensures.code
+    far_code sc (expr_view c.args.part.now) (expr_view c.args.index.now) c.args.free c.elements_of-elements.result c.in_ok-address.address c.emit_tested.result c.args.code.now.items c.emit_place.new.code.items c.emit_tested.new.code.items
+    (c.elements_of-elements.ensures.words) (c.elements_of-elements.ensures.count) (c.type_of.ensures.gives) (sym (c.constant_below.ensures sc) ∙ c.in-None.is) c.in_ok-address.ensures.place c.in_ok-address.ensures.code c.emit_tested.ensures.code

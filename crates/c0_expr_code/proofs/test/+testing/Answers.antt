@@ -1,16 +1,16 @@
 -- Two tests side by side, and one over the other.
 use Rattle.std.proofs.Common.{◌≡◌, length, arith}
 use Rattle.c0_tree.specs.View.{expr_view}
-use Rattle.c0_expr_code.specs.Jumps.{test_open}
+use Rattle.c0_expr_code.specs.Jumps.{test_unpatched}
 use Rattle.c0_expr_code.specs.Scene.{scope_in}
-use Rattle.c0_expr_code.proofs.Openings.{then, there, over_it}
+use Rattle.c0_expr_code.proofs.UnpatchedTests.{then, there, over_it}
 use Rattle.c0_expr_code.proofs.test.+testing.Goals as goal
 
 pub emit_joined-returns : goal.emit_joined-returns
 emit_joined-returns t c =
     let sc = scope_in c.args.scene.now in
     then c.emit_test-2.result c.args.code.now.items c.emit_test.new.code.items c.emit_test-2.new.code.items c.args.jumps.now.items c.emit_test.new.jumps.items c.emit_test-2.new.jumps.items
-    (test_open sc (expr_view c.args.left.now) c.args.wanted c.args.free) (test_open sc (expr_view c.args.right.now) c.args.wanted c.args.free) c.in_ok-emit_test.ensures c.emit_test-2.ensures
+    (test_unpatched sc (expr_view c.args.left.now) c.args.wanted c.args.free) (test_unpatched sc (expr_view c.args.right.now) c.args.wanted c.args.free) c.in_ok-emit_test.ensures c.emit_test-2.ensures
 
 pub emit_over-patch_all-requires-clause-jumps : goal.emit_over-patch_all-requires-clause-jumps
 emit_over-patch_all-requires-clause-jumps t c =

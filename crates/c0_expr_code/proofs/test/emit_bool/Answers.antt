@@ -1,8 +1,8 @@
 -- The last word is the branch.
 use Rattle.c0_tree.specs.View.{expr_view}
-use Rattle.c0_expr_code.specs.Opened.{bool_code}
+use Rattle.c0_expr_code.specs.EmitTest.{bool_code}
 use Rattle.c0_expr_code.specs.Scene.{scope_in}
-use Rattle.c0_expr_code.proofs.Openings.{some_bool, not_none, last}
+use Rattle.c0_expr_code.proofs.UnpatchedTests.{some_bool, not_none, last}
 use Rattle.c0_expr_code.proofs.test.emit_bool.Goals as goal
 
 pub note_last-requires : goal.note_last-requires

@@ -1,9 +1,9 @@
 -- The last word is the branch.
 use Rattle.c0_tree.specs.View.{expr_view}
 use Rattle.c0_tree.specs.declared.tree.BinaryOp.TheVariants.{Eq}
-use Rattle.c0_expr_code.specs.Opened.{registers_code}
+use Rattle.c0_expr_code.specs.EmitTest.{registers_code}
 use Rattle.c0_expr_code.specs.Scene.{scope_in}
-use Rattle.c0_expr_code.proofs.Openings.{some_equality, not_none, last}
+use Rattle.c0_expr_code.proofs.UnpatchedTests.{some_equality, not_none, last}
 use Rattle.c0_expr_code.proofs.test.emit_equality_test.Goals as goal
 
 pub note_last-requires : goal.note_last-requires

@@ -1,9 +1,9 @@
 -- The last word is the branch.
 use Rattle.c0_tree.specs.View.{expr_view}
-use Rattle.c0_expr_code.specs.Opened.{order_code}
+use Rattle.c0_expr_code.specs.EmitTest.{order_code}
 use Rattle.c0_expr_code.specs.Scene.{scope_in}
 use Rattle.c0_expr_code.specs.Sorted.{order_of}
-use Rattle.c0_expr_code.proofs.Openings.{some_order, not_none, last}
+use Rattle.c0_expr_code.proofs.UnpatchedTests.{some_order, not_none, last}
 use Rattle.c0_expr_code.proofs.test.emit_order_test.Goals as goal
 
 pub note_last-requires : goal.note_last-requires

@@ -1,9 +1,9 @@
 use Rattle.std.proofs.Common.{◌≡◌, ℕ, ◌+◌, ◌++◌, map, ap, ◌∙◌, arith}
 use Rattle.mips_table.specs.declared.inst.Inst.TheVariants.{Sw}
 use Rattle.mips_table.specs.Encoding.{encoding}
-use Rattle.c0_expr_code.specs.Code.{on_spot, register_of}
+use Rattle.c0_expr_code.specs.Code.{access_code, register_of}
 use Rattle.c0_expr_code.specs.Scene.{scope_in}
-use Rattle.c0_stmt_code.specs.Code.{frame_spot}
+use Rattle.c0_stmt_code.specs.Code.{frame_slot}
 use Rattle.c0_stmt_code.proofs.EmitLeaf.{appended, params_next}
 use Rattle.c0_stmt_code.proofs.prologue.emit_params.Goals as goal
 
@@ -15,5 +15,5 @@ loop-i-preserved c =
     c.register_behind-register.ensures.value ∙ ap register_of (omega arith) in
     appended c.loop-i.code.items c.emit_word.new.code.items _ _ _ _ (params_next sc c.args.count c.loop-i.i c.loop-i-test.true)
     (c.in_ok-emit_word.ensures
-    ∙ ap (λ (r : ℕ). c.loop-i.code.items ++ map encoding (on_spot (λ b k. Sw r b k) 1 (frame_spot sc (3 + c.from.result)))) register
-    ∙ ap (λ (w : ℕ). c.loop-i.code.items ++ map encoding (on_spot (λ b k. Sw (register_of c.loop-i.i) b k) 1 (frame_spot sc w))) word) c.loop-i.invariant
+    ∙ ap (λ (r : ℕ). c.loop-i.code.items ++ map encoding (access_code (λ b k. Sw r b k) 1 (frame_slot sc (3 + c.from.result)))) register
+    ∙ ap (λ (w : ℕ). c.loop-i.code.items ++ map encoding (access_code (λ b k. Sw (register_of c.loop-i.i) b k) 1 (frame_slot sc w))) word) c.loop-i.invariant

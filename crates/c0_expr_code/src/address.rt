@@ -1,18 +1,18 @@
-// Places: a register and bytes from it on.
+// Addresses of places: a register and bytes from it on.
 
 ghost use Rattle.std.specs.Prelude.{◌≡◌, ◌+◌, ◌%◌, ◌^◌, ◌<◌, OnErr};
 ghost use Rattle.mips_table.specs.Encoding.{InRange};
-ghost use Rattle.c0_expr_code.specs.Code.{high, on_spot};
-ghost use Rattle.c0_expr_code.specs.Emit.{Appends, access_inst, far_code, spot_at};
+ghost use Rattle.c0_expr_code.specs.Code.{high, access_code};
+ghost use Rattle.c0_expr_code.specs.Emit.{Appends, access_inst, far_code, address_view};
 
 use crate::word::{emit, is_near, low};
 use masm::registers::SCRATCH;
 use mips_table::{Inst, encode};
 use std::alloc::AllocError;
 
-/// A place: its address is that in the register `base`, and `displacement` bytes, modulo 2^32.
+/// The address of a place: that in the register `base`, and `displacement` bytes, modulo 2^32.
 #[derive(Clone, Copy, Debug)]
-pub struct Spot {
+pub struct Address {
     /// The register.
     pub base: u32,
     /// The bytes.
@@ -30,24 +30,24 @@ pub enum Access {
     Address,
 }
 
-impl Spot {
-    /// No place.
-    pub fn none() -> Spot
+impl Address {
+    /// The address where there is no place.
+    pub fn none() -> Address
         ensures base { result.base ≡ 0 }
         ensures displacement { result.displacement ≡ 0 }
     {
-        Spot {
+        Address {
             base: 0,
             displacement: 0,
         }
     }
 
-    /// The place so many bytes behind, modulo 2^32.
-    pub fn moved(self, bytes: u32) -> Spot
+    /// The address so many bytes behind, modulo 2^32.
+    pub fn moved(self, bytes: u32) -> Address
         ensures base { result.base ≡ self.base }
         ensures displacement { result.displacement ≡ (self.displacement + bytes) % 2 ^ 32 }
     {
-        Spot {
+        Address {
             base: self.base,
             displacement: self.displacement.wrapping_add(bytes),
         }
@@ -95,24 +95,24 @@ fn emit_far(
     access: Access,
     register: u32,
     free: u32,
-    spot: Spot,
+    address: Address,
 ) -> Result<(), AllocError>
     requires register { register < 32 }
     requires free { free < 32 }
-    requires base { spot.base < 32 }
-    ensures appended { Appends code.old.items code.new.items (far_code (access_inst access register) free (spot_at spot)) result }
+    requires base { address.base < 32 }
+    ensures appended { Appends code.old.items code.new.items (far_code (access_inst access register) free (address_view address)) result }
     ensures unchanged { OnErr result (code.new.items ≡ code.old.items) }
 {
     let half = Inst::Lui {
         rt: SCRATCH,
-        imm: upper(spot.displacement),
+        imm: upper(address.displacement),
     };
     let sum = Inst::Addu {
         rd: free,
-        rs: spot.base,
+        rs: address.base,
         rt: SCRATCH,
     };
-    let last = access_of(access, register, free, low(spot.displacement));
+    let last = access_of(access, register, free, low(address.displacement));
     code.extend_from_slice(&[encode(&half), encode(&sum), encode(&last)])
 }
 
@@ -125,20 +125,20 @@ pub fn emit_access(
     access: Access,
     register: u32,
     free: u32,
-    spot: Spot,
+    address: Address,
 ) -> Result<(), AllocError>
     requires register { register < 32 }
     requires free { free < 32 }
-    requires base { spot.base < 32 }
-    ensures appended { Appends code.old.items code.new.items (on_spot (access_inst access register) free (spot_at spot)) result }
+    requires base { address.base < 32 }
+    ensures appended { Appends code.old.items code.new.items (access_code (access_inst access register) free (address_view address)) result }
     ensures unchanged { OnErr result (code.new.items ≡ code.old.items) }
 {
-    if is_near(spot.displacement) {
+    if is_near(address.displacement) {
         emit(
             code,
-            access_of(access, register, spot.base, low(spot.displacement)),
+            access_of(access, register, address.base, low(address.displacement)),
         )
     } else {
-        emit_far(code, access, register, free, spot)
+        emit_far(code, access, register, free, address)
     }
 }

@@ -12,16 +12,16 @@ use Rattle.c0_expr_code.specs.Scope.{Scope}
 use Rattle.c0_expr_code.specs.Scene.{made_in, scope_in}
 use Rattle.c0_expr_code.specs.Code.{made, one_code}
 use Rattle.c0_expr_code.specs.Test.{ImmediateTest, immediate_test, immediate_test_of, compare_test, plain_test, test_code, negative_branch, positive_branch, below_code}
-use Rattle.c0_expr_code.specs.Jumps.{Unpatched, Opening, last_open, behind_open, joined_open, both_open, binary_open, test_open}
+use Rattle.c0_expr_code.specs.Jumps.{Unpatched, UnpatchedTest, last_unpatched, behind_unpatched, joined_unpatched, both_unpatched, binary_unpatched, test_unpatched}
 
 -- open code stands behind other words, and its branches' places behind other places
-pub record IsOpened (old new marked marks : List ℕ) (x : Unpatched) : Type 0 where
+pub record StandsUnpatched (old new marked marks : List ℕ) (x : Unpatched) : Type 0 where
   pub words : new ≡ old ++ map encoding x.code
   pub places : marks ≡ marked ++ map (λ j. length old + j) x.jumps
 
 -- open code was appended to the code, and its branches' places to the places of others, unless memory was wanting
-abbrev pub AppendsOpen : {A B T E : Type 0} → (old new : Vec ℕ A) → (marked marks : Vec ℕ B) → Unpatched → Result T E → Type 0
-AppendsOpen old new marked marks x result = OnOk result (IsOpened old.items new.items marked.items marks.items x)
+abbrev pub AppendsTest : {A B T E : Type 0} → (old new : Vec ℕ A) → (marked marks : Vec ℕ B) → Unpatched → Result T E → Type 0
+AppendsTest old new marked marks x result = OnOk result (StandsUnpatched old.items new.items marked.items marks.items x)
 
 -- the test of a register against a constant, where there is one
 abbrev pub test_with : ImmediateTest → Bool → (far q : ℕ) → List Inst
@@ -65,36 +65,37 @@ abbrev pub registers_in : Scene → BinaryOp → Expr → Expr → Bool → ℕ 
 registers_in scene o a b s r = registers_code (scope_in scene) o (expr_view a) (expr_view b) s r
 
 -- the test of an expression in a scene
-abbrev pub open_in : Scene → Expr → Opening
-open_in scene e s r = test_open (scope_in scene) (expr_view e) s r
+abbrev pub unpatched_in : Scene → Expr → UnpatchedTest
+unpatched_in scene e s r = test_unpatched (scope_in scene) (expr_view e) s r
 
 -- the code of a test whose last instruction is its branch: of a bool, of an order and of `==`
-abbrev pub bool_open : Scene → Expr → Bool → ℕ → Unpatched
-bool_open scene e s r = last_open (bool_code (scope_in scene) (expr_view e) s r)
+abbrev pub bool_unpatched : Scene → Expr → Bool → ℕ → Unpatched
+bool_unpatched scene e s r = last_unpatched (bool_code (scope_in scene) (expr_view e) s r)
 
-abbrev pub order_open : Scene → BinaryOp → Expr → Expr → Bool → ℕ → Unpatched
-order_open scene o a b s r = last_open (order_in scene o a b s r)
+abbrev pub order_unpatched : Scene → BinaryOp → Expr → Expr → Bool → ℕ → Unpatched
+order_unpatched scene o a b s r = last_unpatched (order_in scene o a b s r)
 
-abbrev pub equality_open : Scene → Expr → Expr → Bool → ℕ → Unpatched
-equality_open scene a b s r = last_open (registers_in scene Eq a b s r)
+abbrev pub equality_unpatched : Scene → Expr → Expr → Bool → ℕ → Unpatched
+equality_unpatched scene a b s r = last_unpatched (registers_in scene Eq a b s r)
 
 -- both tests go to the place where they are s
-abbrev pub either_open : Scene → Expr → Expr → Bool → ℕ → Unpatched
-either_open scene a b s r = joined_open (open_in scene a s r) (open_in scene b s r)
+abbrev pub either_unpatched : Scene → Expr → Expr → Bool → ℕ → Unpatched
+either_unpatched scene a b s r = joined_unpatched (unpatched_in scene a s r) (unpatched_in scene b s r)
 
 -- the first test goes over the second where it isn't s
-abbrev pub over_open : Scope → CExpr → CExpr → Bool → ℕ → Unpatched
-over_open sc a b s r = behind_open (test_code sc a (not s) (length (test_open sc b s r).code % 2 ^ 16) r) (test_open sc b s r)
+abbrev pub over_unpatched : Scope → CExpr → CExpr → Bool → ℕ → Unpatched
+over_unpatched sc a b s r = behind_unpatched (test_code sc a (not s) (length (test_unpatched sc b s r).code % 2 ^ 16) r) (test_unpatched sc b s r)
 
 -- these tests of expressions in a scene
 abbrev pub over_in : Scene → Expr → Expr → Bool → ℕ → Unpatched
-over_in scene a b s r = over_open (scope_in scene) (expr_view a) (expr_view b) s r
+over_in scene a b s r = over_unpatched (scope_in scene) (expr_view a) (expr_view b) s r
 
 -- `||` and `&&`: where the first test alone decides for s both go to the place, and else the first goes over the second
-abbrev pub logic_open : Scene → (decides : Bool) → Expr → Expr → Bool → ℕ → Unpatched
-logic_open scene decides a b s r = both_open decides s (test_code (scope_in scene) (expr_view a)) (open_in scene a) (open_in scene b) r
+abbrev pub logic_unpatched : Scene → (decides : Bool) → Expr → Expr → Bool → ℕ → Unpatched
+logic_unpatched scene decides a b s r = both_unpatched decides s (test_code (scope_in scene) (expr_view a)) (unpatched_in scene a) (unpatched_in scene b) r
 
 -- an operator between two operands, where the whole is an expression too
-abbrev pub operation_open : Scene → Expr → BinaryOp → Expr → Expr → Bool → ℕ → Unpatched
-operation_open scene e o a b s r =
-    binary_open o (made_in scene e) (made_in scene a) (made_in scene b) (test_code (scope_in scene) (expr_view a)) (open_in scene a) (open_in scene b) s r
+abbrev pub operation_in : Scene → Expr → BinaryOp → Expr → Expr → Bool → ℕ → Unpatched
+operation_in scene e o a b s r =
+    binary_unpatched o (made_in scene e) (made_in scene a) (made_in scene b) (test_code (scope_in scene) (expr_view a))
+    (unpatched_in scene a) (unpatched_in scene b) s r

@@ -9,7 +9,7 @@ use Rattle.mips_table.specs.Device.{Idle}
 use Rattle.mips_table.specs.Code.{put, put_reg, Contents, reg, with_reg, Behind, World, at_with, Reaches, CodeAt}
 use Rattle.masm.specs.Says.{Gives, Writes}
 use Rattle.masm.specs.Laws.{RunsCompose, StraightRuns}
-use Rattle.c0_expr_code.specs.Code.{AddressingMode, is_near, low, high, on_spot}
+use Rattle.c0_expr_code.specs.Code.{AddressingMode, is_near, low, high, access_code}
 use Rattle.c0_stmt_code.proofs.Blocks.{front, back}
 
 -- registers that are written, and the others
@@ -44,15 +44,15 @@ pub record Near (r : ℕ) (b a : Contents) : Type 0 where
   pub others : (x : ℕ) → x ≢ 1 → x ≢ r → a.regs x ≡ b.regs x
 
 -- code on a place isn't empty
-pub spot_longer : (i : ℕ → ℕ → Inst) (r : ℕ) (x : AddressingMode) → length x.code < length (on_spot i r x)
-spot_longer i r x = elim (cases_Bool (is_near x.displacement)) [
+pub access_longer : (i : ℕ → ℕ → Inst) (r : ℕ) (x : AddressingMode) → length x.code < length (access_code i r x)
+access_longer i r x = elim (cases_Bool (is_near x.displacement)) [
   | inl e ↦ let same = ap (λ is. length (x.code ++ is)) (cond-true (is_near x.displacement) (i x.base (low x.displacement) ∷ []) (Lui 1 (high x.displacement) ∷ Addu r x.base 1 ∷ i r (low x.displacement) ∷ []) e) in omega (arith, same, length-append x.code (i x.base (low x.displacement) ∷ []))
   | inr e ↦ let same = ap (λ is. length (x.code ++ is)) (cond-false (is_near x.displacement) (i x.base (low x.displacement) ∷ []) (Lui 1 (high x.displacement) ∷ Addu r x.base 1 ∷ i r (low x.displacement) ∷ []) e) in omega (arith, same, length-append x.code (Lui 1 (high x.displacement) ∷ Addu r x.base 1 ∷ i r (low x.displacement) ∷ []))
 ]
 
 -- the code that a place needs first
-pub spot_front : (w : World) (n : ℕ) (i : ℕ → ℕ → Inst) (r : ℕ) (x : AddressingMode) → CodeAt w n (on_spot i r x) → CodeAt w n x.code
-spot_front w n i r x code = front w n x.code (if is_near x.displacement then i x.base (low x.displacement) ∷ [] else Lui 1 (high x.displacement) ∷ Addu r x.base 1 ∷ i r (low x.displacement) ∷ []) code
+pub access_front : (w : World) (n : ℕ) (i : ℕ → ℕ → Inst) (r : ℕ) (x : AddressingMode) → CodeAt w n (access_code i r x) → CodeAt w n x.code
+access_front w n i r x code = front w n x.code (if is_near x.displacement then i x.base (low x.displacement) ∷ [] else Lui 1 (high x.displacement) ∷ Addu r x.base 1 ∷ i r (low x.displacement) ∷ []) code
 
 -- how many steps an instruction on a place takes, behind the place's own code
 abbrev pub place_steps : AddressingMode → ℕ
@@ -70,19 +70,19 @@ back_is_near k le lt = eq-eqb (extended (low k)) k (cond-false (nat_lt (k % 2 ^ 
 
 module _ (compose : RunsCompose) (w : World) (straight : StraightRuns w) where
   -- an instruction on a place, where it is known what it does at the place's address
-  pub on_place : (P : Contents → Type 0) (i : ℕ → ℕ → Inst) (x : AddressingMode) (r n : ℕ) (b : Contents) (k : Behind) → k.pending ≡ Idle → r ≢ 0 → x.base ≢ 1 → CodeAt w n (on_spot i r x)
+  pub on_place : (P : Contents → Type 0) (i : ℕ → ℕ → Inst) (x : AddressingMode) (r n : ℕ) (b : Contents) (k : Behind) → k.pending ≡ Idle → r ≢ 0 → x.base ≢ 1 → CodeAt w n (access_code i r x)
       → ((q m : ℕ) (a : Contents) → w.code m ≡ Some (i q (low x.displacement)) → Near r b a → sum (reg a.regs q) (extended (low x.displacement)) ≡ (reg b.regs x.base + x.displacement) % 2 ^ 32 → (c : Contents) × P c × Reaches w 1 (at_with m a k) (at_with (m + 1) c k))
-      → (c : Contents) × P c × Reaches w (place_steps x) (at_with (n + length x.code) b k) (at_with (n + length (on_spot i r x)) c k)
+      → (c : Contents) × P c × Reaches w (place_steps x) (at_with (n + length x.code) b k) (at_with (n + length (access_code i r x)) c k)
   on_place P i x r n b k idle rz bz code law = elim (cases_Bool (is_near x.displacement)) [
     | inl e ↦
-        let same : on_spot i r x ≡ x.code ++ (i x.base (low x.displacement) ∷ []) = ap (λ is. x.code ++ is) (cond-true (is_near x.displacement) (i x.base (low x.displacement) ∷ []) (Lui 1 (high x.displacement) ∷ Addu r x.base 1 ∷ i r (low x.displacement) ∷ []) e) in
+        let same : access_code i r x ≡ x.code ++ (i x.base (low x.displacement) ∷ []) = ap (λ is. x.code ++ is) (cond-true (is_near x.displacement) (i x.base (low x.displacement) ∷ []) (Lui 1 (high x.displacement) ∷ Addu r x.base 1 ∷ i r (low x.displacement) ∷ []) e) in
         let there = back w n x.code (i x.base (low x.displacement) ∷ []) (subst (CodeAt w n) same code) in
         let run = law x.base (n + length x.code) b there.0 (record { memory = refl; special = refl; others = λ y ne me. refl }) (ap (sum (reg b.regs x.base)) (eqb-true (extended (low x.displacement)) x.displacement e)) in
-        let len : n + length x.code + 1 ≡ n + length (on_spot i r x) = omega (arith, ap length same, length-append x.code (i x.base (low x.displacement) ∷ [])) in
+        let len : n + length x.code + 1 ≡ n + length (access_code i r x) = omega (arith, ap length same, length-append x.code (i x.base (low x.displacement) ∷ [])) in
         let one : place_steps x ≡ 1 = cond-true (is_near x.displacement) 1 3 e in
         (run.0, run.1, subst (λ t. Reaches w (place_steps x) (at_with (n + length x.code) b k) (at_with t run.0 k)) len (subst (λ y. Reaches w y (at_with (n + length x.code) b k) (at_with (n + length x.code + 1) run.0 k)) (sym one) run.2))
     | inr e ↦
-        let same : on_spot i r x ≡ x.code ++ (Lui 1 (high x.displacement) ∷ Addu r x.base 1 ∷ i r (low x.displacement) ∷ []) = ap (λ is. x.code ++ is) (cond-false (is_near x.displacement) (i x.base (low x.displacement) ∷ []) (Lui 1 (high x.displacement) ∷ Addu r x.base 1 ∷ i r (low x.displacement) ∷ []) e) in
+        let same : access_code i r x ≡ x.code ++ (Lui 1 (high x.displacement) ∷ Addu r x.base 1 ∷ i r (low x.displacement) ∷ []) = ap (λ is. x.code ++ is) (cond-false (is_near x.displacement) (i x.base (low x.displacement) ∷ []) (Lui 1 (high x.displacement) ∷ Addu r x.base 1 ∷ i r (low x.displacement) ∷ []) e) in
         let there = back w n x.code (Lui 1 (high x.displacement) ∷ Addu r x.base 1 ∷ i r (low x.displacement) ∷ []) (subst (CodeAt w n) same code) in
         let b1 : Contents = with_reg b 1 (high x.displacement * 2 ^ 16) in
         let one = straight.next (Lui 1 (high x.displacement)) (Gives (high x.displacement * 2 ^ 16)) (n + length x.code) b k there.0 refl idle refl in
@@ -92,7 +92,7 @@ module _ (compose : RunsCompose) (w : World) (straight : StraightRuns w) where
         let two = straight.next (Addu r x.base 1) (Gives (sum (reg b.regs x.base) (high x.displacement * 2 ^ 16))) (n + length x.code + 1) b1 k there.1.0 refl idle whole in
         let address : sum (reg b2.regs r) (extended (low x.displacement)) ≡ (reg b.regs x.base + x.displacement) % 2 ^ 32 = ap (λ y. sum y (extended (low x.displacement))) (same_read b1.regs r (sum (reg b.regs x.base) (high x.displacement * 2 ^ 16)) rz) ∙ far_is x.displacement (reg b.regs x.base) in
         let run = law r (n + length x.code + 1 + 1) b2 there.1.1.0 (record { memory = refl; special = refl; others = λ y ne me. other_reg b1.regs r (sum (reg b.regs x.base) (high x.displacement * 2 ^ 16)) y me ∙ other_reg b.regs 1 (high x.displacement * 2 ^ 16) y ne }) address in
-        let len : n + length x.code + 1 + 1 + 1 ≡ n + length (on_spot i r x) = omega (arith, ap length same, length-append x.code (Lui 1 (high x.displacement) ∷ Addu r x.base 1 ∷ i r (low x.displacement) ∷ [])) in
+        let len : n + length x.code + 1 + 1 + 1 ≡ n + length (access_code i r x) = omega (arith, ap length same, length-append x.code (Lui 1 (high x.displacement) ∷ Addu r x.base 1 ∷ i r (low x.displacement) ∷ [])) in
         let three : place_steps x ≡ 3 = cond-false (is_near x.displacement) 1 3 e in
         (run.0, run.1, subst (λ t. Reaches w (place_steps x) (at_with (n + length x.code) b k) (at_with t run.0 k)) len (compose.later w 3 (place_steps x) _ _ (omega (arith, three)) (compose.joined w 1 2 _ _ _ one (compose.joined w 1 1 _ _ _ two run.2))))
   ]
@@ -103,8 +103,8 @@ module _ (compose : RunsCompose) (w : World) (straight : StraightRuns w) where
     pub special : c.special ≡ b.special
     pub others : (x : ℕ) → x ≢ 1 → x ≢ r → c.regs x ≡ b.regs x
 
-  pub writes : (q : ℕ) (x : AddressingMode) (r n a v : ℕ) (b : Contents) (k : Behind) → k.pending ≡ Idle → r ≢ 0 → x.base ≢ 1 → q ≢ 1 → q ≢ r → CodeAt w n (on_spot (λ y z. Sw q y z) r x) → (reg b.regs x.base + x.displacement) % 2 ^ 32 ≡ 4 * a → a < w.words → w.kept a ≡ None → reg b.regs q ≡ v
-      → (c : Contents) × Wrote r a v b c × Reaches w (place_steps x) (at_with (n + length x.code) b k) (at_with (n + length (on_spot (λ y z. Sw q y z) r x)) c k)
+  pub writes : (q : ℕ) (x : AddressingMode) (r n a v : ℕ) (b : Contents) (k : Behind) → k.pending ≡ Idle → r ≢ 0 → x.base ≢ 1 → q ≢ 1 → q ≢ r → CodeAt w n (access_code (λ y z. Sw q y z) r x) → (reg b.regs x.base + x.displacement) % 2 ^ 32 ≡ 4 * a → a < w.words → w.kept a ≡ None → reg b.regs q ≡ v
+      → (c : Contents) × Wrote r a v b c × Reaches w (place_steps x) (at_with (n + length x.code) b k) (at_with (n + length (access_code (λ y z. Sw q y z) r x)) c k)
   writes q x r n a v b k idle rz bz qz qr code is inside kept holds =
       on_place (Wrote r a v b) (λ y z. Sw q y z) x r n b k idle rz bz code
       (λ y m e there near address. (

@@ -11,8 +11,8 @@ use Rattle.c0_tree.specs.Tree.{CExpr}
 use Rattle.c0_expr_code.specs.Scope.{Scope}
 use Rattle.c0_expr_code.specs.Code.{made}
 use Rattle.c0_expr_code.specs.Test.{immediate_test_of, compare_test, plain_test, test_code}
-use Rattle.c0_expr_code.specs.Jumps.{Unpatched, last_open, joined_open, test_open, patched}
-use Rattle.c0_expr_code.specs.Opened.{IsOpened, bool_code, order_code, registers_code, over_open}
+use Rattle.c0_expr_code.specs.Jumps.{Unpatched, last_unpatched, joined_unpatched, test_unpatched, patched}
+use Rattle.c0_expr_code.specs.EmitTest.{StandsUnpatched, bool_code, order_code, registers_code, over_unpatched}
 use Rattle.c0_expr_code.proofs.Patches.{assoc, map_append, map_length, shifted, EndsIn, aims, patches, within, plain_ends, IsCompared, lt, le, gt, ge, eq, compared, test_of}
 
 on_ok : {A E : Type 0} (r : Result A E) (P Q : Type 0) → (P → Q) → OnOk r P → OnOk r Q
@@ -49,14 +49,14 @@ not_none old new seen is h e v = let n = ap length v ∙ count old new is e in o
 
 -- the last word is noted
 pub last : {A E : Type 0} (r : Result A E) (old new seen marked marks : List ℕ) (is : List Inst) → 0 < length is → new ≡ old ++ map encoding is → seen ≡ new
-    → OnOk r (marks ≡ marked ++ (length seen - 1) ∷ []) → OnOk r (IsOpened old new marked marks (last_open is))
+    → OnOk r (marks ≡ marked ++ (length seen - 1) ∷ []) → OnOk r (StandsUnpatched old new marked marks (last_unpatched is))
 last r old new seen marked marks is h e v =
     let n = ap length v ∙ count old new is e in
     let p : length seen - 1 ≡ length old + (length is - 1) = omega (arith, n, h) in
     on_ok r _ _ (λ w. record { words = e; places = w ∙ ap (λ k. marked ++ k ∷ []) p })
 
 -- two stand side by side
-pub joined : (old mid new marked marks all : List ℕ) (x y : Unpatched) → IsOpened old mid marked marks x → IsOpened mid new marks all y → IsOpened old new marked all (joined_open x y)
+pub joined : (old mid new marked marks all : List ℕ) (x y : Unpatched) → StandsUnpatched old mid marked marks x → StandsUnpatched mid new marks all y → StandsUnpatched old new marked all (joined_unpatched x y)
 joined old mid new marked marks all x y h k = record {
   words = k.words ∙ ap (λ l. l ++ map encoding y.code) h.words ∙ assoc old (map encoding x.code) (map encoding y.code) ∙ ap (λ l. old ++ l) (sym (map_append encoding x.code y.code));
   places =
@@ -66,28 +66,28 @@ joined old mid new marked marks all x y h k = record {
 }
 
 -- where the second of two stands, the result being that of both
-pub then : {A E : Type 0} (r : Result A E) (old mid new marked marks all : List ℕ) (x y : Unpatched) → IsOpened old mid marked marks x → OnOk r (IsOpened mid new marks all y)
-    → OnOk r (IsOpened old new marked all (joined_open x y))
+pub then : {A E : Type 0} (r : Result A E) (old mid new marked marks all : List ℕ) (x y : Unpatched) → StandsUnpatched old mid marked marks x → OnOk r (StandsUnpatched mid new marks all y)
+    → OnOk r (StandsUnpatched old new marked all (joined_unpatched x y))
 then r old mid new marked marks all x y h = on_ok r _ _ (λ k. joined old mid new marked marks all x y h k)
 
 module _ (sc : Scope) (a b : CExpr) (s : Bool) (r : ℕ) (old mid new none over marked marks seen : List ℕ) (at_first : none ≡ [])
-    (first : IsOpened old mid none over (test_open sc a (not s) r)) (second : IsOpened mid new marked marks (test_open sc b s r)) (same : seen ≡ over) where
+    (first : StandsUnpatched old mid none over (test_unpatched sc a (not s) r)) (second : StandsUnpatched mid new marked marks (test_unpatched sc b s r)) (same : seen ≡ over) where
   -- the first test's branches
-  aside : seen ≡ map (λ j. length old + j) (test_open sc a (not s) r).jumps
-  aside = same ∙ first.places ∙ ap (λ l. l ++ map (λ j. length old + j) (test_open sc a (not s) r).jumps) at_first
+  aside : seen ≡ map (λ j. length old + j) (test_unpatched sc a (not s) r).jumps
+  aside = same ∙ first.places ∙ ap (λ l. l ++ map (λ j. length old + j) (test_unpatched sc a (not s) r).jumps) at_first
 
   -- stand in the code
   pub there : All (λ j. j < length new) seen
   there =
-      let n = count old mid (test_open sc a (not s) r).code first.words in
-      let m = count mid new (test_open sc b s r).code second.words in
+      let n = count old mid (test_unpatched sc a (not s) r).code first.words in
+      let m = count mid new (test_unpatched sc b s r).code second.words in
       subst (All (λ j. j < length new)) (sym aside) (within sc a (not s) r (length old) (length new) (omega (arith, n, m)))
 
   -- and, patched, they go over the second test
-  pub over_it : (final : List ℕ) (end : ℕ) → end ≡ length new → end < 2 ^ 64 → final ≡ patched end seen new → IsOpened old final marked marks (over_open sc a b s r)
+  pub over_it : (final : List ℕ) (end : ℕ) → end ≡ length new → end < 2 ^ 64 → final ≡ patched end seen new → StandsUnpatched old final marked marks (over_unpatched sc a b s r)
   over_it final end e short p =
-      let x = test_open sc a (not s) r in
-      let y = test_open sc b s r in
+      let x = test_unpatched sc a (not s) r in
+      let y = test_unpatched sc b s r in
       let far = length y.code % 2 ^ 16 in
       let n = count old mid x.code first.words in
       let m = count mid new y.code second.words in
