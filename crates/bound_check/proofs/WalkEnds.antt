@@ -8,7 +8,7 @@ use Rattle.c0_tree.specs.Tree.{CUnit}
 use Rattle.c0_meaning.specs.CallChain.{dispatch_number, frame_at}
 use Rattle.bound_check.specs.declared.walk.Mark.{Mark}
 use Rattle.bound_check.specs.declared.walk.Mark.TheVariants.{Unseen, Open, Ends, Loops}
-use Rattle.bound_check.specs.Graph.{IsIn, Leads, by_edge, by_way}
+use Rattle.c0_struct_sizes.specs.Graph.{IsIn, Leads, by_edge, by_way}
 use Rattle.bound_check.specs.Calls.{callees}
 use Rattle.bound_check.specs.Walk.{WalkState, mark_of, IsEnd, IsLost, is_done, is_open, IsWalk, IsGraph, IsWalkOver, IsToldOf, met, copies, walk_start}
 use Rattle.bound_check.proofs.Marks.{seen_below}
