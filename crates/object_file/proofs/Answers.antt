@@ -9,7 +9,8 @@ use Rattle.object_file.specs.Parts.{ObjectParts}
 use Rattle.cvm_words.specs.Bytes.{word, words_of_bytes}
 use Rattle.object_file.specs.Format.{pieces, spelling, IsInRange}
 use Rattle.object_file.specs.Answer.{IsObjectAnswer, IsOutOfRange}
-use Rattle.object_file.specs.Reading.{◌>>=◌, parts_at, header_of, object_of, answer}
+use Rattle.cvm_words.specs.Reading.{◌>>=◌}
+use Rattle.object_file.specs.Reading.{parts_at, header_of, object_of, answer}
 use Rattle.cvm_words.proofs.BytesOfWords.{length-word, length-words, words_of-words}
 use Rattle.object_file.proofs.Steps.{Header, failed, behind_length, behind_form, behind_mark, header_short, header_other, header_mark, form_short, form_whole, form_out, length_short, length_whole, length_out, count_short, count_whole, count_out, source_short, words_short, parts_go_on, parts_whole}
 

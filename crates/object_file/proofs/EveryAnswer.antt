@@ -12,8 +12,9 @@ use Rattle.object_file.specs.declared.fault.ObjectFault.{ObjectFault}
 use Rattle.object_file.specs.declared.fault.ObjectFault.TheVariants.{Magic, Truncated, Trailing, Field, Memory}
 use Rattle.object_file.specs.Parts.{ObjectParts}
 use Rattle.cvm_words.specs.Bytes.{word, words_of_bytes}
+use Rattle.cvm_words.specs.Reading.{GivesOkUnless}
 use Rattle.object_file.specs.Format.{pieces, spelling, IsInRange}
-use Rattle.object_file.specs.Answer.{IsObjectAnswer, IsOutOfRange, Gives, UnlessMemory}
+use Rattle.object_file.specs.Answer.{IsObjectAnswer, IsOutOfRange, UnlessMemory}
 use Rattle.object_file.specs.Reading.{header_of, object_of, answer}
 use Rattle.cvm_words.proofs.BytesOfWords.{length-word, length-words, IsBytes, IsBytes-drop, IsBytes-take, Front, front, Made, made}
 use Rattle.object_file.proofs.Steps.{failed}
@@ -177,11 +178,11 @@ unless (Err Memory) P h = tt
 pub fault_so : (bytes : List ℕ) → IsBytes bytes → (e : ObjectFault) → header_of bytes ≡ failed e → UnlessMemory (Err e) (IsObjectAnswer bytes (Err e))
 fault_so bytes fits e is = unless (Err e) (IsObjectAnswer bytes (Err e)) (subst (λ (r : Result ObjectParts ObjectFault). IsObjectAnswer bytes r) (answer_by bytes (failed e) is) (answer_so bytes fits))
 
-gives_fault : (e : ObjectFault) (a : Result ObjectParts ObjectFault) → a ≡ Err e → Gives (Err e) a
+gives_fault : (e : ObjectFault) (a : Result ObjectParts ObjectFault) → a ≡ Err e → GivesOkUnless Memory (Err e) a
 gives_fault e (Ok o) is = absurd cc
 gives_fault e (Err f) is = sym is
 
-pub fault_only : (bytes : List ℕ) (e : ObjectFault) → header_of bytes ≡ failed e → (a : Result ObjectParts ObjectFault) → IsObjectAnswer bytes a → Gives (Err e) a
+pub fault_only : (bytes : List ℕ) (e : ObjectFault) → header_of bytes ≡ failed e → (a : Result ObjectParts ObjectFault) → IsObjectAnswer bytes a → GivesOkUnless Memory (Err e) a
 fault_only bytes e is a so = gives_fault e a (sym (read_so bytes a so) ∙ answer_by bytes (failed e) is)
 
 -- the object of the two parts that were found
@@ -195,17 +196,17 @@ answer_found bytes source words is = answer_by bytes (Ok (source, words)) is
 pub object_so : (bytes : List ℕ) → IsBytes bytes → (source words : List ℕ) → header_of bytes ≡ Ok (source, words) → IsObjectAnswer bytes (Ok (found source words))
 object_so bytes fits source words is = subst (λ (r : Result ObjectParts ObjectFault). IsObjectAnswer bytes r) (answer_found bytes source words is) (answer_so bytes fits)
 
-gives_object : (o : ObjectParts) (a : Result ObjectParts ObjectFault) → a ≡ Ok o → Gives (Ok o) a
+gives_object : (o : ObjectParts) (a : Result ObjectParts ObjectFault) → a ≡ Ok o → GivesOkUnless Memory (Ok o) a
 gives_object o (Ok p) is = cc
 gives_object o (Err f) is = absurd cc
 
-pub object_only : (bytes source words : List ℕ) → header_of bytes ≡ Ok (source, words) → (a : Result ObjectParts ObjectFault) → IsObjectAnswer bytes a → Gives (Ok (found source words)) a
+pub object_only : (bytes source words : List ℕ) → header_of bytes ≡ Ok (source, words) → (a : Result ObjectParts ObjectFault) → IsObjectAnswer bytes a → GivesOkUnless Memory (Ok (found source words)) a
 object_only bytes source words is a so = gives_object (found source words) a (sym (read_so bytes a so) ∙ answer_found bytes source words is)
 
-gives_memory : (o : ObjectParts) (a : Result ObjectParts ObjectFault) → a ≡ Ok o → Gives (Err Memory) a
+gives_memory : (o : ObjectParts) (a : Result ObjectParts ObjectFault) → a ≡ Ok o → GivesOkUnless Memory (Err Memory) a
 gives_memory o (Ok p) is = refl
 gives_memory o (Err f) is = absurd cc
 
 -- memory runs out only where the bytes are an object
-pub memory_only : (bytes source words : List ℕ) → header_of bytes ≡ Ok (source, words) → (a : Result ObjectParts ObjectFault) → IsObjectAnswer bytes a → Gives (Err Memory) a
+pub memory_only : (bytes source words : List ℕ) → header_of bytes ≡ Ok (source, words) → (a : Result ObjectParts ObjectFault) → IsObjectAnswer bytes a → GivesOkUnless Memory (Err Memory) a
 memory_only bytes source words is a so = gives_memory (found source words) a (sym (read_so bytes a so) ∙ answer_found bytes source words is)

@@ -9,7 +9,8 @@ use Rattle.std.proofs.lemmas.Slice.Eq.{bytes_eq-Decides}
 use Rattle.object_file.specs.declared.fault.ObjectFault.{ObjectFault}
 use Rattle.object_file.specs.declared.fault.ObjectFault.TheVariants.{Magic, Truncated, Trailing, Field}
 use Rattle.cvm_words.specs.Bytes.{word}
-use Rattle.object_file.specs.Reading.{◌>>=◌, mark_at, number_at, parts_at, header_of}
+use Rattle.cvm_words.specs.Reading.{◌>>=◌}
+use Rattle.object_file.specs.Reading.{mark_at, number_at, parts_at, header_of}
 use Rattle.cvm_words.proofs.BytesOfWords.{length-word, number-word}
 
 -- the two parts, or a fault

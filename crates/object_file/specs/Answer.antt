@@ -1,5 +1,5 @@
 -- What is answered of bytes: the object that they spell, or what stands first where no object has it.
-use Rattle.std.specs.Prelude.{ℕ, ◌≡◌, ◌≢◌, ◌≤◌, ◌<◌, ◌^◌, zero, suc, List, [], ◌++◌, length, take, codes, slice_index_or, Option, Some, None, Result, Ok, Err, MatchResult}
+use Rattle.std.specs.Prelude.{ℕ, ◌≡◌, ◌≢◌, ◌≤◌, ◌<◌, ◌^◌, zero, suc, List, [], ◌++◌, length, take, codes, slice_index_or, Option, Some, None, Result, Ok, Err}
 use Rattle.std.specs.List.{concat}
 use Rattle.object_file.specs.declared.fault.ObjectFault.{ObjectFault}
 use Rattle.object_file.specs.declared.fault.ObjectFault.TheVariants.{Magic, Truncated, Trailing, Field, Memory}
@@ -78,11 +78,6 @@ object_fault_value (Truncated at) = None
 object_fault_value (Trailing at) = None
 object_fault_value (Field at value) = Some value
 object_fault_value Memory = None
-
--- an object may also be answered by want of memory, a fault may not
-abbrev pub Gives : Result ObjectParts ObjectFault → Result ObjectParts ObjectFault → Type 0
-Gives result (Ok o) = MatchResult result (λ p. p ≡ o) (λ e. e ≡ Memory)
-Gives result (Err fault) = result ≡ Err fault
 
 -- what holds unless memory ran out
 abbrev pub UnlessMemory : Result ObjectParts ObjectFault → Type 0 → Type 0

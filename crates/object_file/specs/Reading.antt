@@ -1,22 +1,12 @@
 -- The fields from left to right, with the first fault that is met: the steps of the reader, each on the bytes that are left.
-use Rattle.std.specs.Prelude.{ℕ, ◌≡◌, ◌+◌, ◌*◌, ◌||◌, List, [], ◌∷◌, length, take, drop, codes, nat_lt, Result, Ok, Err, if◌then◌else◌}
+use Rattle.std.specs.Prelude.{ℕ, ◌+◌, ◌*◌, ◌||◌, List, [], ◌∷◌, length, take, drop, codes, nat_lt, Result, Ok, Err, if◌then◌else◌}
 use Rattle.std.specs.Str.{bytes_eq}
 use Rattle.byteorder.specs.Endian.{little_number}
 use Rattle.cvm_words.specs.Bytes.{words_of_bytes}
+use Rattle.cvm_words.specs.Reading.{◌>>=◌}
 use Rattle.object_file.specs.declared.fault.ObjectFault.{ObjectFault}
 use Rattle.object_file.specs.declared.fault.ObjectFault.TheVariants.{Magic, Truncated, Trailing, Field}
 use Rattle.object_file.specs.Parts.{ObjectParts}
-
--- a step, and then another by its value
-infixl 10 ◌>>=◌
-abbrev pub ◌>>=◌ : {A B : Type 0} → Result A ObjectFault → (A → Result B ObjectFault) → Result B ObjectFault
-(Ok x) >>= f = f x
-(Err e) >>= f = Err e
-
--- a step's result, seen by view, is what reading gives
-abbrev pub Comes : {X Y : Type 0} → (X → Y) → Result X ObjectFault → Result Y ObjectFault → Type 0
-Comes view (Ok x) read = read ≡ Ok (view x)
-Comes view (Err e) read = read ≡ Err e
 
 -- what follows the mark
 unfoldable pub mark_at : List ℕ → Result (List ℕ) ObjectFault

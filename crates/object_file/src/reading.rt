@@ -2,10 +2,12 @@
 
 ghost use Rattle.std.specs.Prelude.{◌≡◌, ◌+◌, ◌*◌, ◌≤◌, ◌<◌, ◌%◌, ℕ, List, length, slice_index, Result, IfOk, Ok, Err};
 ghost use Rattle.object_file.specs.declared.fault.ObjectFault.{ObjectFault};
+ghost use Rattle.object_file.specs.declared.fault.ObjectFault.TheVariants.{Memory};
 ghost use Rattle.object_file.specs.Parts.{ObjectParts};
-ghost use Rattle.object_file.specs.Answer.{IsObjectAnswer, Gives, UnlessMemory};
+ghost use Rattle.object_file.specs.Answer.{IsObjectAnswer, UnlessMemory};
 ghost use Rattle.cvm_words.specs.Bytes.{words_of_bytes};
-ghost use Rattle.object_file.specs.Reading.{Comes, mark_at, number_at, parts_at, header_of, object_of};
+ghost use Rattle.cvm_words.specs.Reading.{Comes, GivesOkUnless};
+ghost use Rattle.object_file.specs.Reading.{mark_at, number_at, parts_at, header_of, object_of};
 
 use crate::fault::ObjectFault;
 use crate::object::{MOST_SOURCE, MOST_WORDS, Object};
@@ -22,7 +24,7 @@ pub fn read(alloc: Global, bytes: &[u8]) -> Result<Object, ObjectFault>
     // What is answered is so of the bytes.
     ensures answer { UnlessMemory result (IsObjectAnswer bytes.now result) }
     // And what is so of the bytes is answered.
-    ensures only { (answer : Result ObjectParts ObjectFault) → IsObjectAnswer bytes.now answer → Gives result answer }
+    ensures only { (answer : Result ObjectParts ObjectFault) → IsObjectAnswer bytes.now answer → GivesOkUnless Memory result answer }
 {
     let (source, words) = parts(bytes)?;
     Ok(Object {
