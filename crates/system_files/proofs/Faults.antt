@@ -11,7 +11,8 @@ use Rattle.layer_map.specs.declared.params.Params.{Params}
 use Rattle.system_files.specs.declared.fault.FileFault.{FileFault}
 use Rattle.system_files.specs.declared.fault.FileFault.TheVariants.{Parameter, Memory, UserTorn, BadParams}
 use Rattle.system_files.specs.declared.params.Numbers.{Numbers}
-use Rattle.system_files.specs.Params.{◌>>=◌, number_in, number_on_line, next_number, at_the_end, numbers_of, ranged, params_in, params_of, AreInRange, Spells}
+use Rattle.cvm_words.specs.Reading.{◌>>=◌}
+use Rattle.system_files.specs.Params.{number_in, number_on_line, next_number, at_the_end, numbers_of, ranged, params_in, params_of, AreInRange, Spells}
 use Rattle.system_files.specs.Answer.{names, lines_with, numbers_in, IsParamsAnswer}
 use Rattle.system_files.proofs.Inverse.{went, lines_for, lines_are, next_is, end_is, line_is, in_its_range, spells_of, spelled}
 use Rattle.system_files.proofs.Read.{Small, line_read, next_read, numbers_read, lines_read, ranged_read, read}

@@ -11,7 +11,8 @@ use Rattle.layer_map.specs.declared.params.Params.{Params}
 use Rattle.system_files.specs.declared.fault.FileFault.{FileFault}
 use Rattle.system_files.specs.declared.fault.FileFault.TheVariants.{Parameter}
 use Rattle.system_files.specs.declared.params.Numbers.{Numbers}
-use Rattle.system_files.specs.Params.{◌>>=◌, number_in, number_on_line, next_number, at_the_end, numbers_of, ranged, params_in, params_of, AreInRange, Spells, spelling}
+use Rattle.cvm_words.specs.Reading.{◌>>=◌}
+use Rattle.system_files.specs.Params.{number_in, number_on_line, next_number, at_the_end, numbers_of, ranged, params_in, params_of, AreInRange, Spells, spelling}
 use Rattle.system_files.proofs.Lines.{text_is}
 
 -- a step that went well, and the one behind it

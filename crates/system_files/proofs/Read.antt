@@ -16,7 +16,8 @@ use Rattle.cvm_text.specs.Lines.{without_empty_end, lines_of, number_spelled}
 use Rattle.layer_map.specs.declared.params.Params.{Params}
 use Rattle.system_files.specs.declared.fault.FileFault.{FileFault}
 use Rattle.system_files.specs.declared.fault.FileFault.TheVariants.{Parameter}
-use Rattle.system_files.specs.Params.{◌>>=◌, number_in, number_on_line, next_number, numbers_of, ranged, params_in, params_of, AreInRange, Spells, spelling}
+use Rattle.cvm_words.specs.Reading.{◌>>=◌}
+use Rattle.system_files.specs.Params.{number_in, number_on_line, next_number, numbers_of, ranged, params_in, params_of, AreInRange, Spells, spelling}
 use Rattle.system_files.proofs.Inverse.{lines_for}
 
 -- no LF among characters

@@ -1,22 +1,12 @@
 -- Which text has parameters, and which fault another one has.
 use Rattle.std.specs.Prelude.{ℕ, ◌≡◌, ◌≤◌, ◌⊎◌, ◌||◌, ◌++◌, nat_lt, List, [], ◌∷◌, length, take, drop, Option, Some, None, Result, Ok, Err, codes, decimal, if◌then◌else◌}
 use Rattle.std.specs.Str.{bytes_eq}
+use Rattle.cvm_words.specs.Reading.{◌>>=◌}
 use Rattle.cvm_text.specs.Lines.{lines_of, number_spelled}
 use Rattle.layer_map.specs.declared.params.Params.{Params}
 use Rattle.system_files.specs.declared.fault.FileFault.{FileFault}
 use Rattle.system_files.specs.declared.fault.FileFault.TheVariants.{Parameter, BadParams}
 use Rattle.system_files.specs.declared.params.Numbers.{Numbers}
-
--- a step, and then another by its value
-infixl 10 ◌>>=◌
-abbrev pub ◌>>=◌ : {A B : Type 0} → Result A FileFault → (A → Result B FileFault) → Result B FileFault
-(Ok x) >>= f = f x
-(Err e) >>= f = Err e
-
--- a step's result, seen by view, is what reading gives
-abbrev pub Comes : {X Y : Type 0} → (X → Y) → Result X FileFault → Result Y FileFault → Type 0
-Comes view (Ok x) read = read ≡ Ok (view x)
-Comes view (Err e) read = read ≡ Err e
 
 -- the number behind the beginning of a line
 unfoldable pub number_in : (beginning line : List ℕ) → Option ℕ

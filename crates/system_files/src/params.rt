@@ -6,7 +6,8 @@ ghost use Rattle.layer_map.specs.declared.params.Params.{Params};
 ghost use Rattle.system_files.specs.declared.fault.FileFault.{FileFault};
 ghost use Rattle.system_files.specs.Answer.{IsParamsAnswer};
 ghost use Rattle.system_files.specs.Params as spec;
-ghost use Rattle.system_files.specs.Params.{AreInRange, Comes, Spells, at_the_end, next_number as next_in, number_in, numbers_of, params_in, ranged};
+ghost use Rattle.cvm_words.specs.Reading.{Comes};
+ghost use Rattle.system_files.specs.Params.{AreInRange, Spells, at_the_end, next_number as next_in, number_in, numbers_of, params_in, ranged};
 
 use crate::fault::FileFault;
 use cvm_text::{first_line, whole_number, whole_numbers_are_spelled};
