@@ -2,7 +2,8 @@
 use Rattle.std.proofs.Common.{◌≡◌, ℕ, ◌*◌, ◌≤◌, Bool, true, false, nat_lt, List, [], ◌∷◌, ◌++◌, Result, Ok, Err, if◌then◌else◌, refl, sym, ap, subst, ◌∙◌, inl, inr}
 use Rattle.std.specs.List.{AllByRecursion}
 use Rattle.std.proofs.lemmas.Bool.{lt-ltb, le-ltb, cond-true, cond-false, cases_lt}
-use Rattle.saved_file.specs.Tests.{Test, tried, all_tried, ◌>>=◌}
+use Rattle.cvm_words.specs.Reading.{◌>>=◌}
+use Rattle.saved_file.specs.Tests.{Test, tried, all_tried}
 use Rattle.saved_file.specs.Answer.{TestPasses, TestFails, FailsFirst}
 use Rattle.saved_file.specs.declared.fault.SaveFault.{SaveFault}
 use Rattle.saved_file.specs.declared.fault.SaveFault.TheVariants.{Truncated}

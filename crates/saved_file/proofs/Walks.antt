@@ -1,6 +1,7 @@
 -- Tests in a row: the first of them and then the others, as a loop over their numbers looks at them; and two rows, one behind the other.
 use Rattle.std.proofs.Common.{◌≡◌, ℕ, suc, ◌+◌, ◌-◌, ◌≤◌, ◌<◌, List, [], ◌∷◌, ◌++◌, Result, Ok, Err, refl, ap, ◌∙◌, arith}
-use Rattle.saved_file.specs.Tests.{Test, tried, all_tried, each, ◌>>=◌}
+use Rattle.cvm_words.specs.Reading.{◌>>=◌}
+use Rattle.saved_file.specs.Tests.{Test, tried, all_tried, each}
 use Rattle.saved_file.specs.declared.fault.SaveFault.{SaveFault}
 
 -- the test of this number, and then those from the next one on

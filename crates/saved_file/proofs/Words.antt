@@ -5,7 +5,8 @@ use Rattle.byteorder.specs.Endian.{little_number}
 use Rattle.cvm_words.specs.Bytes.{words_of_bytes}
 use Rattle.cvm_words.proofs.BytesOfWords.{words_spelled}
 use Rattle.saved_file.specs.Resumable.{Wanted}
-use Rattle.saved_file.specs.Tests.{tests, all_tried, whole, ◌>>=◌}
+use Rattle.cvm_words.specs.Reading.{◌>>=◌}
+use Rattle.saved_file.specs.Tests.{tests, all_tried, whole}
 use Rattle.saved_file.specs.Answer.{TestPasses, FailsFirst, IsSavedAnswer, answer, AnswersAreSo, NothingElseIsSo}
 use Rattle.saved_file.specs.declared.fault.SaveFault.{SaveFault}
 use Rattle.saved_file.proofs.Deciding.{AllCome, all_so, all_passed, all_failed, not_above}

@@ -2,6 +2,7 @@
 use Rattle.std.specs.Prelude.{◌≡◌, ℕ, ◌*◌, ◌^◌, ◌<◌, ◌≤◌, ◌⊎◌, true, false, All, List, ◌∷◌, ◌++◌, length, slice_index, Result, Ok, Err}
 use Rattle.std.specs.List.{flat_map, AllByRecursion}
 use Rattle.cvm_words.specs.Bytes.{word, words_of_bytes}
+use Rattle.cvm_words.specs.Reading.{◌>>=◌}
 use Rattle.mips_table.specs.Device.{Environment}
 use Rattle.mips_table.specs.Fits.{Fits}
 use Rattle.mips_table.specs.declared.special.TheConstants.{MODE}
@@ -9,9 +10,9 @@ use Rattle.mips_table.specs.Machine.{State}
 use Rattle.mips_table.specs.Steady.{Steady}
 use Rattle.mips_machine.specs.Saved.{saved, CanBeSaved}
 use Rattle.saved_file.specs.Resumable.{Wanted, CanBeResumed, is_left_out, size_at}
-use Rattle.saved_file.specs.Tests.{Test, tests, all_tried, ◌>>=◌}
+use Rattle.saved_file.specs.Tests.{Test, tests, all_tried}
 use Rattle.saved_file.specs.declared.fault.SaveFault.{SaveFault}
-use Rattle.saved_file.specs.declared.fault.SaveFault.TheVariants.{Truncated, Memory}
+use Rattle.saved_file.specs.declared.fault.SaveFault.TheVariants.{Truncated}
 
 -- a test is passed by a file of so many whole words
 abbrev pub TestPasses : ℕ → Test → Type 0
@@ -39,11 +40,6 @@ IsSavedAnswer w bytes (Err e) = FailsFirst (length (words_of_bytes bytes)) (test
 -- the same by going through the tests
 unfoldable pub answer : Wanted → List ℕ → Result (List ℕ) SaveFault
 answer w bytes = all_tried (length (words_of_bytes bytes)) (tests w (length bytes) (words_of_bytes bytes)) >>= λ done. Ok (words_of_bytes bytes)
-
--- a call gives this answer, or want of memory
-abbrev pub Gives : {X : Type 0} → (X → List ℕ) → Result X SaveFault → Result (List ℕ) SaveFault → Type 0
-Gives view (Ok found) answered = answered ≡ Ok (view found)
-Gives view (Err e) answered = (e ≡ Memory) ⊎ (answered ≡ Err e)
 
 -- laws of a reading: what it answers of bytes is so of them, and nothing else is
 abbrev pub AnswersAreSo : (Wanted → List ℕ → Result (List ℕ) SaveFault) → Type 0

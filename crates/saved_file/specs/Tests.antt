@@ -1,5 +1,6 @@
 -- What is looked at of a file, in order.
 use Rattle.std.specs.Prelude.{ℕ, zero, suc, ◌+◌, ◌-◌, ◌*◌, ◌^◌, ◌||◌, Bool, true, false, List, [], ◌∷◌, ◌++◌, length, slice_index, nat_lt, nat_eq, Result, Ok, Err, if◌then◌else◌}
+use Rattle.cvm_words.specs.Reading.{◌>>=◌}
 use Rattle.mips_table.specs.Machine.{LOG_ROOM}
 use Rattle.mips_machine.specs.Saved.{MARK, from_halves}
 use Rattle.saved_file.specs.Resumable.{Wanted, memory_place, memory_word, is_left_out, size_at}
@@ -97,12 +98,6 @@ tests w bytes words = head_tests w.frames w.users (length w.inputs) words ++ tes
 -- what comes of a test, where the file has so many whole words
 unfoldable pub tried : ℕ → Test → Result (Unit {0}) SaveFault
 tried n t = if nat_lt n t.takes then Err (Truncated (4 * n)) else if t.wrong then Err t.fault else Ok tt
-
--- a step, and then another
-infixl 10 ◌>>=◌
-abbrev pub ◌>>=◌ : {A B : Type 0} → Result A SaveFault → (A → Result B SaveFault) → Result B SaveFault
-(Ok x) >>= f = f x
-(Err e) >>= f = Err e
 
 -- what comes of tests in a row
 abbrev pub all_tried : ℕ → List Test → Result (Unit {0}) SaveFault

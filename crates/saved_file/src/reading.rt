@@ -3,10 +3,12 @@
 ghost use Rattle.std.specs.Prelude.{◌≡◌, ◌+◌, ◌-◌, ◌*◌, ◌/◌, ◌≤◌, ◌<◌, ◌^◌, ◌++◌, ◌∷◌, [], List, ℕ, IsTrue, length, slice_index, IfOk, Ok};
 ghost use Rattle.std.specs.List.{flat_map};
 ghost use Rattle.cvm_words.specs.Bytes.{word, words_of_bytes};
+ghost use Rattle.cvm_words.specs.Reading.{GivesUnless};
 ghost use Rattle.mips_machine.specs.Saved.{from_halves};
 ghost use Rattle.saved_file.specs.Resumable.{CanBeResumed, wanted, is_left_out as left_out, memory_word, memory_place, size_at};
 ghost use Rattle.saved_file.specs.Tests.{tried, all_tried, tests, head_tests, tests_behind, first_tests, special_tests, count_tests, mark_test, field as field_test, commands_test, end_test, linked_test, size_test, turns_test, each, whole};
-ghost use Rattle.saved_file.specs.Answer.{Gives, answer, AnswersAreSo, NothingElseIsSo, AnswersAreResumable, ResumablesAreAnswered, SavedIsReadBack};
+ghost use Rattle.saved_file.specs.declared.fault.SaveFault.TheVariants.{Memory};
+ghost use Rattle.saved_file.specs.Answer.{answer, AnswersAreSo, NothingElseIsSo, AnswersAreResumable, ResumablesAreAnswered, SavedIsReadBack};
 
 use crate::fault::SaveFault;
 use cvm_words::read_words;
@@ -44,7 +46,7 @@ pub fn read(
     requires linked { length linked.now ≤ 1024 * sizes.now.frames }
     requires inputs { length inputs.now < 2 ^ 32 }
     // The answer is that of the tests in order; `bytes_have_one_answer` says of bytes alone which that is.
-    ensures is { Gives (λ v. v.items) result (answer (wanted sizes.now inputs.now linked.now turns) bytes.now) }
+    ensures is { GivesUnless Memory (λ v. v.items) result (answer (wanted sizes.now inputs.now linked.now turns) bytes.now) }
     // Words that are answered can be taken up,
     ensures resumable { IfOk result (λ v. CanBeResumed (wanted sizes.now inputs.now linked.now turns) v.items) }
     // and they are those that the bytes spell.
