@@ -4,7 +4,8 @@ use Rattle.boot_image.specs.declared.fault.ImageFault.{ImageFault}
 use Rattle.boot_image.specs.declared.fault.ImageFault.TheVariants.{Memory}
 use Rattle.boot_image.specs.declared.reading.Header.{Header}
 use Rattle.boot_image.specs.Parts.{ImageParts}
-use Rattle.boot_image.specs.Reading.{◌>>=◌, header_of, old_header_of, parts_of, image_of, image_at, answer, old_answer, Gives}
+use Rattle.cvm_words.specs.Reading.{◌>>=◌, GivesOkUnless}
+use Rattle.boot_image.specs.Reading.{header_of, old_header_of, parts_of, image_of, image_at, answer, old_answer}
 
 abbrev pub Found : Type 0
 Found = Result (Header × (List ℕ × List ℕ)) ImageFault
@@ -30,15 +31,15 @@ old_answer_by bytes r is = ap answered is
 pub answered_parts : (h : Header) (counts rest : List ℕ) (r : Parted) → parts_of h counts rest ≡ r → answered (Ok (h, (counts, rest))) ≡ then_image h counts r
 answered_parts h counts rest r parts = ap (then_image h counts) parts
 
-pub gives_fault : (a : Result ImageParts ImageFault) (e : ImageFault) → a ≡ Err e → Gives (Err e) a
-gives_fault a e is = subst (λ (b : Result ImageParts ImageFault). Gives (Err e) b) (sym is) refl
+pub gives_fault : (a : Result ImageParts ImageFault) (e : ImageFault) → a ≡ Err e → GivesOkUnless Memory (Err e) a
+gives_fault a e is = subst (λ (b : Result ImageParts ImageFault). GivesOkUnless Memory (Err e) b) (sym is) refl
 
-pub gives_memory : (a : Result ImageParts ImageFault) (i : ImageParts) → a ≡ Ok i → Gives (Err Memory) a
-gives_memory a i is = subst (λ (b : Result ImageParts ImageFault). Gives (Err Memory) b) (sym is) refl
+pub gives_memory : (a : Result ImageParts ImageFault) (i : ImageParts) → a ≡ Ok i → GivesOkUnless Memory (Err Memory) a
+gives_memory a i is = subst (λ (b : Result ImageParts ImageFault). GivesOkUnless Memory (Err Memory) b) (sym is) refl
 
-pub gives_image : (a : Result ImageParts ImageFault) (i : ImageParts) → a ≡ Ok i → Gives (Ok i) a
-gives_image a i is = subst (λ (b : Result ImageParts ImageFault). Gives (Ok i) b) (sym is) refl
+pub gives_image : (a : Result ImageParts ImageFault) (i : ImageParts) → a ≡ Ok i → GivesOkUnless Memory (Ok i) a
+gives_image a i is = subst (λ (b : Result ImageParts ImageFault). GivesOkUnless Memory (Ok i) b) (sym is) refl
 
 -- what is given of the bytes behind the header is given of all of them
-pub gives_behind : (r : Result ImageParts ImageFault) (a b : Result ImageParts ImageFault) → a ≡ b → Gives r b → Gives r a
-gives_behind r a b is h = subst (λ (c : Result ImageParts ImageFault). Gives r c) (sym is) h
+pub gives_behind : (r : Result ImageParts ImageFault) (a b : Result ImageParts ImageFault) → a ≡ b → GivesOkUnless Memory r b → GivesOkUnless Memory r a
+gives_behind r a b is h = subst (λ (c : Result ImageParts ImageFault). GivesOkUnless Memory r c) (sym is) h

@@ -7,7 +7,8 @@ use Rattle.std.proofs.lemmas.Bool.{lt-ltb, le-ltb, cond-true, cond-false, cases_
 use Rattle.std.proofs.lemmas.List.{at_drop_more, at_drop_all, take_more, append-nil, length-map, get_or-map}
 use Rattle.boot_image.specs.declared.fault.ImageFault.{ImageFault}
 use Rattle.boot_image.specs.declared.fault.ImageFault.TheVariants.{Truncated, Trailing}
-use Rattle.boot_image.specs.Reading.{◌>>=◌, number_at, counts_at, part_at, users_at, users_of}
+use Rattle.cvm_words.specs.Reading.{◌>>=◌}
+use Rattle.boot_image.specs.Reading.{number_at, counts_at, part_at, users_at, users_of}
 
 -- ---- the numbers of words
 

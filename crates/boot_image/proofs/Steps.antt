@@ -15,7 +15,8 @@ use Rattle.boot_image.specs.declared.reading.Header.{Header}
 use Rattle.boot_image.specs.Parts.{ImageParts}
 use Rattle.cvm_words.specs.Bytes.{word, words_of_bytes}
 use Rattle.boot_image.specs.Format.{spelling, bare_params, most_words, AreWords, IsBare, IsOldSystem, HasOldSpelling, IsInRange, IsOldInRange}
-use Rattle.boot_image.specs.Reading.{◌>>=◌, mark_at, number_at, form_at, params_at, counts_at, bare_at, system_at, header_of, old_header_of, part_at, users_at, parts_of, users_of, answer, old_answer}
+use Rattle.cvm_words.specs.Reading.{◌>>=◌}
+use Rattle.boot_image.specs.Reading.{mark_at, number_at, form_at, params_at, counts_at, bare_at, system_at, header_of, old_header_of, part_at, users_at, parts_of, users_of, answer, old_answer}
 use Rattle.cvm_words.proofs.BytesOfWords.{length-word, number-word, length-words, words_of-words}
 use Rattle.boot_image.proofs.Answers.{Found, answered, answer_by, old_answer_by, answered_parts}
 use Rattle.boot_image.proofs.Loops.{counts_suc, part_whole, users_first, users_end}

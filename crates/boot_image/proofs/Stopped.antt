@@ -10,7 +10,8 @@ use Rattle.boot_image.specs.declared.fault.ImageFault.{ImageFault}
 use Rattle.boot_image.specs.declared.fault.ImageFault.TheVariants.{Truncated, Trailing, Parameter}
 use Rattle.boot_image.specs.declared.reading.Header.{Header}
 use Rattle.boot_image.specs.Format.{most_words, AreWords}
-use Rattle.boot_image.specs.Reading.{◌>>=◌, number_at, params_at, counts_at, system_at, part_at, users_at, parts_of}
+use Rattle.cvm_words.specs.Reading.{◌>>=◌}
+use Rattle.boot_image.specs.Reading.{number_at, params_at, counts_at, system_at, part_at, users_at, parts_of}
 use Rattle.cvm_words.specs.Bytes.{word}
 use Rattle.cvm_words.proofs.BytesOfWords.{length-words, IsBytes, IsBytes-drop, IsBytes-take, Front, front, Made, made}
 use Rattle.boot_image.proofs.Answers.{Parted}

@@ -9,7 +9,8 @@ use Rattle.boot_image.specs.declared.fault.ImageFault.TheVariants.{Truncated, Tr
 use Rattle.boot_image.specs.declared.reading.Header.{Header}
 use Rattle.boot_image.specs.Parts.{ImageParts}
 use Rattle.boot_image.specs.Format.{most_words}
-use Rattle.boot_image.specs.Reading.{◌>>=◌, number_at, params_at, counts_at, system_at, users_at, parts_of}
+use Rattle.cvm_words.specs.Reading.{◌>>=◌}
+use Rattle.boot_image.specs.Reading.{number_at, params_at, counts_at, system_at, users_at, parts_of}
 use Rattle.cvm_words.specs.Bytes.{word}
 use Rattle.cvm_words.proofs.BytesOfWords.{length-words}
 use Rattle.boot_image.proofs.Loops.{counts_suc, part_short, users_first, users_go_on}

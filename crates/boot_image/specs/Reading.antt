@@ -1,26 +1,16 @@
 -- What is answered of bytes: the fields in the order of the file, then the parts, then the end; the first that isn't as it is to be
 -- answers.
-use Rattle.std.specs.Prelude.{ℕ, zero, suc, ◌≡◌, ◌+◌, ◌*◌, ◌<◌, ◌||◌, slice_index, List, [], ◌∷◌, ◌++◌, length, take, drop, codes, nat_lt, nat_eq, Result, Ok, Err, MatchResult, if◌then◌else◌}
+use Rattle.std.specs.Prelude.{ℕ, zero, suc, ◌≡◌, ◌+◌, ◌*◌, ◌<◌, ◌||◌, slice_index, List, [], ◌∷◌, ◌++◌, length, take, drop, codes, nat_lt, nat_eq, Result, Ok, Err, if◌then◌else◌}
 use Rattle.std.specs.Str.{bytes_eq}
 use Rattle.byteorder.specs.Endian.{little_number}
 use Rattle.layer_map.specs.declared.params.Params.{Params}
 use Rattle.cvm_words.specs.Bytes.{words_of_bytes}
+use Rattle.cvm_words.specs.Reading.{◌>>=◌}
 use Rattle.boot_image.specs.declared.fault.ImageFault.{ImageFault}
-use Rattle.boot_image.specs.declared.fault.ImageFault.TheVariants.{Magic, Truncated, Trailing, Parameter, Memory}
+use Rattle.boot_image.specs.declared.fault.ImageFault.TheVariants.{Magic, Truncated, Trailing, Parameter}
 use Rattle.boot_image.specs.declared.reading.Header.{Header}
 use Rattle.boot_image.specs.Parts.{ImageParts}
 use Rattle.boot_image.specs.Format.{bare_params, most_words, spelling}
-
--- a step, and then another by its value
-infixl 10 ◌>>=◌
-abbrev pub ◌>>=◌ : {A B : Type 0} → Result A ImageFault → (A → Result B ImageFault) → Result B ImageFault
-(Ok x) >>= f = f x
-(Err e) >>= f = Err e
-
--- a step's result, seen by view, is what reading gives
-abbrev pub Comes : {X Y : Type 0} → (X → Y) → Result X ImageFault → Result Y ImageFault → Type 0
-Comes view (Ok x) read = read ≡ Ok (view x)
-Comes view (Err e) read = read ≡ Err e
 
 -- what follows the mark
 unfoldable pub mark_at : List ℕ → Result (List ℕ) ImageFault
@@ -130,11 +120,6 @@ unfoldable pub old_answer : List ℕ → Result ImageParts ImageFault
 old_answer bytes = do
   header ← old_header_of bytes
   image_at header.0 header.1.0 header.1.1
-
--- an image may also be answered by want of memory, a fault may not
-abbrev pub Gives : Result ImageParts ImageFault → Result ImageParts ImageFault → Type 0
-Gives result (Ok i) = MatchResult result (λ p. p ≡ i) (λ e. e ≡ Memory)
-Gives result (Err fault) = result ≡ Err fault
 
 -- laws of a reading: bytes that are answered by an image are its spelling, and the spelling of each image is answered by it
 abbrev pub AnswersAreSpelled : (List ℕ → Result ImageParts ImageFault) → (IsFit : ImageParts → Type 0) → Type 0

@@ -5,7 +5,9 @@ ghost use Rattle.std.specs.List.{concat};
 ghost use Rattle.boot_image.specs.Parts.{ImageParts};
 ghost use Rattle.boot_image.specs.Format.{IsInRange, IsOldInRange, spelling, most_words};
 ghost use Rattle.cvm_words.specs.Bytes.{words_of_bytes};
-ghost use Rattle.boot_image.specs.Reading.{Comes, Gives, AnswersAreSpelled, SpellingsAreAnswered, image_at, answer, old_answer};
+ghost use Rattle.cvm_words.specs.Reading.{Comes, GivesOkUnless};
+ghost use Rattle.boot_image.specs.declared.fault.ImageFault.TheVariants.{Memory};
+ghost use Rattle.boot_image.specs.Reading.{AnswersAreSpelled, SpellingsAreAnswered, image_at, answer, old_answer};
 ghost use Rattle.boot_image.specs.Answer.{AnswersAreSo, NothingElseIsSo, pieces};
 ghost use Rattle.boot_image.specs.Reading.{mark_at, number_at, form_at, params_at, counts_at, bare_at, system_at, header_of, old_header_of, part_at, users_at};
 ghost use Rattle.boot_image.specs.Reading.{parts_of, users_of};
@@ -34,11 +36,11 @@ struct Header {
 /// first that isn't as it is to be answers. Memory is taken once the bytes are known to be an image, and for its lists alone.
 pub fn read(alloc: Global, bytes: &[u8]) -> Result<Image, ImageFault>
     // The answer is that of the reading from left to right; `bytes_have_one_answer` says of bytes alone which that is.
-    ensures is { Gives result (answer bytes.now) }
+    ensures is { GivesOkUnless Memory result (answer bytes.now) }
     // An image is answered where the bytes are its spelling,
     ensures spelled { IfOk result (λ i. IsInRange i × (bytes.now ≡ spelling i)) }
     // and where they are, it is, or want of memory.
-    ensures only { (i : ImageParts) → IsInRange i → bytes.now ≡ spelling i → Gives result (Ok i) }
+    ensures only { (i : ImageParts) → IsInRange i → bytes.now ≡ spelling i → GivesOkUnless Memory result (Ok i) }
 {
     let (header, counts, rest) = fields(bytes)?;
     image_in(alloc, &header, &counts, rest)
@@ -47,9 +49,9 @@ pub fn read(alloc: Global, bytes: &[u8]) -> Result<Image, ImageFault>
 /// Reads an image of form 2, which carried a whole system before form 3 did. It is laid out as form 3, with at most 16 users of at most 256
 /// pages. Its linked words are those of the system of its time.
 pub fn read_old(alloc: Global, bytes: &[u8]) -> Result<Image, ImageFault>
-    ensures is { Gives result (old_answer bytes.now) }
+    ensures is { GivesOkUnless Memory result (old_answer bytes.now) }
     ensures spelled { IfOk result (λ i. IsOldInRange i × (bytes.now ≡ spelling i)) }
-    ensures only { (i : ImageParts) → IsOldInRange i → bytes.now ≡ spelling i → Gives result (Ok i) }
+    ensures only { (i : ImageParts) → IsOldInRange i → bytes.now ≡ spelling i → GivesOkUnless Memory result (Ok i) }
 {
     let (header, counts, rest) = old_fields(bytes)?;
     image_in(alloc, &header, &counts, rest)
@@ -90,7 +92,7 @@ fn image_in(
 ) -> Result<Image, ImageFault>
     requires at { header.now.parts_at ≤ 1000 }
     requires few { length counts.now ≤ 64 }
-    ensures { Gives result (image_at header.now counts.now bytes.now) }
+    ensures { GivesOkUnless Memory result (image_at header.now counts.now bytes.now) }
 {
     let (source, words, users) = parts(header, counts, bytes)?;
     Ok(Image {

@@ -12,7 +12,8 @@ use Rattle.c0_meaning.specs.Unit.{IsChecked}
 use Rattle.c0_types.specs.declared.source_fault.SourceFault.{SourceFault}
 use Rattle.c0_unit.specs.Code.{unit_words}
 use Rattle.layer_contract.specs.declared.boot.Boot.{Boot as Booted}
-use Rattle.kernel_linker.specs.Accept.{ImageSystem, system_of, words_match, AcceptAnswers, ◌>>=◌, accept_answer}
+use Rattle.cvm_words.specs.Reading.{◌>>=◌}
+use Rattle.kernel_linker.specs.Accept.{ImageSystem, system_of, words_match, AcceptAnswers, accept_answer}
 use Rattle.kernel_linker.specs.Linked.{linked, map_for, pages_for, sizes_of}
 use Rattle.kernel_linker.specs.declared.fault.AcceptFault.{AcceptFault}
 use Rattle.kernel_linker.specs.Laws.{ImageFits, SpelledImagesFit}

@@ -10,7 +10,8 @@ use Rattle.cvm_words.specs.Bytes.{words_of_bytes}
 use Rattle.boot_image.specs.declared.fault.ImageFault.{ImageFault}
 use Rattle.boot_image.specs.Parts.{ImageParts as Image}
 use Rattle.boot_image.specs.Format.{most_words}
-use Rattle.boot_image.specs.Reading.{◌>>=◌, mark_at, number_at, form_at, params_at, counts_at, bare_at, system_at, header_of, parts_of, image_of, users_of, answer}
+use Rattle.cvm_words.specs.Reading.{◌>>=◌}
+use Rattle.boot_image.specs.Reading.{mark_at, number_at, form_at, params_at, counts_at, bare_at, system_at, header_of, parts_of, image_of, users_of, answer}
 use Rattle.kernel_linker.specs.Accept.{ImageSystem}
 use Rattle.kernel_linker.specs.Sources.{IsOfImage}
 

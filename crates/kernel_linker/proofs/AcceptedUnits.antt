@@ -7,7 +7,8 @@ use Rattle.c0_tree.specs.Tree.{CUnit}
 use Rattle.c0_types.specs.declared.source_fault.SourceFault.{SourceFault}
 use Rattle.c0_types.specs.Front.{IsUnitOf, IsFrontAnswer}
 use Rattle.kernel_linker.specs.declared.fault.AcceptFault.{AcceptFault}
-use Rattle.kernel_linker.specs.Accept.{ImageSystem, accept_answer, ◌>>=◌}
+use Rattle.cvm_words.specs.Reading.{◌>>=◌}
+use Rattle.kernel_linker.specs.Accept.{ImageSystem, accept_answer}
 use Rattle.kernel_linker.specs.Sources.{IsOfImage, AcceptedAreOfImages}
 
 abbrev IsOk : {A B : Type 0} → Result A B → Type 0

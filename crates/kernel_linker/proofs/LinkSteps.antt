@@ -7,13 +7,14 @@ use Rattle.layer_map.specs.Map.{Map, ParamsInRange}
 use Rattle.boot_image.specs.Format.{HasSpelling, most_words}
 use Rattle.c0_parser.specs.declared.fault.ReadFault.TheVariants.{Memory as NoMemory}
 use Rattle.c0_types.specs.declared.source_fault.SourceFault.TheVariants.{Reading}
-use Rattle.kernel_linker.specs.Answers.{FrontGives, GivesUnless}
+use Rattle.kernel_linker.specs.Answers.{FrontGives}
 use Rattle.boot_image.specs.Parts.{ImageParts as Image}
 use Rattle.object_file.specs.Parts.{ObjectParts as Object}
 use Rattle.c0_tree.specs.Tree.{CUnit}
 use Rattle.c0_types.specs.declared.source_fault.SourceFault.{SourceFault}
 use Rattle.kernel_linker.specs.Linked.{linked, sizes_of}
-use Rattle.kernel_linker.specs.Open.{◌>>=◌, OpensTo}
+use Rattle.cvm_words.specs.Reading.{◌>>=◌, GivesUnless}
+use Rattle.kernel_linker.specs.Open.{OpensTo}
 use Rattle.kernel_linker.specs.Link.{fitting, link_answer, measured}
 use Rattle.kernel_linker.specs.declared.fault.LinkFault.{LinkFault}
 use Rattle.kernel_linker.specs.declared.fault.LinkFault.TheVariants.{UserTooLong, Memory}

@@ -11,7 +11,8 @@ use Rattle.kernel_linker.specs.Linked.{linked, sizes_of}
 use Rattle.kernel_linker.specs.Difference.{compared}
 use Rattle.kernel_linker.specs.declared.difference.Difference.{Difference}
 use Rattle.kernel_linker.specs.declared.fault.LinkFault.{LinkFault}
-use Rattle.kernel_linker.specs.Open.{◌>>=◌, unforged, open_answer}
+use Rattle.cvm_words.specs.Reading.{◌>>=◌}
+use Rattle.kernel_linker.specs.Open.{unforged, open_answer}
 use Rattle.kernel_linker.specs.Link.{fitting, link_answer}
 use Rattle.kernel_linker.specs.Accept.{accept_answer}
 use Rattle.kernel_linker.specs.Laws.{IsAccepted, OpenedUnitsAreTheirSources}

@@ -5,14 +5,15 @@ use Rattle.layer_map.specs.Map.{Map, ParamsInRange}
 use Rattle.layer_map.specs.declared.params.Params.{Params}
 use Rattle.boot_image.specs.Format.{HasSpelling, IsOldInRange, most_words}
 use Rattle.boot_image.specs.Parts.{ImageParts as Image}
-use Rattle.boot_image.specs.Reading.{Gives}
 use Rattle.boot_image.specs.declared.fault.ImageFault.{ImageFault}
+use Rattle.boot_image.specs.declared.fault.ImageFault.TheVariants.{Memory as NoImageMemory}
 use Rattle.c0_tree.specs.Tree.{CUnit}
 use Rattle.c0_types.specs.Front.{IsUnitOf}
 use Rattle.c0_types.specs.declared.source_fault.SourceFault.{SourceFault}
 use Rattle.kernel_linker.specs.Linked.{linked, sizes_of}
 use Rattle.kernel_linker.specs.Fault.{accept_source_fault}
-use Rattle.kernel_linker.specs.Accept.{◌>>=◌, unit_in, accept_answer}
+use Rattle.cvm_words.specs.Reading.{◌>>=◌, GivesOkUnless}
+use Rattle.kernel_linker.specs.Accept.{unit_in, accept_answer}
 use Rattle.kernel_linker.specs.Migrate.{migrate_answer, Migrates, IsAcceptedAnew}
 use Rattle.kernel_linker.specs.declared.fault.AcceptFault.{AcceptFault}
 use Rattle.kernel_linker.proofs.AcceptSteps.{of_image}
@@ -35,7 +36,7 @@ image_is layer old u params source words users lent e s w us l = rw (w, e, s, us
 
 -- all is well
 pub made_anew : (layer : Map → List ℕ → List ℕ) (r : Result Image ImageFault) (old new : Image) (u : CUnit) (source : List ℕ) →
-    Gives (Ok old) r → IsUnitOf source u → source ≡ old.source → new ≡ anew layer old u → Migrates layer r (Ok new)
+    GivesOkUnless NoImageMemory (Ok old) r → IsUnitOf source u → source ≡ old.source → new ≡ anew layer old u → Migrates layer r (Ok new)
 unfolding migrate_answer
 made_anew layer r old new u source given found same is =
     of_image (migrate_answer layer) (λ i. i) r old (Ok new) given (Ok u, subst (λ (s : List ℕ). IsUnitOf s u) same found, rw is refl)

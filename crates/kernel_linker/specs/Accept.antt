@@ -1,6 +1,7 @@
 -- What is answered of an image that is to be booted: its source is read and checked, and its linked words are compared with those that its
 -- own source, parameters and users are linked to. An image of form 1 carries no linked words: they are made.
 use Rattle.std.specs.Prelude.{◌≡◌, ℕ, nat_eq, List, length, map, Result, Ok, Err, if◌then◌else◌}
+use Rattle.cvm_words.specs.Reading.{◌>>=◌, GivesUnless}
 use Rattle.layer_map.specs.declared.params.Params.{Params}
 use Rattle.layer_map.specs.Map.{Map}
 use Rattle.boot_image.specs.Parts.{ImageParts as Image}
@@ -9,7 +10,7 @@ use Rattle.c0_tree.specs.Tree.{CUnit}
 use Rattle.c0_tree.specs.View.{unit_view}
 use Rattle.c0_types.specs.declared.source_fault.SourceFault.{SourceFault}
 use Rattle.layer_contract.specs.declared.boot.Boot.{Boot}
-use Rattle.kernel_linker.specs.Answers.{GivesUnless, FrontGives}
+use Rattle.kernel_linker.specs.Answers.{FrontGives}
 use Rattle.kernel_linker.specs.Linked.{linked, sizes_of}
 use Rattle.kernel_linker.specs.Difference.{compared}
 use Rattle.kernel_linker.specs.declared.difference.Difference.{Difference}
@@ -27,12 +28,6 @@ pub record ImageSystem : Type 0 where
 -- a boot as lists
 abbrev pub system_of : Boot → ImageSystem
 system_of b = record { params = b.params; unit = unit_view b.unit; words = b.words.items; users = map (λ u. u.items) b.users.items }
-
--- a step, and then another by its value
-infixl 10 ◌>>=◌
-abbrev pub ◌>>=◌ : {A B : Type 0} → Result A AcceptFault → (A → Result B AcceptFault) → Result B AcceptFault
-(Ok x) >>= f = f x
-(Err e) >>= f = Err e
 
 -- the unit that the front came to
 abbrev pub unit_in : Result CUnit SourceFault → Result CUnit AcceptFault

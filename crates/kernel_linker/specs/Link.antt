@@ -2,6 +2,7 @@
 -- at, and the object is opened. The first fault answers; where none stands, the image of the source, the parameters and the users does, with
 -- its linked words.
 use Rattle.std.specs.Prelude.{ℕ, suc, ◌||◌, nat_lt, List, [], ◌∷◌, length, Result, Ok, Err, if◌then◌else◌}
+use Rattle.cvm_words.specs.Reading.{◌>>=◌, GivesUnless}
 use Rattle.layer_map.specs.declared.params.Params.{Params}
 use Rattle.layer_map.specs.Map.{Map}
 use Rattle.boot_image.specs.Format.{most_words}
@@ -9,9 +10,9 @@ use Rattle.boot_image.specs.Parts.{ImageParts as Image}
 use Rattle.object_file.specs.Parts.{ObjectParts as Object}
 use Rattle.c0_tree.specs.Tree.{CUnit}
 use Rattle.c0_types.specs.declared.source_fault.SourceFault.{SourceFault}
-use Rattle.kernel_linker.specs.Answers.{FrontGives, GivesUnless}
+use Rattle.kernel_linker.specs.Answers.{FrontGives}
 use Rattle.kernel_linker.specs.Linked.{linked, sizes_of}
-use Rattle.kernel_linker.specs.Open.{◌>>=◌, open_answer}
+use Rattle.kernel_linker.specs.Open.{open_answer}
 use Rattle.kernel_linker.specs.declared.fault.LinkFault.{LinkFault}
 use Rattle.kernel_linker.specs.declared.fault.LinkFault.TheVariants.{UserCount, UserTooLong, Parameter, Memory}
 

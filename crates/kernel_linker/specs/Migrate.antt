@@ -1,13 +1,14 @@
 -- What is answered of an image of form 2: its source is read and checked, and it is the image of form 3 of the same source, parameters and
 -- users, whose linked words are made anew.
 use Rattle.std.specs.Prelude.{◌≡◌, ℕ, List, Result, Ok}
+use Rattle.cvm_words.specs.Reading.{◌>>=◌}
 use Rattle.layer_map.specs.Map.{Map}
 use Rattle.boot_image.specs.Parts.{ImageParts as Image}
 use Rattle.boot_image.specs.declared.fault.ImageFault.{ImageFault}
 use Rattle.c0_tree.specs.Tree.{CUnit}
 use Rattle.c0_types.specs.declared.source_fault.SourceFault.{SourceFault}
 use Rattle.kernel_linker.specs.Linked.{linked, sizes_of}
-use Rattle.kernel_linker.specs.Accept.{ImageSystem, ◌>>=◌, unit_in, accept_answer, AnswersBy}
+use Rattle.kernel_linker.specs.Accept.{ImageSystem, unit_in, accept_answer, AnswersBy}
 use Rattle.kernel_linker.specs.declared.fault.AcceptFault.{AcceptFault}
 
 -- MIGRATE, over a layer that has these words for a map and sizes, where the front came to this on the image's source

@@ -20,7 +20,8 @@ use Rattle.boot_image.specs.declared.fault.ImageFault.{ImageFault}
 use Rattle.kernel_linker.specs.Accept.{ImageSystem, accept_answer}
 use Rattle.kernel_linker.specs.Link.{fitting, link_answer}
 use Rattle.kernel_linker.specs.Object.{object_of}
-use Rattle.kernel_linker.specs.Open.{◌>>=◌, open_answer}
+use Rattle.cvm_words.specs.Reading.{◌>>=◌}
+use Rattle.kernel_linker.specs.Open.{open_answer}
 use Rattle.kernel_linker.specs.Linked.{linked, sizes_of}
 use Rattle.kernel_linker.specs.declared.fault.AcceptFault.{AcceptFault}
 use Rattle.kernel_linker.specs.declared.fault.LinkFault.{LinkFault}

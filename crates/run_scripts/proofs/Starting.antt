@@ -23,7 +23,8 @@ use Rattle.boot_turns.specs.Rom.{own_rom, rom_loaded, rom_sectors}
 use Rattle.boot_turns.specs.RomStarts.{RomStarts}
 use Rattle.boot_image.specs.Parts.{ImageParts as Image}
 use Rattle.schedule_file.specs.Rows.{Rows, lines_at, busy_of, longest}
-use Rattle.kernel_linker.specs.Accept.{ImageSystem, accept_answer, words_match, ◌>>=◌}
+use Rattle.cvm_words.specs.Reading.{◌>>=◌}
+use Rattle.kernel_linker.specs.Accept.{ImageSystem, accept_answer, words_match}
 use Rattle.kernel_linker.specs.Linked.{linked, pages_for, sizes_of, map_for}
 use Rattle.kernel_linker.specs.Laws.{ImageFits, SpelledImagesFit}
 use Rattle.kernel_linker.specs.Sources.{IsOfImage, AcceptedAreOfImages}
