@@ -1,14 +1,14 @@
--- What scripts print, and how often they call the disk.
+-- What scripts print, and how often they call the disk and the shelf.
 use Rattle.std.proofs.Common.{◌≡◌, ℕ, zero, suc, List, [], ◌∷◌, ◌++◌, Option, Some, None, refl, sym, ap, ◌∙◌, subst, arith, append_assoc}
 use Rattle.std.specs.Prelude.{IfSome}
 use Rattle.std.specs.Option.{option_map}
 use Rattle.std.specs.Io.KnownBytes.{append_known}
-use Rattle.cvm_outside.specs.Numbering.{until_fault, called}
+use Rattle.cvm_outside.specs.Numbering.{Tally, until_fault, called}
 use Rattle.cvm_outside.specs.Told.{AppendsPart}
 use Rattle.cvm_outside.proofs.Parts.{append_known-nil, puts-both, part-none, part-front, part-back}
-use Rattle.cvm_outside.specs.Outside.{Outside, Drive, counts}
-use Rattle.cvm_outside.specs.Script.{Call, Printed, Read, Wrote, Got, Stored, Who, who, done, breaks, goes_on, CallDone, CallFailed, disk_called, spoken, disk_calls}
-use Rattle.cvm_outside.specs.ScriptLaws.{PrintedBy, ScriptsTell, MadeBy, Counted, ScriptsCount}
+use Rattle.cvm_outside.specs.Outside.{Outside, Drive, Files, counts, shelf_counts}
+use Rattle.cvm_outside.specs.Script.{Call, Printed, Read, Wrote, Got, Stored, Who, TheDisk, TheShelf, who, done, breaks, goes_on, CallDone, CallFailed, ShelfCalled, spoken, disk_calls}
+use Rattle.cvm_outside.specs.ScriptLaws.{PrintedBy, ScriptsTell, MadeBy, CallsMade, Counted, ScriptsCount, ShelfCounted, ScriptsCountFiles}
 
 -- of texts that may be told the second behind the first
 behind : (old mid new : Option (List ℕ)) (text : List ℕ) (blamed : Option Who) (rest : Option (List ℕ)) → mid ≡ append_known old text → IfSome rest (PrintedBy blamed mid new) →
@@ -51,45 +51,71 @@ tell a old new blamed (breaks c rest _ _ f) = broken_text c rest old new (who c)
 tell a old new blamed (goes_on c rest _ mid _ _ d p) = more_text c rest old mid new blamed d (tell rest mid new blamed p)
 
 -- a call more, before others
-called_first : (n : ℕ) (d : Drive) → called n (counts (disk_called d)) ≡ called (suc n) (counts d)
-called_first zero d = refl
-called_first (suc n) d = ap (until_fault d.faults) (called_first n d)
+abbrev after_one : Tally → Tally
+after_one t = record t { calls = until_fault t.faults t.calls }
+
+called_first : (n : ℕ) (t : Tally) → called n (after_one t) ≡ called (suc n) t
+called_first zero t = refl
+called_first (suc n) t = ap (until_fault t.faults) (called_first n t)
 
 fewer : (blamed : Option Who) (m n : ℕ) → MadeBy blamed m n → MadeBy blamed (suc m) (suc n)
 fewer None m n h = ap suc h
 fewer (Some whom) m n h = omega (arith, h)
 
-module _ (rest : List Call) (old mid new : Outside) (blamed : Option Who) (h : Counted rest mid new blamed) where
-  silent : mid.disk ≡ old.disk → Counted rest old new blamed
-  silent e = record { made = h.made; calls = h.calls ∙ ap (λ (d : Drive). called h.made (counts d)) e; which = h.which; some = h.some }
+-- one object's: a call that isn't of it, and one that is, before others; and one that failed
+silent : (w : Who) (n now : ℕ) (old mid : Tally) (blamed : Option Who) → mid ≡ old → CallsMade w n mid now blamed → CallsMade w n old now blamed
+silent w n now old mid blamed e h = subst (λ (t : Tally). CallsMade w n t now blamed) e h
 
-  once : (n : ℕ) → n ≡ suc (disk_calls rest) → counts mid.disk ≡ counts (disk_called old.disk) → (m : ℕ) × (new.disk.calls ≡ called (suc m) (counts old.disk)) × MadeBy blamed (suc m) n
-  once n is e = (h.made, h.calls ∙ ap (called h.made) e ∙ called_first h.made old.disk, subst (MadeBy blamed (suc h.made)) (sym is) (fewer blamed h.made (disk_calls rest) h.which))
+once : (w : Who) (n now : ℕ) (old mid : Tally) (blamed : Option Who) → mid ≡ after_one old → CallsMade w n mid now blamed → CallsMade w (suc n) old now blamed
+once w n now old mid blamed e h = record { made = suc h.made; calls = h.calls ∙ ap (called h.made) e ∙ called_first h.made old; which = fewer blamed h.made n h.which; some = λ s. omega arith }
 
-as_counted : (a : List Call) (old new : Outside) (blamed : Option Who) → (m : ℕ) × (new.disk.calls ≡ called (suc m) (counts old.disk)) × MadeBy blamed (suc m) (disk_calls a) → Counted a old new blamed
-as_counted a old new blamed (m, e, w) = record { made = suc m; calls = e; which = w; some = λ h. omega arith }
+uncalled : (w v : Who) (n now : ℕ) (old : Tally) → (Some v ≡ Some w → ⊥) → now ≡ old.calls → CallsMade w n old now (Some v)
+uncalled w v n now old other e = record { made = 0; calls = e; which = omega arith; some = λ s. absurd (other s) }
+
+failed : (w v : Who) (n now : ℕ) (old : Tally) → now ≡ until_fault old.faults old.calls → CallsMade w (suc n) old now (Some v)
+failed w v n now old e = record { made = 1; calls = e; which = omega arith; some = λ s. omega arith }
 
 broken_count : (c : Call) (rest : List Call) (old new : Outside) → CallFailed c old new → Counted (c ∷ rest) old new (Some (who c))
-broken_count (Printed t) rest old new f = record { made = 0; calls = ap (λ (o : Outside). o.disk.calls) f.2; which = omega arith; some = λ e. absurd (cc) }
-broken_count (Read q) rest old new f = record { made = 1; calls = ap (λ (o : Outside). o.disk.calls) f.1; which = omega arith; some = λ e. omega arith }
-broken_count (Wrote q ws) rest old new f = record { made = 1; calls = ap (λ (o : Outside). o.disk.calls) f.1.1; which = omega arith; some = λ e. omega arith }
-broken_count (Got n) rest old new f = record { made = 0; calls = ap (λ (o : Outside). o.disk.calls) f.2; which = omega arith; some = λ e. absurd (cc) }
-broken_count (Stored n bs) rest old new f = record { made = 0; calls = ap (λ (o : Outside). o.disk.calls) f.3; which = omega arith; some = λ e. absurd (cc) }
-
-same_count : (c : Call) (rest : List Call) (old new : Outside) (blamed : Option Who) → disk_calls (c ∷ rest) ≡ disk_calls rest → Counted rest old new blamed → Counted (c ∷ rest) old new blamed
-same_count c rest old new blamed e k = record { made = k.made; calls = k.calls; which = subst (MadeBy blamed k.made) (sym e) k.which; some = k.some }
+broken_count (Printed t) rest old new f = uncalled _ _ _ _ _ (λ e. cc) (ap (λ (o : Outside). o.disk.calls) f.2)
+broken_count (Read q) rest old new f = failed _ _ _ _ _ (ap (λ (o : Outside). o.disk.calls) f.1)
+broken_count (Wrote q ws) rest old new f = failed _ _ _ _ _ (ap (λ (o : Outside). o.disk.calls) f.1.1)
+broken_count (Got n) rest old new f = uncalled _ _ _ _ _ (λ e. cc) (ap (λ (o : Outside). o.disk.calls) f.2)
+broken_count (Stored n bs) rest old new f = uncalled _ _ _ _ _ (λ e. cc) (ap (λ (o : Outside). o.disk.calls) f.3)
 
 more_count : (c : Call) (rest : List Call) (old mid new : Outside) (blamed : Option Who) → CallDone c old mid → Counted rest mid new blamed → Counted (c ∷ rest) old new blamed
-more_count (Printed t) rest old mid new blamed d h = same_count (Printed t) rest old new blamed refl (silent rest old mid new blamed h (ap (λ (o : Outside). o.disk) d.1))
-more_count (Read q) rest old mid new blamed d h = as_counted (Read q ∷ rest) old new blamed (once rest old mid new blamed h (suc (disk_calls rest)) refl (ap (λ (o : Outside). counts o.disk) d.0))
-more_count (Wrote q ws) rest old mid new blamed d h = as_counted (Wrote q ws ∷ rest) old new blamed (once rest old mid new blamed h (suc (disk_calls rest)) refl (ap (λ (o : Outside). counts o.disk) d.0))
-more_count (Got n) rest old mid new blamed d h = same_count (Got n) rest old new blamed refl (silent rest old mid new blamed h (ap (λ (o : Outside). o.disk) d.3))
-more_count (Stored n bs) rest old mid new blamed d h = same_count (Stored n bs) rest old new blamed refl (silent rest old mid new blamed h (ap (λ (o : Outside). o.disk) d.3))
+more_count (Printed t) rest old mid new blamed d h = silent _ _ _ _ _ blamed (ap (λ (o : Outside). counts o.disk) d.1) h
+more_count (Read q) rest old mid new blamed d h = once _ _ _ _ _ blamed (ap (λ (o : Outside). counts o.disk) d.0) h
+more_count (Wrote q ws) rest old mid new blamed d h = once _ _ _ _ _ blamed (ap (λ (o : Outside). counts o.disk) d.0) h
+more_count (Got n) rest old mid new blamed d h = silent _ _ _ _ _ blamed (ap (λ (o : Outside). counts o.disk) d.3) h
+more_count (Stored n bs) rest old mid new blamed d h = silent _ _ _ _ _ blamed (ap (λ (o : Outside). counts o.disk) d.3) h
 
 pub count : ScriptsCount
 count a old new blamed (done at) = record { made = 0; calls = refl; which = refl; some = λ e. absurd (cc) }
 count a old new blamed (breaks c rest _ _ f) = broken_count c rest old new f
 count a old new blamed (goes_on c rest _ mid _ _ d p) = more_count c rest old mid new blamed d (count rest mid new blamed p)
+
+-- the same of the shelf
+shelf_once : (old mid : Files) → mid.faults ≡ old.faults → ShelfCalled old mid → shelf_counts mid ≡ after_one (shelf_counts old)
+shelf_once old mid same c = rw (same, c.calls) refl
+
+broken_files : (c : Call) (rest : List Call) (old new : Outside) → CallFailed c old new → ShelfCounted (c ∷ rest) old new (Some (who c))
+broken_files (Printed t) rest old new f = uncalled _ _ _ _ _ (λ e. cc) (ap (λ (o : Outside). o.shelf.calls) f.2)
+broken_files (Read q) rest old new f = uncalled _ _ _ _ _ (λ e. cc) (ap (λ (o : Outside). o.shelf.calls) f.1)
+broken_files (Wrote q ws) rest old new f = uncalled _ _ _ _ _ (λ e. cc) (ap (λ (o : Outside). o.shelf.calls) f.1.1)
+broken_files (Got n) rest old new f = failed _ _ _ _ _ f.3.calls
+broken_files (Stored n bs) rest old new f = failed _ _ _ _ _ f.4.calls
+
+more_files : (c : Call) (rest : List Call) (old mid new : Outside) (blamed : Option Who) → CallDone c old mid → ShelfCounted rest mid new blamed → ShelfCounted (c ∷ rest) old new blamed
+more_files (Printed t) rest old mid new blamed d h = silent _ _ _ _ _ blamed (ap (λ (o : Outside). shelf_counts o.shelf) d.1) h
+more_files (Read q) rest old mid new blamed d h = silent _ _ _ _ _ blamed (ap (λ (o : Outside). shelf_counts o.shelf) d.0) h
+more_files (Wrote q ws) rest old mid new blamed d h = silent _ _ _ _ _ blamed (ap (λ (o : Outside). shelf_counts o.shelf) d.0) h
+more_files (Got n) rest old mid new blamed d h = once _ _ _ _ _ blamed (shelf_once old.shelf mid.shelf d.2 d.4) h
+more_files (Stored n bs) rest old mid new blamed d h = once _ _ _ _ _ blamed (shelf_once old.shelf mid.shelf d.2 d.4) h
+
+pub count_files : ScriptsCountFiles
+count_files a old new blamed (done at) = record { made = 0; calls = refl; which = refl; some = λ e. absurd (cc) }
+count_files a old new blamed (breaks c rest _ _ f) = broken_files c rest old new f
+count_files a old new blamed (goes_on c rest _ mid _ _ d p) = more_files c rest old mid new blamed d (count_files rest mid new blamed p)
 
 -- one script after another
 pub speaks_both : (a b : List Call) (t u : List ℕ) → spoken a ≡ Some t → spoken b ≡ Some u → spoken (a ++ b) ≡ Some (t ++ u)

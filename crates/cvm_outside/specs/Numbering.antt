@@ -1,6 +1,6 @@
 -- The calls of an object in memory: they are numbered from 0, and those whose number is listed fail.
-use Rattle.std.specs.Prelude.{ℕ, zero, suc, ◌+◌, ◌-◌, ◌^◌, ◌==◌, min, List, Bool, if◌then◌else◌}
-use Rattle.std.specs.List.{list_any}
+use Rattle.std.specs.Prelude.{ℕ, zero, suc, ◌+◌, ◌-◌, ◌^◌, ◌==◌, min, nat_lt, List, Bool, if◌then◌else◌}
+use Rattle.std.specs.List.{list_any, list_all}
 
 -- the numbers of the calls that fail, the number of the next call, the count of faults, and that of the calls up to the first that failed
 pub record Numbering : Type 0 where
@@ -22,16 +22,16 @@ abbrev pub until_fault : (faults calls : ℕ) → ℕ
 until_fault zero calls = counted_up calls
 until_fault (suc n) calls = calls
 
--- what a disk counts: its faults, and its calls up to the first that failed
+-- what a disk or a shelf counts: its faults, and its calls up to the first that failed
 pub record Tally : Type 0 where
   pub faults : ℕ
   pub calls : ℕ
 
--- of a disk, by both counts
+-- of an object, by both counts
 abbrev pub tally : {D : Type 0} → (faults calls : D → ℕ) → D → Tally
 tally faults calls disk = record { faults = faults disk; calls = calls disk }
 
--- a disk's count of calls after so many more, of which at most the last failed: one that had failed before counts none
+-- a count of calls after so many more, of which at most the last failed: where one had failed before none is counted
 abbrev pub called : ℕ → Tally → ℕ
 called zero before = before.calls
 called (suc n) before = until_fault before.faults (called n before)
@@ -39,6 +39,10 @@ called (suc n) before = until_fault before.faults (called n before)
 -- the next call is one of those that fail
 abbrev pub is_listed : Numbering → Bool
 is_listed calls = list_any (λ n. n == calls.next) calls.failing
+
+-- no call that is to come is one of those that fail
+abbrev pub is_spent : Numbering → Bool
+is_spent calls = list_all (λ n. nat_lt n calls.next) calls.failing
 
 -- one call later; a call that failed is one fault more
 abbrev pub numbered_call : Numbering → Bool → Numbering

@@ -1,15 +1,22 @@
 -- The outside of a piece of work: named files, the text that is printed, and the disk, each as it is told, with its count of faults.
-use Rattle.std.specs.Prelude.{ℕ, List, Option, None}
+use Rattle.std.specs.Prelude.{ℕ, List, Bool, false, Option, None}
 use Rattle.cvm_outside.specs.Numbering.{Tally}
 use Rattle.cvm_outside.specs.declared.shelf.Shelf as shelf_of
 use Rattle.cvm_outside.specs.declared.sink.Sink as sink_of
 use Rattle.cvm_outside.specs.declared.sectors.Sectors as sectors_of
 
--- files: the bytes of each where they are told, how many bytes the last `get` took, and the count of faults
+-- files: the bytes of each where they are told, how many bytes the last `get` took, the count of faults, that of the calls up to the first that failed,
+-- and the names of which a `get` surely is no fault
 pub record Files : Type 0 where
   pub file : List ℕ → Option (List ℕ)
   pub taken : ℕ
   pub faults : ℕ
+  pub calls : ℕ
+  pub gives : List ℕ → Bool
+
+-- both its counts
+abbrev pub shelf_counts : Files → Tally
+shelf_counts s = record { faults = s.faults; calls = s.calls }
 
 -- printed text, where it is told, and the count of faults
 pub record Output : Type 0 where
@@ -35,7 +42,7 @@ pub record Outside : Type 0 where
 
 -- what a shelf, a sink and a disk tell
 abbrev pub files : {S : Type 0} → shelf_of.Ghosts S → S → Files
-files told s = record { file = told.file s; taken = told.taken s; faults = told.faults s }
+files told s = record { file = told.file s; taken = told.taken s; faults = told.faults s; calls = told.calls s; gives = told.gives s }
 
 abbrev pub output : {O : Type 0} → sink_of.Ghosts O → O → Output
 output told o = record { text = told.text o; faults = told.faults o }
@@ -45,7 +52,7 @@ drive told d = record { sectors = told.sectors d; size = told.size d; faults = t
 
 -- files of which nothing is told
 abbrev pub no_files : Files
-no_files = record { file = λ name. None; taken = 0; faults = 0 }
+no_files = record { file = λ name. None; taken = 0; faults = 0; calls = 0; gives = λ name. false }
 
 -- and a sink of which nothing is
 abbrev pub no_output : Output

@@ -1,5 +1,5 @@
 -- SCRIPTS: the calls of the outside that a piece of work makes, in order, where it does what it is asked; and what is left where one of them failed.
-use Rattle.std.specs.Prelude.{◌≡◌, ◌≢◌, ℕ, zero, suc, ◌<◌, ◌≤◌, min, length, List, [], ◌∷◌, ◌++◌, Option, Some, None, IfSome, Result, Ok, Err, slice_set}
+use Rattle.std.specs.Prelude.{◌≡◌, ◌≢◌, ℕ, zero, suc, ◌<◌, ◌≤◌, min, length, List, [], ◌∷◌, ◌++◌, Bool, true, false, Option, Some, None, IfSome, Result, Ok, Err, slice_set}
 use Rattle.std.specs.Option.{option_map}
 use Rattle.std.specs.Io.KnownBytes.{append_known}
 use Rattle.cvm_outside.specs.Causes.{Rose}
@@ -52,6 +52,11 @@ pub record Rises (before now : ℕ) : Type 0 where
 abbrev pub disk_called : Drive → Drive
 disk_called d = record d { calls = until_fault d.faults d.calls }
 
+-- and a shelf, which gives what it gave
+pub record ShelfCalled (old new : Files) : Type 0 where
+  pub calls : new.calls ≡ until_fault old.faults old.calls
+  pub gives : (name : List ℕ) → old.gives name ≡ true → new.gives name ≡ true
+
 -- what a call leaves that is done; the sector of one is among those that the disk has
 abbrev pub CallDone : Call → (old new : Outside) → Type 0
 CallDone (Printed told) old new =
@@ -61,12 +66,12 @@ CallDone (Wrote sector words) old new =
     (new ≡ record old { disk = record (disk_called old.disk) { sectors = with_sector old.disk.sectors sector words } }) × (sector < old.disk.size)
 CallDone (Got name) old new =
     ((n : List ℕ) → new.shelf.file n ≡ old.shelf.file n) × IfSome (old.shelf.file name) (λ bytes. new.shelf.taken ≡ min (length bytes) TOO_LONG)
-    × (new.shelf.faults ≡ old.shelf.faults) × (new ≡ record old { shelf = new.shelf })
+    × (new.shelf.faults ≡ old.shelf.faults) × (new ≡ record old { shelf = new.shelf }) × ShelfCalled old.shelf new.shelf
 CallDone (Stored name bytes) old new =
     ((n : List ℕ) → n ≢ name → new.shelf.file n ≡ old.shelf.file n) × (new.shelf.file name ≡ retold (old.shelf.file name) bytes)
-    × (new.shelf.faults ≡ old.shelf.faults) × (new ≡ record old { shelf = record old.shelf { file = new.shelf.file } })
+    × (new.shelf.faults ≡ old.shelf.faults) × (new ≡ record old { shelf = record new.shelf { taken = old.shelf.taken } }) × ShelfCalled old.shelf new.shelf
 
--- what one leaves that failed: a part of the text, a sector or a file that is torn; and its object counts a fault
+-- what one leaves that failed: a part of the text, a sector or a file that is torn; and its object counts a fault. A file that is surely given is got
 abbrev pub CallFailed : Call → (old new : Outside) → Type 0
 CallFailed (Printed told) old new =
     IfSome told (λ text. AppendsPart old.sink.text new.sink.text text) × Rises old.sink.faults new.sink.faults × (new ≡ record old { sink = new.sink })
@@ -79,9 +84,11 @@ CallFailed (Wrote sector words) old new =
     × (sector < old.disk.size)
 CallFailed (Got name) old new =
     ((n : List ℕ) → new.shelf.file n ≡ old.shelf.file n) × Rises old.shelf.faults new.shelf.faults × (new ≡ record old { shelf = new.shelf })
+    × ShelfCalled old.shelf new.shelf × (old.shelf.gives name ≡ false)
 CallFailed (Stored name bytes) old new =
     ((n : List ℕ) → n ≢ name → new.shelf.file n ≡ old.shelf.file n) × IsCutOff (old.shelf.file name) bytes (new.shelf.file name)
     × Rises old.shelf.faults new.shelf.faults × (new ≡ record old { shelf = record new.shelf { taken = old.shelf.taken } })
+    × ShelfCalled old.shelf new.shelf
 
 -- THE CALLS OF A SCRIPT ARE MADE, in order: all are done and nobody is blamed; or those before one are done and that one failed, whose object is blamed,
 -- and no more is called
@@ -109,6 +116,13 @@ disk_calls [] = 0
 disk_calls (Read sector ∷ rest) = suc (disk_calls rest)
 disk_calls (Wrote sector words ∷ rest) = suc (disk_calls rest)
 disk_calls (call ∷ rest) = disk_calls rest
+
+-- and how often the shelf
+abbrev pub shelf_calls : List Call → ℕ
+shelf_calls [] = 0
+shelf_calls (Got name ∷ rest) = suc (shelf_calls rest)
+shelf_calls (Stored name bytes ∷ rest) = suc (shelf_calls rest)
+shelf_calls (call ∷ rest) = shelf_calls rest
 
 -- it writes no sector
 abbrev pub WritesNoSector : List Call → Type 0

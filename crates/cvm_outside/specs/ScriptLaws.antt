@@ -1,11 +1,11 @@
 -- The laws of scripts.
-use Rattle.std.specs.Prelude.{◌≡◌, ℕ, ◌≤◌, List, ◌∷◌, ◌++◌, Option, Some, None, IfSome}
+use Rattle.std.specs.Prelude.{◌≡◌, ◌≢◌, ℕ, ◌≤◌, List, [], ◌∷◌, ◌++◌, Bool, true, false, Option, Some, None, IfSome}
 use Rattle.std.specs.Option.{option_map}
 use Rattle.std.specs.Io.KnownBytes.{append_known}
 use Rattle.cvm_outside.specs.Told.{AppendsPart}
-use Rattle.cvm_outside.specs.Numbering.{called}
-use Rattle.cvm_outside.specs.Outside.{Outside, counts}
-use Rattle.cvm_outside.specs.Script.{Call, Who, TheDisk, who, CallFailed, Performs, Rises, spoken, disk_calls, sectors_after, faults_of}
+use Rattle.cvm_outside.specs.Numbering.{Tally, called}
+use Rattle.cvm_outside.specs.Outside.{Outside, counts, shelf_counts}
+use Rattle.cvm_outside.specs.Script.{Call, Got, Stored, Who, TheDisk, TheShelf, who, CallFailed, Performs, Rises, spoken, disk_calls, shelf_calls, sectors_after, faults_of}
 
 -- two scripts one after another; and one that breaks off before another
 abbrev pub Follow : Type 0
@@ -28,19 +28,29 @@ abbrev pub ScriptsTell : Type 0
 ScriptsTell = (a : List Call) (old new : Outside) (blamed : Option Who) → Performs a old new blamed →
     IfSome (spoken a) (PrintedBy blamed old.sink.text new.sink.text)
 
--- so many calls of the disk were made: those of the script, or some of them where somebody is blamed, and at least one where the disk is
+-- so many calls were made: those of the script, or some of them where somebody is blamed
 abbrev pub MadeBy : Option Who → (made all : ℕ) → Type 0
 MadeBy None made all = made ≡ all
 MadeBy (Some whom) made all = made ≤ all
 
-pub record Counted (a : List Call) (old new : Outside) (blamed : Option Who) : Type 0 where
+-- an object of which a script makes so many calls counted those that were made, and at least one where it is blamed
+pub record CallsMade (whom : Who) (all : ℕ) (before : Tally) (now : ℕ) (blamed : Option Who) : Type 0 where
   pub made : ℕ
-  pub calls : new.disk.calls ≡ called made (counts old.disk)
-  pub which : MadeBy blamed made (disk_calls a)
-  pub some : blamed ≡ Some TheDisk → 1 ≤ made
+  pub calls : now ≡ called made before
+  pub which : MadeBy blamed made all
+  pub some : blamed ≡ Some whom → 1 ≤ made
+
+abbrev pub Counted : (a : List Call) → (old new : Outside) → (blamed : Option Who) → Type 0
+Counted a old new blamed = CallsMade TheDisk (disk_calls a) (counts old.disk) new.disk.calls blamed
 
 abbrev pub ScriptsCount : Type 0
 ScriptsCount = (a : List Call) (old new : Outside) (blamed : Option Who) → Performs a old new blamed → Counted a old new blamed
+
+abbrev pub ShelfCounted : (a : List Call) → (old new : Outside) → (blamed : Option Who) → Type 0
+ShelfCounted a old new blamed = CallsMade TheShelf (shelf_calls a) (shelf_counts old.shelf) new.shelf.calls blamed
+
+abbrev pub ScriptsCountFiles : Type 0
+ScriptsCountFiles = (a : List Call) (old new : Outside) (blamed : Option Who) → Performs a old new blamed → ShelfCounted a old new blamed
 
 -- the sectors that a script leaves where nobody is blamed
 abbrev pub ScriptsStore : Type 0
@@ -54,7 +64,12 @@ pub record Blamed (old new : Outside) (blamed : Option Who) (whom : Who) : Type 
 abbrev pub ScriptsBlame : Type 0
 ScriptsBlame = (a : List Call) (old new : Outside) (blamed : Option Who) → Performs a old new blamed → (whom : Who) → Blamed old new blamed whom
 
--- where somebody is blamed the calls before one were done, and that one failed
+-- a call that may fail where these names are given: it gets none of them
+abbrev pub MayFail : (gives : List ℕ → Bool) → Call → Type 0
+MayFail gives (Got name) = gives name ≡ false
+MayFail gives call = Unit {0}
+
+-- where somebody is blamed the calls before one were done, and that one failed; if it is a get, the file was not given before them all
 pub record BreaksAt (a : List Call) (old new : Outside) (whom : Who) : Type 0 where
   pub made : List Call
   pub call : Call
@@ -64,6 +79,22 @@ pub record BreaksAt (a : List Call) (old new : Outside) (whom : Who) : Type 0 wh
   pub mid : Outside
   pub before : Performs made old mid None
   pub fails : CallFailed call mid new
+  pub may : MayFail old.shelf.gives call
 
 abbrev pub ScriptsBreak : Type 0
 ScriptsBreak = (a : List Call) (old new : Outside) (whom : Who) → Performs a old new (Some whom) → BreaksAt a old new whom
+
+-- all that a script gets is given, and it puts nothing
+abbrev pub GetsGiven : (gives : List ℕ → Bool) → List Call → Type 0
+GetsGiven gives [] = Unit {0}
+GetsGiven gives (Got name ∷ rest) = (gives name ≡ true) × GetsGiven gives rest
+GetsGiven gives (Stored name bytes ∷ rest) = ⊥
+GetsGiven gives (call ∷ rest) = GetsGiven gives rest
+
+-- what was given is given afterwards, and who gets what is given and puts nothing never blames the shelf
+pub record Given (a : List Call) (old new : Outside) (blamed : Option Who) : Type 0 where
+  pub stays : (name : List ℕ) → old.shelf.gives name ≡ true → new.shelf.gives name ≡ true
+  pub sure : GetsGiven old.shelf.gives a → blamed ≢ Some TheShelf
+
+abbrev pub ScriptsGive : Type 0
+ScriptsGive = (a : List Call) (old new : Outside) (blamed : Option Who) → Performs a old new blamed → Given a old new blamed

@@ -1,8 +1,8 @@
 -- What a shelf in memory holds, as its callers see it.
-use Rattle.std.specs.Prelude.{ℕ, List, Bool, true, false, Option, Some, None, Result, Ok, Err, length, nat_lt, if◌then◌else◌}
+use Rattle.std.specs.Prelude.{ℕ, ◌&&◌, List, Bool, true, false, Option, Some, None, Result, Ok, Err, length, nat_lt, is_some, if◌then◌else◌}
 use Rattle.std.specs.Option.{option_map}
 use Rattle.std.specs.BTreeMap.{get_by_text}
-use Rattle.cvm_outside.specs.Numbering.{Numbering, is_listed}
+use Rattle.cvm_outside.specs.Numbering.{Numbering, is_listed, is_spent}
 use Rattle.cvm_outside.specs.Memory.{Placed}
 use Rattle.cvm_outside.specs.declared.mem_shelf.MemShelf.{MemShelf}
 use Rattle.cvm_outside.specs.declared.sure_shelf.SureShelf.{SureShelf}
@@ -16,6 +16,10 @@ placed shelf name = get_by_text shelf.files name
 -- the calls of a shelf
 abbrev pub calls_of : MemShelf → Numbering
 calls_of shelf = shelf.calls
+
+-- a `get` of a name surely finds a file: one was placed, and no call that is to come fails by its number
+abbrev pub is_sure : MemShelf → List ℕ → Bool
+is_sure shelf name = is_some (placed shelf name) && is_spent (calls_of shelf)
 
 -- how many bytes the last `get` took
 abbrev pub taken_of : MemShelf → ℕ

@@ -1,16 +1,56 @@
-// The calls of an object in memory, numbered from 0, some of which fail.
-ghost use Rattle.std.specs.Prelude.{◌≡◌, ◌≤◌, false};
-ghost use Rattle.cvm_outside.specs.Numbering.{fresh, counted_up, is_listed, numbered_call};
+// Counts of calls and of faults; and the calls of an object in memory, numbered from 0, some of which fail.
+ghost use Rattle.std.specs.Prelude.{◌≡◌, ◌≤◌, true, false};
+ghost use Rattle.cvm_outside.specs.Causes.{Rose};
+ghost use Rattle.cvm_outside.specs.Numbering.{fresh, counted_up, until_fault, is_listed, is_spent, numbered_call};
 
 use std::marker::Model;
 
-/// Which calls fail, how many calls came, how many faults there were, and how many calls there were up to the first fault.
+/// How many faults there were, and how many calls up to the first that failed, that one with it.
+#[derive(Drop)]
+pub(crate) struct Tally {
+    pub(crate) faults: u64,
+    pub(crate) calls: u64,
+}
+
+impl Tally {
+    // No call and no fault yet.
+    pub(crate) fn new() -> Tally
+        ensures faults { result.faults ≡ 0 }
+        ensures calls { result.calls ≡ 0 }
+    {
+        Tally {
+            faults: 0,
+            calls: 0,
+        }
+    }
+
+    // Counts a call, unless one has failed before.
+    pub(crate) fn count_call(&mut self)
+        ensures faults { self.new.faults ≡ self.old.faults }
+        ensures calls { self.new.calls ≡ until_fault self.old.faults self.old.calls }
+    {
+        if self.faults == 0 {
+            self.calls = self.calls.saturating_add(1);
+        }
+    }
+
+    // Counts a fault.
+    pub(crate) fn count_fault(&mut self)
+        ensures faults { self.new.faults ≡ counted_up self.old.faults }
+        ensures later { self.old.faults ≤ self.new.faults }
+        ensures rose { Rose self.old.faults self.new.faults }
+        ensures calls { self.new.calls ≡ self.old.calls }
+    {
+        self.faults = self.faults.saturating_add(1);
+    }
+}
+
+/// Which calls fail, how many calls came, and the counts.
 #[derive(Drop)]
 pub(crate) struct Calls {
     failing: Vec<u64>,
     next: u64,
-    pub(crate) faults: u64,
-    sound: u64,
+    tally: Tally,
 }
 
 impl Model for Calls {
@@ -18,7 +58,7 @@ impl Model for Calls {
 
     ghost Value = { Numbering };
 
-    ghost view = { λ c. record { failing = c.failing.items; next = c.next; faults = c.faults; sound = c.sound } };
+    ghost view = { λ c. record { failing = c.failing.items; next = c.next; faults = c.tally.faults; sound = c.tally.calls } };
 }
 
 impl Calls {
@@ -29,8 +69,7 @@ impl Calls {
         Calls {
             failing,
             next: 0,
-            faults: 0,
-            sound: 0,
+            tally: Tally::new(),
         }
     }
 
@@ -38,12 +77,12 @@ impl Calls {
     pub(crate) fn begin(&mut self) -> bool
         ensures listed { result ≡ is_listed self.old }
         ensures numbered { self.new ≡ numbered_call self.old false }
+        ensures sure { is_spent self.old ≡ true → result ≡ false }
+        ensures spent { is_spent self.old ≡ true → is_spent self.new ≡ true }
     {
         let listed = self.failing.contains(&self.next);
         self.next = self.next.saturating_add(1);
-        if self.faults == 0 {
-            self.sound = self.sound.saturating_add(1);
-        }
+        self.tally.count_call();
         listed
     }
 
@@ -52,6 +91,6 @@ impl Calls {
         ensures counted { self.new ≡ record self.old { faults = counted_up self.old.faults } }
         ensures later { self.old.faults ≤ self.new.faults }
     {
-        self.faults = self.faults.saturating_add(1);
+        self.tally.count_fault();
     }
 }

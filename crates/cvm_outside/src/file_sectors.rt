@@ -1,8 +1,7 @@
 // The disk in the file `cvm.disk`.
-ghost use Rattle.std.specs.Prelude.{◌≡◌, ◌<◌, ◌≤◌, length, None};
-ghost use Rattle.cvm_outside.specs.Causes.{Rose};
-ghost use Rattle.cvm_outside.specs.Numbering.{until_fault};
+ghost use Rattle.std.specs.Prelude.{◌≡◌, ◌<◌, length, None};
 
+use crate::calls::Tally;
 use crate::{DiskFault, Sectors};
 use byteorder::{ByteOrder, LittleEndian};
 use std::fs::{File, OpenOptions, TryLockError};
@@ -26,8 +25,7 @@ const SECTOR_BYTES: usize = 4096;
 pub struct FileSectors {
     rt: HostRuntime,
     file: Option<File>,
-    faults: u64,
-    calls: u64,
+    tally: Tally,
 }
 
 impl FileSectors {
@@ -38,15 +36,13 @@ impl FileSectors {
         FileSectors {
             rt,
             file: None,
-            faults: 0,
-            calls: 0,
+            tally: Tally::new(),
         }
     }
 
     // Takes the file, which is opened and locked if it is not yet.
     fn take_file(&mut self) -> io::Result<File>
-        ensures faults { self.new.faults ≡ self.old.faults }
-        ensures calls { self.new.calls ≡ self.old.calls }
+        ensures { self.new.tally ≡ self.old.tally }
     {
         match self.file.take() {
             Some(file) => Ok(file),
@@ -56,8 +52,7 @@ impl FileSectors {
 
     // Reads a sector of the file, which stays open whether that fails or not.
     fn try_read(&mut self, i: u32, into: &mut [u32; 1024]) -> io::Result<()>
-        ensures faults { self.new.faults ≡ self.old.faults }
-        ensures calls { self.new.calls ≡ self.old.calls }
+        ensures { self.new.tally ≡ self.old.tally }
     {
         let mut file = self.take_file()?;
         let result = read_sector(&mut file, i, into);
@@ -67,33 +62,12 @@ impl FileSectors {
 
     // Writes a sector of the file, which stays open whether that fails or not.
     fn try_write(&mut self, i: u32, from: &[u32; 1024]) -> io::Result<()>
-        ensures faults { self.new.faults ≡ self.old.faults }
-        ensures calls { self.new.calls ≡ self.old.calls }
+        ensures { self.new.tally ≡ self.old.tally }
     {
         let mut file = self.take_file()?;
         let result = write_sector(&mut file, i, from);
         self.file = Some(file);
         result
-    }
-
-    // Counts a fault.
-    fn fault(&mut self) -> DiskFault
-        ensures later { self.old.faults ≤ self.new.faults }
-        ensures rose { Rose self.old.faults self.new.faults }
-        ensures calls { self.new.calls ≡ self.old.calls }
-    {
-        self.faults = self.faults.saturating_add(1);
-        DiskFault::Failed
-    }
-
-    // Counts a call, unless one has failed before.
-    fn count_call(&mut self)
-        ensures faults { self.new.faults ≡ self.old.faults }
-        ensures calls { self.new.calls ≡ until_fault self.old.faults self.old.calls }
-    {
-        if self.faults == 0 {
-            self.calls = self.calls.saturating_add(1);
-        }
     }
 }
 
@@ -104,27 +78,33 @@ impl Sectors for FileSectors {
 
     ghost sized = { λ _. tt };
 
-    ghost faults = { λ s. s.faults };
+    ghost faults = { λ s. s.tally.faults };
 
-    ghost calls = { λ s. s.calls };
+    ghost calls = { λ s. s.tally.calls };
 
     fn count(&self) -> u32 {
         SECTORS
     }
 
     fn read(&mut self, i: u32, into: &mut [u32; 1024]) -> Result<(), DiskFault> {
-        self.count_call();
+        self.tally.count_call();
         match self.try_read(i, into) {
             Ok(()) => Ok(()),
-            Err(_) => Err(self.fault()),
+            Err(_) => {
+                self.tally.count_fault();
+                Err(DiskFault::Failed)
+            }
         }
     }
 
     fn write(&mut self, i: u32, from: &[u32; 1024]) -> Result<(), DiskFault> {
-        self.count_call();
+        self.tally.count_call();
         match self.try_write(i, from) {
             Ok(()) => Ok(()),
-            Err(_) => Err(self.fault()),
+            Err(_) => {
+                self.tally.count_fault();
+                Err(DiskFault::Failed)
+            }
         }
     }
 
@@ -214,7 +194,7 @@ mod tests {
         let mut disk = FileSectors::new(rt);
         fs::create_dir(&rt, DISK)?;
         assert!(test; ends(&mut disk, 0).is_err());
-        assert_eq!(test; disk.faults, 1);
+        assert_eq!(test; disk.tally.faults, 1);
         fs::remove_dir(&rt, DISK)?;
         assert_eq!(test; ends(&mut disk, 65_535), Ok((0, 0, true)));
         assert_eq!(test; file_len(rt)?, 0);
@@ -242,7 +222,7 @@ mod tests {
         let mut disk = FileSectors::new(rt);
         assert_eq!(test; ends(&mut disk, 1), Ok((0x0101, 0, true)));
         assert_eq!(test; ends(&mut disk, 2), Ok((0, 0, true)));
-        assert_eq!(test; disk.faults, 0);
+        assert_eq!(test; disk.tally.faults, 0);
         Ok(())
     }
 
@@ -252,7 +232,7 @@ mod tests {
         let mut second = FileSectors::new(rt);
         assert!(test; ends(&mut first, 0).is_ok());
         assert!(test; ends(&mut second, 0).is_err());
-        assert_eq!(test; second.faults, 1);
+        assert_eq!(test; second.tally.faults, 1);
         drop(first);
         assert!(test; ends(&mut second, 0).is_ok());
         Ok(())

@@ -1,8 +1,8 @@
 // Files by name.
-ghost use Rattle.std.specs.Prelude.{◌≡◌, ◌<◌, ◌≤◌, ◌-◌, [], None, length, IfOk, OnOk, is_ok};
-ghost use Rattle.cvm_outside.specs.Causes.{Rose};
+ghost use Rattle.std.specs.Prelude.{◌≡◌, ◌<◌, ◌-◌, [], None, false, length};
 ghost use Rattle.cvm_outside.specs.Told.{TOO_LONG};
 
+use crate::calls::Tally;
 use crate::file_sectors::DISK;
 use crate::shelf::LONGEST_FILE;
 use crate::{Shelf, ShelfFault};
@@ -27,7 +27,7 @@ pub struct FileShelf<R: Files> {
     rt: R,
     got: Vec<Identity>,
     taken: u64,
-    faults: u64,
+    tally: Tally,
 }
 
 impl<R: Files + AllocGlobal + Drop> FileShelf<R> {
@@ -41,7 +41,7 @@ impl<R: Files + AllocGlobal + Drop> FileShelf<R> {
             rt,
             got,
             taken: 0,
-            faults: 0,
+            tally: Tally::new(),
         }
     }
 }
@@ -86,17 +86,6 @@ impl<R: Files + Drop> FileShelf<R> {
         let mut file = fs::create(&self.rt, name)?;
         file.write_all(bytes)
     }
-
-    // Counts a fault.
-    fn fault(&mut self) -> ShelfFault
-        ensures failed { result ≡ ShelfFault.Failed }
-        ensures later { self.old.faults ≤ self.new.faults }
-        ensures rose { Rose self.old.faults self.new.faults }
-        ensures taken { self.new.taken ≡ self.old.taken }
-    {
-        self.faults = self.faults.saturating_add(1);
-        ShelfFault::Failed
-    }
 }
 
 impl<R: Files + Drop> Shelf for FileShelf<R> {
@@ -104,12 +93,18 @@ impl<R: Files + Drop> Shelf for FileShelf<R> {
 
     ghost taken = { λ s. s.taken };
 
-    ghost faults = { λ s. s.faults };
+    ghost faults = { λ s. s.tally.faults };
+
+    ghost calls = { λ s. s.tally.calls };
+
+    ghost gives = { λ _ _. false };
 
     fn get(&mut self, alloc: Global, name: &str) -> Result<Vec<u8>, ShelfFault> {
         self.taken = 0;
+        self.tally.count_call();
         let Ok((mut file, which)) = self.open_input(name) else {
-            return Err(self.fault());
+            self.tally.count_fault();
+            return Err(ShelfFault::Failed);
         };
         if let Some(which) = which
             && self.got.push(which).is_err()
@@ -123,14 +118,21 @@ impl<R: Files + Drop> Shelf for FileShelf<R> {
             End::OfFile => Ok(bytes),
             End::TooLong => Err(ShelfFault::TooLong),
             End::Memory => Err(ShelfFault::Memory),
-            End::Failed => Err(self.fault()),
+            End::Failed => {
+                self.tally.count_fault();
+                Err(ShelfFault::Failed)
+            }
         }
     }
 
     fn put(&mut self, name: &str, bytes: &[u8]) -> Result<(), ShelfFault> {
+        self.tally.count_call();
         match self.write_file(name, bytes) {
             Ok(()) => Ok(()),
-            Err(_) => Err(self.fault()),
+            Err(_) => {
+                self.tally.count_fault();
+                Err(ShelfFault::Failed)
+            }
         }
     }
 }
@@ -218,7 +220,7 @@ mod tests {
         assert!(test; file_is(rt, &[0, 255])?);
         let got = shelf.get(rt.alloc(), NAME)?;
         assert!(test; got.as_slice() == [0, 255].as_slice());
-        assert_eq!(test; (shelf.taken, shelf.faults), (2, 0));
+        assert_eq!(test; (shelf.taken, shelf.tally.faults), (2, 0));
         Ok(())
     }
 
@@ -228,7 +230,7 @@ mod tests {
         assert_eq!(test; shelf.get(rt.alloc(), NAME)?.len(), 67_108_864);
         make(rt, 67_108_865)?;
         assert!(test; shelf.get(rt.alloc(), NAME).is_err());
-        assert_eq!(test; (shelf.taken, shelf.faults), (67_108_865, 0));
+        assert_eq!(test; (shelf.taken, shelf.tally.faults), (67_108_865, 0));
         Ok(())
     }
 
@@ -236,7 +238,7 @@ mod tests {
         let mut shelf = FileShelf::new(rt);
         assert!(test; shelf.get(rt.alloc(), "no_folder/file").is_err());
         assert!(test; shelf.put("no_folder/file", b"abc").is_err());
-        assert_eq!(test; (shelf.taken, shelf.faults), (0, 2));
+        assert_eq!(test; (shelf.taken, shelf.tally.faults), (0, 2));
         Ok(())
     }
 
@@ -249,7 +251,7 @@ mod tests {
         assert!(test; shelf.put(LINK, b"after").is_err());
         assert!(test; shelf.put(DISK, b"after").is_err());
         assert!(test; file_is(rt, b"before")?);
-        assert_eq!(test; (shelf.taken, shelf.faults), (6, 2));
+        assert_eq!(test; (shelf.taken, shelf.tally.faults), (6, 2));
         fs::remove_file(&rt, LINK)?;
         Ok(())
     }

@@ -1,11 +1,11 @@
 // Files in memory.
-ghost use Rattle.std.specs.Prelude.{◌≡◌, ◌≤◌, ◌<◌, ◌≢◌, ◌||◌, ◌↔◌, List, ℕ, length, is_err, if◌then◌else◌, vec_len, IfOk, OnOk, OnErr, Some, None, IsErrOf, IsSomeAnd, IfSome, min, not};
+ghost use Rattle.std.specs.Prelude.{◌≡◌, ◌≤◌, ◌<◌, ◌≢◌, ◌||◌, ◌↔◌, List, ℕ, true, false, length, is_err, is_some, if◌then◌else◌, vec_len, IfOk, OnOk, OnErr, Some, None, IsErrOf, IsSomeAnd, IfSome, min, not};
 ghost use Rattle.std.specs.BTreeMap.{get_by_text};
 ghost use Rattle.cvm_outside.specs.Causes.{ShelfCounts};
 ghost use Rattle.cvm_outside.specs.Told.{TOO_LONG};
 ghost use Rattle.cvm_outside.specs.Numbering.{fresh, is_listed, numbered_call};
 ghost use Rattle.cvm_outside.specs.Memory.{Placed};
-ghost use Rattle.cvm_outside.specs.Shelves.{placed, calls_of, taken_of, bytes_of, found, lacks_room, replaced, is_failed};
+ghost use Rattle.cvm_outside.specs.Shelves.{placed, calls_of, taken_of, bytes_of, found, lacks_room, replaced, is_failed, is_sure};
 ghost use Rattle.cvm_outside.specs.declared.shelf.ShelfFault.TheVariants.{Failed, TooLong, Memory};
 
 use crate::calls::Calls;
@@ -70,6 +70,7 @@ fn put_file(files: &mut BTreeMap<String, MemFile>, name: &str, bytes: &[u8]) -> 
     ensures fits { result ≡ not (lacks_room (get_by_text files.old name.now) bytes.now) }
     ensures put { get_by_text files.new name.now ≡ (if result then replaced (get_by_text files.old name.now) bytes.now else get_by_text files.old name.now) }
     ensures others { (n : List ℕ) → n ≢ name.now → get_by_text files.new n ≡ get_by_text files.old n }
+    ensures kept { (n : List ℕ) → is_some (get_by_text files.new n) ≡ is_some (get_by_text files.old n) }
 {
     match files.get_mut(name) {
         Some(file) => file.replace(bytes),
@@ -83,6 +84,10 @@ impl Shelf for MemShelf {
     ghost taken = { λ s. taken_of s };
 
     ghost faults = { λ s. (calls_of s).faults };
+
+    ghost calls = { λ s. (calls_of s).sound };
+
+    ghost gives = { λ s n. is_sure s n };
 
     /// The bytes of the file of that name.
     ///
@@ -102,6 +107,8 @@ impl Shelf for MemShelf {
         ensures long { IsErrOf result TooLong ↔ (taken_of self.new ≡ TOO_LONG) }
         ensures told_long { IsErrOf result TooLong → IfSome (bytes_of (placed self.old name.now)) (λ bs. taken_of self.new ≡ min (length bs) TOO_LONG) }
         ensures count { ShelfCounts (calls_of self.old).faults (calls_of self.new).faults result }
+        ensures sure { IsErrOf result Failed → is_sure self.old name.now ≡ false }
+        ensures given { (n : List ℕ) → is_sure self.old n ≡ true → is_sure self.new n ≡ true }
     {
         self.taken = 0;
         if self.calls.begin() {
@@ -138,6 +145,7 @@ impl Shelf for MemShelf {
         ensures taken { taken_of self.new ≡ taken_of self.old }
         ensures calls { calls_of self.new ≡ numbered_call (calls_of self.old) (is_failed result) }
         ensures count { ShelfCounts (calls_of self.old).faults (calls_of self.new).faults result }
+        ensures given { (n : List ℕ) → is_sure self.old n ≡ true → is_sure self.new n ≡ true }
     {
         if self.calls.begin() || !put_file(&mut self.files, name, bytes) {
             self.calls.count_fault();

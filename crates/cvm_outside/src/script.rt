@@ -1,7 +1,7 @@
 // Scripts of calls: the calls of the outside that a piece of work makes, in order, where it does what it is asked; and what is left where one failed.
 //
 // Each law is the contract of a function that does nothing.
-ghost use Rattle.cvm_outside.specs.ScriptLaws.{ScriptsFollow, ScriptsTell, ScriptsCount, ScriptsBlame, ScriptsStore, ScriptsBreak};
+ghost use Rattle.cvm_outside.specs.ScriptLaws.{ScriptsFollow, ScriptsTell, ScriptsCount, ScriptsCountFiles, ScriptsBlame, ScriptsStore, ScriptsBreak, ScriptsGive};
 
 /// A law: two pieces of work one after another perform one script after the other, and where the first breaks off no more is done.
 pub fn scripts_follow()
@@ -19,6 +19,11 @@ pub fn scripts_count()
     ensures { ScriptsCount }
 {}
 
+/// A law: and the shelf likewise.
+pub fn scripts_count_files()
+    ensures { ScriptsCountFiles }
+{}
+
 /// A law: the count of faults of the object that is blamed rose, and no other's.
 pub fn scripts_blame()
     ensures { ScriptsBlame }
@@ -29,7 +34,12 @@ pub fn scripts_store()
     ensures { ScriptsStore }
 {}
 
-/// A law: where somebody is blamed, the calls before one were done, and that one failed.
+/// A law: where somebody is blamed, the calls before one were done, and that one failed, which is no get of a file that was surely given at the start.
 pub fn scripts_break()
     ensures { ScriptsBreak }
+{}
+
+/// A law: what was surely given still is after a script, and one that gets such files alone and puts none never blames the shelf.
+pub fn scripts_give()
+    ensures { ScriptsGive }
 {}

@@ -1,5 +1,6 @@
 // A shelf in memory, where no call fails.
-ghost use Rattle.std.specs.Prelude.{◌≡◌, ◌≢◌, ◌≤◌, ◌↔◌, List, ℕ, length, IsOk, IfOk, IsErrOf, IsSomeAnd, unwrap_or, if◌then◌else◌, None, []};
+ghost use Rattle.std.specs.Prelude.{◌≡◌, ◌≢◌, ◌≤◌, ◌↔◌, List, ℕ, true, length, IsOk, IfOk, IsErrOf, IsSomeAnd, unwrap_or, if◌then◌else◌, None, []};
+ghost use Rattle.cvm_outside.specs.Numbering.{counted_up};
 ghost use Rattle.cvm_outside.specs.Told.{TOO_LONG};
 ghost use Rattle.cvm_outside.specs.Shelves.{placed, calls_of, taken_of, bytes_of, found, put_over, inside};
 ghost use Rattle.cvm_outside.specs.declared.shelf.ShelfFault.TheVariants.{Failed, TooLong};
@@ -32,6 +33,11 @@ impl Shelf for SureShelf {
 
     ghost faults = { λ _. 0 };
 
+    // No call fails, so all are counted.
+    ghost calls = { λ s. (calls_of (inside s)).next };
+
+    ghost gives = { λ _ _. true };
+
     /// The bytes of the file of that name, or none where there is no such file.
     ///
     /// # Errors
@@ -45,6 +51,7 @@ impl Shelf for SureShelf {
         ensures all { IfOk result (λ v. length v.items ≡ taken_of (inside self.new)) }
         ensures most { taken_of (inside self.new) ≤ TOO_LONG }
         ensures long { IsErrOf result TooLong ↔ (taken_of (inside self.new) ≡ TOO_LONG) }
+        ensures called { (calls_of (inside self.new)).next ≡ counted_up (calls_of (inside self.old)).next }
     {
         match self.inner.get(alloc, name) {
             Err(ShelfFault::Failed) => Ok(Vec::new(alloc)),
@@ -58,6 +65,7 @@ impl Shelf for SureShelf {
         ensures put { placed (inside self.new) name.now ≡ put_over (found (inside self.old) name.now) (placed (inside self.old) name.now) bytes.now }
         ensures others { (n : List ℕ) → n ≢ name.now → placed (inside self.new) n ≡ placed (inside self.old) n }
         ensures taken { taken_of (inside self.new) ≡ taken_of (inside self.old) }
+        ensures called { (calls_of (inside self.new)).next ≡ counted_up (calls_of (inside self.old)).next }
     {
         let _ = self.inner.put(name, bytes);
         Ok(())

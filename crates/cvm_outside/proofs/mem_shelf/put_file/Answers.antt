@@ -5,3 +5,6 @@ use Rattle.cvm_outside.proofs.mem_shelf.put_file.Goals as goal
 
 pub returns-in-Some-clause-others : goal.returns-in-Some-clause-others
 returns-in-Some-clause-others c = grind (arith, text_keys, (c.get_mut.follows.holds c.replace.new.self).3 (search rules))
+
+pub returns-in-Some-clause-kept : goal.returns-in-Some-clause-kept
+returns-in-Some-clause-kept c = grind (arith, text_keys, (c.get_mut.follows.holds c.replace.new.self).3 (search rules))
