@@ -1,11 +1,11 @@
 -- Which gets a stage made: one, some behind others, and those of a stage that goes on with what was got.
-use Rattle.std.proofs.Common.{◌≡◌, ◌≢◌, ℕ, ◌≤◌, min, List, [], ◌∷◌, ◌++◌, length, take, Vec, Global, append_assoc, append-nil, refl, sym, ap, ◌∙◌, subst, arith, Some, None, Ok, Err}
+use Rattle.std.proofs.Common.{◌≡◌, ◌≢◌, ℕ, ◌≤◌, min, false, List, [], ◌∷◌, ◌++◌, length, take, Vec, Global, append_assoc, append-nil, refl, sym, ap, ◌∙◌, subst, arith, Some, None, Ok, Err}
 use Rattle.std.specs.Prelude.{Option, IfSome, IfOk, IfErr, IsErrOf, Result, ◌↔◌}
 use Rattle.std.specs.declared.string.String.{String}
 use Rattle.cvm_outside.specs.Causes.{ShelfCounts}
 use Rattle.cvm_outside.specs.Told.{TOO_LONG, Tells}
 use Rattle.cvm_outside.specs.Outside.{Outside, Files, Output, Drive}
-use Rattle.cvm_outside.specs.Script.{Call, Got, Who, TheShelf, Performs, done, breaks, goes_on}
+use Rattle.cvm_outside.specs.Script.{Call, Got, Who, TheShelf, Performs, done, breaks, goes_on, ShelfCalled}
 use Rattle.cvm_outside.specs.declared.shelf.ShelfFault.{ShelfFault}
 use Rattle.cvm_outside.specs.declared.shelf.ShelfFault.TheVariants.{Failed, TooLong as Long, Memory as NoMemory}
 use Rattle.cvm_outside.proofs.Follow.{both}
@@ -30,6 +30,8 @@ pub record OneGet (name : List ℕ) (old new : Files) (r : Result (Vec ℕ Globa
   pub long : IsErrOf r Long ↔ (new.taken ≡ TOO_LONG)
   pub told_long : IsErrOf r Long → IfSome (old.file name) (λ bs. new.taken ≡ min (length bs) TOO_LONG)
   pub count : ShelfCounts old.faults new.faults r
+  pub called : ShelfCalled old new
+  pub sure : IsErrOf r Failed → old.gives name ≡ false
 
 all_taken : (told : Option (List ℕ)) (items : List ℕ) (taken : ℕ) → Tells told items → length items ≡ taken → taken ≤ TOO_LONG → IfSome told (λ bs. taken ≡ min (length bs) TOO_LONG)
 all_taken None items taken t e most = tt
@@ -47,7 +49,7 @@ pub one_got : (name : List ℕ) (old new : Files) (v : Vec ℕ Global) (sink : O
 one_got name old new v sink disk g =
     let few : new.taken ≢ TOO_LONG = λ h. let e = g.long.1 h in cc in
     record {
-      performs = goes_on (Got name) [] _ _ _ None (g.files, all_taken (old.file name) v.items new.taken g.bytes g.all g.most, g.count.cases, refl) (done _);
+      performs = goes_on (Got name) [] _ _ _ None (g.files, all_taken (old.file name) v.items new.taken g.bytes g.all g.most, g.count.cases, refl, g.called) (done _);
       short = (is_short (old.file name) v.items new.taken g.bytes g.all g.most few, tt);
       few = few;
     }
@@ -59,7 +61,7 @@ one_stopped name rest old new Failed sink disk g = record {
   after = rest;
   all = refl;
   short = tt;
-  performs = breaks (Got name) [] _ _ (g.files, record { later = g.count.later; rose = g.count.cases }, refl);
+  performs = breaks (Got name) [] _ _ (g.files, record { later = g.count.later; rose = g.count.cases }, refl, g.called, g.sure refl);
   few = λ h. let e = g.long.1 h in cc;
 }
 one_stopped name rest old new Long sink disk g =
@@ -72,10 +74,10 @@ one_stopped name rest old new Long sink disk g =
       all = refl;
       short = tt;
       long = is_long (old.file name) new.taken taken told;
-      performs = goes_on (Got name) [] _ _ _ None (g.files, told, g.count.cases, refl) (done _);
+      performs = goes_on (Got name) [] _ _ _ None (g.files, told, g.count.cases, refl, g.called) (done _);
       taken = taken;
     }
-one_stopped name rest old new NoMemory sink disk g = within [] rest name _ refl tt (done _) (wants g.files g.count.cases (λ h. let e = g.long.1 h in cc) refl)
+one_stopped name rest old new NoMemory sink disk g = within [] rest name _ refl tt (done _) (wants g.files g.count.cases (λ h. let e = g.long.1 h in cc) refl g.called)
 
 -- SOME BEHIND OTHERS
 gets-append : (a b : List (List ℕ)) → gets (a ++ b) ≡ gets a ++ gets b

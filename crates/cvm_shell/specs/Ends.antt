@@ -15,7 +15,7 @@ use Rattle.cvm_shell.specs.declared.boot.Session.{Session}
 use Rattle.cvm_shell.specs.Command.{Command, IsCommand, boot, trace, save, resume, compile_user, compile_kernel, compile_program, link, migrate, sample, check}
 use Rattle.cvm_shell.specs.Refusal.{small_disk, no_such_user, too_long, refusal_text, refusal_status}
 use Rattle.cvm_shell.specs.Plan.{Plan, bad_words, refuses, puts, boots, saves, resumes, prints as tells, PlanComesTo, AllTold, IsPlan}
-use Rattle.cvm_outside.specs.Script.{Call, Printed, Got, Stored, Who, TheSink, TheDisk, TheShelf, Performs}
+use Rattle.cvm_outside.specs.Script.{Call, Printed, Got, Stored, Who, TheSink, TheDisk, TheShelf, Performs, ShelfCalled}
 use Rattle.cvm_outside.specs.declared.shelf.Shelf as shelf_of
 use Rattle.cvm_outside.specs.declared.sink.Sink as sink_of
 use Rattle.cvm_outside.specs.declared.sectors.Sectors as sectors_of
@@ -191,11 +191,11 @@ pub record IsNotGot (names : List (List ℕ)) (old new : Outside) : Type 0 where
   pub performs : Performs (gets (before ++ name ∷ [])) old new (Some TheShelf)
   pub few : new.shelf.taken ≢ TOO_LONG
 
--- WANT OF MEMORY, before all else is done: some of the gets were made, of which no file is too long; or one more found no memory, and took no 67,108,865
--- bytes
+-- WANT OF MEMORY, before all else is done: some of the gets were made, of which no file is too long; or one more found no memory, is counted, and took no
+-- 67,108,865 bytes
 pub data GetWants (old new : Outside) : Type 0 where
   wants : ((n : List ℕ) → new.shelf.file n ≡ old.shelf.file n) → new.shelf.faults ≡ old.shelf.faults → new.shelf.taken ≢ TOO_LONG →
-      new ≡ record old { shelf = new.shelf } → GetWants old new
+      new ≡ record old { shelf = new.shelf } → ShelfCalled old.shelf new.shelf → GetWants old new
 
 pub data Wants (names : List (List ℕ)) (old new : Outside) : Type 0 where
   behind : (made rest : List (List ℕ)) → made ++ rest ≡ names → AreShort old.shelf.file made → Performs (gets made) old new None →

@@ -1,5 +1,5 @@
 -- The script of a save, by that of its run and by the put of its file.
-use Rattle.std.proofs.Common.{◌≡◌, ◌≢◌, ℕ, ◌*◌, ◌+◌, ◌≤◌, ◌<◌, ◌^◌, true, List, [], ◌++◌, length, append-nil, refl, sym, ap, ap₂, ◌∙◌, subst, arith, Some, None, Ok, Err}
+use Rattle.std.proofs.Common.{◌≡◌, ◌≢◌, ℕ, ◌*◌, ◌+◌, ◌≤◌, ◌<◌, ◌^◌, true, List, [], ◌++◌, length, append-nil, refl, sym, ap, ◌∙◌, subst, arith, Some, None, Ok, Err}
 use Rattle.std.specs.Prelude.{Option, Result, OnOk, OnErr, IsErrOf, IsSome, slice_index}
 use Rattle.std.specs.List.{flat_map}
 use Rattle.cvm_words.specs.Bytes.{word}
@@ -7,7 +7,7 @@ use Rattle.cvm_outside.specs.Causes.{ShelfCounts}
 use Rattle.cvm_outside.specs.Numbering.{Tally}
 use Rattle.cvm_outside.specs.Told.{IsCutOff, retold}
 use Rattle.cvm_outside.specs.Outside.{Outside, Files, Output, Drive, files, drive}
-use Rattle.cvm_outside.specs.Script.{Call, Stored, Who, TheDisk, Performs, CallDone, CallFailed}
+use Rattle.cvm_outside.specs.Script.{Call, Stored, Who, TheDisk, Performs, CallDone, CallFailed, ShelfCalled}
 use Rattle.cvm_outside.specs.declared.shelf.Shelf as shelf_of
 use Rattle.cvm_outside.specs.declared.sink.Sink as sink_of
 use Rattle.cvm_outside.specs.declared.sectors.Sectors as sectors_of
@@ -66,13 +66,14 @@ pub record OnePut (name bytes : List ℕ) (old new : Files) (r : Result (Unit {0
   pub few : (IsErrOf r TooLong → ⊥) × (IsErrOf r NoMemory → ⊥)
   pub taken : new.taken ≡ old.taken
   pub count : ShelfCounts old.faults new.faults r
+  pub called : ShelfCalled old new
 
 pub put_does : (name bytes : List ℕ) (sink : Output) (disk : Drive) (old new : Files) → OnePut name bytes old new (Ok tt) → CallDone (Stored name bytes) (beside sink disk old) (beside sink disk new)
-put_does name bytes sink disk old new p = (p.others, p.whole, p.count.cases, ap₂ (λ (t n : ℕ). beside sink disk (record new { taken = t; faults = n })) p.taken p.count.cases)
+put_does name bytes sink disk old new p = (p.others, p.whole, p.count.cases, ap (λ (t : ℕ). beside sink disk (record new { taken = t })) p.taken, p.called)
 
 pub put_fails : (name bytes : List ℕ) (sink : Output) (disk : Drive) (old new : Files) (f : ShelfFault) → OnePut name bytes old new (Err f) → CallFailed (Stored name bytes) (beside sink disk old) (beside sink disk new)
 put_fails name bytes sink disk old new Failed p =
-    (p.others, p.part, record { later = p.count.later; rose = p.count.cases }, ap (λ (t : ℕ). beside sink disk (record new { taken = t })) p.taken)
+    (p.others, p.part, record { later = p.count.later; rose = p.count.cases }, ap (λ (t : ℕ). beside sink disk (record new { taken = t })) p.taken, p.called)
 put_fails name bytes sink disk old new TooLong p = absurd (p.few.0 refl)
 put_fails name bytes sink disk old new NoMemory p = absurd (p.few.1 refl)
 

@@ -78,7 +78,7 @@ returns-in-Ok-put-clause-does g c = λ words disk is.
     let e = c.in-Ok-put.ensures in
     put_done words (compile_kernel (kernel_view c.args.names.now)) (kernel_view c.args.names.now).object c.deref.result.now c.in-Ok.object.items (Ok tt) sink disk
     (told_files g.S.Shelf c.args.shelf.now) (told_files g.S.Shelf c.kernel_object.new.shelf) _ is c.in-Ok.ensures.comes c.deref.ensures.value (c.in-Ok.ensures.gets sink disk)
-    (record { others = e.others; whole = e.bytes; part = e.part; few = e.few; taken = e.taken; count = e.count })
+    (record { others = e.others; whole = e.bytes; part = e.part; few = e.few; taken = e.taken; count = e.count; called = record { calls = e.called; gives = e.given } })
 
 pub returns-clause-does : goal.returns-clause-does
 returns-clause-does g c = λ words disk is.
@@ -86,4 +86,4 @@ returns-clause-does g c = λ words disk is.
     let e = c.in-Err.ensures in
     put_done words (compile_kernel (kernel_view c.args.names.now)) (kernel_view c.args.names.now).object c.deref.result.now c.in-Ok.object.items (Err c.in-Err.field-0) sink disk
     (told_files g.S.Shelf c.args.shelf.now) (told_files g.S.Shelf c.kernel_object.new.shelf) _ is c.in-Ok.ensures.comes c.deref.ensures.value (c.in-Ok.ensures.gets sink disk)
-    (record { others = e.others; whole = e.bytes; part = e.part; few = e.few; taken = e.taken; count = e.count })
+    (record { others = e.others; whole = e.bytes; part = e.part; few = e.few; taken = e.taken; count = e.count; called = record { calls = e.called; gives = e.given } })

@@ -27,11 +27,11 @@ returns-in_err-text-clause-gets g c = λ sink disk.
     let p = err_from_is_err_and c.from_residual.result c.from_residual.ensures.1 in
     let e = c.in_err-text.ensures in
     rw (p.1, p.2) (one_stopped _ [] (files g.S.Shelf c.args.shelf.now) (files g.S.Shelf c.get.new.self) c.in_err-text.field-0.0 sink disk
-    (record { files = e.files; bytes = e.bytes; all = e.all; most = e.most; long = e.long; told_long = e.told_long; count = e.count }))
+    (record { files = e.files; bytes = e.bytes; all = e.all; most = e.most; long = e.long; told_long = e.told_long; count = e.count; called = record { calls = e.called; gives = e.given }; sure = e.sure }))
 
 pub returns-clause-gets : goal.returns-clause-gets
 returns-clause-gets g c = λ sink disk.
     let e = c.in_ok-text.ensures in
     gets_behind _ _ _ c.assembled_image.result (one_got _ (files g.S.Shelf c.args.shelf.now) (files g.S.Shelf c.get.new.self) c.in_ok-text.text sink disk
-    (record { files = e.files; bytes = e.bytes; all = e.all; most = e.most; long = e.long; told_long = e.told_long; count = e.count }))
+    (record { files = e.files; bytes = e.bytes; all = e.all; most = e.most; long = e.long; told_long = e.told_long; count = e.count; called = record { calls = e.called; gives = e.given }; sure = e.sure }))
     c.assembled_image.ensures.inside c.assembled_image.ensures.short

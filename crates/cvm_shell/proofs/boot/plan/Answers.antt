@@ -47,7 +47,7 @@ returns-in_err-image-clause-gets g c = λ sink disk.
     let p = err_from_is_err_and c.from_residual.result c.from_residual.ensures.1 in
     let e = c.in_err-image.ensures in
     rw (p.1, p.2) (one_stopped _ (c.args.boot.now.schedule.now ∷ []) (files g.S.Shelf c.args.shelf.now) (files g.S.Shelf c.get.new.self) c.in_err-image.field-0.0 sink disk
-    (record { files = e.files; bytes = e.bytes; all = e.all; most = e.most; long = e.long; told_long = e.told_long; count = e.count }))
+    (record { files = e.files; bytes = e.bytes; all = e.all; most = e.most; long = e.long; told_long = e.told_long; count = e.count; called = record { calls = e.called; gives = e.given }; sure = e.sure }))
 
 pub returns-in_err-schedule-clause-gets : goal.returns-in_err-schedule-clause-gets
 returns-in_err-schedule-clause-gets g c = λ sink disk.
@@ -56,9 +56,9 @@ returns-in_err-schedule-clause-gets g c = λ sink disk.
     let e = c.in_err-schedule.ensures in
     rw (p.1, p.2) (stopped_then (c.args.boot.now.image.now ∷ []) (c.args.boot.now.schedule.now ∷ []) _ _ _ _
     (one_got _ (files g.S.Shelf c.args.shelf.now) (files g.S.Shelf c.get.new.self) c.in_ok-image.image sink disk
-    (record { files = a.files; bytes = a.bytes; all = a.all; most = a.most; long = a.long; told_long = a.told_long; count = a.count }))
+    (record { files = a.files; bytes = a.bytes; all = a.all; most = a.most; long = a.long; told_long = a.told_long; count = a.count; called = record { calls = a.called; gives = a.given }; sure = a.sure }))
     (one_stopped _ [] (files g.S.Shelf c.get.new.self) (files g.S.Shelf c.get-2.new.self) c.in_err-schedule.field-0.0 sink disk
-    (record { files = e.files; bytes = e.bytes; all = e.all; most = e.most; long = e.long; told_long = e.told_long; count = e.count })))
+    (record { files = e.files; bytes = e.bytes; all = e.all; most = e.most; long = e.long; told_long = e.told_long; count = e.count; called = record { calls = e.called; gives = e.given }; sure = e.sure })))
 
 pub returns-clause-gets : goal.returns-clause-gets
 returns-clause-gets g c = λ sink disk.
@@ -66,8 +66,8 @@ returns-clause-gets g c = λ sink disk.
     let e = c.in_ok-schedule.ensures in
     gets_behind _ _ _ c.ready_of.result (are_both (c.args.boot.now.image.now ∷ []) _ _
     (one_got _ (files g.S.Shelf c.args.shelf.now) (files g.S.Shelf c.get.new.self) c.in_ok-image.image sink disk
-    (record { files = a.files; bytes = a.bytes; all = a.all; most = a.most; long = a.long; told_long = a.told_long; count = a.count }))
+    (record { files = a.files; bytes = a.bytes; all = a.all; most = a.most; long = a.long; told_long = a.told_long; count = a.count; called = record { calls = a.called; gives = a.given }; sure = a.sure }))
     (c.args.boot.now.schedule.now ∷ []) _
     (one_got _ (files g.S.Shelf c.get.new.self) (files g.S.Shelf c.get-2.new.self) c.in_ok-schedule.schedule sink disk
-    (record { files = e.files; bytes = e.bytes; all = e.all; most = e.most; long = e.long; told_long = e.told_long; count = e.count })))
+    (record { files = e.files; bytes = e.bytes; all = e.all; most = e.most; long = e.long; told_long = e.told_long; count = e.count; called = record { calls = e.called; gives = e.given }; sure = e.sure })))
     c.ready_of.ensures.inside c.ready_of.ensures.short

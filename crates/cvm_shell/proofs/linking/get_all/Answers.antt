@@ -44,7 +44,7 @@ loop-name-preserved g c =
           subst P (sym (names_up_to c.args.names.now i c.name-item.result c.loop-name-test.true c.name-item.is) ∙ ap (λ (k : ℕ). texts (take k c.args.names.now)) next)
           (are_both (texts (take i c.args.names.now)) _ _ (c.loop-name.invariant.calls sink disk) (string_bytes c.name-item.result ∷ []) _
           (rw (sym given) (one_got c.as_str.result.now (files g.S.Shelf c.loop-name.shelf) (files g.S.Shelf c.get.new.self) c.in_ok-file.file sink disk
-          (record { files = e.files; bytes = e.bytes; all = e.all; most = e.most; long = e.long; told_long = e.told_long; count = e.count }))));
+          (record { files = e.files; bytes = e.bytes; all = e.all; most = e.most; long = e.long; told_long = e.told_long; count = e.count; called = record { calls = e.called; gives = e.given }; sure = e.sure }))));
       got = got_more told c.args.names.now c.loop-name.name-index c.name-item.result c.loop-name.files.items c.push.new.self.items c.in_ok-file.file c.loop-name-test.true c.name-item.is more c.loop-name.invariant.got tells short;
     }
 
@@ -57,7 +57,7 @@ returns-in_err-file-clause-gets g c = λ sink disk.
     let given : c.as_str.result.now ≡ string_bytes c.name-item.result = c.as_str.ensures.value in
     rw (p.1, p.2, names) (stopped_then (texts (take i c.args.names.now)) (string_bytes c.name-item.result ∷ texts (drop (suc i) c.args.names.now)) _ _ _ _ (c.loop-name.invariant.calls sink disk)
     (rw (sym given) (one_stopped c.as_str.result.now (texts (drop (suc i) c.args.names.now)) (files g.S.Shelf c.loop-name.shelf) (files g.S.Shelf c.get.new.self) c.in_err-file.field-0.0 sink disk
-    (record { files = e.files; bytes = e.bytes; all = e.all; most = e.most; long = e.long; told_long = e.told_long; count = e.count }))))
+    (record { files = e.files; bytes = e.bytes; all = e.all; most = e.most; long = e.long; told_long = e.told_long; count = e.count; called = record { calls = e.called; gives = e.given }; sure = e.sure }))))
 
 pub returns-then-is_err-clause-gets : goal.returns-then-is_err-clause-gets
 returns-then-is_err-clause-gets g c = λ sink disk.
@@ -71,7 +71,7 @@ returns-then-is_err-clause-gets g c = λ sink disk.
     (append_assoc before (name ∷ []) rest ∙ sym (names_at c.args.names.now i c.name-item.result c.loop-name-test.true c.name-item.is))
     (are_both before _ _ (c.loop-name.invariant.calls sink disk) (name ∷ []) _
     (rw (sym given) (one_got c.as_str.result.now (files g.S.Shelf c.loop-name.shelf) (files g.S.Shelf c.get.new.self) c.in_ok-file.file sink disk
-    (record { files = e.files; bytes = e.bytes; all = e.all; most = e.most; long = e.long; told_long = e.told_long; count = e.count }))))
+    (record { files = e.files; bytes = e.bytes; all = e.all; most = e.most; long = e.long; told_long = e.told_long; count = e.count; called = record { calls = e.called; gives = e.given }; sure = e.sure }))))
 
 pub returns-clause-gets : goal.returns-clause-gets
 returns-clause-gets g c = λ sink disk.

@@ -96,7 +96,7 @@ returns-in_err-object-clause-gets g c = λ sink disk.
     let l = link_view c.args.names.now in
     let e = c.in_err-object.ensures in
     rw (p.1, p.2) (one_stopped _ (l.params ∷ l.users) (files g.S.Shelf c.args.shelf.now) (files g.S.Shelf c.get.new.self) c.in_err-object.field-0.0 sink disk
-    (record { files = e.files; bytes = e.bytes; all = e.all; most = e.most; long = e.long; told_long = e.told_long; count = e.count }))
+    (record { files = e.files; bytes = e.bytes; all = e.all; most = e.most; long = e.long; told_long = e.told_long; count = e.count; called = record { calls = e.called; gives = e.given }; sure = e.sure }))
 
 pub returns-in_err-params-clause-gets : goal.returns-in_err-params-clause-gets
 returns-in_err-params-clause-gets g c = λ sink disk.
@@ -106,9 +106,9 @@ returns-in_err-params-clause-gets g c = λ sink disk.
     let e = c.in_err-params.ensures in
     rw (p.1, p.2) (stopped_then (l.object ∷ []) (l.params ∷ l.users) _ _ _ _
     (one_got _ (files g.S.Shelf c.args.shelf.now) (files g.S.Shelf c.get.new.self) c.in_ok-object.object sink disk
-    (record { files = a.files; bytes = a.bytes; all = a.all; most = a.most; long = a.long; told_long = a.told_long; count = a.count }))
+    (record { files = a.files; bytes = a.bytes; all = a.all; most = a.most; long = a.long; told_long = a.told_long; count = a.count; called = record { calls = a.called; gives = a.given }; sure = a.sure }))
     (one_stopped _ l.users (files g.S.Shelf c.get.new.self) (files g.S.Shelf c.get-2.new.self) c.in_err-params.field-0.0 sink disk
-    (record { files = e.files; bytes = e.bytes; all = e.all; most = e.most; long = e.long; told_long = e.told_long; count = e.count })))
+    (record { files = e.files; bytes = e.bytes; all = e.all; most = e.most; long = e.long; told_long = e.told_long; count = e.count; called = record { calls = e.called; gives = e.given }; sure = e.sure })))
 
 pub returns-in_err-users-clause-gets : goal.returns-in_err-users-clause-gets
 returns-in_err-users-clause-gets g c = λ sink disk.
@@ -119,9 +119,9 @@ returns-in_err-users-clause-gets g c = λ sink disk.
     rw (p.1, p.2) (stopped_then (l.object ∷ l.params ∷ []) l.users _ _ _ c.in_err-users.field-0.0
     (are_both (l.object ∷ []) _ _
     (one_got _ (files g.S.Shelf c.args.shelf.now) (files g.S.Shelf c.get.new.self) c.in_ok-object.object sink disk
-    (record { files = a.files; bytes = a.bytes; all = a.all; most = a.most; long = a.long; told_long = a.told_long; count = a.count })) (l.params ∷ []) _
+    (record { files = a.files; bytes = a.bytes; all = a.all; most = a.most; long = a.long; told_long = a.told_long; count = a.count; called = record { calls = a.called; gives = a.given }; sure = a.sure })) (l.params ∷ []) _
     (one_got _ (files g.S.Shelf c.get.new.self) (files g.S.Shelf c.get-2.new.self) c.in_ok-params.params sink disk
-    (record { files = b.files; bytes = b.bytes; all = b.all; most = b.most; long = b.long; told_long = b.told_long; count = b.count })))
+    (record { files = b.files; bytes = b.bytes; all = b.all; most = b.most; long = b.long; told_long = b.told_long; count = b.count; called = record { calls = b.called; gives = b.given }; sure = b.sure })))
     (c.in_err-users.ensures.gets sink disk))
 
 pub returns-clause-gets : goal.returns-clause-gets
@@ -133,8 +133,8 @@ returns-clause-gets g c = λ sink disk.
     (are_both (l.object ∷ l.params ∷ []) _ _
     (are_both (l.object ∷ []) _ _
     (one_got _ (files g.S.Shelf c.args.shelf.now) (files g.S.Shelf c.get.new.self) c.in_ok-object.object sink disk
-    (record { files = a.files; bytes = a.bytes; all = a.all; most = a.most; long = a.long; told_long = a.told_long; count = a.count })) (l.params ∷ []) _
+    (record { files = a.files; bytes = a.bytes; all = a.all; most = a.most; long = a.long; told_long = a.told_long; count = a.count; called = record { calls = a.called; gives = a.given }; sure = a.sure })) (l.params ∷ []) _
     (one_got _ (files g.S.Shelf c.get.new.self) (files g.S.Shelf c.get-2.new.self) c.in_ok-params.params sink disk
-    (record { files = b.files; bytes = b.bytes; all = b.all; most = b.most; long = b.long; told_long = b.told_long; count = b.count })))
+    (record { files = b.files; bytes = b.bytes; all = b.all; most = b.most; long = b.long; told_long = b.told_long; count = b.count; called = record { calls = b.called; gives = b.given }; sure = b.sure })))
     l.users _ (c.in_ok-users.ensures.gets sink disk))
     c.linked_image.ensures.inside c.linked_image.ensures.short

@@ -39,11 +39,11 @@ returns-in_err-old-clause-gets g c = λ sink disk.
     let p = err_from_is_err_and c.from_residual.result c.from_residual.ensures.1 in
     let e = c.in_err-old.ensures in
     rw (p.1, p.2) (one_stopped _ [] (files g.S.Shelf c.args.shelf.now) (files g.S.Shelf c.get.new.self) c.in_err-old.field-0.0 sink disk
-    (record { files = e.files; bytes = e.bytes; all = e.all; most = e.most; long = e.long; told_long = e.told_long; count = e.count }))
+    (record { files = e.files; bytes = e.bytes; all = e.all; most = e.most; long = e.long; told_long = e.told_long; count = e.count; called = record { calls = e.called; gives = e.given }; sure = e.sure }))
 
 pub returns-clause-gets : goal.returns-clause-gets
 returns-clause-gets g c = λ sink disk.
     let e = c.in_ok-old.ensures in
     gets_behind _ _ _ c.renewed_image.result (one_got _ (files g.S.Shelf c.args.shelf.now) (files g.S.Shelf c.get.new.self) c.in_ok-old.old sink disk
-    (record { files = e.files; bytes = e.bytes; all = e.all; most = e.most; long = e.long; told_long = e.told_long; count = e.count }))
+    (record { files = e.files; bytes = e.bytes; all = e.all; most = e.most; long = e.long; told_long = e.told_long; count = e.count; called = record { calls = e.called; gives = e.given }; sure = e.sure }))
     c.renewed_image.ensures.inside c.renewed_image.ensures.short

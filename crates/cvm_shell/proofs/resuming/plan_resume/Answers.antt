@@ -84,7 +84,7 @@ returns-in_err-image-clause-gets g c = λ sink disk.
     let v = save_view c.args.resume.now in
     let e = c.in_err-image.ensures in
     rw (p.1, p.2) (one_stopped _ (v.boot.schedule ∷ v.file ∷ []) (files g.S.Shelf c.args.shelf.now) (files g.S.Shelf c.get.new.self) c.in_err-image.field-0.0 sink disk
-    (record { files = e.files; bytes = e.bytes; all = e.all; most = e.most; long = e.long; told_long = e.told_long; count = e.count }))
+    (record { files = e.files; bytes = e.bytes; all = e.all; most = e.most; long = e.long; told_long = e.told_long; count = e.count; called = record { calls = e.called; gives = e.given }; sure = e.sure }))
 
 pub returns-in_err-schedule-clause-gets : goal.returns-in_err-schedule-clause-gets
 returns-in_err-schedule-clause-gets g c = λ sink disk.
@@ -94,9 +94,9 @@ returns-in_err-schedule-clause-gets g c = λ sink disk.
     let e = c.in_err-schedule.ensures in
     rw (p.1, p.2) (stopped_then (v.boot.image ∷ []) (v.boot.schedule ∷ v.file ∷ []) _ _ _ _
     (one_got _ (files g.S.Shelf c.args.shelf.now) (files g.S.Shelf c.get.new.self) c.in_ok-image.image sink disk
-    (record { files = a.files; bytes = a.bytes; all = a.all; most = a.most; long = a.long; told_long = a.told_long; count = a.count }))
+    (record { files = a.files; bytes = a.bytes; all = a.all; most = a.most; long = a.long; told_long = a.told_long; count = a.count; called = record { calls = a.called; gives = a.given }; sure = a.sure }))
     (one_stopped _ (v.file ∷ []) (files g.S.Shelf c.get.new.self) (files g.S.Shelf c.get-2.new.self) c.in_err-schedule.field-0.0 sink disk
-    (record { files = e.files; bytes = e.bytes; all = e.all; most = e.most; long = e.long; told_long = e.told_long; count = e.count })))
+    (record { files = e.files; bytes = e.bytes; all = e.all; most = e.most; long = e.long; told_long = e.told_long; count = e.count; called = record { calls = e.called; gives = e.given }; sure = e.sure })))
 
 pub returns-in_err-bytes-clause-gets : goal.returns-in_err-bytes-clause-gets
 returns-in_err-bytes-clause-gets g c = λ sink disk.
@@ -108,11 +108,11 @@ returns-in_err-bytes-clause-gets g c = λ sink disk.
     rw (p.1, p.2) (stopped_then (v.boot.image ∷ v.boot.schedule ∷ []) (v.file ∷ []) _ _ _ _
     (are_both (v.boot.image ∷ []) _ _
     (one_got _ (files g.S.Shelf c.args.shelf.now) (files g.S.Shelf c.get.new.self) c.in_ok-image.image sink disk
-    (record { files = a.files; bytes = a.bytes; all = a.all; most = a.most; long = a.long; told_long = a.told_long; count = a.count })) (v.boot.schedule ∷ []) _
+    (record { files = a.files; bytes = a.bytes; all = a.all; most = a.most; long = a.long; told_long = a.told_long; count = a.count; called = record { calls = a.called; gives = a.given }; sure = a.sure })) (v.boot.schedule ∷ []) _
     (one_got _ (files g.S.Shelf c.get.new.self) (files g.S.Shelf c.get-2.new.self) c.in_ok-schedule.schedule sink disk
-    (record { files = b.files; bytes = b.bytes; all = b.all; most = b.most; long = b.long; told_long = b.told_long; count = b.count })))
+    (record { files = b.files; bytes = b.bytes; all = b.all; most = b.most; long = b.long; told_long = b.told_long; count = b.count; called = record { calls = b.called; gives = b.given }; sure = b.sure })))
     (one_stopped _ [] (files g.S.Shelf c.get-2.new.self) (files g.S.Shelf c.get-3.new.self) c.in_err-bytes.field-0.0 sink disk
-    (record { files = e.files; bytes = e.bytes; all = e.all; most = e.most; long = e.long; told_long = e.told_long; count = e.count })))
+    (record { files = e.files; bytes = e.bytes; all = e.all; most = e.most; long = e.long; told_long = e.told_long; count = e.count; called = record { calls = e.called; gives = e.given }; sure = e.sure })))
 
 pub returns-in_err-ready-clause-gets : goal.returns-in_err-ready-clause-gets
 returns-in_err-ready-clause-gets g c = λ sink disk.
@@ -124,11 +124,11 @@ returns-in_err-ready-clause-gets g c = λ sink disk.
     rw (p.1, p.2) (stop_behind (v.boot.image ∷ v.boot.schedule ∷ v.file ∷ []) _ _ c.in_err-ready.field-0.0
     (are_both (v.boot.image ∷ v.boot.schedule ∷ []) _ _ (are_both (v.boot.image ∷ []) _ _
     (one_got _ (files g.S.Shelf c.args.shelf.now) (files g.S.Shelf c.get.new.self) c.in_ok-image.image sink disk
-    (record { files = a.files; bytes = a.bytes; all = a.all; most = a.most; long = a.long; told_long = a.told_long; count = a.count })) (v.boot.schedule ∷ []) _
+    (record { files = a.files; bytes = a.bytes; all = a.all; most = a.most; long = a.long; told_long = a.told_long; count = a.count; called = record { calls = a.called; gives = a.given }; sure = a.sure })) (v.boot.schedule ∷ []) _
     (one_got _ (files g.S.Shelf c.get.new.self) (files g.S.Shelf c.get-2.new.self) c.in_ok-schedule.schedule sink disk
-    (record { files = b.files; bytes = b.bytes; all = b.all; most = b.most; long = b.long; told_long = b.told_long; count = b.count }))) (v.file ∷ []) _
+    (record { files = b.files; bytes = b.bytes; all = b.all; most = b.most; long = b.long; told_long = b.told_long; count = b.count; called = record { calls = b.called; gives = b.given }; sure = b.sure }))) (v.file ∷ []) _
     (one_got _ (files g.S.Shelf c.get-2.new.self) (files g.S.Shelf c.get-3.new.self) c.in_ok-bytes.bytes sink disk
-    (record { files = d.files; bytes = d.bytes; all = d.all; most = d.most; long = d.long; told_long = d.told_long; count = d.count })))
+    (record { files = d.files; bytes = d.bytes; all = d.all; most = d.most; long = d.long; told_long = d.told_long; count = d.count; called = record { calls = d.called; gives = d.given }; sure = d.sure })))
     c.in_err-ready.ensures.inside (λ s. c.in_err-ready.ensures.short (ap (λ (x : Stop). Err x) s)))
 
 pub returns-clause-gets : goal.returns-clause-gets
@@ -139,8 +139,8 @@ returns-clause-gets g c = λ sink disk.
     let d = c.in_ok-bytes.ensures in
     are_both (v.boot.image ∷ v.boot.schedule ∷ []) _ _ (are_both (v.boot.image ∷ []) _ _
     (one_got _ (files g.S.Shelf c.args.shelf.now) (files g.S.Shelf c.get.new.self) c.in_ok-image.image sink disk
-    (record { files = a.files; bytes = a.bytes; all = a.all; most = a.most; long = a.long; told_long = a.told_long; count = a.count })) (v.boot.schedule ∷ []) _
+    (record { files = a.files; bytes = a.bytes; all = a.all; most = a.most; long = a.long; told_long = a.told_long; count = a.count; called = record { calls = a.called; gives = a.given }; sure = a.sure })) (v.boot.schedule ∷ []) _
     (one_got _ (files g.S.Shelf c.get.new.self) (files g.S.Shelf c.get-2.new.self) c.in_ok-schedule.schedule sink disk
-    (record { files = b.files; bytes = b.bytes; all = b.all; most = b.most; long = b.long; told_long = b.told_long; count = b.count }))) (v.file ∷ []) _
+    (record { files = b.files; bytes = b.bytes; all = b.all; most = b.most; long = b.long; told_long = b.told_long; count = b.count; called = record { calls = b.called; gives = b.given }; sure = b.sure }))) (v.file ∷ []) _
     (one_got _ (files g.S.Shelf c.get-2.new.self) (files g.S.Shelf c.get-3.new.self) c.in_ok-bytes.bytes sink disk
-    (record { files = d.files; bytes = d.bytes; all = d.all; most = d.most; long = d.long; told_long = d.told_long; count = d.count }))
+    (record { files = d.files; bytes = d.bytes; all = d.all; most = d.most; long = d.long; told_long = d.told_long; count = d.count; called = record { calls = d.called; gives = d.given }; sure = d.sure }))

@@ -13,7 +13,7 @@ returns-in-Ok-clause-script g c =
       λ few bits. c.bytes.ensures ∙ c.fill.ensures.file few bits,
       λ disk. goes_on (Stored c.args.name.now c.bytes.result.now) (Printed (Some (codes "saved\n")) ∷ []) _ _ _ (of_put c.put_row.result)
           (put_does c.args.name.now c.bytes.result.now (output g.O.Sink c.args.out.now) disk (files g.S.Shelf c.args.shelf.now) (files g.S.Shelf c.put.new.self)
-          (record { others = e.others; whole = e.bytes; part = e.part; few = e.few; taken = e.taken; count = e.count }))
+          (record { others = e.others; whole = e.bytes; part = e.part; few = e.few; taken = e.taken; count = e.count; called = record { calls = e.called; gives = e.given } }))
           (c.put_row.ensures.script (files g.S.Shelf c.put.new.self) disk),
     )
 
@@ -24,5 +24,5 @@ returns-clause-script g c =
       λ few bits. c.bytes.ensures ∙ c.fill.ensures.file few bits,
       λ disk. breaks (Stored c.args.name.now c.bytes.result.now) (Printed (Some (codes "saved\n")) ∷ []) _ _
           (put_fails c.args.name.now c.bytes.result.now (output g.O.Sink c.args.out.now) disk (files g.S.Shelf c.args.shelf.now) (files g.S.Shelf c.put.new.self) c.in-Err.field-0
-          (record { others = e.others; whole = e.bytes; part = e.part; few = e.few; taken = e.taken; count = e.count })),
+          (record { others = e.others; whole = e.bytes; part = e.part; few = e.few; taken = e.taken; count = e.count; called = record { calls = e.called; gives = e.given } })),
     )
