@@ -21,7 +21,6 @@ use Rattle.boot_run.specs.RunEnds.{SeesUser}
 use Rattle.boot_run.specs.Closing.{says}
 use Rattle.cvm_shell.specs.RunStatus.{status_of, power_status}
 use Rattle.cvm_shell.specs.Ends.{Does, done, no_file, no_memory, GetsFor, all, up_to, IsNotGot, Wants, behind, within, wants, PlanAsks, SessionAsks, no_user, small, over_told, over_untold, SomeSaveAsks, as_boot, is_saved, load_of, files_of, gets, answered}
-use Rattle.run_scripts.specs.Headline.{NoneFailed}
 use Rattle.run_scripts.specs.Causes.{Counts, NeedsMore, CausedBy, StatusesAreCaused, WordsAreRefused}
 use Rattle.run_scripts.proofs.Joins.{got_keeps}
 use Rattle.run_scripts.proofs.Outcomes.{IsOfFile, Outcome, is_none, is_refused, is_booted, is_saved as saves_so, is_resumed, is_put, is_told, outcome}
@@ -121,10 +120,6 @@ module _ (blame : ScriptsBlame) where
       let e : faults_of w mid ≡ faults_of w old = g.same (λ x. cc) in
       record { rose = λ i. subst (λ (n : ℕ). Rises n (faults_of w new)) e (h.rose i); same = λ ne. h.same ne ∙ e }
 
-  pub not_blamed : (old new : Outside) (b : Option Who) → NoneFailed old new → Counts b old new → b ≡ None
-  not_blamed old new None f h = refl
-  not_blamed old new (Some w) f h = absurd (f w ((h w).rose refl).rose)
-
   pub of_done : (words : List (List ℕ)) (old new : Outside) (status : Status) (h : Does words old new status) → Counts h.blamed old new
   of_done words old new status h = counts_both h.got h.script old h.mid new h.blamed h.files h.performs
 
@@ -133,7 +128,7 @@ module _ (blame : ScriptsBlame) where
 
   of_wants : (names : List (List ℕ)) (old new : Outside) → Wants names old new → Counts None old new
   of_wants names old new (behind made rest e s p t) w = blame (gets made) old new None p w
-  of_wants names old new (within made rest name mid e short p (wants f c t s)) w =
+  of_wants names old new (within made rest name mid e short p (wants f c t s k)) w =
       let g = blame (gets made) old mid None p w in
       let h : faults_of w mid ≡ faults_of w old = g.same (λ x. cc) in
       record { rose = λ x. absurd (cc); same = λ ne. same w ∙ h }

@@ -201,5 +201,5 @@ saves_hold law files words c s rows before old new status is a f (done _ h) m =
   where
     same_name : (x y : List ℕ) → Some x ≡ Some y → x ≡ y
     same_name x y e = cc
-saves_hold law files words c s rows before old new status is a f (no_file d k g) m = absurd (no_file_failed law.blame d old new f g)
+saves_hold law files words c s rows before old new status is a f (no_file d k g) m = absurd (no_file_failed law.blame words d old new k f g)
 saves_hold law files words c s rows before old new status is a f (no_memory d k w) m = absurd (m refl)

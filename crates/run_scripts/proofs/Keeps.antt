@@ -25,7 +25,7 @@ gets_keep (name ∷ names) old new (goes_on c rest _ mid _ _ d p) =
 
 pub wanted : (names : List (List ℕ)) (old new : Outside) → Wants names old new → Untouched old new
 wanted names old new (behind made rest e s p t) = gets_keep made old new p
-wanted names old new (within made rest name mid e short p (wants f c t s)) =
+wanted names old new (within made rest name mid e short p (wants f c t s k)) =
     let h = gets_keep made old mid p in
     record { sink = ap (λ (o : Outside). o.sink) s ∙ h.sink; disk = ap (λ (o : Outside). o.disk) s ∙ h.disk; files = λ n. f n ∙ h.files n }
 

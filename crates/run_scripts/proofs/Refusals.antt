@@ -1,32 +1,90 @@
 -- What is refused, and that nothing else is.
-use Rattle.std.specs.Prelude.{Option, Some, None}
+use Rattle.std.specs.Prelude.{Option, Some, None, Bool, codes}
 use Rattle.std.specs.Io.KnownBytes.{append_known}
-use Rattle.std.proofs.Common.{◌≡◌, ◌≢◌, ◌⊎◌, inl, inr, ℕ, ◌<◌, List, length, refl, sym, ap, ◌∙◌, subst, arith}
+use Rattle.std.proofs.Common.{◌≡◌, ◌≢◌, ◌⊎◌, inl, inr, ℕ, ◌<◌, List, [], ◌∷◌, ◌++◌, length, refl, sym, ap, ◌∙◌, subst, arith}
 use Rattle.boot_turns.specs.declared.answers.View.TheVariants.{Trace}
 use Rattle.cvm_shell.specs.declared.exit_status.Status.{Status}
 use Rattle.cvm_shell.specs.declared.exit_status.Status.TheVariants.{Done, Refused, KernelFault, StepLimit, Disk, Shelf, Memory}
-use Rattle.cvm_shell.specs.Command.{Command}
+use Rattle.cvm_shell.specs.Command.{Command, IsCommand, save, resume}
 use Rattle.cvm_shell.specs.Refusal.{Refusal, small_disk, no_such_user, too_long, refusal_status, refusal_text}
 use Rattle.cvm_shell.specs.Plan.{Plan, bad_words, refuses, puts, boots, saves, resumes, prints as tells, PlanComesTo, AllTold}
+use Rattle.cvm_outside.specs.Causes.{Rose}
 use Rattle.cvm_outside.specs.Told.{AppendsPart}
-use Rattle.cvm_outside.specs.ScriptLaws.{ScriptsBlame, PrintedBy}
+use Rattle.cvm_outside.specs.ScriptLaws.{ScriptsBlame, PrintedBy, GetsGiven}
 use Rattle.cvm_outside.specs.Outside.{Outside, Drive, Output}
-use Rattle.cvm_outside.specs.Script.{Call, Who, TheSink, TheDisk, TheShelf, Performs}
+use Rattle.cvm_outside.specs.Script.{Call, Printed, Read, Wrote, Got, Stored, Who, TheSink, TheDisk, TheShelf, Performs, faults_of}
+use Rattle.cvm_outside.proofs.Follow.{given}
 use Rattle.cvm_shell.specs.Boot.{sectors_needed}
 use Rattle.boot_run.specs.Closing.{says}
-use Rattle.cvm_shell.specs.Ends.{Does, done, no_file, no_memory, GetsFor, all, up_to, IsNotGot, behind, within, wants, PlanAsks, SessionAsks, no_user, small, over_told, over_untold, files_of, answered}
-use Rattle.run_scripts.specs.Headline.{NoneFailed, IsOf, booted_so, saved_so, resumed_so}
+use Rattle.cvm_shell.specs.Ends.{Does, done, no_file, no_memory, GetsFor, all, up_to, IsNotGot, behind, within, wants, PlanAsks, SessionAsks, no_user, small, over_told, over_untold, files_of, gets, answered}
+use Rattle.run_scripts.specs.Headline.{NoneFailed, ShelfServes, IsOf, booted_so, saved_so, resumed_so}
+use Rattle.run_scripts.specs.Shapes.{gets_in, puts_in, NamedBy}
 use Rattle.run_scripts.specs.Causes.{FilesAreRefused, HasNoUser, MissingUsersAreRefused, SmallDisksAreRefused, LongFilesAreRefused, RefusedAsLong, WorkCompletes, IsWork}
+use Rattle.run_scripts.proofs.Calls.{shape_of}
 use Rattle.run_scripts.proofs.OneCommand.{one_command}
-use Rattle.run_scripts.proofs.Causes.{Due, by_words, by_refusal, by_user, by_disk, by_run, says_printed, says_part, says_blames, not_blamed, of_done, of_no_file, mid_disk, done_due}
+use Rattle.run_scripts.proofs.Outcomes.{Outcome, is_none, is_refused, is_booted, is_saved, is_resumed, is_put, is_told, outcome}
+use Rattle.run_scripts.proofs.Causes.{Due, by_words, by_refusal, by_user, by_disk, by_run, says_printed, says_part, says_blames, of_done, of_no_file, mid_disk, done_due}
 
 same_view : (u v : ℕ) → Trace u ≡ Trace v → u ≡ v
 same_view u v e = cc
 
+-- a script with no get and no put gets what is given, whatever that is; and so do the first gets of some that do
+given_quiet : (gives : List ℕ → Bool) (script : List Call) → gets_in script ≡ [] → puts_in script ≡ [] → GetsGiven gives script
+given_quiet gives [] g p = tt
+given_quiet gives (Printed t ∷ rest) g p = given_quiet gives rest g p
+given_quiet gives (Read q ∷ rest) g p = given_quiet gives rest g p
+given_quiet gives (Wrote q ws ∷ rest) g p = given_quiet gives rest g p
+given_quiet gives (Got n ∷ rest) g p = absurd (let e : n ∷ gets_in rest ≡ [] = g in cc)
+given_quiet gives (Stored n bytes ∷ rest) g p = absurd (let e : n ∷ puts_in rest ≡ [] = p in cc)
+
+given_front : (gives : List ℕ → Bool) (before after : List (List ℕ)) (name : List ℕ) → GetsGiven gives (gets (before ++ name ∷ after)) → GetsGiven gives (gets (before ++ name ∷ []))
+given_front gives [] after name h = (h.0, tt)
+given_front gives (n ∷ before) after name h = (h.0, given_front gives before after name h.1)
+
+puts_none : (names : List (List ℕ)) → NamedBy None names → names ≡ []
+puts_none [] h = refl
+puts_none (n ∷ []) h = absurd (let e : None ≡ Some n = h in cc)
+puts_none (n ∷ m ∷ more) h = absurd h
+
+not_shelf : (b : Option Who) → (b ≡ None) ⊎ (b ≡ Some TheSink) → b ≡ Some TheShelf → ⊥
+not_shelf b (inl n) e = let z : None ≡ Some TheShelf = sym n ∙ e in cc
+not_shelf b (inr n) e = let z : Some TheSink ≡ Some TheShelf = sym n ∙ e in cc
+
 module _ (blame : ScriptsBlame) where
-  -- nobody is blamed where no object counted a fault
-  pub none_blamed : (words : List (List ℕ)) (old new : Outside) (status : Status) (h : Does words old new status) → NoneFailed old new → h.blamed ≡ None
-  none_blamed words old new status h f = not_blamed blame old new h.blamed f (of_done blame words old new status h)
+  -- nobody is blamed where no call fails
+  module _ (words : List (List ℕ)) (old new : Outside) (status : Status) (h : Does words old new status) where
+    rose : (w : Who) → h.blamed ≡ Some w → Rose (faults_of w old) (faults_of w new)
+    rose w e = ((of_done blame words old new status h w).rose e).rose
+
+    shelf_serves : (c : Command) → IsCommand words c → ShelfServes c old new → h.blamed ≡ Some TheShelf → ⊥
+    shelf_serves c is (inr none) e = none (rose TheShelf e)
+    shelf_serves c is (inl (got, put)) e =
+        let s = shape_of words c h.plan h.mid h.script h.due is (outcome words old.shelf.file h.plan h.is_plan.comes) h.asks in
+        let none : puts_in h.script ≡ [] = puts_none (puts_in h.script) (subst (λ (named : Option (List ℕ)). NamedBy named (puts_in h.script)) put s.puts) in
+        (given h.script h.mid new h.blamed h.performs).sure (given_quiet h.mid.shelf.gives h.script s.gets none) e
+
+    no_words : h.plan ≡ bad_words → h.blamed ≡ Some TheShelf → ⊥
+    no_words p e =
+        let a = subst (λ (q : Plan). PlanAsks q h.mid h.script h.due) p h.asks in
+        not_shelf h.blamed (says_blames (codes "bad words\n") h.mid new h.blamed (subst (λ (s : List Call). Performs s h.mid new h.blamed) a.0 h.performs)) e
+
+    shelf_of : NoneFailed words old new → (p : Plan) → h.plan ≡ p → Outcome words p → h.blamed ≡ Some TheShelf → ⊥
+    shelf_of f p e (is_none n) = no_words e
+    shelf_of f p e (is_refused c is r o) = shelf_serves c is (f.shelf c is)
+    shelf_of f p e (is_booted c is l session s rows) = shelf_serves c is (f.shelf c is)
+    shelf_of f p e (is_saved c is s rows) = shelf_serves (save c) is (f.shelf (save c) is)
+    shelf_of f p e (is_resumed c is s rows machine) = shelf_serves (resume c) is (f.shelf (resume c) is)
+    shelf_of f p e (is_put c is name bytes x) = shelf_serves c is (f.shelf c is)
+    shelf_of f p e (is_told c is text) = shelf_serves c is (f.shelf c is)
+
+    pub none_blamed : NoneFailed words old new → h.blamed ≡ None
+    none_blamed f = by h.blamed refl
+      where
+        by : (b : Option Who) → h.blamed ≡ b → h.blamed ≡ None
+        by None e = e
+        by (Some TheSink) e = absurd (f.sink (rose TheSink e))
+        by (Some TheDisk) e = absurd (f.disk (rose TheDisk e))
+        by (Some TheShelf) e = absurd (shelf_of f h.plan refl (outcome words old.shelf.file h.plan h.is_plan.comes) e)
 
   -- a row that is all that is printed
   row_printed : (words : List (List ℕ)) (old new : Outside) (status : Status) (h : Does words old new status) (text : List ℕ) → h.script ≡ says text → h.blamed ≡ None →
@@ -43,8 +101,16 @@ module _ (blame : ScriptsBlame) where
       PlanAsks p h.mid h.script h.due
   plan_asks words old new status h p told comes = subst (λ (q : Plan). PlanAsks q h.mid h.script h.due) (sym (h.is_plan.only told p comes)) h.asks
 
-  pub no_file_failed : (c : Command) (old new : Outside) → NoneFailed old new → IsNotGot (files_of c) old new → ⊥
-  no_file_failed c old new f g = f TheShelf ((of_no_file blame (files_of c) old new g TheShelf).rose refl).rose
+  -- a get that failed is of no file that was given
+  pub no_file_failed : (words : List (List ℕ)) (c : Command) (old new : Outside) → IsCommand words c → NoneFailed words old new → IsNotGot (files_of c) old new → ⊥
+  no_file_failed words c old new is f g = by (f.shelf c is)
+    where
+      by : ShelfServes c old new → ⊥
+      by (inl (got, put)) =
+          let front : GetsGiven old.shelf.gives (gets (g.before ++ g.name ∷ [])) =
+          given_front old.shelf.gives g.before g.after g.name (subst (λ (names : List (List ℕ)). GetsGiven old.shelf.gives (gets names)) (sym g.all) got) in
+          (given (gets (g.before ++ g.name ∷ [])) old new (Some TheShelf) g.performs).sure front refl
+      by (inr none) = none ((of_no_file blame (files_of c) old new g TheShelf).rose refl).rose
 
   refused_so : (r : Refusal) → refusal_status r ≡ Refused → r ≢ too_long
   refused_so r e n = absurd (let z : Shelf ≡ Refused = sym (ap refusal_status n) ∙ e in cc)
@@ -52,7 +118,7 @@ module _ (blame : ScriptsBlame) where
   pub files_are_refused : FilesAreRefused
   files_are_refused words old new status told (done _ h) = record { so = so; only = λ e. only h.blamed refl (sym h.status_is ∙ e) }
     where
-      so : (r : Refusal) → PlanComesTo words old.shelf.file (refuses r) → NoneFailed old new → status ≢ Memory → (status ≡ refusal_status r) × PrintedBy None old.sink.text new.sink.text (refusal_text r)
+      so : (r : Refusal) → PlanComesTo words old.shelf.file (refuses r) → NoneFailed words old new → status ≢ Memory → (status ≡ refusal_status r) × PrintedBy None old.sink.text new.sink.text (refusal_text r)
       so r comes f m =
           let n = none_blamed words old new status h f in
           let a = plan_asks words old new status h (refuses r) told comes in
@@ -87,7 +153,7 @@ module _ (blame : ScriptsBlame) where
       only (Some TheSink) n e = absurd (cc)
       only (Some TheDisk) n e = absurd (cc)
       only (Some TheShelf) n e = absurd (cc)
-  files_are_refused words old new status told (no_file c is g) = record { so = λ r comes f m. absurd (no_file_failed c old new f g); only = λ e. absurd (cc) }
+  files_are_refused words old new status told (no_file c is g) = record { so = λ r comes f m. absurd (no_file_failed words c old new is f g); only = λ e. absurd (cc) }
   files_are_refused words old new status told (no_memory c is w) = record { so = λ r comes f m. absurd (m refl); only = λ e. absurd (cc) }
 
   pub missing_users_are_refused : MissingUsersAreRefused
@@ -102,7 +168,7 @@ module _ (blame : ScriptsBlame) where
       by script due s d (small v x) = absurd (w.none v)
       by script due s d (over_told ss _ _ v x q a) = absurd (w.none v)
       by script due s d (over_untold _ _ v x q a) = absurd (w.none v)
-  missing_users_are_refused words old new status r told w f (no_file c is g) m = absurd (no_file_failed c old new f g)
+  missing_users_are_refused words old new status r told w f (no_file c is g) m = absurd (no_file_failed words c old new is f g)
   missing_users_are_refused words old new status r told w f (no_memory c is x) m = absurd (m refl)
 
   pub small_disks_are_refused : SmallDisksAreRefused
@@ -129,7 +195,7 @@ module _ (blame : ScriptsBlame) where
       by p booted_so a = ends _ _ h.script h.due refl refl a
       by p (saved_so name) a = ends _ _ h.script h.due refl refl a
       by p (resumed_so machine) a = ends _ _ h.script h.due refl refl a
-  small_disks_are_refused words plan session s rows old new status told comes is sees few f (no_file c k g) m = absurd (no_file_failed c old new f g)
+  small_disks_are_refused words plan session s rows old new status told comes is sees few f (no_file c k g) m = absurd (no_file_failed words c old new k f g)
   small_disks_are_refused words plan session s rows old new status told comes is sees few f (no_memory c k x) m = absurd (m refl)
 
   pub long_files_are_refused : LongFilesAreRefused
@@ -157,7 +223,7 @@ module _ (blame : ScriptsBlame) where
       by p e got (up_to before after name x s l t) = refused e
   long_files_are_refused words c old new status is some (no_file d k g) taken = absurd (g.few taken)
   long_files_are_refused words c old new status is some (no_memory d k (behind made rest e s p t)) taken = absurd (t (λ n. some (ap files_of (one_command words c d is k) ∙ n)) taken)
-  long_files_are_refused words c old new status is some (no_memory d k (within made rest name mid e s p (wants x y t z))) taken = absurd (t taken)
+  long_files_are_refused words c old new status is some (no_memory d k (within made rest name mid e s p (wants x y t z w))) taken = absurd (t taken)
 
   pub work_completes : WorkCompletes
   work_completes words old new status p told comes work f (done _ h) m =
@@ -171,5 +237,5 @@ module _ (blame : ScriptsBlame) where
       by (boots d s r) w a = absurd w
       by (saves d s r n) w a = absurd w
       by (resumes d s r x) w a = absurd w
-  work_completes words old new status p told comes work f (no_file c is g) m = absurd (no_file_failed c old new f g)
+  work_completes words old new status p told comes work f (no_file c is g) m = absurd (no_file_failed words c old new is f g)
   work_completes words old new status p told comes work f (no_memory c is w) m = absurd (m refl)

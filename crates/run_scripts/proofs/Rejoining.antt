@@ -125,7 +125,7 @@ module _ (law : ScriptLaws) (c d : Save) (words : List (List ℕ)) (s : ImageSys
           left_is = left_there;
         }
 
-    behind : (new : Outside) (status : Status) → NoneFailed old new → (h : Does words old new status) → IsBootBehind r (sectors_needed (save_session d) s rows) before (text_at q o (steps_made q)) old new status
+    behind : (new : Outside) (status : Status) → NoneFailed words old new → (h : Does words old new status) → IsBootBehind r (sectors_needed (save_session d) s rows) before (text_at q o (steps_made q)) old new status
     behind new status none h =
         let j = saved_joins words d s rows machine left old new status r p (steps_made q) is a saved_run h in
         let k = mid_disk law.blame words old new status h in
@@ -149,7 +149,7 @@ module _ (law : ScriptLaws) (c d : Save) (words : List (List ℕ)) (s : ImageSys
           whole = ap (λ (x : Cvm). rows_text x.rows ++ t.text) at_end ∙ sym t.is;
         }
 
-  joined : (new : Outside) (status : Status) → NoneFailed old new → Does words old new status → IsBootBehind r (sectors_needed (save_session d) s rows) before (text_at q o (steps_made q)) old new status
+  joined : (new : Outside) (status : Status) → NoneFailed words old new → Does words old new status → IsBootBehind r (sectors_needed (save_session d) s rows) before (text_at q o (steps_made q)) old new status
   joined new status none h = let w = past_of r (founded r its) in behind w.0 w.1 new status none h
 
 pub saved_and_resumed_are_booted : ScriptLaws → SavedAndResumedAreBooted
@@ -164,5 +164,5 @@ saved_and_resumed_are_booted law c d words s rows before left machine first mid 
         machine_of (wanted_by s rows turns) (saved_bytes (run_of (save_session c) s rows first.disk.size before) w.past) ≡ Ok (saved_words (run_of (save_session c) s rows first.disk.size before) w.past)
     fits (inl z) = z.fits
     fits (inr u) = absurd (u.ended saved_so)
-saved_and_resumed_are_booted law c d words s rows before left machine first mid old new made status disk w saved_so l is a none (no_file e k g) m = absurd (no_file_failed law.blame e old new none g)
+saved_and_resumed_are_booted law c d words s rows before left machine first mid old new made status disk w saved_so l is a none (no_file e k g) m = absurd (no_file_failed law.blame words e old new k none g)
 saved_and_resumed_are_booted law c d words s rows before left machine first mid old new made status disk w saved_so l is a none (no_memory e k x) m = absurd (m refl)

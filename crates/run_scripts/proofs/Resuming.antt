@@ -81,5 +81,5 @@ resumes_go_on blame store count once words d s rows machine left old new status 
       spent = steps_spent count (save_session d) s rows machine old.disk.size left t.run t.goes_on;
       files = λ name. others_stay words (resume d) old new status is (done status h) name (none_named name);
     }
-resumes_go_on blame store count once words d s rows machine left old new status is a f (no_file c k g) m = absurd (no_file_failed blame c old new f g)
+resumes_go_on blame store count once words d s rows machine left old new status is a f (no_file c k g) m = absurd (no_file_failed blame words c old new k f g)
 resumes_go_on blame store count once words d s rows machine left old new status is a f (no_memory c k w) m = absurd (m refl)

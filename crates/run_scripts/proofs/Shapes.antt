@@ -1,13 +1,17 @@
 -- Which calls a command makes.
 use Rattle.std.specs.Prelude.{Option, None}
-use Rattle.std.proofs.Common.{◌≡◌, ◌≢◌, ◌⊎◌, inl, inr, ℕ, List, [], ◌∷◌, ◌++◌, refl, ap, ◌∙◌, subst, append_assoc, append-nil}
+use Rattle.std.proofs.Common.{◌≡◌, ◌≢◌, ◌⊎◌, inl, inr, ℕ, ◌+◌, suc, List, [], ◌∷◌, ◌++◌, length, refl, ap, ◌∙◌, subst, arith, append_assoc, append-nil}
 use Rattle.cvm_outside.specs.Told.{TOO_LONG}
 use Rattle.cvm_shell.specs.Command.{Command, IsCommand, save, resume}
-use Rattle.cvm_shell.specs.Plan.{Plan, bad_words}
-use Rattle.cvm_outside.specs.Outside.{Outside}
-use Rattle.cvm_outside.specs.Script.{Call, Who, Performs, done as all_done, breaks, goes_on, disk_calls}
+use Rattle.cvm_shell.specs.Refusal.{too_long}
+use Rattle.cvm_shell.specs.Plan.{Plan, bad_words, refuses}
+use Rattle.cvm_outside.specs.Numbering.{called}
+use Rattle.cvm_outside.specs.Outside.{Outside, shelf_counts}
+use Rattle.cvm_outside.specs.Script.{Call, Printed, Read, Wrote, Got, Stored, Who, Performs, done as all_done, breaks, goes_on, disk_calls, shelf_calls}
+use Rattle.cvm_outside.specs.ScriptLaws.{MadeBy, ScriptsCountFiles}
+use Rattle.cvm_outside.proofs.Follow.{both}
 use Rattle.cvm_shell.specs.Ends.{done, no_file, no_memory, GetsFor, all, up_to, IsNotGot, Wants, files_of, gets}
-use Rattle.run_scripts.specs.Shapes.{PlansHaveShape, OthersStay, NothingIsLoaded, GetsComeFirst, EndsLong, were_got, ungot, wanting, file_put, puts_in}
+use Rattle.run_scripts.specs.Shapes.{PlansHaveShape, OthersStay, NothingIsLoaded, GetsComeFirst, ShelfIsCalled, EndsLong, were_got, ungot, wanting, file_put, gets_in, puts_in}
 use Rattle.run_scripts.proofs.Calls.{shape_of, files_stay, disk_stays, quiet_plan}
 use Rattle.run_scripts.proofs.Joins.{got_keeps}
 use Rattle.run_scripts.proofs.Keeps.{wanted}
@@ -93,3 +97,45 @@ gets_come_first words c old new status is (no_file d k g) =
 gets_come_first words c old new status is (no_memory d k w) =
     let e : files_of d ≡ files_of c = ap files_of (one_command words d c k is) in
     wanting (subst (λ (names : List (List ℕ)). Wants names old new) e w)
+
+-- how often the shelf is called
+gets_call : (names : List (List ℕ)) → shelf_calls (gets names) ≡ length names
+gets_call [] = refl
+gets_call (n ∷ names) = ap suc (gets_call names)
+
+puts_call : (a : List Call) → gets_in a ≡ [] → shelf_calls a ≡ length (puts_in a)
+puts_call [] g = refl
+puts_call (Printed t ∷ a) g = puts_call a g
+puts_call (Read q ∷ a) g = puts_call a g
+puts_call (Wrote q ws ∷ a) g = puts_call a g
+puts_call (Got n ∷ a) g = absurd (let e : n ∷ gets_in a ≡ [] = g in cc)
+puts_call (Stored n bytes ∷ a) g = ap suc (puts_call a g)
+
+plus_none : (n : ℕ) → n ≡ 0 + n
+plus_none n = omega arith
+
+plus_one : (m n : ℕ) → suc (m + n) ≡ suc m + n
+plus_one m n = omega arith
+
+calls_both : (a b : List Call) → shelf_calls (a ++ b) ≡ shelf_calls a + shelf_calls b
+calls_both [] b = plus_none (shelf_calls b)
+calls_both (Printed t ∷ a) b = calls_both a b
+calls_both (Read q ∷ a) b = calls_both a b
+calls_both (Wrote q ws ∷ a) b = calls_both a b
+calls_both (Got n ∷ a) b = ap suc (calls_both a b) ∙ plus_one (shelf_calls a) (shelf_calls b)
+calls_both (Stored n bytes ∷ a) b = ap suc (calls_both a b) ∙ plus_one (shelf_calls a) (shelf_calls b)
+
+all_got : (file : List ℕ → Option (List ℕ)) (names : List (List ℕ)) (taken : ℕ) (p : Plan) (got : List Call) → GetsFor file names taken p got → p ≢ refuses too_long → got ≡ gets names
+all_got file names taken p got (all _ n t) short = refl
+all_got file names taken p got (up_to before after name e s l t) short = absurd (short refl)
+
+pub shelf_is_called : ScriptsCountFiles → ShelfIsCalled
+shelf_is_called count words c old new status is h short none =
+    let s = shape_of words c h.plan h.mid h.script h.due is (outcome words old.shelf.file h.plan h.is_plan.comes) h.asks in
+    let k = count (h.got ++ h.script) old new h.blamed (both h.got h.script old h.mid new h.blamed h.files h.performs) in
+    let made : k.made ≡ shelf_calls (h.got ++ h.script) = subst (λ (b : Option Who). MadeBy b k.made (shelf_calls (h.got ++ h.script))) none k.which in
+    let got : shelf_calls h.got ≡ length (files_of c) = ap shelf_calls (all_got _ _ _ _ _ (h.gets.0 c is) short) ∙ gets_call (files_of c) in
+    let script : shelf_calls h.script ≡ length (puts_in h.script) = puts_call h.script s.gets in
+    let sum : k.made ≡ length (files_of c) + length (puts_in h.script) =
+    made ∙ calls_both h.got h.script ∙ ap (λ (n : ℕ). n + shelf_calls h.script) got ∙ ap (λ (n : ℕ). length (files_of c) + n) script in
+    k.calls ∙ ap (λ (n : ℕ). called n (shelf_counts old.shelf)) sum

@@ -42,5 +42,5 @@ headlines blame tell store tells stores behind over words session s rows before 
       text = text.printed ∙ ap (append_known old.sink.text) (sym text.is);
       over = over words _ session s rows before old a t.past t.is_past;
     }
-headlines blame tell store tells stores behind over words session s rows before old new status a f (no_file c i g) m = absurd (no_file_failed blame c old new f g)
+headlines blame tell store tells stores behind over words session s rows before old new status a f (no_file c i g) m = absurd (no_file_failed blame words c old new i f g)
 headlines blame tell store tells stores behind over words session s rows before old new status a f (no_memory c i w) m = absurd (m refl)

@@ -66,7 +66,7 @@ pub record HasNoUser (words : List (List ℕ)) (old : Outside) (r : Refusal) : T
 
 -- A REFUSAL of a file is answered with its own status and row, where no call fails and memory is there; and status 2 is one, or a user that there is none of
 pub record RefusedExactly (words : List (List ℕ)) (old new : Outside) (status : Status) : Type 0 where
-  pub so : (r : Refusal) → PlanComesTo words old.shelf.file (refuses r) → NoneFailed old new → status ≢ Memory →
+  pub so : (r : Refusal) → PlanComesTo words old.shelf.file (refuses r) → NoneFailed words old new → status ≢ Memory →
       (status ≡ refusal_status r) × PrintedBy None old.sink.text new.sink.text (refusal_text r)
   pub only : status ≡ Refused → (r : Refusal) × (PlanComesTo words old.shelf.file (refuses r) ⊎ HasNoUser words old r)
       × PrintedBy None old.sink.text new.sink.text (refusal_text r)
@@ -78,13 +78,13 @@ FilesAreRefused = (words : List (List ℕ)) (old new : Outside) (status : Status
 -- A USER THAT THERE IS NONE OF is refused, and then a disk that is too small, where no call fails and memory is there
 abbrev pub MissingUsersAreRefused : Type 0
 MissingUsersAreRefused = (words : List (List ℕ)) (old new : Outside) (status : Status) (r : Refusal) → AllTold words old.shelf.file →
-    HasNoUser words old r → NoneFailed old new → Ends words old new status → status ≢ Memory →
+    HasNoUser words old r → NoneFailed words old new → Ends words old new status → status ≢ Memory →
     (status ≡ Refused) × PrintedBy None old.sink.text new.sink.text (refusal_text r)
 
 abbrev pub SmallDisksAreRefused : Type 0
 SmallDisksAreRefused = (words : List (List ℕ)) (plan : Plan) (session : Session) (s : ImageSystem) (rows : Rows) (old new : Outside) (status : Status) →
     AllTold words old.shelf.file → PlanComesTo words old.shelf.file plan → IsOf session s rows plan → SeesUser session.view (length s.users) →
-    old.disk.size < sectors_needed session s rows → NoneFailed old new → Ends words old new status → status ≢ Memory →
+    old.disk.size < sectors_needed session s rows → NoneFailed words old new → Ends words old new status → status ≢ Memory →
     (status ≡ Disk) × PrintedBy None old.sink.text new.sink.text (refusal_text (small_disk (sectors_needed session s rows) old.disk.size))
 
 -- A FILE IS REFUSED AS TOO LONG, with its row, where 67,108,865 bytes of it were taken; or its row can't be printed
@@ -109,4 +109,4 @@ IsWork other = ⊥
 -- COMPLETENESS of the other commands: with nothing to refuse and no failed call they are done
 abbrev pub WorkCompletes : Type 0
 WorkCompletes = (words : List (List ℕ)) (old new : Outside) (status : Status) (p : Plan) → AllTold words old.shelf.file →
-    PlanComesTo words old.shelf.file p → IsWork p → NoneFailed old new → Ends words old new status → status ≢ Memory → status ≡ Done
+    PlanComesTo words old.shelf.file p → IsWork p → NoneFailed words old new → Ends words old new status → status ≢ Memory → status ≡ Done

@@ -1,5 +1,5 @@
 -- THE HEADLINE of boot, rom, trace and sample, as a law: what holds of a command with no failed call follows from how it ends.
-use Rattle.std.specs.Prelude.{◌≡◌, ◌≢◌, ◌⊎◌, ℕ, ◌+◌, ◌<◌, ◌≤◌, true, if◌then◌else◌, List, ◌++◌, length, All, Option, Some, Ok}
+use Rattle.std.specs.Prelude.{◌≡◌, ◌≢◌, ◌⊎◌, ℕ, ◌+◌, ◌<◌, ◌≤◌, true, if◌then◌else◌, List, ◌++◌, length, All, Option, Some, None, Ok}
 use Rattle.std.specs.Io.KnownBytes.{append_known}
 use Rattle.cvm_outside.specs.Causes.{Rose}
 use Rattle.cvm_outside.specs.Told.{TOO_LONG}
@@ -19,10 +19,10 @@ use Rattle.kernel_linker.specs.Accept.{ImageSystem}
 use Rattle.cvm_shell.specs.declared.exit_status.Status.{Status}
 use Rattle.cvm_shell.specs.declared.exit_status.Status.TheVariants.{Done, KernelFault, Memory}
 use Rattle.cvm_shell.specs.declared.boot.Session.{Session}
-use Rattle.cvm_shell.specs.Command.{Boot as BootWords, IsBoot, boot_session}
+use Rattle.cvm_shell.specs.Command.{Command, IsCommand, Boot as BootWords, IsBoot, boot_session}
 use Rattle.cvm_shell.specs.Plan.{Plan, boots, saves, resumes, PlanComesTo, AllTold, Accepts}
-use Rattle.cvm_outside.specs.Script.{Who, faults_of}
 use Rattle.cvm_outside.specs.Outside.{Outside}
+use Rattle.cvm_outside.specs.ScriptLaws.{GetsGiven}
 use Rattle.boot_turns.specs.Runs.{Run, Past, IsPast, state_at, turns_at, steps_made, has_ended, lines_met, cvm_at}
 use Rattle.cvm_shell.specs.Boot.{booted, sectors_needed, steps_before}
 use Rattle.boot_turns.specs.TurnEnds.{first_of}
@@ -30,7 +30,8 @@ use Rattle.boot_run.specs.RunEnds.{SeesUser}
 use Rattle.boot_run.specs.SavedRuns.{IsDisk}
 use Rattle.cvm_shell.specs.SessionRuns.{run_of}
 use Rattle.cvm_shell.specs.RunStatus.{run_status}
-use Rattle.cvm_shell.specs.Ends.{Ends}
+use Rattle.cvm_shell.specs.Ends.{Ends, files_of, gets}
+use Rattle.run_scripts.specs.Shapes.{file_put}
 
 -- THE TEXT after t steps: the rows of the complete turns; of a trace its first row and those of what is shown, but for a last row of steps
 abbrev pub text_by : View → Run → Past → ℕ → List ℕ
@@ -56,9 +57,15 @@ IsByte b = b < 256
 abbrev pub AreBytes : (List ℕ → Option (List ℕ)) → Type 0
 AreBytes file = (name bytes : List ℕ) → file name ≡ Some bytes → All IsByte bytes
 
--- no object counted a fault
-abbrev pub NoneFailed : (old new : Outside) → Type 0
-NoneFailed old new = (whom : Who) → Rose (faults_of whom old) (faults_of whom new) → ⊥
+-- the shelf surely gives the files that a command gets, which puts none; or it counted no fault
+abbrev pub ShelfServes : Command → (old new : Outside) → Type 0
+ShelfServes c old new = (GetsGiven old.shelf.gives (gets (files_of c)) × (file_put c ≡ None)) ⊎ (Rose old.shelf.faults new.shelf.faults → ⊥)
+
+-- NO CALL FAILS: the shelf serves the command that the words are, and neither sink nor disk counted a fault
+pub record NoneFailed (words : List (List ℕ)) (old new : Outside) : Type 0 where
+  pub shelf : (c : Command) → IsCommand words c → ShelfServes c old new
+  pub sink : Rose old.sink.faults new.sink.faults → ⊥
+  pub disk : Rose old.disk.faults new.disk.faults → ⊥
 
 -- a plan that runs a session: to its end, to be saved, or from where it was saved
 pub data IsOf (session : Session) (s : ImageSystem) (rows : Rows) : Plan → Type 0 where
@@ -104,7 +111,7 @@ pub record Headline (r : Run) (held : ℕ) (before : List (List ℕ)) (old new :
 
 abbrev pub Headlines : Type 0
 Headlines = (words : List (List ℕ)) (session : Session) (s : ImageSystem) (rows : Rows) (before : List (List ℕ)) (old new : Outside) (status : Status) →
-    Asked words (boots session s rows) session s rows before old → NoneFailed old new → Ends words old new status → status ≢ Memory →
+    Asked words (boots session s rows) session s rows before old → NoneFailed words old new → Ends words old new status → status ≢ Memory →
     Headline (run_of session s rows old.disk.size before) (sectors_needed session s rows) before old new status
 
 -- THE MACHINE GOES ON: it comes to the end of every turn of the abstract run, within its bound and the steps before the layer's
@@ -130,7 +137,7 @@ pub record HasSteps (r : Run) (more : ℕ) : Type 0 where
 
 abbrev pub RunsComplete : Type 0
 RunsComplete = (words : List (List ℕ)) (session : Session) (s : ImageSystem) (rows : Rows) (before : List (List ℕ)) (old new : Outside) (status : Status) →
-    Asked words (boots session s rows) session s rows before old → NoneFailed old new → Ends words old new status → status ≢ Memory →
+    Asked words (boots session s rows) session s rows before old → NoneFailed words old new → Ends words old new status → status ≢ Memory →
     HasSteps (run_of session s rows old.disk.size before) (steps_before session.start (booted s rows)) → (status ≡ Done) ⊎ (status ≡ KernelFault)
 
 -- ISOLATION: what is shown of the user of a trace that came to its end is its journal, and its last machine is that journal's replay over its first one;

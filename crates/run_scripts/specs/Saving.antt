@@ -59,13 +59,13 @@ pub record SavedSo (c : Save) (s : ImageSystem) (rows : Rows) (r : Run) (before 
 -- `stopped`, and there alone the file is put
 abbrev pub SavesHold : Type 0
 SavesHold = (words : List (List ℕ)) (c : Save) (s : ImageSystem) (rows : Rows) (before : List (List ℕ)) (old new : Outside) (status : Status) →
-    IsSave words c → Asked words (saves (save_session c) s rows c.file) (save_session c) s rows before old → NoneFailed old new →
+    IsSave words c → Asked words (saves (save_session c) s rows c.file) (save_session c) s rows before old → NoneFailed words old new →
     Ends words old new status → status ≢ Memory → SavedSo c s rows (run_by c s rows old before) before old new status
 
 -- SAVES COMPLETE where the steps are enough
 abbrev pub SavesComplete : Type 0
 SavesComplete = (words : List (List ℕ)) (c : Save) (s : ImageSystem) (rows : Rows) (before : List (List ℕ)) (old new : Outside) (status : Status) →
-    IsSave words c → Asked words (saves (save_session c) s rows c.file) (save_session c) s rows before old → NoneFailed old new →
+    IsSave words c → Asked words (saves (save_session c) s rows c.file) (save_session c) s rows before old → NoneFailed words old new →
     Ends words old new status → status ≢ Memory →
     HasSteps (run_of (save_session c) s rows old.disk.size before) (steps_before (save_session c).start (booted s rows)) →
     (status ≡ Done) ⊎ (status ≡ KernelFault)
@@ -126,7 +126,7 @@ SavedAndResumedAreBooted = (c d : Save) (words : List (List ℕ)) (s : ImageSyst
     (first mid old new : Outside) (made status : Status) → IsDisk first.disk.size before →
     (w : SavedSo c s rows (run_by c s rows first before) before first mid made) → IsLeft (run_by c s rows first before) w.past →
     IsLeftBy c d (run_by c s rows first before) w.past first mid old → IsResume words d →
-    Asked words (resumes (save_session d) s rows machine) (save_session d) s rows left old → NoneFailed old new → Ends words old new status →
+    Asked words (resumes (save_session d) s rows machine) (save_session d) s rows left old → NoneFailed words old new → Ends words old new status →
     status ≢ Memory → IsBootBehind (run_by d s rows first before) (sectors_needed (save_session d) s rows) before
     (text_at (run_by c s rows first before) w.past (steps_made (run_by c s rows first before))) old new status
 
@@ -144,4 +144,4 @@ pub record Resumed (d : Save) (s : ImageSystem) (rows : Rows) (machine : List �
 abbrev pub ResumesGoOn : Type 0
 ResumesGoOn = (words : List (List ℕ)) (d : Save) (s : ImageSystem) (rows : Rows) (machine : List ℕ) (left : List (List ℕ)) (old new : Outside)
     (status : Status) → IsResume words d → Asked words (resumes (save_session d) s rows machine) (save_session d) s rows left old →
-    NoneFailed old new → Ends words old new status → status ≢ Memory → Resumed d s rows machine left old new status
+    NoneFailed words old new → Ends words old new status → status ≢ Memory → Resumed d s rows machine left old new status

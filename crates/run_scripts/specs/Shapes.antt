@@ -1,14 +1,16 @@
 -- WHICH CALLS a command makes, as laws: its gets in their order and then no further one, at most one put, of the file that its words name, and no call of the
 -- disk where it loads nothing.
-use Rattle.std.specs.Prelude.{◌≡◌, ◌≢◌, ◌⊎◌, ℕ, ⊤, List, [], ◌∷◌, ◌++◌, Option, Some, None}
+use Rattle.std.specs.Prelude.{◌≡◌, ◌≢◌, ◌⊎◌, ℕ, ◌+◌, ⊤, List, [], ◌∷◌, ◌++◌, length, Option, Some, None}
 use Rattle.cvm_outside.specs.Told.{TOO_LONG}
 use Rattle.cvm_shell.specs.declared.exit_status.Status.{Status}
 use Rattle.cvm_shell.specs.declared.exit_status.Status.TheVariants.{Shelf, Memory}
 use Rattle.cvm_shell.specs.Command.{Command, IsCommand, boot, trace, save, resume, compile_user, compile_kernel, compile_program, link, migrate, sample}
-use Rattle.cvm_shell.specs.Plan.{Plan, PlanComesTo}
+use Rattle.cvm_shell.specs.Refusal.{too_long}
+use Rattle.cvm_shell.specs.Plan.{Plan, refuses, PlanComesTo}
 use Rattle.cvm_outside.specs.Script.{Call, Got, Stored, Who, Performs}
-use Rattle.cvm_outside.specs.Outside.{Outside}
-use Rattle.cvm_shell.specs.Ends.{Ends, PlanAsks, IsNotGot, Wants, AreShort, MayBeLong, answered, files_of, gets}
+use Rattle.cvm_outside.specs.Outside.{Outside, shelf_counts}
+use Rattle.cvm_outside.specs.Numbering.{called}
+use Rattle.cvm_shell.specs.Ends.{Ends, Does, PlanAsks, IsNotGot, Wants, AreShort, MayBeLong, answered, files_of, gets}
 
 -- the file that a command may put
 abbrev pub file_put : Command → Option (List ℕ)
@@ -89,3 +91,8 @@ pub data GotInOrder (c : Command) (old new : Outside) : Status → Type 0 where
 abbrev pub GetsComeFirst : Type 0
 GetsComeFirst = (words : List (List ℕ)) (c : Command) (old new : Outside) (status : Status) → IsCommand words c → Ends words old new status →
     GotInOrder c old new status
+
+-- HOW OFTEN THE SHELF IS CALLED where nobody is blamed and no file is too long: once for each file that is named, and once for one that is put
+abbrev pub ShelfIsCalled : Type 0
+ShelfIsCalled = (words : List (List ℕ)) (c : Command) (old new : Outside) (status : Status) → IsCommand words c → (h : Does words old new status) →
+    h.plan ≢ refuses too_long → h.blamed ≡ None → new.shelf.calls ≡ called (length (files_of c) + length (puts_in h.script)) (shelf_counts old.shelf)

@@ -2,7 +2,7 @@
 ghost use Rattle.run_scripts.specs.Headline.{Headlines, FilesAsk, ItGoesOn, MemoryKeeps, RunsComplete, TracesIsolate, EqualJournalsTellTheSame};
 ghost use Rattle.run_scripts.specs.Keys.{RunsStart, PastsExist, PastsAgree, TextsGrow, ScriptsTellTheText, ScriptsStoreTheSectors, LoadsStoreTheStart, SectorsBehindStay, EndsAreOver};
 ghost use Rattle.run_scripts.specs.Causes.{StatusesAreCaused, WordsAreRefused, FilesAreRefused, MissingUsersAreRefused, SmallDisksAreRefused, LongFilesAreRefused, StepsAreSpent, WorkCompletes};
-ghost use Rattle.run_scripts.specs.Shapes.{PlansHaveShape, OthersStay, NothingIsLoaded, GetsComeFirst};
+ghost use Rattle.run_scripts.specs.Shapes.{PlansHaveShape, OthersStay, NothingIsLoaded, GetsComeFirst, ShelfIsCalled};
 ghost use Rattle.run_scripts.specs.Saving.{SavesHold, SavesComplete, ScriptsJoin, ResumesJoin, SavedAndResumedAreBooted, ResumesGoOn};
 ghost use Rattle.run_scripts.specs.Checks.{StackOutIsNotMet, YesSuffices};
 ghost use Rattle.run_scripts.specs.Faults.{FaultsLeave, SaveFaultsLeave};
@@ -19,7 +19,9 @@ use c0_unit::laws::{trees_have_places, units_are_short, units_stand};
 use cvm_model::{
     units_are_kernels, units_dont_matter, units_replay, units_stay_typed, users_are_isolated,
 };
-use cvm_outside::script::{scripts_blame, scripts_count, scripts_store, scripts_tell};
+use cvm_outside::script::{
+    scripts_blame, scripts_count, scripts_count_files, scripts_store, scripts_tell,
+};
 use kernel_linker::laws::{
     accepted_systems_are_of_their_images, opened_units_are_their_sources, spelled_images_fit,
 };
@@ -281,6 +283,13 @@ pub fn nothing_is_loaded()
 pub fn gets_come_first()
     ensures { GetsComeFirst }
 {}
+
+/// A law: where nobody is blamed and no file is too long, the shelf is called once for each file that the words name, and once for one that is put.
+pub fn shelf_is_called()
+    ensures { ShelfIsCalled }
+{
+    scripts_count_files();
+}
 
 /// A law: with enough steps a save is done, or its kernel faulted.
 pub fn saves_complete()
