@@ -220,7 +220,7 @@ use Rattle.kernel_linker.specs.Accept.{{ImageSystem}}
 use Rattle.cvm_shell.specs.declared.exit_status.Status.{{Status}}
 use Rattle.cvm_shell.specs.declared.exit_status.Status.TheVariants.{{KernelFault, Memory}}
 use Rattle.cvm_shell.specs.declared.boot.Session.{{Session}}
-use Rattle.cvm_shell.specs.Host.{{Host}}
+use Rattle.cvm_outside.specs.Outside.{{Outside}}
 use Rattle.cvm_shell.specs.Boot.{{booted, around, first_state, steps_before, IsHonest}}
 use Rattle.cvm_shell.specs.CommandEnds.{{Headlines}}
 use Rattle.kernel_boots.specs.Systems.{{AsksSystem, SystemShown, HasHalted}}
@@ -244,7 +244,7 @@ pub record Shown (x : Environment) (y : System) (s : State) (late raised turns s
 
 -- EACH BOOT of an image with the kernel's text and these users shows this, under every schedule
 abbrev pub SystemBoots : Type 0
-SystemBoots = {params_of}{premises}(words : List (List ℕ)) (status : Status) (old new : Host) → Headlines (λ (o : Host). o) words status old new
+SystemBoots = {params_of}{premises}(words : List (List ℕ)) (status : Status) (old new : Outside) → Headlines (λ (o : Outside). o) words status old new
     → (session : Session) (s : ImageSystem) (rows : Rows) (before : List (List ℕ)) → (h : IsHonest words session s rows before old new)
     → status ≢ Memory → session.view ≡ Boot → AsksSystem kernel_text ({users}) h.asked
     → (text : List ℕ) × (new.sink.text ≡ append_known old.sink.text text)

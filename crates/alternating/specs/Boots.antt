@@ -13,7 +13,7 @@ use Rattle.kernel_linker.specs.Accept.{ImageSystem}
 use Rattle.cvm_shell.specs.declared.exit_status.Status.{Status}
 use Rattle.cvm_shell.specs.declared.exit_status.Status.TheVariants.{Done, KernelFault, Memory}
 use Rattle.cvm_shell.specs.declared.boot.Session.{Session}
-use Rattle.cvm_shell.specs.Host.{Host}
+use Rattle.cvm_outside.specs.Outside.{Outside}
 use Rattle.cvm_shell.specs.Boot.{booted, around, first_state, steps_before, IsHonest}
 use Rattle.cvm_shell.specs.CommandEnds.{Headlines}
 use Rattle.kernel_theorems.specs.Lines.{by_lines}
@@ -56,7 +56,7 @@ pub record AlternatingShown (x : Environment) (y : System) (s : State) (late rai
 
 -- EACH BOOT of an image with the kernel's text and these users shows this, under every schedule
 abbrev pub AlternatingBoots : Type 0
-AlternatingBoots = (words : List (List ℕ)) (status : Status) (old new : Host) → Headlines (λ (o : Host). o) words status old new
+AlternatingBoots = (words : List (List ℕ)) (status : Status) (old new : Outside) → Headlines (λ (o : Outside). o) words status old new
     → (session : Session) (s : ImageSystem) (rows : Rows) (before : List (List ℕ)) → (h : IsHonest words session s rows before old new)
     → status ≢ Memory → session.view ≡ Boot → AsksSystem kernel_text (user_1 ∷ user_2 ∷ []) h.asked
     → (text : List ℕ) × (new.sink.text ≡ append_known old.sink.text text)

@@ -17,7 +17,7 @@ use Rattle.user_c0.specs.Program.{steps_of}
 use Rattle.cvm_shell.specs.declared.exit_status.Status.{Status}
 use Rattle.cvm_shell.specs.declared.exit_status.Status.TheVariants.{Done, KernelFault, Memory}
 use Rattle.cvm_shell.specs.declared.boot.Session.{Session}
-use Rattle.cvm_shell.specs.Host.{Host}
+use Rattle.cvm_outside.specs.Outside.{Outside}
 use Rattle.cvm_shell.specs.Boot.{booted, around, first_state, steps_before, IsHonest}
 use Rattle.cvm_shell.specs.CommandEnds.{Headlines}
 use Rattle.kernel_boots.specs.Boots.{AsksSource}
@@ -44,7 +44,7 @@ pub record ProgramsAnsweredShown (x : Environment) (y : System) (s : State) (lat
 -- EACH BOOT of an image with the kernel's text and the images of two such programs shows this, under every schedule
 abbrev pub AnyProgramsAnswered : Type 0
 AnyProgramsAnswered = (one two : CUnit) (n k v w : ℕ) → BringsAndEnds one n v v → BringsAndEnds two k w (v + w) → v + w < 2 ^ 31
-    → (words : List (List ℕ)) (status : Status) (old new : Host) → Headlines (λ (o : Host). o) words status old new
+    → (words : List (List ℕ)) (status : Status) (old new : Outside) → Headlines (λ (o : Outside). o) words status old new
     → (session : Session) (s : ImageSystem) (rows : Rows) (before : List (List ℕ)) → (h : IsHonest words session s rows before old new)
     → status ≢ Memory → session.view ≡ Boot → AsksSystem kernel_text (image_words one ∷ image_words two ∷ []) h.asked
     → (text : List ℕ) × (new.sink.text ≡ append_known old.sink.text text)
@@ -56,7 +56,7 @@ AnyProgramsAnswered = (one two : CUnit) (n k v w : ℕ) → BringsAndEnds one n 
 abbrev pub AnyCountedProgramsAnswered : Type 0
 AnyCountedProgramsAnswered = (one two : CUnit) (n k v w a b c d : ℕ) → BringsAndEnds one n v v → BringsAndEnds two k w (v + w) → v + w < 2 ^ 31
     → TrapsThrough (first_flat (image_words one)) (v ∷ []) (a ∷ b ∷ []) → TrapsThrough (first_flat (image_words two)) ((v + w) ∷ []) (c ∷ d ∷ [])
-    → (words : List (List ℕ)) (status : Status) (old new : Host) → Headlines (λ (o : Host). o) words status old new
+    → (words : List (List ℕ)) (status : Status) (old new : Outside) → Headlines (λ (o : Outside). o) words status old new
     → (session : Session) (s : ImageSystem) (rows : Rows) (before : List (List ℕ)) → (h : IsHonest words session s rows before old new)
     → status ≢ Memory → session.view ≡ Boot → AsksSystem kernel_text (image_words one ∷ image_words two ∷ []) h.asked
     → (text : List ℕ) × (new.sink.text ≡ append_known old.sink.text text)
@@ -73,7 +73,7 @@ pub record AddersAnswered (x : Environment) (y : System) (s : State) (late raise
 
 -- EACH BOOT of an image with the kernel's text whose users are compiled of the two texts, under every schedule
 abbrev pub CompiledAnswersBoot : Type 0
-CompiledAnswersBoot = (words : List (List ℕ)) (status : Status) (old new : Host) → Headlines (λ (o : Host). o) words status old new
+CompiledAnswersBoot = (words : List (List ℕ)) (status : Status) (old new : Outside) → Headlines (λ (o : Outside). o) words status old new
     → (session : Session) (s : ImageSystem) (rows : Rows) (before : List (List ℕ)) → (h : IsHonest words session s rows before old new)
     → status ≢ Memory → session.view ≡ Boot → AsksSource kernel_text h.asked → (layer : Map → List ℕ → List ℕ) → IsLinkedOf layer text_ten text_twenty s
     → (text : List ℕ) × (new.sink.text ≡ append_known old.sink.text text)

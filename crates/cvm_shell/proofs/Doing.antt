@@ -1,6 +1,6 @@
 -- How a command ends, by the gets of its stage and by what was done behind them.
 use Rattle.std.proofs.Common.{◌≡◌, ◌≢◌, ◌⊎◌, inl, inr, ℕ, List, [], ◌∷◌, ◌++◌, append-nil, refl, sym, ◌∙◌, subst, Some, None, Ok, Err}
-use Rattle.std.specs.Prelude.{Option, Result, OnOk, OnErr, codes}
+use Rattle.std.specs.Prelude.{Option, Result, IfSome, OnOk, OnErr, codes}
 use Rattle.std.specs.Io.KnownBytes.{append_known}
 use Rattle.cvm_outside.specs.Causes.{Counts}
 use Rattle.cvm_outside.specs.Told.{AppendsPart, TOO_LONG}
@@ -11,6 +11,7 @@ use Rattle.cvm_outside.specs.declared.sink.SinkFault.{SinkFault}
 use Rattle.cvm_outside.proofs.Putting.{put_once, performed}
 use Rattle.real_layer.specs.Image.{layer_image}
 use Rattle.boot_run.specs.Closing.{says}
+use Rattle.boot_run.specs.SavedRuns.{IsDisk}
 use Rattle.machine_save.proofs.SaveCalls.{OnePut, put_does, put_fails}
 use Rattle.boot_turns.specs.declared.answers.View.{View}
 use Rattle.boot_turns.specs.declared.answers.View.TheVariants as view
@@ -20,13 +21,13 @@ use Rattle.cvm_shell.specs.declared.boot.Stop.TheVariants as Stops
 use Rattle.cvm_shell.specs.declared.refusal.Refusal.{Refusal as ByCode}
 use Rattle.cvm_shell.specs.declared.refusal.Refusal.TheVariants as by
 use Rattle.cvm_shell.specs.Command.{Boot, Sample, Command, boot, sample, IsCommand, IsNoCommand, IsSample, command_of}
-use Rattle.cvm_shell.specs.Plan.{Plan, bad_words, refuses, puts, prints, no_command}
+use Rattle.cvm_shell.specs.Plan.{Plan, bad_words, refuses, puts, boots, saves, resumes, prints, no_command}
 use Rattle.cvm_shell.specs.Refusal.{too_long}
 use Rattle.cvm_shell.specs.Views.{refusal_view, stated_row, stated_status}
 use Rattle.cvm_shell.specs.Stages.{IsSamplePlan}
-use Rattle.cvm_shell.specs.Ends.{Ends, done, no_file, no_memory, GetsFor, all, up_to, CommandGets, files_of, gets, IsNotGot, Wants, behind, answered}
+use Rattle.cvm_shell.specs.Ends.{Ends, done, no_file, no_memory, GetsFor, all, up_to, CommandGets, files_of, gets, AreBytes, IsFound, Finds, IsNotGot, Wants, behind, answered}
 use Rattle.cvm_shell.specs.Does.{AreGot, StopGets, Acts, DoesPlan, DoesOrWants}
-use Rattle.cvm_shell.proofs.Endings.{FilesPlan, plan_of, only_none, which, one_refusal}
+use Rattle.cvm_shell.proofs.CommandPlans.{FilesPlan, plan_of, only_none, which, one_refusal}
 use Rattle.cvm_shell.proofs.GotCalls.{beside}
 use Rattle.cvm_shell.proofs.OneCommand.{one_command}
 
@@ -71,16 +72,33 @@ its_gets : (words : List (List ℕ)) (file : List ℕ → Option (List ℕ)) (c 
 its_gets words file c p taken got is some h =
     (λ d other. let P : Command → Type 0 = λ x. GetsFor file (files_of x) taken p got in subst P (one_command words c d is other) h, λ e. absurd (some e))
 
+-- WHAT IT FINDS, whatever its plan is
+pub found : (words : List (List ℕ)) (c : Command) (old : Outside) → IsCommand words c → AreBytes old.shelf.file (files_of c) → IfSome old.disk.sectors (IsDisk old.disk.size) → IsFound words old
+found words c old is bytes disk = record {
+  files = λ d other. subst (λ (x : Command). AreBytes old.shelf.file (files_of x)) (one_command words c d is other) bytes;
+  disk = disk;
+}
+
+finds : (p : Plan) (words : List (List ℕ)) (old : Outside) → IsFound words old → Finds p words old
+finds (boots session s rows) words old f = f
+finds (saves session s rows name) words old f = f
+finds (resumes session s rows machine) words old f = f
+finds bad_words words old f = tt
+finds (refuses r) words old f = tt
+finds (puts name bytes) words old f = tt
+finds (prints text) words old f = tt
+
 -- A PLAN WAS DONE behind all gets
 behind_gets : (words : List (List ℕ)) (c : Command) (p : Plan) (old mid new : Outside) (status : Status) → IsCommand words c → FilesPlan old.shelf.file c p → p ≢ bad_words → p ≢ refuses too_long
-    → Performs (gets (files_of c)) old mid None → (files_of c ≢ [] → new.shelf.taken ≢ TOO_LONG) → DoesPlan p mid new status → Ends words old new status
-behind_gets words c p old mid new status is plan some short got few d = done status (record {
+    → Finds p words old → Performs (gets (files_of c)) old mid None → (files_of c ≢ [] → new.shelf.taken ≢ TOO_LONG) → DoesPlan p mid new status → Ends words old new status
+behind_gets words c p old mid new status is plan some short told got few d = done status (record {
   plan = p;
   is_plan = plan_of words old.shelf.file c p is plan;
   got = gets (files_of c);
   gets = its_gets words old.shelf.file c p new.shelf.taken (gets (files_of c)) is some (all p short few);
   mid = mid;
   files = got;
+  finds = told;
   script = d.script;
   due = d.due;
   asks = d.asks;
@@ -91,24 +109,24 @@ behind_gets words c p old mid new status is plan some short got few d = done sta
 })
 
 pub plan_done : (words : List (List ℕ)) (c : Command) (p : Plan) (old mid new : Outside) (status : Status) → IsCommand words c → FilesPlan old.shelf.file c p → p ≢ bad_words → p ≢ refuses too_long
-    → AreGot (files_of c) old mid → new.shelf.taken ≡ mid.shelf.taken → DoesPlan p mid new status → Ends words old new status
-plan_done words c p old mid new status is plan some short got taken d =
-    behind_gets words c p old mid new status is plan some short got.performs (λ named h. got.few (sym taken ∙ h)) d
+    → Finds p words old → AreGot (files_of c) old mid → new.shelf.taken ≡ mid.shelf.taken → DoesPlan p mid new status → Ends words old new status
+plan_done words c p old mid new status is plan some short told got taken d =
+    behind_gets words c p old mid new status is plan some short told got.performs (λ named h. got.few (sym taken ∙ h)) d
 
 -- or there was no memory for it
 pub run_done : (words : List (List ℕ)) (c : Command) (p : Plan) (old mid new : Outside) (status : Status) → IsCommand words c → FilesPlan old.shelf.file c p → p ≢ bad_words → p ≢ refuses too_long
-    → AreGot (files_of c) old mid → new.shelf.taken ≡ mid.shelf.taken → DoesOrWants p mid new status → Ends words old new status
-run_done words c p old mid new status is plan some short got taken (inl d) = plan_done words c p old mid new status is plan some short got taken d
-run_done words c p old mid new status is plan some short got taken (inr (m, e)) =
+    → IsFound words old → AreGot (files_of c) old mid → new.shelf.taken ≡ mid.shelf.taken → DoesOrWants p mid new status → Ends words old new status
+run_done words c p old mid new status is plan some short f got taken (inl d) = plan_done words c p old mid new status is plan some short (finds p words old f) got taken d
+run_done words c p old mid new status is plan some short f got taken (inr (m, e)) =
     subst (Ends words old new) (sym m)
     (no_memory c is (behind (files_of c) [] (append-nil (files_of c)) got.short (subst (λ (at : Outside). Performs (gets (files_of c)) old at None) (sym e) got.performs)
     (λ named h. got.few (sym taken ∙ h))))
 
 -- A COMMAND THAT GETS NO FILE
 pub nothing_got : (words : List (List ℕ)) (c : Command) (p : Plan) (old new : Outside) (status : Status) → files_of c ≡ [] → IsCommand words c → FilesPlan old.shelf.file c p → p ≢ bad_words → p ≢ refuses too_long
-    → DoesPlan p old new status → Ends words old new status
-nothing_got words c p old new status none is plan some short d =
-    behind_gets words c p old old new status is plan some short (subst (λ (names : List (List ℕ)). Performs (gets names) old old None) (sym none) (all_done old)) (λ named. absurd (named none)) d
+    → Finds p words old → DoesPlan p old new status → Ends words old new status
+nothing_got words c p old new status none is plan some short told d =
+    behind_gets words c p old old new status is plan some short told (subst (λ (names : List (List ℕ)). Performs (gets names) old old None) (sym none) (all_done old)) (λ named. absurd (named none)) d
 
 pub nothing_wanted : (words : List (List ℕ)) (c : Command) (old new : Outside) → files_of c ≡ [] → IsCommand words c → new ≡ old → Ends words old new Memory
 nothing_wanted words c old new none is e =
@@ -143,6 +161,7 @@ refused_done words c r old mid new status is plan stops taken acts =
       gets = its_gets words old.shelf.file c (refuses (refusal_view r)) new.shelf.taken h.got is (λ e. cc) h.gets;
       mid = mid;
       files = h.performs;
+      finds = tt;
       script = d.script;
       due = d.due;
       asks = d.asks;
@@ -156,7 +175,7 @@ refused_done words c r old mid new status is plan stops taken acts =
 pub told_done : (words : List (List ℕ)) (c : Command) (text : List ℕ) (old mid new : Outside) (status : Status) → IsCommand words c → FilesPlan old.shelf.file c (prints text)
     → AreGot (files_of c) old mid → new.shelf.taken ≡ mid.shelf.taken → Acts (says text) Done mid new status → Ends words old new status
 told_done words c text old mid new status is plan got taken acts =
-    plan_done words c (prints text) old mid new status is plan (λ e. cc) (λ e. cc) got taken
+    plan_done words c (prints text) old mid new status is plan (λ e. cc) (λ e. cc) tt got taken
     (record { script = says text; due = Done; asks = (refl, refl); blamed = acts.blamed; performs = acts.performs; joins = tt; status_is = acts.status_is })
 
 -- what was made was put
@@ -165,7 +184,7 @@ pub put_done : (words : List (List ℕ)) (c : Command) (name put bytes : List �
     → Ends words (beside sink disk old) (beside sink disk new) (put_status r)
 put_done words c name put bytes r sink disk old mid new is plan e got p =
     let h : OnePut name bytes mid new r = subst (λ (bs : List ℕ). OnePut name bs mid new r) e p in
-    plan_done words c (puts name bytes) (beside sink disk old) (beside sink disk mid) (beside sink disk new) (put_status r) is plan (λ d. cc) (λ d. cc) got p.taken (was_put name bytes sink disk mid new r h)
+    plan_done words c (puts name bytes) (beside sink disk old) (beside sink disk mid) (beside sink disk new) (put_status r) is plan (λ d. cc) (λ d. cc) tt got p.taken (was_put name bytes sink disk mid new r h)
 
 -- a file could not be got
 pub shelf_done : (words : List (List ℕ)) (c : Command) (old new : Outside) → IsCommand words c → IsNotGot (files_of c) old new → Ends words old new Shelf
@@ -184,6 +203,7 @@ bad_words_done words old new status none acts = done status (record {
   gets = (λ c is. absurd (none c is), λ e. refl);
   mid = old;
   files = all_done old;
+  finds = tt;
   script = says (codes "bad words\n");
   due = Words;
   asks = (refl, refl);
@@ -200,14 +220,15 @@ viewed P b (view.Trace u) h = h
 
 -- THE SAMPLE of a number
 pub sample_done : (words : List (List ℕ)) (x : Sample) (p : Plan) (old new : Outside) (status : Status) → IsSample words x → IsSamplePlan layer_image x.number p → p ≢ bad_words → p ≢ refuses too_long
-    → DoesOrWants p old new status → Ends words old new status
-sample_done words x p old new status is plan some short (inl d) = nothing_got words (sample x) p old new status refl is plan some short d
-sample_done words x p old new status is plan some short (inr (m, e)) = subst (Ends words old new) (sym m) (nothing_wanted words (sample x) old new refl is e)
+    → IfSome old.disk.sectors (IsDisk old.disk.size) → DoesOrWants p old new status → Ends words old new status
+sample_done words x p old new status is plan some short disk (inl d) =
+    nothing_got words (sample x) p old new status refl is plan some short (finds p words old (found words (sample x) old is tt disk)) d
+sample_done words x p old new status is plan some short disk (inr (m, e)) = subst (Ends words old new) (sym m) (nothing_wanted words (sample x) old new refl is e)
 
 pub sample_refused : (words : List (List ℕ)) (x : Sample) (r : ByCode) (old new : Outside) (status : Status) → IsSample words x → IsSamplePlan layer_image x.number (refuses (refusal_view r)) → r ≢ by.TooLong
     → Acts (says (stated_row r)) (stated_status r) old new status → Ends words old new status
 sample_refused words x r old new status is plan short acts =
-    nothing_got words (sample x) (refuses (refusal_view r)) old new status refl is plan (λ e. cc) (other (which r)) (refusal_plan r old new status acts)
+    nothing_got words (sample x) (refuses (refusal_view r)) old new status refl is plan (λ e. cc) (other (which r)) tt (refusal_plan r old new status acts)
   where
     other : (r ≡ by.TooLong) ⊎ (refusal_view r ≢ too_long) → refuses (refusal_view r) ≢ refuses too_long
     other (inl e) h = short e

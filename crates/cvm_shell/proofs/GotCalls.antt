@@ -1,6 +1,6 @@
 -- Which gets a stage made: one, some behind others, and those of a stage that goes on with what was got.
 use Rattle.std.proofs.Common.{◌≡◌, ◌≢◌, ℕ, ◌≤◌, min, false, List, [], ◌∷◌, ◌++◌, length, take, Vec, Global, append_assoc, append-nil, refl, sym, ap, ◌∙◌, subst, arith, Some, None, Ok, Err}
-use Rattle.std.specs.Prelude.{Option, IfSome, IfOk, IfErr, IsErrOf, Result, ◌↔◌}
+use Rattle.std.specs.Prelude.{Option, IfSome, IfOk, IfErr, IsErrOf, Result, ◌↔◌, All}
 use Rattle.std.specs.declared.string.String.{String}
 use Rattle.cvm_outside.specs.Causes.{ShelfCounts}
 use Rattle.cvm_outside.specs.Told.{TOO_LONG, Tells}
@@ -13,7 +13,7 @@ use Rattle.cvm_shell.specs.declared.boot.Stop.{Stop}
 use Rattle.cvm_shell.specs.declared.boot.Stop.TheVariants as Stops
 use Rattle.cvm_shell.specs.declared.refusal.Refusal.TheVariants as by
 use Rattle.cvm_shell.specs.Command.{texts}
-use Rattle.cvm_shell.specs.Ends.{gets, AreShort, MayBeShort, MayBeLong, IsNotGot, Wants, behind, within, wants}
+use Rattle.cvm_shell.specs.Ends.{IsByte, gets, AreShort, MayBeShort, MayBeLong, IsNotGot, Wants, behind, within, wants}
 use Rattle.cvm_shell.specs.Stages.{stop_of}
 use Rattle.cvm_shell.specs.Does.{AreGot, IsLong, StopGets, AnswerGets}
 
@@ -154,11 +154,6 @@ module _ (a : List (List ℕ)) (old mid : Outside) (p : AreGot a old mid) where
   stop_both b new Stops.Shelf q = not_both b new q
   stop_both b new Stops.Memory q = wants_both b new q
 
--- what a stage gets behind files that were got
-pub got_then : {T : Type 0} (a b : List (List ℕ)) (old mid new : Outside) (r : Result T Stop) → AreGot a old mid → AnswerGets b mid new r → AnswerGets (a ++ b) old new r
-got_then a b old mid new (Ok v) p q = are_both a old mid p b new q
-got_then a b old mid new (Err s) p q = stop_both a old mid p b new s q
-
 -- where it stops
 pub stopped_then : (a b : List (List ℕ)) (old mid new : Outside) (s : Stop) → AreGot a old mid → StopGets b mid new s → StopGets (a ++ b) old new s
 stopped_then a b old mid new s p q = stop_both a old mid p b new s q
@@ -182,3 +177,16 @@ wants_more a b names old new e p = behind a b e p.short p.performs (λ some. p.f
 pub none_got : (names : List (String Global)) (at : Outside) → at.shelf.taken ≢ TOO_LONG → AreGot (texts (take 0 names)) at at
 none_got [] at few = record { performs = done at; short = tt; few = few }
 none_got (n ∷ names) at few = record { performs = done at; short = tt; few = few }
+
+-- WHAT WAS GOT is of bytes, where it is told
+told_bytes : (told : Option (List ℕ)) (items : List ℕ) → Tells told items → All IsByte items → IfSome told (All IsByte)
+told_bytes None items t h = tt
+told_bytes (Some xs) items t h = subst (All IsByte) t h
+
+-- from a shelf whose files tell the same
+pub got_bytes : (file other : List ℕ → Option (List ℕ)) (name items : List ℕ) → other name ≡ file name → Tells (other name) items → All IsByte items → IfSome (file name) (All IsByte)
+got_bytes file other name items same t h = told_bytes (file name) items (subst (λ (o : Option (List ℕ)). Tells o items) same t) h
+
+pub if_ok : {T : Type 0} (P : Type 0) (r : Result T Stop) → P → IfOk r (λ x. P)
+if_ok P (Ok x) h = h
+if_ok P (Err e) h = tt

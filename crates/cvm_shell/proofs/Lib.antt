@@ -1,12 +1,10 @@
 mod AcceptedAs
 mod Answered
-mod BootEndings
 mod BootPlans
-mod Causing
 mod CheckPlans
 mod CheckWords
 mod Doing
-mod Endings
+mod CommandPlans
 mod ListsOfTwo
 mod FirstBad
 mod ListsOfFive
@@ -23,12 +21,10 @@ mod MigratePlans
 mod OneCommand
 mod Plans
 mod ProgramPlans
-mod SampleEndings
 mod SamplePlans
-mod SaveEndings
 mod SavePlans
+mod SavedAndResumed
 mod SavedCalls
-mod ResumeEndings
 mod ResumedCalls
 mod SaveWords
 mod SourceStops
@@ -38,6 +34,5 @@ mod ProgramJournals
 mod StackTexts
 mod Spellings
 mod StartAnswers
-mod Sufficient
 mod UserWords
 mod LinkedUsers

@@ -9,7 +9,7 @@ use Rattle.cvm_outside.specs.declared.sink.Sink as sink_of
 use Rattle.cvm_outside.specs.declared.sectors.Sectors as sectors_of
 use Rattle.cvm_outside.proofs.Putting.{same_script}
 use Rattle.mips_machine.specs.Steps.{script_of_step as transfer_due, outside_of}
-use Rattle.saved_file.specs.Resumable.{CanBeResumed}
+use Rattle.saved_file.specs.Resumable.{CanBeResumed, Wanted}
 use Rattle.saved_file.specs.Answer.{answer as machine_of}
 use Rattle.saved_file.specs.declared.fault.SaveFault.{SaveFault}
 use Rattle.saved_file.specs.declared.fault.SaveFault.TheVariants as saving
@@ -39,17 +39,29 @@ use Rattle.cvm_shell.specs.declared.resuming.Resumable.{Resumable}
 use Rattle.cvm_shell.specs.declared.refusal.Refusal.TheVariants as by
 use Rattle.cvm_shell.specs.Boot.{sectors_needed, ended_as}
 use Rattle.cvm_shell.specs.Command.{Save, save_session}
-use Rattle.cvm_shell.specs.Plan.{Plan, bad_words, refuses, resumes, taken_plan}
+use Rattle.cvm_shell.specs.Plan.{Plan, bad_words, refuses, resumes, taken_plan, wanted_by}
 use Rattle.cvm_shell.specs.Refusal.{bad_save, small_disk, too_long, refusal_text}
 use Rattle.cvm_shell.specs.RunStatus.{power_status, run_status}
 use Rattle.cvm_shell.specs.SessionRuns.{run_of}
 use Rattle.cvm_shell.specs.Stages.{resumable_for}
 use Rattle.cvm_shell.specs.Ends.{small, over_told, over_untold, SavedRun, Joins, answered}
 use Rattle.cvm_shell.specs.Does.{Acts, DoesPlan, DoesOrWants}
+use Rattle.machine_save.specs.declared.resuming.ResumeFault.{ResumeFault}
+use Rattle.cvm_shell.proofs.StartAnswers.{same_wanted, same_need}
 use Rattle.cvm_shell.proofs.Doing.{refusal_plan}
-use Rattle.cvm_shell.proofs.ResumeEndings.{answered_so}
-use Rattle.cvm_shell.proofs.StartAnswers.{same_need}
 use Rattle.cvm_shell.proofs.SystemCalls.{same_status, some_status, named}
+
+-- what the bytes are answered by tells the plan
+pub answered_so : (r : Resumable) (c : Save) (P : Plan → Type 0) (a : Result (List ℕ) SaveFault) → machine_of (wanted_of r.ready.boot r.ready.schedule c.boot.turns) r.bytes.items ≡ a
+    → P (taken_plan (save_session c) (system_of r.ready.boot) r.ready.schedule a) → P (resumable_for c r)
+answered_so r c P a e h =
+    let same : a ≡ machine_of (wanted_by (system_of r.ready.boot) r.ready.schedule c.boot.turns) r.bytes.items =
+    sym e ∙ ap (λ (w : Wanted). machine_of w r.bytes.items) (same_wanted r.ready.boot r.ready.schedule c.boot.turns) in
+    subst (λ (x : Result (List ℕ) SaveFault). P (taken_plan (save_session c) (system_of r.ready.boot) r.ready.schedule x)) same h
+
+-- the numbers of a fault by other names
+pub small_named : (P : ResumeFault → Type 0) (need have n h : ℕ) → need ≡ n → have ≡ h → P (fault.SmallDisk n h) → P (fault.SmallDisk need have)
+small_named P need have n h a b p = subst (λ (k : ℕ). P (fault.SmallDisk k have)) (sym a) (subst (λ (k : ℕ). P (fault.SmallDisk n k)) (sym b) p)
 
 -- the plan is of a command, and refuses no file that is too long
 pub taken_words : (session : Session) (s : ImageSystem) (rows : Rows) (a : Result (List ℕ) SaveFault) → taken_plan session s rows a ≢ bad_words

@@ -3,7 +3,6 @@
 use Rattle.std.proofs.Common.{◌≡◌, ◌≢◌, ◌⊎◌, inl, inr, ℕ, List, refl, sym, ap, ◌∙◌, subst, Ok, Err}
 use Rattle.std.specs.Prelude.{Result, ⊤}
 use Rattle.layer_map.specs.declared.params.Params.{Params}
-use Rattle.real_layer.specs.Image.{layer_image}
 use Rattle.c0_tree.specs.Tree.{CUnit}
 use Rattle.c0_types.specs.Front.{IsFrontAnswer, IsUnitOf, IsSourceFaultOf, IsFirstFault}
 use Rattle.c0_types.specs.declared.source_fault.SourceFault.{SourceFault}
@@ -14,11 +13,8 @@ use Rattle.c0_types.specs.declared.fault.TypeFault.{TypeFault}
 use Rattle.c0_types.specs.declared.fault.TypeFault.TheVariants as typing
 use Rattle.boot_image.specs.Parts.{ImageParts as Image}
 use Rattle.boot_image.specs.Format.{spelling as image_bytes}
-use Rattle.boot_image.specs.Reading.{answer as image_of}
 use Rattle.object_file.specs.Parts.{ObjectParts as Object}
-use Rattle.schedule_file.specs.Rows.{Rows}
 use Rattle.kernel_linker.specs.Answers.{FrontGives}
-use Rattle.kernel_linker.specs.Accept.{ImageSystem}
 use Rattle.kernel_linker.specs.Link.{fitting, link_answer}
 use Rattle.kernel_linker.specs.Object.{object_of}
 use Rattle.kernel_linker.specs.declared.fault.LinkFault.{LinkFault}
@@ -29,8 +25,7 @@ use Rattle.cvm_shell.specs.declared.boot.Stop.{Stop}
 use Rattle.cvm_shell.specs.declared.boot.Stop.TheVariants as Stops
 use Rattle.cvm_shell.specs.declared.refusal.Refusal.TheVariants as by
 use Rattle.cvm_shell.specs.Refusal.{bad_source, unlinked}
-use Rattle.cvm_shell.specs.Plan.{Plan, refuses, boots, Accepts, scheduled_plan, AfterFiles, AfterLinking, AfterSource, PartsPlan, IsLinkedTo, IsPlan}
-use Rattle.cvm_shell.specs.Boot.{ArePartsOf}
+use Rattle.cvm_shell.specs.Plan.{Plan, refuses, AfterFiles, AfterLinking, AfterSource, PartsPlan, IsLinkedTo, IsPlan}
 use Rattle.cvm_shell.specs.Stages.{source_stop, link_stop}
 use Rattle.cvm_shell.specs.Views.{IfRefused, IfPlan}
 use Rattle.cvm_shell.proofs.Plans.{if_plan}
@@ -142,13 +137,3 @@ parts_booted made one layer session parts bytes schedule r h same plan =
     (subst (λ (x : Result Image LinkFault). IsPlan ⊤ (AfterLinking layer session parts.schedule x) p) (sym h.linked)
     (subst (λ (bs : List ℕ). IsPlan ⊤ (AfterFiles layer session bs parts.schedule) p) h.spelled
     (subst (λ (text : List ℕ). IsPlan ⊤ (AfterFiles layer session bytes text) p) same is)))) r plan
-
--- parts that are linked to an accepted image, with a valid schedule, come to the run of their system
-pub parts_run : (session : Session) (parts : Sampled) (s : ImageSystem) (rows : Rows) → ArePartsOf parts s rows → PartsPlan layer_image session parts (boots session s rows)
-parts_run session parts s rows h =
-    let accepted : Accepts layer_image (image_of (image_bytes h.linked.image)) (Ok s) = subst (λ (bs : List ℕ). Accepts layer_image (image_of bs) (Ok s)) h.linked.spelled h.accepted in (
-      Ok h.linked.unit,
-      h.linked.typed,
-      subst (λ (x : Result Image LinkFault). AfterLinking layer_image session parts.schedule x (boots session s rows)) (sym h.linked.linked)
-          (Ok s, accepted, sym (ap (scheduled_plan session s) h.valid)),
-    )

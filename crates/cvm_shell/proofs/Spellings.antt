@@ -8,7 +8,7 @@ use Rattle.cvm_text.specs.Number.{number_at}
 use Rattle.cvm_shell.specs.CompileProgram.{CompileProgram, IsCompileProgram}
 use Rattle.cvm_shell.specs.declared.boot.StartPoint.{StartPoint}
 use Rattle.cvm_shell.specs.declared.boot.StartPoint.TheVariants.{Loaded, Rom}
-use Rattle.cvm_shell.specs.Command.{Boot, Trace, CompileUser, CompileKernel, Link, Migrate, Sample, start_word, IsBoot, IsTrace, IsCompileUser, IsCompileKernel, IsLink, IsMigrate, IsSample}
+use Rattle.cvm_shell.specs.Command.{Boot, Trace, CompileUser, CompileKernel, Migrate, Sample, start_word, IsBoot, IsTrace, IsCompileUser, IsCompileKernel, IsLink, IsMigrate, IsSample}
 
 -- that the numbers which are spelled are read, as the reader of numbers says it
 abbrev pub AreRead : Type 0
@@ -163,18 +163,6 @@ words_of_one_program words word kind source image e c is =
 pub words_of_link : (words : List (List ℕ)) (word object params image : List ℕ) (users : List (List ℕ)) → words ≡ word ∷ object ∷ params ∷ image ∷ users → word ≡ codes "link"
     → IsLink words (record { object = object; params = params; image = image; users = users })
 words_of_link words word object params image users e w = record { spelled = cc }
-
--- and of no other
-pub words_of_one_link : (words : List (List ℕ)) (word object params image : List ℕ) (users : List (List ℕ)) → words ≡ word ∷ object ∷ params ∷ image ∷ users → (l : Link) → IsLink words l
-    → Some (record { object = object; params = params; image = image; users = users }) ≡ Some l
-words_of_one_link words word object params image users e l is =
-    let spelled : word ∷ object ∷ params ∷ image ∷ users ≡ codes "link" ∷ l.object ∷ l.params ∷ l.image ∷ l.users = sym e ∙ is.spelled in
-    let o : object ≡ l.object = cc in
-    let p : params ≡ l.params = cc in
-    let i : image ≡ l.image = cc in
-    let u : users ≡ l.users = cc in
-    let link_of : List ℕ → List ℕ → List ℕ → List (List ℕ) → Link = λ x y z w. record { object = x; params = y; image = z; users = w } in
-    ap (λ x. Some (link_of x params image users)) o ∙ ap (λ x. Some (link_of l.object x image users)) p ∙ ap (λ x. Some (link_of l.object l.params x users)) i ∙ ap (λ x. Some (link_of l.object l.params l.image x)) u
 
 -- these words are a migration
 pub words_of_migrate : (words : List (List ℕ)) (word old image : List ℕ) → words ≡ word ∷ old ∷ image ∷ [] → word ≡ codes "migrate" → IsMigrate words (record { old = old; image = image })

@@ -1,6 +1,7 @@
 -- A run of a system that is never out of stack doesn't stop for want of it, and `fault StackOut` isn't printed.
-use Rattle.std.proofs.Common.{◌≡◌, ◌≢◌, ℕ, List, ◌++◌, sym, ◌∙◌, subst}
-use Rattle.std.specs.Prelude.{codes}
+use Rattle.std.specs.Io.KnownBytes.{append_known}
+use Rattle.std.proofs.Common.{◌≡◌, ◌≢◌, ℕ, List, [], ◌∷◌, ◌++◌, Some, sym, ap, ◌∙◌, subst}
+use Rattle.std.specs.Prelude.{Option, codes}
 use Rattle.mips_table.specs.Device.{Environment}
 use Rattle.cvm_model.specs.declared.kernel_fault.KernelFault.TheVariants.{StackOut}
 use Rattle.cvm_model.specs.Primitives.{user_of}
@@ -15,8 +16,17 @@ use Rattle.boot_turns.specs.declared.answers.View.TheVariants as view
 use Rattle.cvm_shell.specs.Boot.{booted, around, first_state}
 use Rattle.boot_report.specs.Texts.{fault_row}
 use Rattle.cvm_shell.specs.Suffices.{EndsWith, StackOutIsNotPrinted}
-use Rattle.cvm_shell.proofs.Sufficient.{one_text}
 use Rattle.cvm_shell.proofs.StackTexts.{IsClean, rows_clean, boot_clean, journal_clean, trace_clean, clean_end}
+
+-- behind what stood there
+behind : (before a b : List ℕ) → before ++ a ≡ before ++ b → a ≡ b
+behind [] a b e = e
+behind (x ∷ before) a b e = behind before a b cc
+
+one_text : (told : Option (List ℕ)) (before text rest : List ℕ) → told ≡ Some before → append_known told text ≡ Some (before ++ rest) → text ≡ rest
+one_text told before text rest e h =
+    let all : Some (before ++ text) ≡ Some (before ++ rest) = sym (ap (λ (o : Option (List ℕ)). append_known o text) e) ∙ h in
+    behind before text rest cc
 
 module _ (x : Environment) (y : System) (s : State) (never : (k : ℕ) (c : Cvm) → IsCvm y (lines_of_turn x s) k c → c.status ≢ Faulted StackOut) where
   printed_clean : (v : View) (t : ℕ) (text : List ℕ) → Printed x y s v t text → IsClean text

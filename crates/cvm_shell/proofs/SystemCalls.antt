@@ -31,7 +31,6 @@ use Rattle.cvm_shell.specs.declared.boot.Session.{Session}
 use Rattle.cvm_shell.specs.declared.boot.StartPoint.{StartPoint}
 use Rattle.cvm_shell.specs.declared.boot.StartPoint.TheVariants.{Loaded, Rom}
 use Rattle.cvm_shell.specs.Boot.{sectors_needed, ended_as}
-use Rattle.cvm_shell.specs.Host as Host
 use Rattle.cvm_shell.specs.Refusal.{small_disk, no_such_user, refusal_text}
 use Rattle.cvm_shell.specs.Plan.{boots, saves}
 use Rattle.cvm_shell.specs.SessionRuns.{run_of}
@@ -123,10 +122,6 @@ some_status (Err load.Disk) begun = record { due = Done; one = inl refl; is = re
 some_status (Err load.Memory) begun = absurd (cc)
 some_status (Err (load.SmallDisk need have)) begun = absurd (cc)
 some_status (Err (load.NoSuchUser user users)) begun = absurd (cc)
-
--- files of which nothing is known, for what hangs on none
-pub untold_files : Host.Files
-untold_files = record { file = λ name. None; taken = 0; faults = 0 }
 
 -- A RUN WAS BEGUN
 module _ {O D : Type 0} (text : sink_of.Ghosts O) (told : sectors_of.Ghosts D) (r : Ready) (session : Session) (out reout : O) (disk redisk : D) (shelf : Files) where

@@ -25,6 +25,7 @@ use Rattle.boot_turns.specs.Runs.{Run, Past, IsPast, state_at, turns_at, steps_m
 use Rattle.cvm_shell.specs.Boot.{booted, sectors_needed}
 use Rattle.boot_run.specs.LoadScript.{load_script}
 use Rattle.boot_run.specs.RunEnds.{SeesUser}
+use Rattle.boot_run.specs.SavedRuns.{IsDisk}
 use Rattle.cvm_shell.specs.Saves.{saved_row}
 use Rattle.boot_run.specs.Closing.{says}
 use Rattle.cvm_shell.specs.SessionRuns.{run_of, pages_loaded}
@@ -151,6 +152,25 @@ abbrev pub CommandGets : List (List ℕ) → (List ℕ → Option (List ℕ)) �
 CommandGets words file taken p script =
     ((c : Command) → IsCommand words c → GetsFor file (files_of c) taken p script) × (p ≡ bad_words → script ≡ [])
 
+-- a file is of bytes, where it is told
+abbrev pub IsByte : ℕ → Type 0
+IsByte b = b < 256
+
+abbrev pub AreBytes : (List ℕ → Option (List ℕ)) → List (List ℕ) → Type 0
+AreBytes file [] = ⊤
+AreBytes file (name ∷ rest) = IfSome (file name) (All IsByte) × AreBytes file rest
+
+-- WHAT A RUN FINDS where it is told: the files that were got are of bytes, and there are as many sectors as the disk has, of 1,024 words each
+pub record IsFound (words : List (List ℕ)) (old : Outside) : Type 0 where
+  pub files : (c : Command) → IsCommand words c → AreBytes old.shelf.file (files_of c)
+  pub disk : IfSome old.disk.sectors (IsDisk old.disk.size)
+
+abbrev pub Finds : Plan → List (List ℕ) → Outside → Type 0
+Finds (boots session s rows) words old = IsFound words old
+Finds (saves session s rows name) words old = IsFound words old
+Finds (resumes session s rows machine) words old = IsFound words old
+Finds other words old = ⊤
+
 -- by whose call an answer goes: the status that was due, or that of the object that failed
 abbrev pub answered : Status → Option Who → Status
 answered due None = due
@@ -211,6 +231,7 @@ pub record Does (words : List (List ℕ)) (old new : Outside) (status : Status) 
   pub gets : CommandGets words old.shelf.file new.shelf.taken plan got
   pub mid : Outside
   pub files : Performs got old mid None
+  pub finds : Finds plan words old
   pub script : List Call
   pub due : Status
   pub asks : PlanAsks plan mid script due

@@ -15,7 +15,7 @@ use Rattle.boot_turns.specs.Headline.{ending_of}
 use Rattle.kernel_linker.specs.Accept.{ImageSystem}
 use Rattle.cvm_shell.specs.declared.exit_status.Status.{Status}
 use Rattle.cvm_shell.specs.declared.boot.Session.{Session}
-use Rattle.cvm_shell.specs.Host.{Host}
+use Rattle.cvm_outside.specs.Outside.{Outside}
 use Rattle.cvm_shell.specs.Boot.{booted, around, first_state, ended_as}
 
 -- THE TEXT of a user's journal over its start machine: the start row, the journal's rows, and `halted` or `stopped` with the rows of the machine that the
@@ -24,16 +24,16 @@ abbrev pub replayed_text : (u : ℕ) → (first : Flat) → List JournalEntry �
 replayed_text u first j status = option_map (λ last. trace_text u first j last status) (replay first j)
 
 -- how many turns are complete where the run of a session ends
-abbrev pub turns_made : Session → ImageSystem → Rows → Host → (before : List (List ℕ)) → ℕ
+abbrev pub turns_made : Session → ImageSystem → Rows → Outside → (before : List (List ℕ)) → ℕ
 turns_made session s rows old before =
     let first = first_state session s rows before in complete (around rows old) first (end_within (around rows old) first session.turns session.steps)
 
 -- the lines of each of its turns
-abbrev pub lines_met : Session → ImageSystem → Rows → Host → (before : List (List ℕ)) → ℕ → ℕ
+abbrev pub lines_met : Session → ImageSystem → Rows → Outside → (before : List (List ℕ)) → ℕ → ℕ
 lines_met session s rows old before = lines_of_turn (around rows old) (first_state session s rows before)
 
 -- WHAT IS PRINTED of user u is that text, of its journal over the complete turns
-pub record IsolatedTrace (session : Session) (u : ℕ) (s : ImageSystem) (rows : Rows) (before : List (List ℕ)) (old new : Host) (status : Status) : Type 0 where
+pub record IsolatedTrace (session : Session) (u : ℕ) (s : ImageSystem) (rows : Rows) (before : List (List ℕ)) (old new : Outside) (status : Status) : Type 0 where
   pub units : ℕ
   pub turns : ℕ
   pub last : Cvm
@@ -57,7 +57,7 @@ pub record TellTheSame (u : ℕ) (first : Flat) (entries : List JournalEntry) (s
 
 -- A LAW: two traces of a user that starts alike and has the same journal tell the same of it, whatever else is in the two systems, their schedules and disks
 abbrev pub EqualJournalsTellTheSame : Type 0
-EqualJournalsTellTheSame = (session another : Session) (u : ℕ) (s r : ImageSystem) (rows inputs : Rows) (before present : List (List ℕ)) (old new past now : Host) (status ended : Status)
+EqualJournalsTellTheSame = (session another : Session) (u : ℕ) (s r : ImageSystem) (rows inputs : Rows) (before present : List (List ℕ)) (old new past now : Outside) (status ended : Status)
     (a : IsolatedTrace session u s rows before old new status) (b : IsolatedTrace another u r inputs present past now ended) →
     first_of (booted s rows) u ≡ first_of (booted r inputs) u → a.entries ≡ b.entries
     → TellTheSame u (first_of (booted s rows) u) a.entries a.last.status a.text b.last.status b.text

@@ -55,9 +55,8 @@ use Rattle.sample_maker.specs.Parts.{SampleParts as Sampled}
 use Rattle.sample_maker.specs.Sample.{sample_of}
 use Rattle.cvm_shell.specs.declared.boot.Session.{Session}
 use Rattle.cvm_shell.specs.CompileProgram.{CompileProgram, IsCompileProgram}
-use Rattle.cvm_shell.specs.Command.{Boot, Trace, Save, CompileUser, CompileKernel, Link, Migrate, Sample, Command, boot, trace, save, resume, compile_user, compile_kernel, compile_program, link, migrate, sample, check}
+use Rattle.cvm_shell.specs.Command.{Boot, Trace, Save, CompileUser, CompileKernel, Link, Migrate, Sample, Command, boot, trace, save, resume, compile_user, compile_kernel, compile_program, link, migrate, sample, check, IsBoot, IsTrace, IsSave, IsResume, IsCompileUser, IsCompileKernel, IsLink, IsMigrate, IsSample, IsCommand, IsNoCommand, boot_session, trace_session, save_session, sample_session}
 use Rattle.cvm_shell.specs.Check.{Check, IsCheck, Told, TellsObject}
-use Rattle.cvm_shell.specs.Command.{IsBoot, IsTrace, IsSave, IsResume, IsCompileUser, IsCompileKernel, IsLink, IsMigrate, IsSample, IsCommand, IsNoCommand, boot_session, trace_session, save_session, sample_session}
 use Rattle.cvm_shell.specs.Refusal.{Refusal, bad_text, bad_source, bad_object, bad_file, bad_program, unlinked, unaccepted, bad_schedule, bad_save, too_long}
 
 -- what is to be done

@@ -1,5 +1,5 @@
 -- The claim of a save: the run of its boot, which is left where the boot prints `stopped`, with the file of the machine there.
-use Rattle.std.specs.Prelude.{◌≡◌, ◌≢◌, ◌⊎◌, ℕ, ◌<◌, ◌≤◌, ◌^◌, List, [], ◌++◌, length, take, codes, Some, Ok}
+use Rattle.std.specs.Prelude.{◌≡◌, ◌≢◌, ℕ, ◌<◌, ◌≤◌, ◌^◌, List, ◌++◌, length, codes, Some, Ok}
 use Rattle.std.specs.List.{flat_map}
 use Rattle.std.specs.Io.KnownBytes.{append_known}
 use Rattle.cvm_outside.specs.Causes.{Rose}
@@ -9,35 +9,31 @@ use Rattle.schedule_file.specs.Rows.{Rows}
 use Rattle.mips_table.specs.Machine.{run}
 use Rattle.mips_table.specs.Turns.{end_within}
 use Rattle.saved_file.specs.Answer.{answer as machine_of}
-use Rattle.boot_turns.specs.Headline.{Ending, Done as IsDone, DiskFault, NoMemory}
-use Rattle.boot_run.specs.SavedRuns.{SavedAt, IsDisk, EndsInTurn}
-use Rattle.boot_run.specs.Sink.{behind}
-use Rattle.boot_run.specs.RunEnds.{ending_of_end}
-use Rattle.boot_run.specs.declared.whole.RunEnd.{RunEnd}
+use Rattle.boot_turns.specs.Headline.{Done as IsDone}
+use Rattle.boot_run.specs.SavedRuns.{SavedAt, IsDisk}
 use Rattle.kernel_linker.specs.Accept.{ImageSystem}
 use Rattle.machine_save.specs.Room.{FILE_ROOM}
 use Rattle.cvm_shell.specs.declared.exit_status.Status.{Status}
-use Rattle.cvm_shell.specs.declared.exit_status.Status.TheVariants.{Done, Disk, Shelf, Sink, Memory}
+use Rattle.cvm_shell.specs.declared.exit_status.Status.TheVariants.{Done, Memory}
 use Rattle.cvm_shell.specs.declared.boot.Session.{Session}
 use Rattle.cvm_shell.specs.Command.{Save, IsSave, save_session}
-use Rattle.cvm_shell.specs.Host.{Host, LeavesHost, Says}
-use Rattle.cvm_shell.specs.Refusal.{small_disk, refusal_text}
+use Rattle.cvm_outside.specs.Outside.{Outside}
 use Rattle.cvm_shell.specs.Plan.{most_bytes, wanted_by}
-use Rattle.cvm_shell.specs.Boot.{around, booted, first_state, sectors_needed, ended_as, SessionGoesOn, SessionRan, CallsOf, EndsLoaded, HasPlace, IsUnloaded, Headline, AreFilesOf}
+use Rattle.cvm_shell.specs.Boot.{around, booted, first_state, sectors_needed, SessionGoesOn, SessionRan, Headline, AreFilesOf}
 
 -- the row that is printed in place of all from `stopped` on
 abbrev pub saved_row : List ℕ
 saved_row = codes "saved\n"
 
 -- the machine is off, by a kernel that halted
-abbrev pub SessionHalted : Session → ImageSystem → Rows → (before : List (List ℕ)) → Host → Type 0
+abbrev pub SessionHalted : Session → ImageSystem → Rows → (before : List (List ℕ)) → Outside → Type 0
 SessionHalted session s rows before old =
     (run (around rows old) (first_state session s rows before) (end_within (around rows old) (first_state session s rows before) session.turns session.steps)).off ≡ Some 0
 
 -- A RUN THAT WAS LEFT TO BE SAVED, over a disk with these sectors: the boot prints `shown`, and `stopped` and more behind it; these words are those of
 -- its machine there, with its complete turns and its current user, and the sectors are that machine's; and this comes to the end of every turn. The file of
 -- the words isn't too long for a file, and is taken up for as many turns or more.
-pub record Stopped (session : Session) (s : ImageSystem) (rows : Rows) (before : List (List ℕ)) (old new : Host)
+pub record Stopped (session : Session) (s : ImageSystem) (rows : Rows) (before : List (List ℕ)) (old new : Outside)
     (Left : (shown bytes : List ℕ) → Type 0) : Type 0 where
   pub after : List (List ℕ)
   pub words : List ℕ
@@ -53,64 +49,13 @@ pub record Stopped (session : Session) (s : ImageSystem) (rows : Rows) (before :
   pub left : Left shown (flat_map word words)
 
 -- its bytes are the file's, and the row is printed
-abbrev pub IsSavedIn : (name : List ℕ) → (old new : Host) → (shown bytes : List ℕ) → Type 0
+abbrev pub IsSavedIn : (name : List ℕ) → (old new : Outside) → (shown bytes : List ℕ) → Type 0
 IsSavedIn name old new shown bytes = (new.shelf.file name ≡ retold (old.shelf.file name) bytes)
     × (new.sink.text ≡ append_known old.sink.text (shown ++ saved_row))
 
--- the shelf failed: the file is as before, or has the first of the bytes; and the row isn't printed
-abbrev pub IsUnput : (name : List ℕ) → (old new : Host) → (shown bytes : List ℕ) → Type 0
-IsUnput name old new shown bytes = (new.sink.text ≡ append_known old.sink.text shown)
-    × ((new.shelf.file name ≡ old.shelf.file name) ⊎ ((n : ℕ) × (new.shelf.file name ≡ retold (old.shelf.file name) (take n bytes))))
-
--- the sink failed in the row: its bytes are the file's, and a part of the row is printed
-abbrev pub IsUnsaid : (name : List ℕ) → (old new : Host) → (shown bytes : List ℕ) → Type 0
-IsUnsaid name old new shown bytes = (new.shelf.file name ≡ retold (old.shelf.file name) bytes)
-    × ((n : ℕ) × (new.sink.text ≡ append_known old.sink.text (shown ++ take n saved_row)))
-
--- a run was made, and left to be saved: the disk has sectors enough, and no other file changed
-pub record IsLeft (session : Session) (s : ImageSystem) (rows : Rows) (name : List ℕ) (old new : Host) (Left : (shown bytes : List ℕ) → Type 0) : Type 0 where
-  pub room : sectors_needed session s rows ≤ old.disk.size
-  pub size : new.disk.size ≡ old.disk.size
-  pub others : (n : List ℕ) → n ≢ name → new.shelf.file n ≡ old.shelf.file n
-  pub told : (before : List (List ℕ)) → old.disk.sectors ≡ Some before → Stopped session s rows before old new Left
-
--- the run ended as its boot does, over a disk with these sectors: then the kernel halted, or no report was begun. A run that goes on when it is to be saved
--- never prints an end row.
-pub record EndsAsBoot (session : Session) (s : ImageSystem) (rows : Rows) (e : Ending) (before : List (List ℕ)) (old new : Host) : Type 0 where
-  pub after : List (List ℕ)
-  pub text : List ℕ
-  pub sectors : new.disk.sectors ≡ Some after
-  pub printed : new.sink.text ≡ append_known old.sink.text text
-  pub ends : EndsLoaded session s rows old new before after text e
-  pub goes_on : SessionGoesOn session old s rows before
-  pub end : RunEnd
-  pub is_end : ending_of_end end ≡ e
-  pub halted : SessionHalted session s rows before old ⊎ EndsInTurn (around rows old) (booted s rows) (first_state session s rows before) after session.turns session.steps
-      (CallsOf session s rows before old new) (behind old.sink.text) new.sink.text end
-
--- a run was made and ended so; it changes no file
-pub record IsEnded (session : Session) (s : ImageSystem) (rows : Rows) (e : Ending) (old new : Host) : Type 0 where
-  pub place : HasPlace session s rows old new
-  pub loaded : e ≢ NoMemory
-  pub told : (before : List (List ℕ)) → old.disk.sectors ≡ Some before → EndsAsBoot session s rows e before old new
-  pub disk : e ≡ DiskFault → Rose old.disk.faults new.disk.faults
-
--- HOW A SAVE ENDS whose image is accepted and whose schedule is valid: a disk that is too small is refused, with no fault of the disk; else there may be
--- no memory, and nothing is printed and nothing changes; the disk may fail in the load; the run ends as its boot does; or it is left, and its machine is
--- saved, unless the shelf fails, and then the sink may fail in the row
-pub data SaveSessionEnds (session : Session) (s : ImageSystem) (rows : Rows) (name : List ℕ) (status : Status) (old new : Host) : Type 0 where
-  too_small : old.disk.size < sectors_needed session s rows → new.disk.faults ≡ old.disk.faults
-      → Says Disk (refusal_text (small_disk (sectors_needed session s rows) old.disk.size)) old new status → SaveSessionEnds session s rows name status old new
-  out_of_memory : status ≡ Memory → HasPlace session s rows old new → LeavesHost old new [] → SaveSessionEnds session s rows name status old new
-  not_loaded : status ≡ Disk → IsUnloaded session s rows old new → SaveSessionEnds session s rows name status old new
-  ended : (e : Ending) → status ≡ ended_as e → IsEnded session s rows e old new → SaveSessionEnds session s rows name status old new
-  was_saved : status ≡ Done → IsLeft session s rows name old new (IsSavedIn name old new) → SaveSessionEnds session s rows name status old new
-  was_unput : status ≡ Shelf → IsLeft session s rows name old new (IsUnput name old new) → SaveSessionEnds session s rows name status old new
-  was_unsaid : status ≡ Sink → IsLeft session s rows name old new (IsUnsaid name old new) → SaveSessionEnds session s rows name status old new
-
 -- THE PREMISES of the theorem: the words of a save, and files that are an accepted image and a valid schedule, whose machine's file isn't too long; an
 -- honest disk with sectors enough; and a shelf and a sink that don't fail
-pub record IsHonestSave (words : List (List ℕ)) (c : Save) (s : ImageSystem) (rows : Rows) (before : List (List ℕ)) (old new : Host) : Type 0 where
+pub record IsHonestSave (words : List (List ℕ)) (c : Save) (s : ImageSystem) (rows : Rows) (before : List (List ℕ)) (old new : Outside) : Type 0 where
   pub asked : IsSave words c
   pub files : AreFilesOf old.shelf.file c.boot s rows
   pub short : most_bytes s ≤ FILE_ROOM
@@ -123,12 +68,12 @@ pub record IsHonestSave (words : List (List ℕ)) (c : Save) (s : ImageSystem) (
 -- THE THEOREM OF SAVE: sectors, status and text are those of the boot, whose kernel halted where it is done, and no file changes; or, exactly where the
 -- boot prints `stopped`, and so its machine is on, the row `saved` is printed in place of all from there on, and the file's bytes are the saved words of
 -- that machine
-pub data SaveHolds (c : Save) (s : ImageSystem) (rows : Rows) (before : List (List ℕ)) (old new : Host) (status : Status) : Type 0 where
+pub data SaveHolds (c : Save) (s : ImageSystem) (rows : Rows) (before : List (List ℕ)) (old new : Outside) (status : Status) : Type 0 where
   as_boot : (h : Headline (save_session c) s rows before old new status) → (h.ending ≡ IsDone → SessionHalted (save_session c) s rows before old)
       → ((n : List ℕ) → new.shelf.file n ≡ old.shelf.file n) → SaveHolds c s rows before old new status
   is_saved : status ≡ Done → ((n : List ℕ) → n ≢ c.file → new.shelf.file n ≡ old.shelf.file n)
       → Stopped (save_session c) s rows before old new (IsSavedIn c.file old new) → SaveHolds c s rows before old new status
 
-abbrev pub Saves : {A : Type 0} → (A → Host) → List (List ℕ) → Status → (old new : A) → Type 0
+abbrev pub Saves : {A : Type 0} → (A → Outside) → List (List ℕ) → Status → (old new : A) → Type 0
 Saves see words status old new = (c : Save) (s : ImageSystem) (rows : Rows) (before : List (List ℕ)) →
     IsHonestSave words c s rows before (see old) (see new) → status ≢ Memory → SaveHolds c s rows before (see old) (see new) status

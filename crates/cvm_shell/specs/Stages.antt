@@ -1,9 +1,12 @@
 -- Only for the contracts inside the crate: how the stages of a command end.
-use Rattle.std.specs.Prelude.{◌≡◌, ◌≢◌, ⊤, ◌⊎◌, ◌<◌, ◌≤◌, ◌^◌, ℕ, List, [], ◌∷◌, length, map, Option, Some, Result, Ok, Err, MatchResult, IfOk, IfErr, IsSome}
+use Rattle.std.specs.Prelude.{◌≡◌, ◌≢◌, ⊤, ◌⊎◌, ◌<◌, ◌≤◌, ℕ, List, [], ◌∷◌, length, map, Option, Some, Result, Ok, Err, MatchResult, IfOk, IfErr}
 use Rattle.cvm_outside.specs.Causes.{Rose}
 use Rattle.cvm_outside.specs.Told.{Tells, TOO_LONG}
 use Rattle.cvm_outside.specs.declared.shelf.ShelfFault.{ShelfFault}
 use Rattle.cvm_outside.specs.declared.shelf.ShelfFault.TheVariants as fault
+use Rattle.cvm_outside.specs.declared.sink.Sink as sink_of
+use Rattle.cvm_outside.specs.declared.sectors.Sectors as sectors_of
+use Rattle.cvm_outside.specs.Outside.{Outside, Files, output, drive}
 use Rattle.mips_asm.specs.declared.fault.AsmFault.{AsmFault}
 use Rattle.mips_asm.specs.declared.fault.AsmFault.TheVariants as text
 use Rattle.c0_parser.specs.declared.fault.ReadFault.TheVariants as read
@@ -29,14 +32,10 @@ use Rattle.layer_contract.specs.Boots.{BootFollows}
 use Rattle.boot_turns.specs.TurnEnds.{first_of}
 use Rattle.boot_turns.specs.declared.answers.View.TheVariants as view
 use Rattle.boot_run.specs.LoadEnds.{HasDiskRoom, LoadFails, pages_needed}
-use Rattle.boot_run.specs.Whole.{AnswerEnds, LoadStopped, WholeGoesOn, WholeStopped, IsDiskFault}
 use Rattle.boot_run.specs.RunEnds.{ending_of_end}
-use Rattle.machine_save.specs.SavedBoots.{AreDisk, AreTakenUp}
-use Rattle.machine_save.specs.SaveRun.{SaveRunEnds, IfUnput, IsSavedDiskFault}
 use Rattle.machine_save.specs.declared.saving.SavedEnd.{SavedEnd}
 use Rattle.machine_save.specs.declared.saving.SavedEnd.TheVariants as saved_end
 use Rattle.boot_run.specs.declared.load.LoadFault.{LoadFault}
-use Rattle.boot_run.specs.declared.load.LoadFault.TheVariants as load
 use Rattle.boot_run.specs.declared.whole.RunEnd.{RunEnd}
 use Rattle.schedule_file.specs.Rows.{Rows}
 use Rattle.schedule_file.specs.declared.fault.ScheduleFault.{ScheduleFault}
@@ -56,15 +55,11 @@ use Rattle.cvm_shell.specs.declared.exit_status.Status.TheVariants.{Done, Shelf,
 use Rattle.std.specs.Global.{Vec}
 use Rattle.cvm_shell.specs.declared.boot.Session.{Session}
 use Rattle.cvm_shell.specs.CompileProgram.{CompileProgram}
-use Rattle.cvm_shell.specs.Command.{Boot, Save, CompileUser, CompileKernel, Link, Migrate, Command, boot, save, resume, save_session, compile_user, compile_kernel, compile_program, link as link_command, migrate, IsSample, IsCommand, command_of, check}
+use Rattle.cvm_shell.specs.Command.{Boot, Save, CompileUser, CompileKernel, Link, Migrate, boot, save, resume, save_session, compile_user, compile_kernel, compile_program, link as link_command, migrate, check}
 use Rattle.cvm_shell.specs.Plan.{Plan, puts, boots, saves, most_bytes, wanted_by, taken_plan, BootPlan, SavePlan, ResumePlan, UserPlan, KernelPlan, ProgramPlan, LinkPlan, MigratePlan, SamplePlan, GetsTold, IsPlan, words_from, prints, CheckPlan}
 use Rattle.cvm_shell.specs.Check.{Check}
-use Rattle.boot_turns.specs.declared.answers.View.{View}
 use Rattle.cvm_shell.specs.Views.{IfPlan}
-use Rattle.cvm_shell.specs.Host.{Drive, Files, Host, LeavesHost, counts}
-use Rattle.cvm_shell.specs.Boot.{booted, around, first_state, is_written, sectors_needed, ended_as, CallsOf, SessionGoesOn, SessionEnds}
-use Rattle.cvm_shell.specs.CommandEnds.{PlanEnds, CommandEnds}
-use Rattle.cvm_shell.specs.Saves.{SaveSessionEnds}
+use Rattle.cvm_shell.specs.Boot.{booted, sectors_needed, ended_as}
 
 -- what a fault of the shelf comes to
 abbrev pub stop_of : ShelfFault → Stop
@@ -149,53 +144,22 @@ StopCount before now stop.Memory = now ≡ before
 abbrev pub PlanCounts : {T : Type 0} → ℕ → ℕ → Result T Stop → Type 0
 PlanCounts before now result = MatchResult result (λ _. now ≡ before) (StopCount before now)
 
--- how a command ends, whatever the disk, which it leaves alone
-abbrev pub CommandEndsAs : {A : Type 0} → Command → (Drive → A → Host) → Status → (old new : A) → Type 0
-CommandEndsAs c see status old new = (words : List (List ℕ)) (disk : Drive) → IsCommand words c → CommandEnds words status (see disk old) (see disk new)
-
--- how a boot or a trace ends, which may change the disk
-abbrev pub BootEndsAs : {A : Type 0} → Boot → View → (A → Host) → Status → (old new : A) → Type 0
-BootEndsAs b view see status old new = (words : List (List ℕ)) → IsCommand words (command_of b view) → CommandEnds words status (see old) (see new)
-
--- how a sample ends, whatever the files, which it leaves alone
-abbrev pub SampleEndsAs : {A : Type 0} → (number : ℕ) → (Files → A → Host) → Status → (old new : A) → Type 0
-SampleEndsAs number see status old new = (words : List (List ℕ)) (shelf : Files) → IsSample words (record { number = number }) →
-    CommandEnds words status (see shelf old) (see shelf new)
-
 -- the sectors that a run of a session needs
 abbrev pub needs : Ready → Session → ℕ
 needs r session = sectors_needed session (system_of r.boot) r.schedule
 
--- how a call that loads a system and runs it ends, over told sectors
-abbrev pub AnswersFrom : Session → ImageSystem → Rows → Result RunEnd LoadFault → (old new : Host) → Type 0
-AnswersFrom session s rows answer old new = (before after : List (List ℕ)) → old.disk.sectors ≡ Some before → new.disk.sectors ≡ Some after →
-    AnswerEnds (around rows old) (booted s rows) (first_state session s rows before) (sectors_needed session s rows) before after session.view session.turns session.steps
-    (CallsOf session s rows before old new) old.sink.text new.sink.text answer
+-- a sink and a disk beside files
+abbrev pub within : {O D : Type 0} → sink_of.Ghosts O → sectors_of.Ghosts D → Files → O × D → Outside
+within sink disk shelf (o, d) = record { shelf = shelf; sink = output sink o; disk = drive disk d }
 
--- where the disk failed in the load
-abbrev pub StoppedFrom : Session → ImageSystem → Rows → (old new : Host) → Type 0
-StoppedFrom session s rows old new = LoadStopped (first_state session s rows) (is_written session.start (booted s rows)) (sectors_needed session s rows)
-    old.disk.sectors new.disk.sectors (counts old.disk) (counts new.disk)
-
--- WHAT A CALL ANSWERS that loads a system and runs it, of what is seen around it
-pub record CallAnswers (r : Ready) (session : Session) (answer : Result RunEnd LoadFault) (old new : Host) : Type 0 where
-  pub ends : AnswersFrom session (system_of r.boot) r.schedule answer old new
-  pub goes_on : IfOk answer (λ _. (before : List (List ℕ)) → old.disk.sectors ≡ Some before → SessionGoesOn session old (system_of r.boot) r.schedule before)
-  pub told : IsSome old.disk.sectors → IsSome new.disk.sectors
+-- WHAT A CALL ANSWERS that loads a system and runs it, of what is seen before and after it: why it loaded nothing, or that there was room
+pub record CallAnswers (r : Ready) (session : Session) (answer : Result RunEnd LoadFault) (old new : Outside) : Type 0 where
   pub refused : IfErr answer (LoadFails r.boot session.view (needs r session) old.disk.size old.disk.faults new.disk.faults)
   pub loaded : IfOk answer (λ _. HasDiskRoom r.boot session.view (needs r session) old.disk.size)
-  pub size : new.disk.size ≡ old.disk.size
-  pub rose : IsDiskFault answer → Rose old.disk.faults new.disk.faults
-  pub stopped : answer ≡ Err load.Disk → StoppedFrom session (system_of r.boot) r.schedule old new
 
 -- whatever the files, which it leaves alone
-abbrev pub AnswersAs : {A : Type 0} → Ready → Session → (Files → A → Host) → Result RunEnd LoadFault → (old new : A) → Type 0
+abbrev pub AnswersAs : {A : Type 0} → Ready → Session → (Files → A → Outside) → Result RunEnd LoadFault → (old new : A) → Type 0
 AnswersAs r session see answer old new = (before after : Files) → CallAnswers r session answer (see before old) (see after new)
-
--- how the run of a system ends, whatever the files, which it leaves alone
-abbrev pub RunsAs : {A : Type 0} → Ready → Session → (Files → A → Host) → Status → (old new : A) → Type 0
-RunsAs r session see status old new = (before after : Files) → ((n : List ℕ) → after.file n ≡ before.file n)
-    → SessionEnds session (system_of r.boot) r.schedule status (see before old) (see after new)
 
 -- a system belongs to its layer
 abbrev pub SystemFollows : Ready → Type 0
@@ -218,43 +182,10 @@ HasNoRoom s (stop.Refused r) = (r ≡ refusal.BadSave (saving.SaveTooLarge (most
 HasNoRoom s stop.Shelf = ⊥
 HasNoRoom s stop.Memory = ⊤
 
--- how a save and how a resume ends, which may change the file and the disk
-abbrev pub SaveEndsAs : {A : Type 0} → Save → (A → Host) → Status → (old new : A) → Type 0
-SaveEndsAs c see status old new = (words : List (List ℕ)) → IsCommand words (save c) → CommandEnds words status (see old) (see new)
-
-abbrev pub ResumeEndsAs : {A : Type 0} → Save → (A → Host) → Status → (old new : A) → Type 0
-ResumeEndsAs c see status old new = (words : List (List ℕ)) → IsCommand words (resume c) → CommandEnds words status (see old) (see new)
-
--- WHAT A CALL ANSWERS that runs a system which is to be saved, of what is seen around it
-pub record SaveCallAnswers (r : Ready) (c : Save) (answer : Result SavedEnd LoadFault) (old new : Host) : Type 0 where
-  pub ends : SaveRunEnds r.boot r.schedule old.disk.size c.boot.turns c.boot.steps old.disk.sectors new.disk.sectors (counts old.disk) (counts new.disk)
-      old.sink.text new.sink.text (old.shelf.file c.file) (new.shelf.file c.file) answer
-  pub goes_on : WholeGoesOn r.boot r.schedule old.disk.size old.disk.sectors
-  pub some : 1 ≤ c.boot.turns
-  pub few : c.boot.steps < 2 ^ 64
-  pub short : most_bytes (system_of r.boot) ≤ FILE_ROOM
-  pub fits : AreTakenUp r.boot r.schedule old.disk.size
-  pub disk : AreDisk old.disk.size old.disk.sectors
-  pub others : (n : List ℕ) → n ≢ c.file → new.shelf.file n ≡ old.shelf.file n
-  pub unput : IfUnput answer ((n : List ℕ) → new.shelf.file n ≡ old.shelf.file n)
-  pub told : IsSome old.disk.sectors → IsSome new.disk.sectors
-  pub refused : IfErr answer (LoadFails r.boot view.Boot (pages_needed r.boot) old.disk.size old.disk.faults new.disk.faults)
-  pub loaded : IfOk answer (λ _. HasDiskRoom r.boot view.Boot (pages_needed r.boot) old.disk.size)
-  pub size : new.disk.size ≡ old.disk.size
-  pub rose : IsSavedDiskFault answer → Rose old.disk.faults new.disk.faults
-  pub stopped : answer ≡ Err load.Disk → WholeStopped r.boot r.schedule old.disk.sectors new.disk.sectors (counts old.disk) (counts new.disk)
-
--- the same with other files
-abbrev pub with_files : Files → Host → Host
-with_files f o = record { shelf = f; sink = o.sink; disk = o.disk }
-
-abbrev pub SaveIs : {A : Type 0} → Saveable → Save → (A → Host) → Result SavedEnd LoadFault → (old new : A) → Type 0
-SaveIs r c see answer old new = SaveCallAnswers r.ready c answer (see old) (see new)
-
--- how the run of a system ends that is to be saved, from other files that tell the same
-abbrev pub SavesAs : {A : Type 0} → Saveable → Save → (A → Host) → Status → (old new : A) → Type 0
-SavesAs r c see status old new = (before : Files) → ((n : List ℕ) → (see old).shelf.file n ≡ before.file n)
-    → SaveSessionEnds (save_session c) (system_of r.ready.boot) r.ready.schedule c.file status (with_files before (see old)) (see new)
+-- WHAT A CALL ANSWERS that runs a system which is to be saved, over a disk of so many sectors with these counts of faults
+pub record SaveAnswers (r : Saveable) (size before after : ℕ) (answer : Result SavedEnd LoadFault) : Type 0 where
+  pub refused : IfErr answer (LoadFails r.ready.boot view.Boot (pages_needed r.ready.boot) size before after)
+  pub loaded : IfOk answer (λ _. HasDiskRoom r.ready.boot view.Boot (pages_needed r.ready.boot) size)
 
 -- the status of a run that was to be saved, by its end
 abbrev pub status_of_saved : SavedEnd → Status
@@ -262,11 +193,6 @@ status_of_saved saved_end.Saved = Done
 status_of_saved saved_end.ShelfFault = Shelf
 status_of_saved saved_end.RowFault = Sink
 status_of_saved (saved_end.Ended e) = ended_as (ending_of_end e)
-
--- how a resume ends, whatever the files, which it leaves alone: as its plan says, or there was no memory
-abbrev pub ResumesAs : {A : Type 0} → Resumable → Save → (Files → A → Host) → Status → (old new : A) → Type 0
-ResumesAs r c see status old new = (before after : Files) → ((n : List ℕ) → after.file n ≡ before.file n)
-    → ((status ≡ Memory) × LeavesHost (see before old) (see after new) []) ⊎ PlanEnds (resumable_for c r) status (see before old) (see after new)
 
 abbrev pub compiled : CompileUser → Vec ℕ → Plan
 compiled c image = puts c.image image.items

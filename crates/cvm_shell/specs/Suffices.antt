@@ -13,13 +13,13 @@ use Rattle.kernel_linker.specs.Accept.{ImageSystem}
 use Rattle.cvm_shell.specs.declared.exit_status.Status.{Status}
 use Rattle.cvm_shell.specs.declared.boot.Session.{Session}
 use Rattle.cvm_shell.specs.Check.{Check, IsCheck}
-use Rattle.cvm_shell.specs.Host.{Host}
+use Rattle.cvm_outside.specs.Outside.{Outside}
 use Rattle.cvm_shell.specs.Plan.{Accepts}
 use Rattle.cvm_shell.specs.Boot.{booted, Headline}
 
 -- what a check of these words printed of an object with this source, beside so many words of stack, begins with `yes`: whole, or as much as a failing
 -- sink took
-pub record SaysYes (words : List (List ℕ)) (source : List ℕ) (stack : ℕ) (old new : Host) : Type 0 where
+pub record SaysYes (words : List (List ℕ)) (source : List ℕ) (stack : ℕ) (old new : Outside) : Type 0 where
   pub check : Check
   pub asked : IsCheck words check
   pub stack_is : stack ≡ check.stack
@@ -46,12 +46,12 @@ NeverOut s = (rows : Rows) → RunsNeverOut (booted s rows)
 
 -- THE STACK IS ENOUGH where a check said `yes`, with whatever status: for each accepted system of that source with as much, whatever its users and other
 -- parameters are
-abbrev pub Suffices : {A : Type 0} → (A → Host) → List (List ℕ) → Status → (old new : A) → Type 0
+abbrev pub Suffices : {A : Type 0} → (A → Outside) → List (List ℕ) → Status → (old new : A) → Type 0
 Suffices see words status old new = (source : List ℕ) (stack : ℕ) (s : ImageSystem) → SaysYes words source stack (see old) (see new) →
     HasStack source stack s → NeverOut s
 
 -- what was printed in a call ends with this row
-pub record EndsWith (row : List ℕ) (old new : Host) : Type 0 where
+pub record EndsWith (row : List ℕ) (old new : Outside) : Type 0 where
   pub before : List ℕ
   pub before_told : old.sink.text ≡ Some before
   pub front : List ℕ
@@ -59,13 +59,13 @@ pub record EndsWith (row : List ℕ) (old new : Host) : Type 0 where
 
 -- a run of a headline meets no want of stack: the abstract run that it goes by has no such fault where it ends, so with the status of a kernel's fault it is
 -- another one; and what is printed doesn't end with the row `fault StackOut`, behind which nothing would be printed
-pub record MeetsNoStackOut (session : Session) (s : ImageSystem) (rows : Rows) (sectors : List (List ℕ)) (before after : Host) (ended : Status)
+pub record MeetsNoStackOut (session : Session) (s : ImageSystem) (rows : Rows) (sectors : List (List ℕ)) (before after : Outside) (ended : Status)
     (h : Headline session s rows sectors before after ended) : Type 0 where
   pub meant : h.ran.past.status ≢ Faulted StackOut
   pub printed : EndsWith (fault_row StackOut) before after → ⊥
 
 -- A LAW: where a check said `yes`, no run of such a system by a boot, a rom, a trace or a sample meets it, as long as no call fails
 abbrev pub StackOutIsNotPrinted : Type 0
-StackOutIsNotPrinted = (words : List (List ℕ)) (status ended : Status) (old new before after : Host) (source : List ℕ) (stack : ℕ) (session : Session) (s : ImageSystem) (rows : Rows) (sectors : List (List ℕ))
+StackOutIsNotPrinted = (words : List (List ℕ)) (status ended : Status) (old new before after : Outside) (source : List ℕ) (stack : ℕ) (session : Session) (s : ImageSystem) (rows : Rows) (sectors : List (List ℕ))
     → Suffices (λ o. o) words status old new → SaysYes words source stack old new → HasStack source stack s
     → (h : Headline session s rows sectors before after ended) → MeetsNoStackOut session s rows sectors before after ended h

@@ -1,16 +1,14 @@
 // A boot or a trace: what its files come to, and the run of the system that is accepted.
-ghost use Rattle.std.specs.Prelude.{◌≡◌, ◌≢◌, ◌↔◌, ◌≤◌, ⊤, ℕ, List, IfOk, IfErr, IsErrOf};
-ghost use Rattle.cvm_outside.specs.Causes.{Rose};
+ghost use Rattle.std.specs.Prelude.{All, ◌≡◌, ◌≢◌, ◌↔◌, ◌≤◌, ⊤, ℕ, List, IfOk, IfErr, IsErrOf};
 ghost use Rattle.cvm_outside.specs.Told.{TOO_LONG};
 ghost use Rattle.real_layer.specs.Image.{layer_image};
 ghost use Rattle.boot_run.specs.RunEnds.{ending_of_end};
 ghost use Rattle.cvm_shell.specs.Boot.{ended_as};
 ghost use Rattle.cvm_shell.specs.Command.{boot as of_boot};
 ghost use Rattle.cvm_shell.specs.Does.{Gets, SystemDoes};
-ghost use Rattle.cvm_shell.specs.Ends.{files_of};
-ghost use Rattle.cvm_shell.specs.Host.{within};
+ghost use Rattle.cvm_shell.specs.Ends.{AreBytes, IsByte, files_of};
 ghost use Rattle.cvm_shell.specs.Plan.{AfterFiles, IsPlan};
-ghost use Rattle.cvm_shell.specs.Stages.{stop_of, accept_stop, schedule_stop, PlanCounts, ready_for, IsBootPlan, SystemFollows, RunsAs};
+ghost use Rattle.cvm_shell.specs.Stages.{stop_of, accept_stop, schedule_stop, PlanCounts, ready_for, IsBootPlan, SystemFollows};
 ghost use Rattle.cvm_shell.specs.Views.{boot_view, IfPlan};
 
 use crate::accepted::accept_image;
@@ -114,11 +112,26 @@ pub fn plan<S: Shelf>(alloc: Global, boot: &Boot, shelf: &mut S) -> Result<Ready
     ensures count { PlanCounts (S.faults shelf.old) (S.faults shelf.new) result }
     ensures files { (n : List ℕ) → S.file shelf.new n ≡ S.file shelf.old n }
     ensures gets { Gets S.Shelf (files_of (of_boot (boot_view boot.now))) shelf.old shelf.new result }
+    ensures bytes { IfOk result (λ _. AreBytes (S.file shelf.old) (files_of (of_boot (boot_view boot.now)))) }
 {
     let image = shelf.get(alloc, boot.image)?;
     let schedule = shelf.get(alloc, boot.schedule)?;
+    are_bytes(&image);
+    are_bytes(&schedule);
     ready_of(alloc, &image, &schedule)
 }
+
+// Tells proofs that bytes are in the range of their type.
+pub(crate) fn are_bytes(bytes: &Vec<u8>)
+    ensures { All IsByte bytes.now.items }
+{
+    slice_is_bytes(bytes);
+}
+
+// The same of a slice.
+fn slice_is_bytes(bytes: &[u8])
+    ensures { All IsByte bytes.now }
+{}
 
 /// What the bytes of an image and of a schedule come to: what is to be run, by whatever session.
 pub fn ready_of(alloc: Global, image: &[u8], schedule: &[u8]) -> Result<Ready, Stop>
@@ -149,12 +162,7 @@ pub fn run_system<O: Sink, D: Sectors>(
 ) -> Status
     requires follows { SystemFollows ready }
     requires some { 1 ≤ session.turns }
-    ensures ends { RunsAs ready session (within O.Sink D.Sectors) result (out.old, disk.old) (out.new, disk.new) }
-    ensures does { SystemDoes O.Sink D.Sectors (ready_for session ready) result (out.old, disk.old) (out.new, disk.new) }
-    ensures rose { result ≡ Status.Sink → Rose (O.faults out.old) (O.faults out.new) }
-    ensures same { result ≢ Status.Sink → O.faults out.new ≡ O.faults out.old }
-    ensures disk_same { result ≢ Status.Disk → D.faults disk.new ≡ D.faults disk.old }
-    ensures never { (result ≢ Status.Words) × (result ≢ Status.Shelf) }
+    ensures { SystemDoes O.Sink D.Sectors (ready_for session ready) result (out.old, disk.old) (out.new, disk.new) }
 {
     match load_and_run(alloc, ready, session, out, disk) {
         Ok(end) => status_of(end),

@@ -5,12 +5,10 @@ ghost use Rattle.cvm_outside.specs.Told.{TOO_LONG};
 ghost use Rattle.cvm_shell.specs.Check as checking;
 ghost use Rattle.cvm_shell.specs.Check.{IsCheck, TellsUnit};
 ghost use Rattle.cvm_shell.specs.Command as command;
-ghost use Rattle.cvm_shell.specs.CommandEnds.{Causes};
 ghost use Rattle.cvm_shell.specs.Does.{Gets, CommandDoes};
 ghost use Rattle.cvm_shell.specs.Ends.{files_of};
-ghost use Rattle.cvm_shell.specs.Host.{Drive, beside};
 ghost use Rattle.cvm_shell.specs.Plan.{AfterChecked, IsPlan};
-ghost use Rattle.cvm_shell.specs.Stages.{CommandEndsAs, PlanCounts, told_text, IsCheckPlan};
+ghost use Rattle.cvm_shell.specs.Stages.{PlanCounts, told_text, IsCheckPlan};
 ghost use Rattle.cvm_shell.specs.Views.{check_view, IfPlan, IsStackNumber};
 
 use crate::boot::Stop;
@@ -84,9 +82,7 @@ pub fn check_object<S: Shelf, O: Sink>(
     shelf: &mut S,
     out: &mut O,
 ) -> Status
-    ensures ends { CommandEndsAs (command.check (check_view check.now)) (beside S.Shelf O.Sink) result (shelf.old, out.old) (shelf.new, out.new) }
-    ensures causes { (disk : Drive) → Causes (beside S.Shelf O.Sink disk) result (shelf.old, out.old) (shelf.new, out.new) }
-    ensures does { CommandDoes S.Shelf O.Sink (command.check (check_view check.now)) result (shelf.old, out.old) (shelf.new, out.new) }
+    ensures { CommandDoes S.Shelf O.Sink (command.check (check_view check.now)) result (shelf.old, out.old) (shelf.new, out.new) }
 {
     match stack_text(alloc, check, shelf) {
         Ok(text) => say(out, &text, Status::Done),

@@ -4,14 +4,9 @@
 ghost use Rattle.std.specs.Prelude.{◌≤◌};
 ghost use Rattle.cvm_shell.specs.Command as command;
 ghost use Rattle.cvm_shell.specs.Command.{texts};
-ghost use Rattle.cvm_shell.specs.CommandEnds.{RunOutcome, Caused, Causes, Headlines, RunCompletes, SavesComplete, ResumesComplete, Isolates};
 ghost use Rattle.cvm_shell.specs.Does.{CommandDoes, RunDoes, SampleDoes};
 ghost use Rattle.cvm_shell.specs.Ends.{Ends, seen as told_by};
-ghost use Rattle.cvm_shell.specs.Host.{Drive, Files, seen, beside, within};
-ghost use Rattle.cvm_shell.specs.Resumes.{Resumes};
-ghost use Rattle.cvm_shell.specs.Saves.{Saves};
-ghost use Rattle.cvm_shell.specs.Suffices.{Suffices};
-ghost use Rattle.cvm_shell.specs.Stages.{CommandEndsAs, BootEndsAs, SampleEndsAs, JournalsReplay};
+ghost use Rattle.cvm_shell.specs.Stages.{JournalsReplay};
 ghost use Rattle.cvm_shell.specs.Views.{boot_view, user_view, kernel_view, link_view, migrate_view};
 
 pub mod accepted;
@@ -36,8 +31,6 @@ mod starting;
 pub use assembly::{user_image, words_have_four_bytes};
 pub use boot::{Ready, Session, StartPoint, Stop, plan, run_system};
 use boot_run::View;
-use bound_check::longest_chains_are_kept;
-use c0_types::laws::sources_have_one_answer;
 pub use check::{Check, check_object, read_check, stack_text};
 pub use command::{
     Boot, Command, CompileKernel, CompileUser, Link, Migrate, Sample, Trace, read_boot,
@@ -47,12 +40,9 @@ pub use command::{
 use cvm_model::{units_are_kernels, units_dont_matter, units_replay, users_are_isolated};
 use cvm_outside::{Sectors, Shelf, Sink};
 pub use exit_status::Status;
-use kernel_linker::laws::opened_units_are_their_sources;
 pub use linking::system_image;
 pub use migration::migrated_image;
-use mips_table::runs::turns_are_counted;
 pub use object::kernel_object;
-use object_file::bytes_have_one_answer;
 use program::compile_program;
 pub use program::{CompileProgram, program_image, read_compile_program};
 use real_layer::RealLayer;
@@ -86,8 +76,9 @@ use std::alloc::Global;
 /// those of the users' pages of a `boot`, a `rom`, a `trace`, a `save`, a `resume` or a `sample`, and of the linked words of a `rom`. A
 /// `resume` of a file that no `save` put changes sectors as the machine does whose state the file names.
 ///
-/// What a `trace` that is done prints of its user depends on nothing but the user's own words, its journal and how the run ended:
-/// the machine that it shows is the replay of that journal.
+/// How it ends is said once, for every command, and exactly (`Ends`): by the script of calls that words and files ask for. What follows from that are the
+/// laws of `run_scripts`: the headline, that enough steps are enough, isolation, what a `yes` means, saves and resumes, why a status is what it is,
+/// and what stands after a fault.
 pub fn run<S: Shelf, O: Sink, D: Sectors>(
     alloc: Global,
     words: &Vec<String>,
@@ -95,51 +86,6 @@ pub fn run<S: Shelf, O: Sink, D: Sectors>(
     out: &mut O,
     disk: &mut D,
 ) -> Status
-    ensures ends { RunOutcome (seen S.Shelf O.Sink D.Sectors) (texts words.now.items) result (shelf.old, out.old, disk.old) (shelf.new, out.new, disk.new) }
-    ensures causes { Caused (seen S.Shelf O.Sink D.Sectors) (texts words.now.items) result (shelf.old, out.old, disk.old) (shelf.new, out.new, disk.new) }
-    ensures headline { Headlines (seen S.Shelf O.Sink D.Sectors) (texts words.now.items) result (shelf.old, out.old, disk.old) (shelf.new, out.new, disk.new) }
-    ensures complete { RunCompletes (seen S.Shelf O.Sink D.Sectors) (texts words.now.items) result
-        (shelf.old, out.old, disk.old) (shelf.new, out.new, disk.new) }
-    ensures isolated { Isolates (seen S.Shelf O.Sink D.Sectors) (texts words.now.items) result (shelf.old, out.old, disk.old) (shelf.new, out.new, disk.new) }
-    ensures suffices { Suffices (seen S.Shelf O.Sink D.Sectors) (texts words.now.items) result (shelf.old, out.old, disk.old) (shelf.new, out.new, disk.new) }
-    ensures saves { Saves (seen S.Shelf O.Sink D.Sectors) (texts words.now.items) result (shelf.old, out.old, disk.old) (shelf.new, out.new, disk.new) }
-    ensures saves_complete { SavesComplete (seen S.Shelf O.Sink D.Sectors) (texts words.now.items) result
-        (shelf.old, out.old, disk.old) (shelf.new, out.new, disk.new) }
-    ensures resumes { Resumes (seen S.Shelf O.Sink D.Sectors) (texts words.now.items) result (shelf.old, out.old, disk.old) (shelf.new, out.new, disk.new) }
-    ensures resumes_complete { ResumesComplete (seen S.Shelf O.Sink D.Sectors) (texts words.now.items) result
-        (shelf.old, out.old, disk.old) (shelf.new, out.new, disk.new) }
-    ensures script { Ends (texts words.now.items) (told_by S.Shelf O.Sink D.Sectors shelf.old out.old disk.old)
-        (told_by S.Shelf O.Sink D.Sectors shelf.new out.new disk.new) result }
-{
-    turns_are_counted();
-    journals_replay();
-    bytes_have_one_answer();
-    sources_have_one_answer();
-    opened_units_are_their_sources();
-    longest_chains_are_kept();
-    run_command(alloc, words, shelf, out, disk)
-}
-
-// A law: the replay of a user's journal gives its machine, whatever else is in the system.
-fn journals_replay()
-    ensures { JournalsReplay }
-{
-    units_are_kernels();
-    units_dont_matter();
-    units_replay();
-    users_are_isolated();
-}
-
-// Runs the command of these words.
-fn run_command<S: Shelf, O: Sink, D: Sectors>(
-    alloc: Global,
-    words: &Vec<String>,
-    shelf: &mut S,
-    out: &mut O,
-    disk: &mut D,
-) -> Status
-    ensures ends { RunOutcome (seen S.Shelf O.Sink D.Sectors) (texts words.now.items) result (shelf.old, out.old, disk.old) (shelf.new, out.new, disk.new) }
-    ensures causes { Causes (seen S.Shelf O.Sink D.Sectors) result (shelf.old, out.old, disk.old) (shelf.new, out.new, disk.new) }
     ensures script { Ends (texts words.now.items) (told_by S.Shelf O.Sink D.Sectors shelf.old out.old disk.old)
         (told_by S.Shelf O.Sink D.Sectors shelf.new out.new disk.new) result }
 {
@@ -162,6 +108,16 @@ fn run_command<S: Shelf, O: Sink, D: Sectors>(
     }
 }
 
+// A law: the replay of a user's journal gives its machine, whatever else is in the system.
+fn journals_replay()
+    ensures { JournalsReplay }
+{
+    units_are_kernels();
+    units_dont_matter();
+    units_replay();
+    users_are_isolated();
+}
+
 // Boots an image under a schedule, and prints what is viewed.
 fn run_boot<S: Shelf, O: Sink, D: Sectors>(
     alloc: Global,
@@ -172,11 +128,10 @@ fn run_boot<S: Shelf, O: Sink, D: Sectors>(
     disk: &mut D,
 ) -> Status
     requires { 1 ≤ (boot_view boot.now).turns }
-    ensures ends { BootEndsAs (boot_view boot.now) view (seen S.Shelf O.Sink D.Sectors) result (shelf.old, out.old, disk.old) (shelf.new, out.new, disk.new) }
-    ensures causes { Causes (seen S.Shelf O.Sink D.Sectors) result (shelf.old, out.old, disk.old) (shelf.new, out.new, disk.new) }
-    ensures does { RunDoes S.Shelf O.Sink D.Sectors (command.command_of (boot_view boot.now) view) result
+    ensures { RunDoes S.Shelf O.Sink D.Sectors (command.command_of (boot_view boot.now) view) result
         (shelf.old, out.old, disk.old) (shelf.new, out.new, disk.new) }
 {
+    disk.are_sectors();
     let session = Session {
         start: boot.start,
         view,
@@ -198,9 +153,7 @@ fn compile_user<S: Shelf, O: Sink>(
     shelf: &mut S,
     out: &mut O,
 ) -> Status
-    ensures ends { CommandEndsAs (command.compile_user (user_view names.now)) (beside S.Shelf O.Sink) result (shelf.old, out.old) (shelf.new, out.new) }
-    ensures causes { (disk : Drive) → Causes (beside S.Shelf O.Sink disk) result (shelf.old, out.old) (shelf.new, out.new) }
-    ensures does { CommandDoes S.Shelf O.Sink (command.compile_user (user_view names.now)) result (shelf.old, out.old) (shelf.new, out.new) }
+    ensures { CommandDoes S.Shelf O.Sink (command.compile_user (user_view names.now)) result (shelf.old, out.old) (shelf.new, out.new) }
 {
     let image = match user_image(alloc, names, shelf) {
         Ok(image) => image,
@@ -221,9 +174,7 @@ fn compile_kernel<S: Shelf, O: Sink>(
     shelf: &mut S,
     out: &mut O,
 ) -> Status
-    ensures ends { CommandEndsAs (command.compile_kernel (kernel_view names.now)) (beside S.Shelf O.Sink) result (shelf.old, out.old) (shelf.new, out.new) }
-    ensures causes { (disk : Drive) → Causes (beside S.Shelf O.Sink disk) result (shelf.old, out.old) (shelf.new, out.new) }
-    ensures does { CommandDoes S.Shelf O.Sink (command.compile_kernel (kernel_view names.now)) result (shelf.old, out.old) (shelf.new, out.new) }
+    ensures { CommandDoes S.Shelf O.Sink (command.compile_kernel (kernel_view names.now)) result (shelf.old, out.old) (shelf.new, out.new) }
 {
     let object = match kernel_object(alloc, names, shelf) {
         Ok(object) => object,
@@ -239,9 +190,7 @@ fn compile_kernel<S: Shelf, O: Sink>(
 
 // Puts the image of a system, whose object, parameters and users are got, read and linked.
 fn link_system<S: Shelf, O: Sink>(alloc: Global, names: &Link, shelf: &mut S, out: &mut O) -> Status
-    ensures ends { CommandEndsAs (command.link (link_view names.now)) (beside S.Shelf O.Sink) result (shelf.old, out.old) (shelf.new, out.new) }
-    ensures causes { (disk : Drive) → Causes (beside S.Shelf O.Sink disk) result (shelf.old, out.old) (shelf.new, out.new) }
-    ensures does { CommandDoes S.Shelf O.Sink (command.link (link_view names.now)) result (shelf.old, out.old) (shelf.new, out.new) }
+    ensures { CommandDoes S.Shelf O.Sink (command.link (link_view names.now)) result (shelf.old, out.old) (shelf.new, out.new) }
 {
     let linked = match system_image::<RealLayer, S>(alloc, names, shelf) {
         Ok(linked) => linked,
@@ -262,9 +211,7 @@ fn migrate_image<S: Shelf, O: Sink>(
     shelf: &mut S,
     out: &mut O,
 ) -> Status
-    ensures ends { CommandEndsAs (command.migrate (migrate_view names.now)) (beside S.Shelf O.Sink) result (shelf.old, out.old) (shelf.new, out.new) }
-    ensures causes { (disk : Drive) → Causes (beside S.Shelf O.Sink disk) result (shelf.old, out.old) (shelf.new, out.new) }
-    ensures does { CommandDoes S.Shelf O.Sink (command.migrate (migrate_view names.now)) result (shelf.old, out.old) (shelf.new, out.new) }
+    ensures { CommandDoes S.Shelf O.Sink (command.migrate (migrate_view names.now)) result (shelf.old, out.old) (shelf.new, out.new) }
 {
     let made = match migrated_image::<RealLayer, S>(alloc, names, shelf) {
         Ok(made) => made,
@@ -280,10 +227,9 @@ fn migrate_image<S: Shelf, O: Sink>(
 
 // Makes, links and boots the sample of a number.
 fn run_sample<O: Sink, D: Sectors>(alloc: Global, number: u32, out: &mut O, disk: &mut D) -> Status
-    ensures ends { SampleEndsAs number (within O.Sink D.Sectors) result (out.old, disk.old) (out.new, disk.new) }
-    ensures causes { (shelf : Files) → Causes (within O.Sink D.Sectors shelf) result (out.old, disk.old) (out.new, disk.new) }
-    ensures does { SampleDoes O.Sink D.Sectors number result (out.old, disk.old) (out.new, disk.new) }
+    ensures { SampleDoes O.Sink D.Sectors number result (out.old, disk.old) (out.new, disk.new) }
 {
+    disk.are_sectors();
     let session = Session {
         start: StartPoint::Loaded,
         view: View::Boot,

@@ -3,12 +3,10 @@ ghost use Rattle.std.specs.Prelude.{◌≡◌, ◌≢◌, ◌↔◌, ⊤, ℕ, L
 ghost use Rattle.cvm_outside.specs.Told.{TOO_LONG};
 ghost use Rattle.cvm_shell.specs.Command as command;
 ghost use Rattle.cvm_shell.specs.CompileProgram as compiling;
-ghost use Rattle.cvm_shell.specs.CommandEnds.{Causes};
 ghost use Rattle.cvm_shell.specs.Does.{Gets, CommandDoes};
 ghost use Rattle.cvm_shell.specs.Ends.{files_of};
-ghost use Rattle.cvm_shell.specs.Host.{Drive, beside};
 ghost use Rattle.cvm_shell.specs.Plan.{AfterProgram, IsPlan};
-ghost use Rattle.cvm_shell.specs.Stages.{program_stop, CommandEndsAs, PlanCounts, runnable, IsProgramPlan};
+ghost use Rattle.cvm_shell.specs.Stages.{program_stop, PlanCounts, runnable, IsProgramPlan};
 ghost use Rattle.cvm_shell.specs.Views.{program_view, IfPlan};
 
 use crate::assembly::little_endian;
@@ -102,9 +100,7 @@ pub fn compile_program<S: Shelf, O: Sink>(
     shelf: &mut S,
     out: &mut O,
 ) -> Status
-    ensures ends { CommandEndsAs (command.compile_program (program_view names.now)) (beside S.Shelf O.Sink) result (shelf.old, out.old) (shelf.new, out.new) }
-    ensures causes { (disk : Drive) → Causes (beside S.Shelf O.Sink disk) result (shelf.old, out.old) (shelf.new, out.new) }
-    ensures does { CommandDoes S.Shelf O.Sink (command.compile_program (program_view names.now)) result (shelf.old, out.old) (shelf.new, out.new) }
+    ensures { CommandDoes S.Shelf O.Sink (command.compile_program (program_view names.now)) result (shelf.old, out.old) (shelf.new, out.new) }
 {
     let image = match program_image(alloc, names, shelf) {
         Ok(image) => image,

@@ -1,19 +1,15 @@
 // A resume: what its files come to, and the run that goes on.
 ghost use Rattle.std.specs.Prelude.{◌≡◌, ◌≢◌, ◌⊎◌, ◌↔◌, ℕ, List, IfOk, IsErrOf};
-ghost use Rattle.std.specs.Io.KnownBytes.{append_known};
-ghost use Rattle.cvm_outside.specs.Causes.{Rose};
-ghost use Rattle.cvm_outside.specs.Told.{AppendsPart, TOO_LONG};
+ghost use Rattle.cvm_outside.specs.Told.{TOO_LONG};
 ghost use Rattle.real_layer.specs.Image.{layer_image};
 ghost use Rattle.cvm_shell.specs.Command.{resume as of_resume};
-ghost use Rattle.cvm_shell.specs.CommandEnds.{Causes};
 ghost use Rattle.cvm_shell.specs.Does.{Gets, RunDoes, SaysAs, SystemDoes};
-ghost use Rattle.cvm_shell.specs.Ends.{files_of};
-ghost use Rattle.cvm_shell.specs.Host.{seen, within};
+ghost use Rattle.cvm_shell.specs.Ends.{AreBytes, files_of};
 ghost use Rattle.cvm_shell.specs.Refusal.{bad_save, refusal_text};
-ghost use Rattle.cvm_shell.specs.Stages.{resumable_for, SystemFollows, IsResumePlan, PlanCounts, ResumeEndsAs, ResumesAs};
+ghost use Rattle.cvm_shell.specs.Stages.{resumable_for, SystemFollows, IsResumePlan, PlanCounts};
 ghost use Rattle.cvm_shell.specs.Views.{save_view, IfPlan};
 
-use crate::boot::{Ready, Stop, ready_of, status_of};
+use crate::boot::{Ready, Stop, are_bytes, ready_of, status_of};
 use crate::exit_status::Status;
 use crate::refusal::Refusal;
 use crate::saving_words::Save;
@@ -39,10 +35,14 @@ pub fn plan_resume<S: Shelf>(alloc: Global, resume: &Save, shelf: &mut S) -> Res
     ensures count { PlanCounts (S.faults shelf.old) (S.faults shelf.new) result }
     ensures files { (n : List ℕ) → S.file shelf.new n ≡ S.file shelf.old n }
     ensures gets { Gets S.Shelf (files_of (of_resume (save_view resume.now))) shelf.old shelf.new result }
+    ensures bytes { IfOk result (λ _. AreBytes (S.file shelf.old) (files_of (of_resume (save_view resume.now)))) }
 {
     let image = shelf.get(alloc, resume.boot.image)?;
     let schedule = shelf.get(alloc, resume.boot.schedule)?;
     let bytes = shelf.get(alloc, resume.file)?;
+    are_bytes(&image);
+    are_bytes(&schedule);
+    are_bytes(&bytes);
     let ready = ready_of(alloc, &image, &schedule)?;
     Ok(Resumable { ready, bytes })
 }
@@ -55,10 +55,9 @@ pub fn run_resume<S: Shelf, O: Sink, D: Sectors>(
     out: &mut O,
     disk: &mut D,
 ) -> Status
-    ensures ends { ResumeEndsAs (save_view resume.now) (seen S.Shelf O.Sink D.Sectors) result (shelf.old, out.old, disk.old) (shelf.new, out.new, disk.new) }
-    ensures causes { Causes (seen S.Shelf O.Sink D.Sectors) result (shelf.old, out.old, disk.old) (shelf.new, out.new, disk.new) }
-    ensures does { RunDoes S.Shelf O.Sink D.Sectors (of_resume (save_view resume.now)) result (shelf.old, out.old, disk.old) (shelf.new, out.new, disk.new) }
+    ensures { RunDoes S.Shelf O.Sink D.Sectors (of_resume (save_view resume.now)) result (shelf.old, out.old, disk.old) (shelf.new, out.new, disk.new) }
 {
+    disk.are_sectors();
     match plan_resume(alloc, resume, shelf) {
         Ok(resumable) => resume_system(alloc, resumable, resume, out, disk),
         Err(Stop::Refused(refusal)) => refuse(&refusal, out),
@@ -76,12 +75,7 @@ fn resume_system<O: Sink, D: Sectors>(
     disk: &mut D,
 ) -> Status
     requires follows { SystemFollows resumable.ready }
-    ensures ends { ResumesAs resumable (save_view resume.now) (within O.Sink D.Sectors) result (out.old, disk.old) (out.new, disk.new) }
-    ensures does { SystemDoes O.Sink D.Sectors (resumable_for (save_view resume.now) resumable) result (out.old, disk.old) (out.new, disk.new) }
-    ensures rose { result ≡ Status.Sink → Rose (O.faults out.old) (O.faults out.new) }
-    ensures same { result ≢ Status.Sink → O.faults out.new ≡ O.faults out.old }
-    ensures disk_same { result ≢ Status.Disk → D.faults disk.new ≡ D.faults disk.old }
-    ensures never { (result ≢ Status.Words) × (result ≢ Status.Shelf) }
+    ensures { SystemDoes O.Sink D.Sectors (resumable_for (save_view resume.now) resumable) result (out.old, disk.old) (out.new, disk.new) }
 {
     match resume_run(
         alloc,
@@ -106,10 +100,6 @@ fn resume_system<O: Sink, D: Sectors>(
 fn refuse_file<O: Sink>(fault: SaveFault, out: &mut O) -> Status
     ensures cases { ((result ≡ Status.Memory) × (out.new ≡ out.old))
         ⊎ ((fault ≢ SaveFault.Memory) × ((result ≡ Status.Refused) ⊎ (result ≡ Status.Sink))) }
-    ensures whole { result ≡ Status.Refused → O.text out.new ≡ append_known (O.text out.old) (refusal_text (bad_save fault)) }
-    ensures part { result ≡ Status.Sink → AppendsPart (O.text out.old) (O.text out.new) (refusal_text (bad_save fault)) }
-    ensures rose { result ≡ Status.Sink → Rose (O.faults out.old) (O.faults out.new) }
-    ensures same { result ≢ Status.Sink → O.faults out.new ≡ O.faults out.old }
     ensures says { fault ≢ SaveFault.Memory → SaysAs O.Sink Status.Refused (refusal_text (bad_save fault)) out.old out.new result }
 {
     if let SaveFault::Memory = fault {

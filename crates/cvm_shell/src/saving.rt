@@ -1,19 +1,14 @@
 // A save: what its files come to, and the run that is saved.
 ghost use Rattle.std.specs.Prelude.{◌≡◌, ◌≢◌, ◌↔◌, ◌<◌, ◌≤◌, ◌^◌, ℕ, List, IfOk, IfErr, OnErr, IsErrOf, Err};
-ghost use Rattle.cvm_outside.specs.Causes.{Rose};
 ghost use Rattle.cvm_outside.specs.Told.{TOO_LONG};
 ghost use Rattle.kernel_linker.specs.Accept.{system_of};
 ghost use Rattle.machine_save.specs.Room.{most_words, FILE_ROOM};
-ghost use Rattle.machine_save.specs.SaveRun.{IsSavedDiskFault, IsSavedShelfFault, IsSavedSinkFault};
 ghost use Rattle.real_layer.specs.Image.{layer_image};
 ghost use Rattle.cvm_shell.specs.Command.{save as of_save, save_session};
-ghost use Rattle.cvm_shell.specs.CommandEnds.{Causes};
 ghost use Rattle.cvm_shell.specs.Does.{Gets, RunDoes, SaveDoes, SavedCalls, SessionPasts};
-ghost use Rattle.cvm_shell.specs.Ends.{files_of};
-ghost use Rattle.cvm_shell.specs.Host.{seen};
+ghost use Rattle.cvm_shell.specs.Ends.{AreBytes, files_of};
 ghost use Rattle.cvm_shell.specs.Plan.{frames_of, most_bytes};
-ghost use Rattle.cvm_shell.specs.Stages.{save_stop, saveable_for, status_of_saved, SystemFollows, HasNoRoom, IsSavePlan, PlanCounts};
-ghost use Rattle.cvm_shell.specs.Stages.{SaveEndsAs, SaveIs, SavesAs};
+ghost use Rattle.cvm_shell.specs.Stages.{save_stop, saveable_for, SaveAnswers, status_of_saved, SystemFollows, HasNoRoom, IsSavePlan, PlanCounts};
 ghost use Rattle.cvm_shell.specs.Views.{save_view, IfPlan};
 
 use crate::boot::{Ready, Stop, plan, status_of};
@@ -57,6 +52,7 @@ pub fn plan_save<S: Shelf>(alloc: Global, save: &Save, shelf: &mut S) -> Result<
     ensures count { PlanCounts (S.faults shelf.old) (S.faults shelf.new) result }
     ensures files { (n : List ℕ) → S.file shelf.new n ≡ S.file shelf.old n }
     ensures gets { Gets S.Shelf (files_of (of_save (save_view save.now))) shelf.old shelf.new result }
+    ensures bytes { IfOk result (λ _. AreBytes (S.file shelf.old) (files_of (of_save (save_view save.now)))) }
 {
     let ready = plan(alloc, &save.boot, shelf)?;
     let room = room_for(alloc, &ready)?;
@@ -85,10 +81,9 @@ pub fn run_save<S: Shelf, O: Sink, D: Sectors>(
     disk: &mut D,
 ) -> Status
     requires { 1 ≤ (save_view save.now).boot.turns }
-    ensures ends { SaveEndsAs (save_view save.now) (seen S.Shelf O.Sink D.Sectors) result (shelf.old, out.old, disk.old) (shelf.new, out.new, disk.new) }
-    ensures causes { Causes (seen S.Shelf O.Sink D.Sectors) result (shelf.old, out.old, disk.old) (shelf.new, out.new, disk.new) }
-    ensures does { RunDoes S.Shelf O.Sink D.Sectors (of_save (save_view save.now)) result (shelf.old, out.old, disk.old) (shelf.new, out.new, disk.new) }
+    ensures { RunDoes S.Shelf O.Sink D.Sectors (of_save (save_view save.now)) result (shelf.old, out.old, disk.old) (shelf.new, out.new, disk.new) }
 {
+    disk.are_sectors();
     match plan_save(alloc, save, shelf) {
         Ok(saveable) => save_system(alloc, saveable, save, shelf, out, disk),
         Err(Stop::Refused(refusal)) => refuse(&refusal, out),
@@ -110,16 +105,9 @@ fn save_system<S: Shelf, O: Sink, D: Sectors>(
     requires room { saveable.room.words ≡ most_words (frames_of (system_of saveable.ready.boot)) }
     requires short { most_bytes (system_of saveable.ready.boot) ≤ FILE_ROOM }
     requires some { 1 ≤ (save_view save.now).boot.turns }
-    ensures ends { SavesAs saveable (save_view save.now) (seen S.Shelf O.Sink D.Sectors) result (shelf.old, out.old, disk.old) (shelf.new, out.new, disk.new) }
     ensures does { SaveDoes S.Shelf O.Sink D.Sectors (saveable_for (save_view save.now) saveable) result
         (shelf.old, out.old, disk.old) (shelf.new, out.new, disk.new) }
     ensures taken { S.taken shelf.new ≡ S.taken shelf.old }
-    ensures disk_same { result ≢ Status.Disk → D.faults disk.new ≡ D.faults disk.old }
-    ensures sink { result ≡ Status.Sink → Rose (O.faults out.old) (O.faults out.new) }
-    ensures sink_same { result ≢ Status.Sink → O.faults out.new ≡ O.faults out.old }
-    ensures shelf { result ≡ Status.Shelf → Rose (S.faults shelf.old) (S.faults shelf.new) }
-    ensures shelf_same { result ≢ Status.Shelf → S.faults shelf.new ≡ S.faults shelf.old }
-    ensures never { result ≢ Status.Words }
 {
     match save_ready(alloc, saveable, save, shelf, out, disk) {
         Ok(end) => saved_status(end),
@@ -145,7 +133,7 @@ fn save_ready<S: Shelf, O: Sink, D: Sectors>(
     requires room { saveable.room.words ≡ most_words (frames_of (system_of saveable.ready.boot)) }
     requires short { most_bytes (system_of saveable.ready.boot) ≤ FILE_ROOM }
     requires some { 1 ≤ (save_view save.now).boot.turns }
-    ensures is { SaveIs saveable (save_view save.now) (seen S.Shelf O.Sink D.Sectors) result (shelf.old, out.old, disk.old) (shelf.new, out.new, disk.new) }
+    ensures is { SaveAnswers saveable (D.size disk.old) (D.faults disk.old) (D.faults disk.new) result }
     ensures calls { SavedCalls S.Shelf O.Sink D.Sectors saveable.ready (save_view save.now) result
         (shelf.old, out.old, disk.old) (shelf.new, out.new, disk.new) }
     ensures pasts { SessionPasts saveable.ready (save_session (save_view save.now)) (D.size disk.old) (D.sectors disk.old) }
@@ -153,11 +141,6 @@ fn save_ready<S: Shelf, O: Sink, D: Sectors>(
     ensures unprinted { IfErr result (λ _. out.new ≡ out.old) }
     ensures unput { IfErr result (λ _. shelf.new ≡ shelf.old) }
     ensures still { result ≢ Err LoadFault.Disk → OnErr result (disk.new ≡ disk.old) }
-    ensures disk_same { (IsSavedDiskFault result → ⊥) → D.faults disk.new ≡ D.faults disk.old }
-    ensures sink { IsSavedSinkFault result → Rose (O.faults out.old) (O.faults out.new) }
-    ensures sink_same { (IsSavedSinkFault result → ⊥) → O.faults out.new ≡ O.faults out.old }
-    ensures shelf { IsSavedShelfFault result → Rose (S.faults shelf.old) (S.faults shelf.new) }
-    ensures shelf_same { (IsSavedShelfFault result → ⊥) → S.faults shelf.new ≡ S.faults shelf.old }
 {
     let ready = &saveable.ready;
     boots_hold(&ready.layer, &ready.boot, &ready.schedule, disk);

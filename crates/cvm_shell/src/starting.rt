@@ -1,14 +1,11 @@
 // A system is loaded for its session's start, and run.
 ghost use Rattle.std.specs.Prelude.{◌≡◌, ◌≢◌, ◌≤◌, ◌+◌, ◌/◌, ℕ, IfErr, IfOk, OnErr, OnOk, Err, length};
-ghost use Rattle.cvm_outside.specs.Causes.{Rose};
 ghost use Rattle.boot_turns.specs.Rom.{own_rom};
 ghost use Rattle.boot_run.specs.Loading.{system_of};
 ghost use Rattle.boot_run.specs.LoadEnds.{LoadFails, rom_needed};
 ghost use Rattle.boot_run.specs.RunEnds.{SeesUser};
-ghost use Rattle.boot_run.specs.Whole.{IsDiskFault, IsSinkFault};
 ghost use Rattle.cvm_shell.specs.Does.{SessionCalls, SessionPasts};
-ghost use Rattle.cvm_shell.specs.Host.{within};
-ghost use Rattle.cvm_shell.specs.Stages.{AnswersAs, SystemFollows};
+ghost use Rattle.cvm_shell.specs.Stages.{within, AnswersAs, SystemFollows};
 
 use crate::boot::{Ready, Session, StartPoint};
 use boot_rom::rom_words;
@@ -32,9 +29,6 @@ pub(crate) fn load_and_run<O: Sink, D: Sectors>(
     ensures pasts { SessionPasts ready session (D.size disk.old) (D.sectors disk.old) }
     ensures unprinted { IfErr result (λ _. out.new ≡ out.old) }
     ensures still { result ≢ Err LoadFault.Disk → OnErr result (disk.new ≡ disk.old) }
-    ensures disk_same { (IsDiskFault result → ⊥) → D.faults disk.new ≡ D.faults disk.old }
-    ensures sink { IsSinkFault result → Rose (O.faults out.old) (O.faults out.new) }
-    ensures sink_same { (IsSinkFault result → ⊥) → O.faults out.new ≡ O.faults out.old }
 {
     match session.start {
         StartPoint::Loaded => run_loaded(alloc, ready, session, out, disk),
@@ -58,9 +52,6 @@ fn run_loaded<O: Sink, D: Sectors>(
     ensures pasts { SessionPasts ready session (D.size disk.old) (D.sectors disk.old) }
     ensures unprinted { IfErr result (λ _. out.new ≡ out.old) }
     ensures still { result ≢ Err LoadFault.Disk → OnErr result (disk.new ≡ disk.old) }
-    ensures disk_same { (IsDiskFault result → ⊥) → D.faults disk.new ≡ D.faults disk.old }
-    ensures sink { IsSinkFault result → Rose (O.faults out.old) (O.faults out.new) }
-    ensures sink_same { (IsSinkFault result → ⊥) → O.faults out.new ≡ O.faults out.old }
 {
     pasts_exist(&ready.layer, &ready.boot, &ready.schedule, disk);
     run_whole(
@@ -92,9 +83,6 @@ fn run_from_rom<O: Sink, D: Sectors>(
     ensures pasts { SessionPasts ready session (D.size disk.old) (D.sectors disk.old) }
     ensures unprinted { IfErr result (λ _. out.new ≡ out.old) }
     ensures still { result ≢ Err LoadFault.Disk → OnErr result (disk.new ≡ disk.old) }
-    ensures disk_same { (IsDiskFault result → ⊥) → D.faults disk.new ≡ D.faults disk.old }
-    ensures sink { IsSinkFault result → Rose (O.faults out.old) (O.faults out.new) }
-    ensures sink_same { (IsSinkFault result → ⊥) → O.faults out.new ≡ O.faults out.old }
 {
     pasts_exist(&ready.layer, &ready.boot, &ready.schedule, disk);
     let rom = rom_for(alloc, &ready, session.view, disk.count())?;

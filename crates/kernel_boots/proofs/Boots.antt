@@ -21,7 +21,7 @@ use Rattle.kernel_linker.specs.Sources.{IsOfImage, AcceptedAreOfImages}
 use Rattle.cvm_shell.specs.declared.exit_status.Status.{Status}
 use Rattle.cvm_shell.specs.declared.exit_status.Status.TheVariants.{KernelFault}
 use Rattle.cvm_shell.specs.declared.boot.Session.{Session}
-use Rattle.cvm_shell.specs.Host.{Host}
+use Rattle.cvm_outside.specs.Outside.{Outside}
 use Rattle.cvm_shell.specs.Plan.{Accepts}
 use Rattle.cvm_shell.specs.Boot.{booted, around, first_state, sectors_needed, ended_as, AskFor, by_boot, by_trace, by_sample, Headline}
 use Rattle.kernel_boots.specs.Boots.{OfStates, AlwaysHas, TextOfState, turns_made, StandsAt, SessionStands, BootStands, BootsStand, BootsShow, HasSource, AsksSource, RunsItsSource, BootsOf}
@@ -116,7 +116,7 @@ boots_stand laws words status old new headlines session s rows before honest som
     }
 
 -- the schedule that is asked for raises eight lines
-pub asked_eight : (words : List (List ℕ)) (file : List ℕ → Option (List ℕ)) (session : Session) (s : ImageSystem) (rows : Rows) → AskFor words file session s rows → (old : Host) → HasEightLines (around rows old)
+pub asked_eight : (words : List (List ℕ)) (file : List ℕ → Option (List ℕ)) (session : Session) (s : ImageSystem) (rows : Rows) → AskFor words file session s rows → (old : Outside) → HasEightLines (around rows old)
 asked_eight words file session s rows (by_boot b is same files) old = eight_of files.schedule rows files.valid
 asked_eight words file session s rows (by_trace t is same files) old = eight_of files.schedule rows files.valid
 asked_eight words file session s rows (by_sample n is same parts) old = eight_of _ rows parts.valid

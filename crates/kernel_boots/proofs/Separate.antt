@@ -18,7 +18,7 @@ use Rattle.kernel_theorems.specs.UserRuns.{after}
 use Rattle.kernel_theorems.specs.Text.{TextsMeanTrees}
 use Rattle.cvm_shell.specs.declared.exit_status.Status.TheVariants.{Done}
 use Rattle.cvm_shell.specs.declared.boot.Session.{Session}
-use Rattle.cvm_shell.specs.Host.{Host}
+use Rattle.cvm_outside.specs.Outside.{Outside}
 use Rattle.cvm_shell.specs.Plan.{Accepts}
 use Rattle.cvm_shell.specs.Boot.{booted, ended_as, AskFor, by_boot, by_trace, by_sample, IsHonest}
 use Rattle.cvm_shell.specs.Isolation.{lines_met}
@@ -66,7 +66,7 @@ module _ (replays : UnitsReplay) (isolated : Isolated) (own : RunsAreOwn) (image
     run : OwnRun (booted s rows) lines n k u c
     replayed : replay (first_flat words) (journal (booted s rows) lines n u k) ≡ Some (user_of c.core.users u)
 
-  runs : (source : List ℕ) → SourceChangesNone source → (given : List (List ℕ)) (session : Session) (s : ImageSystem) (rows : Rows) (before : List (List ℕ)) (old new : Host)
+  runs : (source : List ℕ) → SourceChangesNone source → (given : List (List ℕ)) (session : Session) (s : ImageSystem) (rows : Rows) (before : List (List ℕ)) (old new : Outside)
       → (h : IsHonest given session s rows before old new) → AsksSource source h.asked → (u : ℕ) (words : List ℕ) → 1 ≤ u → AsksUser u words h.asked
       → (lines : ℕ → ℕ) (n k : ℕ) (c : Cvm) → cvm (booted s rows) lines n k ≡ Some c → Runs s rows lines n k u words c
   runs source none given session s rows before old new h asks u words some user lines n k c is =

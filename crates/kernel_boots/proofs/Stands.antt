@@ -20,22 +20,20 @@ use Rattle.boot_turns.specs.declared.answers.View.TheVariants as view
 use Rattle.boot_turns.specs.Headline.{Ending, Done as IsDone, KernelFaulted, OutOfSteps, ending_of, ending, TextAt, RanFrom}
 use Rattle.boot_turns.specs.Headline as headline
 use Rattle.boot_turns.specs.TurnEnds.{first_of, Stood, Printed, TurnIsOver}
-use Rattle.boot_run.specs.RunEnds.{SeesUser, CallsFrom, ending_of_end}
-use Rattle.boot_run.specs.SavedRuns.{SavedAt, GoesOnAs}
-use Rattle.boot_run.specs.declared.whole.RunEnd.{RunEnd}
-use Rattle.boot_run.specs.declared.whole.RunEnd.TheVariants as ends
+use Rattle.boot_run.specs.RunEnds.{SeesUser}
+use Rattle.boot_run.specs.SavedRuns.{SavedAt}
 use Rattle.kernel_linker.specs.Accept.{ImageSystem}
 use Rattle.cvm_shell.specs.declared.exit_status.Status.{Status}
 use Rattle.cvm_shell.specs.declared.exit_status.Status.TheVariants as statuses
 use Rattle.cvm_shell.specs.declared.boot.Session.{Session}
 use Rattle.cvm_shell.specs.Command.{Save, save_session}
-use Rattle.cvm_shell.specs.Host.{Host, counts}
-use Rattle.cvm_shell.specs.Boot.{booted, around, first_state, sectors_needed, ended_as, SessionRan, AreFilesOf, Headline}
+use Rattle.cvm_outside.specs.Outside.{Outside}
+use Rattle.cvm_shell.specs.Boot.{booted, around, first_state, sectors_needed, ended_as, AreFilesOf, Headline}
 use Rattle.cvm_shell.specs.Isolation.{IsolatedTrace}
 use Rattle.cvm_shell.specs.Saves.{saved_row, Stopped, IsSavedIn, SaveHolds, as_boot, is_saved}
-use Rattle.cvm_shell.specs.Resumes.{ResumeHolds, IsSavedRun}
+use Rattle.cvm_shell.specs.Resumes.{IsBootBehind}
 use Rattle.kernel_boots.specs.Boots.{SessionStands, BootStands}
-use Rattle.kernel_boots.specs.Stands.{lines_met, under_way, TraceTextOf, TraceStandsAt, TracesStand, SavedStands, SaveStands, SavesStand, ResumeStands, ResumesStand}
+use Rattle.kernel_boots.specs.Stands.{lines_met, under_way, TraceTextOf, TraceStandsAt, TracesStand, SavedStands, SaveStands, SavesStand, ResumesStand}
 use Rattle.kernel_boots.proofs.EightLines.{eight_of, turns_have_eight}
 use Rattle.kernel_boots.proofs.Boots.{ones, stands, asked_eight}
 
@@ -73,7 +71,7 @@ some_same : {A : Type 0} (a b : A) → Some a ≡ Some b → a ≡ b
 some_same a b e = cc
 
 -- A TRACE
-module _ (laws : RunsAreLawful) (replays : UnitsReplay) (isolated : Isolated) (session : Session) (u : ℕ) (s : ImageSystem) (rows : Rows) (before : List (List ℕ)) (status : Status) (old new : Host)
+module _ (laws : RunsAreLawful) (replays : UnitsReplay) (isolated : Isolated) (session : Session) (u : ℕ) (s : ImageSystem) (rows : Rows) (before : List (List ℕ)) (status : Status) (old new : Outside)
     (user : (1 ≤ u) × (u ≤ length s.users)) (h : Headline session s rows before old new status) where
   abbrev x : Environment
   x = around rows old
@@ -152,7 +150,7 @@ traces_stand laws replays isolated words status old new headlines isolates sessi
     }
 
 -- A SAVE
-files_eight : (file : List ℕ → Option (List ℕ)) (c : Save) (s : ImageSystem) (rows : Rows) (before : List (List ℕ)) (old : Host) → AreFilesOf file c.boot s rows → HasEight (lines_met (save_session c) s rows before old)
+files_eight : (file : List ℕ → Option (List ℕ)) (c : Save) (s : ImageSystem) (rows : Rows) (before : List (List ℕ)) (old : Outside) → AreFilesOf file c.boot s rows → HasEight (lines_met (save_session c) s rows before old)
 files_eight file c s rows before old files = turns_have_eight (around rows old) (first_state (save_session c) s rows before) (eight_of files.schedule rows files.valid)
 
 -- a machine that is on rests in a running state
@@ -166,7 +164,7 @@ stood_runs x y s zero t c on h = let is = h.cvm.is in let same : first_cvm y ≡
 stood_runs x y s (suc k) t c on h = on_runs x s t c.status on h.rests.0
 
 -- a headline of a boot stands
-boot_stands : RunsAreLawful → (session : Session) (s : ImageSystem) (rows : Rows) (before : List (List ℕ)) (status : Status) (old new : Host) → session.view ≡ view.Boot
+boot_stands : RunsAreLawful → (session : Session) (s : ImageSystem) (rows : Rows) (before : List (List ℕ)) (status : Status) (old new : Outside) → session.view ≡ view.Boot
     → Headline session s rows before old new status → BootStands session s rows before status old new
 boot_stands laws session s rows before status old new seen h =
     let x = around rows old in
@@ -181,7 +179,7 @@ boot_stands laws session s rows before status old new seen h =
       goes_on = h.goes_on;
     }
 
-saved_stands : (c : Save) (s : ImageSystem) (rows : Rows) (before : List (List ℕ)) (old new : Host) → Stopped (save_session c) s rows before old new (IsSavedIn c.file old new) → SavedStands c s rows before old new
+saved_stands : (c : Save) (s : ImageSystem) (rows : Rows) (before : List (List ℕ)) (old new : Outside) → Stopped (save_session c) s rows before old new (IsSavedIn c.file old new) → SavedStands c s rows before old new
 saved_stands c s rows before old new h =
     let w : SavedAt (around rows old) (booted s rows) (first_state (save_session c) s rows before) c.boot.turns c.boot.steps h.words h.after h.shown = h.saved_at in
     record {
@@ -196,7 +194,7 @@ saved_stands c s rows before old new h =
       printed = h.left.1 ∙ ap (λ text. append_known old.sink.text (text ++ saved_row)) w.shown_is;
     }
 
-save_stands : RunsAreLawful → (c : Save) (s : ImageSystem) (rows : Rows) (before : List (List ℕ)) (status : Status) (old new : Host) → AreFilesOf old.shelf.file c.boot s rows → SaveHolds c s rows before old new status
+save_stands : RunsAreLawful → (c : Save) (s : ImageSystem) (rows : Rows) (before : List (List ℕ)) (status : Status) (old new : Outside) → AreFilesOf old.shelf.file c.boot s rows → SaveHolds c s rows before old new status
     → SaveStands c s rows before status old new
 save_stands laws c s rows before status old new files (as_boot h halted others) =
     record { shows = inl (boot_stands laws (save_session c) s rows before status old new refl h); eight = files_eight old.shelf.file c s rows before old files }
@@ -207,38 +205,15 @@ pub saves_stand : RunsAreLawful → SavesStand
 saves_stand laws words status old new saves c s rows before honest some = save_stands laws c s rows before status old new honest.files (saves c s rows before honest some)
 
 -- A RESUME
-module _ (laws : RunsAreLawful) (c : Save) (s : ImageSystem) (rows : Rows) (machine : List ℕ) (left before : List (List ℕ)) (shown : List ℕ) (status : Status) (old new : Host)
-    (files : AreFilesOf old.shelf.file c.boot s rows) (w : IsSavedRun c s rows machine left before shown old) (h : ResumeHolds c s rows machine left old new status) where
-  abbrev around_it : Environment
-  around_it = around rows old
-
-  abbrev first : State
-  first = first_state (save_session c) s rows before
-
-  abbrev GoesOn : Ending → Type 0
-  GoesOn e = GoesOnAs around_it (booted s rows) before h.went.now c.boot.turns c.boot.steps (CallsFrom (run around_it first w.saved_at.at) (counts old.disk) (counts new.disk)) shown old.sink.text new.sink.text e
-
-  resumed : (e : Ending) → status ≡ ended_as e → (text : List ℕ) × (new.sink.text ≡ append_known old.sink.text text) × SessionRan (save_session c) s rows old before h.went.now e (shown ++ text)
-      → ResumeStands c s rows before shown status old new
-  resumed e is (text, printed, ran) = record {
-    text = text;
-    printed = printed;
-    stands = subst (λ (z : Status). SessionStands (save_session c) s rows before old z (shown ++ text)) (sym is)
-        (stands around_it (booted s rows) (ones laws s rows) first (sectors_needed (save_session c) s rows) before h.went.now c.boot.turns c.boot.steps e (shown ++ text) ran);
-    eight = files_eight old.shelf.file c s rows before old files;
-    goes_on = h.went.goes_on before w.disk;
-  }
-
-  by_end : (e : RunEnd) → h.end ≡ e → GoesOn (ending_of_end e) → ResumeStands c s rows before shown status old new
-  by_end ends.Done e j = resumed IsDone (h.status_is ∙ ap (λ i. ended_as (ending_of_end i)) e) j
-  by_end ends.KernelFaulted e j = resumed KernelFaulted (h.status_is ∙ ap (λ i. ended_as (ending_of_end i)) e) j
-  by_end ends.OutOfSteps e j = resumed OutOfSteps (h.status_is ∙ ap (λ i. ended_as (ending_of_end i)) e) j
-  by_end ends.DiskFault e j = absurd (h.no_disk e)
-  by_end ends.SinkFault e j = absurd (h.no_sink e)
-
-  resume_stands : ResumeStands c s rows before shown status old new
-  resume_stands = by_end h.end refl (h.went.joins before w.turns w.steps shown w.disk w.fewer w.saved_at)
-
 pub resumes_stand : RunsAreLawful → ResumesStand
 resumes_stand laws words status old new resumes c s rows machine left before shown honest some w =
-    resume_stands laws c s rows machine left before shown status old new honest.files w (resumes c s rows machine left honest some)
+    let j : IsBootBehind c s rows before shown old old new status = (resumes c s rows machine left honest some).joins before shown w in
+    record {
+      text = j.text;
+      printed = j.printed;
+      stands = subst (λ (z : Status). SessionStands (save_session c) s rows before old z (shown ++ j.text)) (sym j.status_is)
+          (stands (around rows old) (booted s rows) (ones laws s rows) (first_state (save_session c) s rows before) (sectors_needed (save_session c) s rows) before j.after c.boot.turns c.boot.steps j.ending
+          (shown ++ j.text) j.ran);
+      eight = files_eight old.shelf.file c s rows before old honest.files;
+      goes_on = j.goes_on;
+    }

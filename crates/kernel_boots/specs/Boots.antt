@@ -1,4 +1,4 @@
--- What each boot of an image shows, where each state of the abstract run has a property: over the headline of `run` (cvm_shell/src/lib.rt) as it stands.
+-- What each boot of an image shows, where each state of the abstract run has a property: over the headline of `run` (`Headlines` of cvm_shell/specs/CommandEnds) as it stands.
 use Rattle.std.specs.Prelude.{◌≡◌, ◌≢◌, true, ℕ, List, Option, Ok}
 use Rattle.std.specs.Io.KnownBytes.{append_known}
 use Rattle.schedule_file.specs.Rows.{Rows}
@@ -18,7 +18,7 @@ use Rattle.kernel_linker.specs.Accept.{ImageSystem}
 use Rattle.cvm_shell.specs.declared.exit_status.Status.{Status}
 use Rattle.cvm_shell.specs.declared.exit_status.Status.TheVariants.{KernelFault, StepLimit, Memory}
 use Rattle.cvm_shell.specs.declared.boot.Session.{Session}
-use Rattle.cvm_shell.specs.Host.{Host}
+use Rattle.cvm_outside.specs.Outside.{Outside}
 use Rattle.cvm_shell.specs.Boot.{booted, around, first_state, ended_as, SessionGoesOn, AskFor, by_boot, by_trace, by_sample, IsHonest}
 use Rattle.cvm_shell.specs.CommandEnds.{Headlines}
 
@@ -54,14 +54,14 @@ pub record Shows (x : Environment) (y : System) (s : State) (turns steps : ℕ) 
   pub has : P (lines_of_turn x s) (turns_made x s turns steps) stands.state
 
 -- the run of a session
-abbrev pub SessionStands : Session → ImageSystem → Rows → (before : List (List ℕ)) → Host → Status → List ℕ → Type 0
+abbrev pub SessionStands : Session → ImageSystem → Rows → (before : List (List ℕ)) → Outside → Status → List ℕ → Type 0
 SessionStands session s rows before old = StandsAt (around rows old) (booted s rows) (first_state session s rows before) session.turns session.steps
 
-abbrev pub SessionShows : Session → ImageSystem → Rows → (before : List (List ℕ)) → Host → OfStates → Status → List ℕ → Type 0
+abbrev pub SessionShows : Session → ImageSystem → Rows → (before : List (List ℕ)) → Outside → OfStates → Status → List ℕ → Type 0
 SessionShows session s rows before old = Shows (around rows old) (booted s rows) (first_state session s rows before) session.turns session.steps
 
 -- A BOOT STANDS SO: what it printed is the text of the state where its run stands; and the machine comes to the end of every turn of that run, within its bound
-pub record BootStands (session : Session) (s : ImageSystem) (rows : Rows) (before : List (List ℕ)) (status : Status) (old new : Host) : Type 0 where
+pub record BootStands (session : Session) (s : ImageSystem) (rows : Rows) (before : List (List ℕ)) (status : Status) (old new : Outside) : Type 0 where
   pub text : List ℕ
   pub printed : new.sink.text ≡ append_known old.sink.text text
   pub stands : SessionStands session s rows before old status text
@@ -69,18 +69,18 @@ pub record BootStands (session : Session) (s : ImageSystem) (rows : Rows) (befor
 
 -- a law: EACH BOOT with no failed call shows the state of its own run
 abbrev pub BootsStand : Type 0
-BootsStand = (words : List (List ℕ)) (status : Status) (old new : Host) → Headlines (λ (o : Host). o) words status old new
+BootsStand = (words : List (List ℕ)) (status : Status) (old new : Outside) → Headlines (λ (o : Outside). o) words status old new
     → (session : Session) (s : ImageSystem) (rows : Rows) (before : List (List ℕ)) → IsHonest words session s rows before old new
     → status ≢ Memory → session.view ≡ Boot → BootStands session s rows before status old new
 
 -- A BOOT SHOWS IT: what it printed is the text of such a state; and where the property excludes faults, its status is not that of a kernel's fault
-pub record BootShows (session : Session) (s : ImageSystem) (rows : Rows) (before : List (List ℕ)) (P : OfStates) (old new : Host) (status : Status) : Type 0 where
+pub record BootShows (session : Session) (s : ImageSystem) (rows : Rows) (before : List (List ℕ)) (P : OfStates) (old new : Outside) (status : Status) : Type 0 where
   pub printed : (text : List ℕ) × (new.sink.text ≡ append_known old.sink.text text) × SessionShows session s rows before old P status text
   pub no_fault : ((lines : ℕ → ℕ) (k : ℕ) (c : Cvm) → P lines k c → IsSafe c.status) → status ≢ KernelFault
 
 -- THE COROLLARY, for any property of states: by the headline of `run` each boot with no failed call shows it, where the system's run always has it
 abbrev pub BootsShow : Type 1
-BootsShow = (P : OfStates) (words : List (List ℕ)) (status : Status) (old new : Host) → Headlines (λ (o : Host). o) words status old new
+BootsShow = (P : OfStates) (words : List (List ℕ)) (status : Status) (old new : Outside) → Headlines (λ (o : Outside). o) words status old new
     → (session : Session) (s : ImageSystem) (rows : Rows) (before : List (List ℕ)) → IsHonest words session s rows before old new
     → status ≢ Memory → session.view ≡ Boot → AlwaysHas (booted s rows) P → BootShows session s rows before P old new status
 
@@ -97,18 +97,18 @@ AsksSource source (by_sample x is same parts) = HasSource source parts.image
 
 -- a law: the unit of the system that is run is that of this source
 abbrev pub RunsItsSource : Type 0
-RunsItsSource = (source : List ℕ) (words : List (List ℕ)) (session : Session) (s : ImageSystem) (rows : Rows) (before : List (List ℕ)) (old new : Host)
+RunsItsSource = (source : List ℕ) (words : List (List ℕ)) (session : Session) (s : ImageSystem) (rows : Rows) (before : List (List ℕ)) (old new : Outside)
     → (h : IsHonest words session s rows before old new) → AsksSource source h.asked → IsUnitOf source s.unit
 
 -- what it printed is the text of a state that has the property, and its status is no kernel's fault
-abbrev pub ShowsOf : Session → ImageSystem → Rows → (before : List (List ℕ)) → OfStates → (old new : Host) → Status → Type 0
+abbrev pub ShowsOf : Session → ImageSystem → Rows → (before : List (List ℕ)) → OfStates → (old new : Outside) → Status → Type 0
 ShowsOf session s rows before P old new status =
     (status ≢ KernelFault) × ((text : List ℕ) × (new.sink.text ≡ append_known old.sink.text text) × SessionShows session s rows before old P status text)
 
 -- EACH BOOT of an image with this source: where a fact of its system is given (how many users it has), it shows a property that excludes faults. A boot is
 -- one by `boot`, `rom` or `sample` under the headline's premises, with a status other than 8.
 abbrev pub BootsOf : (source : List ℕ) → (ImageSystem → Type 0) → (System → OfStates) → Type 0
-BootsOf source Is P = (words : List (List ℕ)) (status : Status) (old new : Host) → Headlines (λ (o : Host). o) words status old new
+BootsOf source Is P = (words : List (List ℕ)) (status : Status) (old new : Outside) → Headlines (λ (o : Outside). o) words status old new
     → (session : Session) (s : ImageSystem) (rows : Rows) (before : List (List ℕ)) → (h : IsHonest words session s rows before old new)
     → status ≢ Memory → session.view ≡ Boot → AsksSource source h.asked → Is s
     → ShowsOf session s rows before (P (booted s rows)) old new status

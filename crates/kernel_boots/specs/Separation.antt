@@ -23,7 +23,7 @@ use Rattle.kernel_theorems.specs.UserRuns.{after}
 use Rattle.cvm_shell.specs.declared.exit_status.Status.{Status}
 use Rattle.cvm_shell.specs.declared.exit_status.Status.TheVariants.{Done}
 use Rattle.cvm_shell.specs.declared.boot.Session.{Session}
-use Rattle.cvm_shell.specs.Host.{Host}
+use Rattle.cvm_outside.specs.Outside.{Outside}
 use Rattle.cvm_shell.specs.Boot.{booted, around, first_state, AskFor, by_boot, by_trace, by_sample, IsHonest}
 use Rattle.cvm_shell.specs.CommandEnds.{Headlines}
 use Rattle.cvm_shell.specs.Isolation.{IsolatedTrace}
@@ -37,9 +37,9 @@ SourceChangesNone source = (u : CUnit) (p : Params) → IsUnitOf source u → Ch
 -- A BOOT THAT IS DONE: a `boot`, `rom` or `sample` under the headline's premises, whose status is 0, so that it printed its report
 pub record DoneBoot : Type 0 where
   pub words : List (List ℕ)
-  pub old : Host
-  pub new : Host
-  pub headlines : Headlines (λ (o : Host). o) words Done old new
+  pub old : Outside
+  pub new : Outside
+  pub headlines : Headlines (λ (o : Outside). o) words Done old new
   pub session : Session
   pub system : ImageSystem
   pub rows : Rows
@@ -121,7 +121,7 @@ own_trace u words steps status = trace_text u (first_flat words) (own_journal st
 -- A LAW: so is what each trace of the user prints, with its journal's steps and with how its run ended
 abbrev pub TracesAreOwn : Type 0
 TracesAreOwn = (source : List ℕ) → SourceChangesNone source → (given : List (List ℕ)) (session : Session) (u : ℕ) (words : List ℕ)
-    (s : ImageSystem) (rows : Rows) (before : List (List ℕ)) (old new : Host) (status : Status)
+    (s : ImageSystem) (rows : Rows) (before : List (List ℕ)) (old new : Outside) (status : Status)
     → (h : IsHonest given session s rows before old new) → AsksSource source h.asked → 1 ≤ u → AsksUser u words h.asked
     → (a : IsolatedTrace session u s rows before old new status) → a.text ≡ own_trace u words (own_steps a.entries) a.last.status
 

@@ -22,7 +22,7 @@ use Rattle.cvm_shell.specs.declared.exit_status.Status.{Status}
 use Rattle.cvm_shell.specs.declared.exit_status.Status.TheVariants.{Done, StepLimit, Memory}
 use Rattle.cvm_shell.specs.declared.boot.Session.{Session}
 use Rattle.cvm_shell.specs.Command.{Save, save_session}
-use Rattle.cvm_shell.specs.Host.{Host}
+use Rattle.cvm_outside.specs.Outside.{Outside}
 use Rattle.cvm_shell.specs.Boot.{booted, around, first_state, ended_as, SessionGoesOn, IsHonest}
 use Rattle.cvm_shell.specs.CommandEnds.{Headlines, Isolates}
 use Rattle.cvm_shell.specs.Saves.{saved_row, IsHonestSave, Saves}
@@ -30,7 +30,7 @@ use Rattle.cvm_shell.specs.Resumes.{IsHonestResume, IsSavedRun, Resumes}
 use Rattle.kernel_boots.specs.Boots.{turns_made, SessionStands, BootStands}
 
 -- the lines that the machine of a session's run met
-abbrev pub lines_met : Session → ImageSystem → Rows → (before : List (List ℕ)) → Host → ℕ → ℕ
+abbrev pub lines_met : Session → ImageSystem → Rows → (before : List (List ℕ)) → Outside → ℕ → ℕ
 lines_met session s rows before old = lines_of_turn (around rows old) (first_state session s rows before)
 
 -- what the turn that goes on at step t has done to user u so far: nothing where all turns that began are complete
@@ -56,7 +56,7 @@ pub record TraceStandsAt (x : Environment) (y : System) (s : State) (turns steps
   pub over : is_end x s turns (end_within x s turns steps) ≡ true → TurnIsOver x y s turns (end_within x s turns steps) state
 
 -- A TRACE STANDS SO: what it printed is the text of the state where its run stands
-pub record TraceStands (session : Session) (u : ℕ) (s : ImageSystem) (rows : Rows) (before : List (List ℕ)) (status : Status) (old new : Host) :
+pub record TraceStands (session : Session) (u : ℕ) (s : ImageSystem) (rows : Rows) (before : List (List ℕ)) (status : Status) (old new : Outside) :
     Type 0 where
   pub text : List ℕ
   pub printed : new.sink.text ≡ append_known old.sink.text text
@@ -64,15 +64,15 @@ pub record TraceStands (session : Session) (u : ℕ) (s : ImageSystem) (rows : R
   pub eight : HasEight (lines_met session s rows before old)
   pub goes_on : SessionGoesOn session old s rows before
 
--- a law: so does each trace with no failed call, by the clauses `headline` and `isolated` of `run`
+-- a law: so does each trace with no failed call, by `headlines_hold` and `traces_are_isolated` of run_scripts
 abbrev pub TracesStand : Type 0
-TracesStand = (words : List (List ℕ)) (status : Status) (old new : Host) → Headlines (λ (o : Host). o) words status old new
-    → Isolates (λ (o : Host). o) words status old new → (session : Session) (u : ℕ) (s : ImageSystem) (rows : Rows) (before : List (List ℕ))
+TracesStand = (words : List (List ℕ)) (status : Status) (old new : Outside) → Headlines (λ (o : Outside). o) words status old new
+    → Isolates (λ (o : Outside). o) words status old new → (session : Session) (u : ℕ) (s : ImageSystem) (rows : Rows) (before : List (List ℕ))
     → IsHonest words session s rows before old new → status ≢ Memory → session.view ≡ view.Trace u → TraceStands session u s rows before status old new
 
 -- A RUN WAS SAVED: all turns that were asked for are complete, the state behind them is running, and the machine rests in it at its first step there; what is
 -- printed are its rows and `saved`
-pub record SavedStands (c : Save) (s : ImageSystem) (rows : Rows) (before : List (List ℕ)) (old new : Host) : Type 0 where
+pub record SavedStands (c : Save) (s : ImageSystem) (rows : Rows) (before : List (List ℕ)) (old new : Outside) : Type 0 where
   pub state : Cvm
   pub is : IsCvm (booted s rows) (lines_met (save_session c) s rows before old) c.boot.turns state
   pub running : state.status ≡ Running
@@ -84,19 +84,19 @@ pub record SavedStands (c : Save) (s : ImageSystem) (rows : Rows) (before : List
   pub printed : new.sink.text ≡ append_known old.sink.text (rows_text state.rows ++ saved_row)
 
 -- A SAVE STANDS SO: as a boot, or where its run was saved
-pub record SaveStands (c : Save) (s : ImageSystem) (rows : Rows) (before : List (List ℕ)) (status : Status) (old new : Host) : Type 0 where
+pub record SaveStands (c : Save) (s : ImageSystem) (rows : Rows) (before : List (List ℕ)) (status : Status) (old new : Outside) : Type 0 where
   pub shows : BootStands (save_session c) s rows before status old new ⊎ ((status ≡ Done) × SavedStands c s rows before old new)
   pub eight : HasEight (lines_met (save_session c) s rows before old)
 
--- a law: so does each save with no failed call, by the clause `saves` of `run`
+-- a law: so does each save with no failed call, by `saves_are_held`
 abbrev pub SavesStand : Type 0
-SavesStand = (words : List (List ℕ)) (status : Status) (old new : Host) → Saves (λ (o : Host). o) words status old new
+SavesStand = (words : List (List ℕ)) (status : Status) (old new : Outside) → Saves (λ (o : Outside). o) words status old new
     → (c : Save) (s : ImageSystem) (rows : Rows) (before : List (List ℕ)) → IsHonestSave words c s rows before old new → status ≢ Memory
     → SaveStands c s rows before status old new
 
 -- A RESUME STANDS SO, of a run that had printed `shown` when it was saved: what both printed is the text of the state where the whole run stands, from its
 -- start
-pub record ResumeStands (c : Save) (s : ImageSystem) (rows : Rows) (before : List (List ℕ)) (shown : List ℕ) (status : Status) (old new : Host) :
+pub record ResumeStands (c : Save) (s : ImageSystem) (rows : Rows) (before : List (List ℕ)) (shown : List ℕ) (status : Status) (old new : Outside) :
     Type 0 where
   pub text : List ℕ
   pub printed : new.sink.text ≡ append_known old.sink.text text
@@ -104,8 +104,8 @@ pub record ResumeStands (c : Save) (s : ImageSystem) (rows : Rows) (before : Lis
   pub eight : HasEight (lines_met (save_session c) s rows before old)
   pub goes_on : SessionGoesOn (save_session c) old s rows before
 
--- a law: so does each resume of a saved run, with no failed call, by the clause `resumes` of `run`
+-- a law: so does each resume of a saved run, with no failed call, by `resumes_are_held`
 abbrev pub ResumesStand : Type 0
-ResumesStand = (words : List (List ℕ)) (status : Status) (old new : Host) → Resumes (λ (o : Host). o) words status old new
+ResumesStand = (words : List (List ℕ)) (status : Status) (old new : Outside) → Resumes (λ (o : Outside). o) words status old new
     → (c : Save) (s : ImageSystem) (rows : Rows) (machine : List ℕ) (left before : List (List ℕ)) (shown : List ℕ)
     → IsHonestResume words c s rows machine left old new → status ≢ Memory → IsSavedRun c s rows machine left before shown old → ResumeStands c s rows before shown status old new

@@ -18,7 +18,7 @@ use Rattle.kernel_linker.specs.Accept.{ImageSystem}
 use Rattle.cvm_shell.specs.declared.exit_status.Status.{Status}
 use Rattle.cvm_shell.specs.declared.exit_status.Status.TheVariants.{Done, KernelFault, Memory}
 use Rattle.cvm_shell.specs.declared.boot.Session.{Session}
-use Rattle.cvm_shell.specs.Host.{Host}
+use Rattle.cvm_outside.specs.Outside.{Outside}
 use Rattle.cvm_shell.specs.Boot.{booted, around, first_state, steps_before, AskFor, by_boot, by_trace, by_sample, IsHonest}
 use Rattle.cvm_shell.specs.CommandEnds.{Headlines}
 use Rattle.kernel_boots.specs.Boots.{StandsAt, turns_made, BootStands, AsksSource}
@@ -62,7 +62,7 @@ AsksSystem source users (by_sample x is same parts) = HasSystem source users par
 
 -- THE COROLLARY: each boot of an image with this source, of whose system a fact is given (which users it has), shows the invariant of its system
 abbrev pub SystemsBoot : (source : List ℕ) → (ImageSystem → Type 0) → (n : ℕ) → (System → Core → Type 0) → (System → SystemProperty) → Type 0
-SystemsBoot source Is n Fit I = (words : List (List ℕ)) (status : Status) (old new : Host) → Headlines (λ (o : Host). o) words status old new
+SystemsBoot source Is n Fit I = (words : List (List ℕ)) (status : Status) (old new : Outside) → Headlines (λ (o : Outside). o) words status old new
     → (session : Session) (s : ImageSystem) (rows : Rows) (before : List (List ℕ)) → (h : IsHonest words session s rows before old new)
     → status ≢ Memory → session.view ≡ Boot → AsksSource source h.asked → Is s
     → (text : List ℕ) × (new.sink.text ≡ append_known old.sink.text text)
@@ -71,7 +71,7 @@ SystemsBoot source Is n Fit I = (words : List (List ℕ)) (status : Status) (old
 
 -- THE DISPATCHES OF A BOOT, whatever its kernel and its users are: the state where its run stands is reached by a chain of them, of which it printed the rows.
 -- Each begins where the one before it ended, but for untrapped steps of the user who was next, one for each turn between, and is what the kernel means.
-pub record BootIsChain (session : Session) (s : ImageSystem) (rows : Rows) (before : List (List ℕ)) (status : Status) (old new : Host) : Type 0 where
+pub record BootIsChain (session : Session) (s : ImageSystem) (rows : Rows) (before : List (List ℕ)) (status : Status) (old new : Outside) : Type 0 where
   pub shows : BootStands session s rows before status old new
   pub units : ℕ
   pub chain : (k : ℕ) → turns_made (around rows old) (first_state session s rows before) session.turns session.steps ≡ suc k →
@@ -81,6 +81,6 @@ pub record BootIsChain (session : Session) (s : ImageSystem) (rows : Rows) (befo
 
 -- a law: so it is of each boot with no failed call
 abbrev pub BootsAreChains : Type 0
-BootsAreChains = (words : List (List ℕ)) (status : Status) (old new : Host) → Headlines (λ (o : Host). o) words status old new
+BootsAreChains = (words : List (List ℕ)) (status : Status) (old new : Outside) → Headlines (λ (o : Outside). o) words status old new
     → (session : Session) (s : ImageSystem) (rows : Rows) (before : List (List ℕ)) → IsHonest words session s rows before old new
     → status ≢ Memory → session.view ≡ Boot → BootIsChain session s rows before status old new

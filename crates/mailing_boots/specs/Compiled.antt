@@ -18,7 +18,7 @@ use Rattle.user_c0.specs.Program.{steps_of as most_steps}
 use Rattle.cvm_shell.specs.declared.exit_status.Status.{Status}
 use Rattle.cvm_shell.specs.declared.exit_status.Status.TheVariants.{Done, KernelFault, Memory}
 use Rattle.cvm_shell.specs.declared.boot.Session.{Session}
-use Rattle.cvm_shell.specs.Host.{Host}
+use Rattle.cvm_outside.specs.Outside.{Outside}
 use Rattle.cvm_shell.specs.Boot.{booted, around, first_state, steps_before, IsHonest}
 use Rattle.cvm_shell.specs.CommandEnds.{Headlines}
 use Rattle.kernel_boots.specs.Boots.{AsksSource}
@@ -57,7 +57,7 @@ pub record ProgramMailShown (x : Environment) (y : System) (s : State) (late rai
 -- EACH BOOT of an image with the kernel's text and the images of two such programs shows this, under every schedule, by the steps of their units
 abbrev pub AnyProgramsMail : Type 0
 AnyProgramsMail = (one two : CUnit) (n k : ℕ) (ns : List ℕ) → AreMailers one two n k ns
-    → (words : List (List ℕ)) (status : Status) (old new : Host) → Headlines (λ (o : Host). o) words status old new
+    → (words : List (List ℕ)) (status : Status) (old new : Outside) → Headlines (λ (o : Outside). o) words status old new
     → (session : Session) (s : ImageSystem) (rows : Rows) (before : List (List ℕ)) → (h : IsHonest words session s rows before old new)
     → status ≢ Memory → session.view ≡ Boot → AsksSystem kernel_text (image_words one ∷ image_words two ∷ []) h.asked
     → (text : List ℕ) × (new.sink.text ≡ append_known old.sink.text text)
@@ -68,7 +68,7 @@ AnyProgramsMail = (one two : CUnit) (n k : ℕ) (ns : List ℕ) → AreMailers o
 abbrev pub AnyCountedProgramsMail : Type 0
 AnyCountedProgramsMail = (one two : CUnit) (n k : ℕ) (ns : List ℕ) (sending receiving : ℕ) → AreMailers one two n k ns
     → IsCountedThrough (first_flat (image_words one)) (zeros ns) sending → IsCountedThrough (first_flat (image_words two)) (told_for ns) receiving
-    → (words : List (List ℕ)) (status : Status) (old new : Host) → Headlines (λ (o : Host). o) words status old new
+    → (words : List (List ℕ)) (status : Status) (old new : Outside) → Headlines (λ (o : Outside). o) words status old new
     → (session : Session) (s : ImageSystem) (rows : Rows) (before : List (List ℕ)) → (h : IsHonest words session s rows before old new)
     → status ≢ Memory → session.view ≡ Boot → AsksSystem kernel_text (image_words one ∷ image_words two ∷ []) h.asked
     → (text : List ℕ) × (new.sink.text ≡ append_known old.sink.text text)
@@ -97,7 +97,7 @@ pub record NamedMailShown (x : Environment) (y : System) (s : State) (late raise
 
 -- EACH BOOT of an image with the kernel's text whose users are compiled of the two texts, under every schedule
 abbrev pub CompiledMailBoots : Type 0
-CompiledMailBoots = (words : List (List ℕ)) (status : Status) (old new : Host) → Headlines (λ (o : Host). o) words status old new
+CompiledMailBoots = (words : List (List ℕ)) (status : Status) (old new : Outside) → Headlines (λ (o : Outside). o) words status old new
     → (session : Session) (s : ImageSystem) (rows : Rows) (before : List (List ℕ)) → (h : IsHonest words session s rows before old new)
     → status ≢ Memory → session.view ≡ Boot → AsksSource kernel_text h.asked → (layer : Map → List ℕ → List ℕ) → IsLinkedOf layer sender_text receiver_text s
     → (text : List ℕ) × (new.sink.text ≡ append_known old.sink.text text)

@@ -6,16 +6,16 @@ use Rattle.cvm_model.specs.JournalWords.{IsOrdinary}
 use Rattle.user_c0.specs.Events.{Event, journal_of, IsAnsweredJournal}
 use Rattle.cvm_shell.specs.declared.exit_status.Status.{Status}
 use Rattle.cvm_shell.specs.declared.boot.Session.{Session}
-use Rattle.cvm_shell.specs.Host.{Host}
+use Rattle.cvm_outside.specs.Outside.{Outside}
 use Rattle.cvm_shell.specs.Boot.{booted, IsHonest}
 use Rattle.cvm_shell.specs.Isolation.{IsolatedTrace}
 
 -- A LAW: each system that is run is ordinary: its kernel is a checked unit, its parameters are in range, its users are few, and they and its input have room
 abbrev pub BootedAreOrdinary : Type 0
-BootedAreOrdinary = (words : List (List ℕ)) (session : Session) (s : ImageSystem) (rows : Rows) (before : List (List ℕ)) (old new : Host) → IsHonest words session s rows before old new
+BootedAreOrdinary = (words : List (List ℕ)) (session : Session) (s : ImageSystem) (rows : Rows) (before : List (List ℕ)) (old new : Outside) → IsHonest words session s rows before old new
     → IsOrdinary (booted s rows) s.unit
 
 -- A LAW: so a trace whose journal is made of steps, calls with what they were answered, and other traps is answered
 abbrev pub TracesAreAnswered : Type 0
-TracesAreAnswered = (words : List (List ℕ)) (session : Session) (u : ℕ) (s : ImageSystem) (rows : Rows) (before : List (List ℕ)) (old new : Host) (status : Status)
+TracesAreAnswered = (words : List (List ℕ)) (session : Session) (u : ℕ) (s : ImageSystem) (rows : Rows) (before : List (List ℕ)) (old new : Outside) (status : Status)
     → IsHonest words session s rows before old new → (a : IsolatedTrace session u s rows before old new status) → (es : List Event) → a.entries ≡ journal_of es → IsAnsweredJournal a.entries

@@ -9,7 +9,7 @@ use Rattle.kernel_linker.specs.Accept.{ImageSystem}
 use Rattle.user_c0.specs.Events.{SYSCALL, CALL_CAUSE, Event, journal_of, IsAnsweredJournal}
 use Rattle.cvm_shell.specs.declared.exit_status.Status.{Status}
 use Rattle.cvm_shell.specs.declared.boot.Session.{Session}
-use Rattle.cvm_shell.specs.Host.{Host}
+use Rattle.cvm_outside.specs.Outside.{Outside}
 use Rattle.cvm_shell.specs.Boot.{booted, IsHonest}
 use Rattle.cvm_shell.specs.Isolation.{IsolatedTrace, lines_met}
 
@@ -34,7 +34,7 @@ AnswersUser y n u (d ∷ rest) = Answers y n u d × AnswersUser y n u rest
 -- A LAW: where each dispatch of a run answers a user, its journal is that of events; so its trace is answered, as `booted_programs_run` asks
 pub record KernelsAnswer : Type 0 where
   pub journals : (y : System) (n u : ℕ) (lines : ℕ → ℕ) (k : ℕ) → AnswersUser y n u (dispatches_of y lines n k) → (es : List Event) × (journal y lines n u k ≡ journal_of es)
-  pub traces : (words : List (List ℕ)) (session : Session) (u : ℕ) (s : ImageSystem) (rows : Rows) (before : List (List ℕ)) (old new : Host) (status : Status)
+  pub traces : (words : List (List ℕ)) (session : Session) (u : ℕ) (s : ImageSystem) (rows : Rows) (before : List (List ℕ)) (old new : Outside) (status : Status)
       → IsHonest words session s rows before old new → (a : IsolatedTrace session u s rows before old new status)
       → AnswersUser (booted s rows) a.units u (dispatches_of (booted s rows) (lines_met session s rows old before) a.units a.turns)
       → IsAnsweredJournal a.entries

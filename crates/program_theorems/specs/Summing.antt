@@ -13,7 +13,7 @@ use Rattle.user_c0.specs.Image.{image_words}
 use Rattle.user_c0.specs.Events.{SYSCALL, Event, call, other, journal_of, IsAnsweredJournal, calls}
 use Rattle.cvm_shell.specs.declared.exit_status.Status.{Status}
 use Rattle.cvm_shell.specs.declared.boot.Session.{Session}
-use Rattle.cvm_shell.specs.Host.{Host}
+use Rattle.cvm_outside.specs.Outside.{Outside}
 use Rattle.cvm_shell.specs.Isolation.{IsolatedTrace}
 use Rattle.cvm_shell.specs.Linked.{AreAcceptedAs}
 use Rattle.cvm_shell.specs.Plan.{Accepts}
@@ -40,5 +40,5 @@ pub record TellsSum (program : CUnit) (es : List Event) : Type 0 where
 
 -- A LAW: each trace of such a user whose calls its kernel answers prints such a journal
 abbrev pub SumsAreTraced : Type 0
-SumsAreTraced = (layer : Map → List ℕ → List ℕ) (session : Session) (u : ℕ) (s : ImageSystem) (rows : Rows) (before : List (List ℕ)) (old new : Host) (status : Status)
+SumsAreTraced = (layer : Map → List ℕ → List ℕ) (session : Session) (u : ℕ) (s : ImageSystem) (rows : Rows) (before : List (List ℕ)) (old new : Outside) (status : Status)
     (a : IsolatedTrace session u s rows before old new status) (program : CUnit) → HasSum layer s u program → (answered : IsAnsweredJournal a.entries) → TellsSum program answered.events

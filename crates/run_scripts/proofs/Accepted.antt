@@ -1,5 +1,5 @@
 -- Words and files that ask for a run name an image that is accepted, and a schedule that is valid.
-use Rattle.std.specs.Prelude.{All, IsSome, nat_lt, Result, Ok, Err, Option, Some, None, codes, decimal, slice_index, flat_map, ◌==◌, if◌then◌else◌}
+use Rattle.std.specs.Prelude.{All, IfSome, IsSome, nat_lt, Result, Ok, Err, Option, Some, None, codes, decimal, slice_index, flat_map, ◌==◌, if◌then◌else◌}
 use Rattle.std.specs.List.{list_all}
 use Rattle.std.proofs.Common.{◌≡◌, ℕ, zero, suc, ◌<◌, ◌^◌, Bool, true, false, List, [], ◌∷◌, refl, sym, ap, ◌∙◌, subst, arith, ltb-true}
 use Rattle.std.proofs.lemmas.Bool.{and_parts}
@@ -38,11 +38,12 @@ use Rattle.cvm_shell.specs.Refusal.{Refusal, bad_save}
 use Rattle.system_files.specs.declared.fault.FileFault.{FileFault}
 use Rattle.layer_map.specs.declared.params.Params.{Params}
 use Rattle.cvm_shell.specs.declared.boot.Session.{Session}
-use Rattle.cvm_shell.specs.Command.{Boot, boot, trace, save, resume, sample_session}
+use Rattle.cvm_shell.specs.Command.{Boot, Command, IsCommand, boot, trace, save, resume, sample_session}
 use Rattle.cvm_shell.specs.Check.{Told}
 use Rattle.cvm_shell.specs.Plan.{Plan, bad_words, refuses, puts, boots, saves, resumes, prints as tells, Got, long, whole, GotAll, AfterFiles, Answered, BootPlan, accepted_plan, saved_plan, taken_plan, taken_up, most_bytes, AfterText, no_words, assembles, AfterCode, unread, mistyped, compiles, AfterParts, unfit, answered, AfterUsers, AfterParams, AfterSystem, no_object, has_object, linked_plan, renewed_plan, AfterLinking, AfterSource, PartsPlan, told_plan, PlanComesTo, no_command, boot_plan, trace_plan, save_plan, resume_plan, user_plan, kernel_plan, image_plan, link_plan, migrate_plan, sample_plan, check_plan, AllTold}
 use Rattle.machine_save.specs.Room.{FILE_ROOM}
-use Rattle.run_scripts.specs.Headline.{IsOf, booted_so, saved_so, resumed_so, IsByte, AreBytes}
+use Rattle.cvm_shell.specs.Ends.{IsByte, AreBytes, files_of}
+use Rattle.run_scripts.specs.Headline.{IsOf, booted_so, saved_so, resumed_so}
 
 -- the system and the schedule that a plan runs
 abbrev system_in : Plan → Option ImageSystem
@@ -169,12 +170,15 @@ module _ (read : AnswersAreSpelled image_of IsInRange) (s : ImageSystem) (rows :
       is_told None i t = absurd (cc)
       is_told (Some xs) i t = ap (λ (l : List ℕ). Some l) (sym t)
 
-  module _ (file : List ℕ → Option (List ℕ)) (are_bytes : AreBytes file) where
-    after_boot : (b : Boot) (session : Session) (p : Plan) → IsSome (file b.image) → IsSome (file b.schedule) → BootPlan layer_image file b session p → RunsThese s rows p → IsAccepted s rows
-    after_boot b session p i j w these =
+  bytes_of_told : (told : Option (List ℕ)) (bytes : List ℕ) → IfSome told (All IsByte) → told ≡ Some bytes → All IsByte bytes
+  bytes_of_told told bytes h e = subst (λ (o : Option (List ℕ)). IfSome o (All IsByte)) e h
+
+  module _ (file : List ℕ → Option (List ℕ)) where
+    after_boot : (b : Boot) (session : Session) (p : Plan) → IfSome (file b.image) (All IsByte) → IsSome (file b.image) → IsSome (file b.schedule) → BootPlan layer_image file b session p → RunsThese s rows p → IsAccepted s rows
+    after_boot b session p bytes i j w these =
         let one = got (file b.image) _ p i w these in
         let two = got (file b.schedule) _ p j one.2 these in
-        after_files session one.0 two.0 p (are_bytes b.image one.0 one.1) two.2 these
+        after_files session one.0 two.0 p (bytes_of_told (file b.image) one.0 bytes one.1) two.2 these
 
     unsaved : (name : List ℕ) (q : Plan) → RunsThese s rows (saved_plan name q) → RunsThese s rows q
     unsaved name bad_words t = t
@@ -287,22 +291,22 @@ module _ (read : AnswersAreSpelled image_of IsInRange) (s : ImageSystem) (rows :
       by (Ok u) w = by_image u _ refl w
       by (Err f) w = absurd (refused p _ w refl these)
 
-  pub accepted_of : (words : List (List ℕ)) (file : List ℕ → Option (List ℕ)) → AreBytes file → AllTold words file → (session : Session) (p : Plan) → PlanComesTo words file p → IsOf session s rows p → IsAccepted s rows
+  pub accepted_of : (words : List (List ℕ)) (file : List ℕ → Option (List ℕ)) → ((c : Command) → IsCommand words c → AreBytes file (files_of c)) → AllTold words file → (session : Session) (p : Plan) → PlanComesTo words file p → IsOf session s rows p → IsAccepted s rows
   accepted_of words file bytes told session p w is = by p w (these_of session s rows p is)
     where
       by : (p : Plan) → PlanComesTo words file p → RunsThese s rows p → IsAccepted s rows
       by p (no_command n) t = absurd (none_runs s t.system)
-      by p (boot_plan b _ k g) t = let h = told (boot b) k in after_boot file bytes b _ p h.0 h.1 g t
-      by p (trace_plan b _ k g) t = let h = told (trace b) k in after_boot file bytes b.boot _ p h.0 h.1 g t
+      by p (boot_plan b _ k g) t = let h = told (boot b) k in after_boot file b _ p (bytes (boot b) k).0 h.0 h.1 g t
+      by p (trace_plan b _ k g) t = let h = told (trace b) k in after_boot file b.boot _ p (bytes (trace b) k).0 h.0 h.1 g t
       by p (save_plan b _ k g) t = let h = told (save b) k in
-          after_boot file bytes b.boot _ g.0 h.0 h.1 g.1 (unsaved file bytes b.file g.0 (subst (λ (q : Plan). RunsThese s rows q) g.2 t))
+          after_boot file b.boot _ g.0 (bytes (save b) k).0 h.0 h.1 g.1 (unsaved file b.file g.0 (subst (λ (q : Plan). RunsThese s rows q) g.2 t))
       by p (resume_plan b _ k g) t =
           let h = told (resume b) k in
           let one = got (file b.boot.image) _ p h.0 g t in
           let two = got (file b.boot.schedule) _ p h.1 one.2 t in
           let three = got (file b.file) _ p h.2 two.2 t in
           let q = three.2 in
-          after_files _ one.0 two.0 q.0 (bytes b.boot.image one.0 one.1) q.1 (untaken file bytes three.0 q.0 (subst (λ (q : Plan). RunsThese s rows q) q.2 t))
+          after_files _ one.0 two.0 q.0 (bytes_of_told (file b.boot.image) one.0 (bytes (resume b) k).0 one.1) q.1 (untaken file three.0 q.0 (subst (λ (q : Plan). RunsThese s rows q) q.2 t))
       by p (user_plan c _ k g) t = absurd (no_got _ _ p (λ b n. no_text c.image b p n) g t)
       by p (kernel_plan c _ k g) t = absurd (no_got _ _ p (λ b n. no_code _ _ b p (λ u t. none_runs s t.system) n) g t)
       by p (image_plan c _ k g) t = absurd (no_got _ _ p (λ b n. no_code _ _ b p (λ u t. no_program _ _ _ _ t) n) g t)

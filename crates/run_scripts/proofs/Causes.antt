@@ -12,7 +12,7 @@ use Rattle.cvm_shell.specs.declared.exit_status.Status.TheVariants.{Done, Words,
 use Rattle.cvm_shell.specs.declared.boot.Session.{Session}
 use Rattle.cvm_shell.specs.Command.{Command, IsCommand, IsNoCommand, save, resume, save_session}
 use Rattle.cvm_shell.specs.Refusal.{Refusal, small_disk, no_such_user, too_long, refusal_status, refusal_text}
-use Rattle.cvm_shell.specs.Plan.{Plan, bad_words, refuses, boots}
+use Rattle.cvm_shell.specs.Plan.{Plan, bad_words, refuses, boots, PlanComesTo, AllTold, IsPlan}
 use Rattle.cvm_outside.specs.ScriptLaws.{ScriptsBlame}
 use Rattle.cvm_outside.specs.Outside.{Outside, Drive}
 use Rattle.cvm_outside.specs.Script.{Call, Who, TheSink, TheDisk, TheShelf, Performs, done as all_done, breaks, goes_on, Rises, faults_of}
@@ -180,7 +180,8 @@ module _ (blame : ScriptsBlame) where
       of_plan p e (is_told c is text) i = long_taken _ _ _ _ _ i (h.gets.0 c is)
 
       refusal_free : (r : Refusal) → IsOfFile r → h.plan ≡ refuses r → Counts None old new → CausedBy (refusal_status r) words old new
-      refusal_free too_long f e k = inr (k, of_plan h.plan refl o e)
+      refusal_free too_long f e k =
+          inr (k, record { is_plan = subst (IsPlan (AllTold words old.shelf.file) (PlanComesTo words old.shelf.file)) e h.is_plan; taken = of_plan h.plan refl o e })
       refusal_free (small_disk need have) f e k = absurd f
       refusal_free (no_such_user u n) f e k = absurd f
       refusal_free other f e k = k

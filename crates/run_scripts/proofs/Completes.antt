@@ -11,8 +11,8 @@ use Rattle.run_scripts.specs.Headline.{Headlines, ItGoesOn, RunsComplete}
 use Rattle.run_scripts.proofs.Keys.{RunLaws}
 
 pub it_goes_on : RunLaws → ItGoesOn
-it_goes_on law words session s rows before old a =
-    let w = law.start words _ session s rows before old a in
+it_goes_on law words plan session s rows before old a =
+    let w = law.start words plan session s rows before old a in
     let m = law.machines s.unit _ _ _ w.late _ w.starts in
     let less = w.within in
     λ k c is. let h = m.goes_on k c is in let le = h.2 in (h.0, h.1, omega (arith, le, less))
@@ -43,7 +43,7 @@ pub runs_complete : Headlines → ItGoesOn → TurnLaws → RunsComplete
 runs_complete heads goes count words session s rows before old new status a f ends m enough =
     let r : Run = run_of session s rows old.disk.size before in
     let h = heads words session s rows before old new status a f ends m in
-    let t = goes words session s rows before old a r.turns enough.last enough.defined in
+    let t = goes words _ session s rows before old a r.turns enough.last enough.defined in
     let le = t.2 in
     let less = enough.enough in
     by (run_done count r h.past t.0 t.1 (omega (arith, le, less))) h.status_is

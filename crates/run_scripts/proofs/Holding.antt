@@ -136,7 +136,7 @@ module _ (law : ScriptLaws) (files : FileLaws) (words : List (List ℕ)) (c : Sa
         ∙ ap (λ (st : CvmStatus). rows_text (cvm_at r p (steps_made r)).rows ++ closing_text r.system (cvm_at r p (steps_made r)) st) l.1
 
     -- BY WHETHER IT IS LEFT
-    module _ (is_save : IsSave words c) (mid new : Outside) (disk : mid.disk ≡ old.disk) (sink : mid.sink ≡ old.sink) (file : mid.shelf.file c.file ≡ old.shelf.file c.file) where
+    module _ (is_save : IsSave words c) (mid new : Outside) (disk : mid.disk ≡ old.disk) (sink : mid.sink ≡ old.sink) (files_stay : (n : List ℕ) → mid.shelf.file n ≡ old.shelf.file n) where
       was_saved : IsLeft r p → Performs (save_script c.file r load p) mid new None → IsSaved c s rows r p old new × (new.disk.sectors ≡ Some (state_at r (steps_made r)).device.sectors)
       was_saved l q =
           let e : save_script c.file r load p ≡ front ++ put = saved_front c.file r load p l.0 Running l.1 in
@@ -148,13 +148,13 @@ module _ (law : ScriptLaws) (files : FileLaws) (words : List (List ℕ)) (c : Sa
               rest = report_text r.system.boot.meaning.names (cvm_at r p (steps_made r)).core;
               boot = stopped l;
               text = text.printed ∙ ap (append_known old.sink.text) (sym text.is);
-              file = saved_file mid new z ∙ ap (λ (o : Option (List ℕ)). retold o (saved_bytes r p)) file;
+              file = saved_file mid new z ∙ ap (λ (o : Option (List ℕ)). retold o (saved_bytes r p)) (files_stay c.file);
               fits = file_fits files s rows old.disk.size before start.late (sectors_needed (save_session c) s rows) start.starts r refl refl refl its p is l is_save.some_turns is_save.steps_fit;
             },
             leaves_sectors law.store (front ++ put) old mid new before (state_at r (steps_made r)).device.sectors a.sectors saved_leaves disk z,
           )
 
-      was_unsaved : (IsLeft r p → ⊥) → Performs (save_script c.file r load p) mid new None → IsUnsaved c r p old new × (new.disk.sectors ≡ Some (state_at r (steps_made r)).device.sectors)
+      was_unsaved : (IsLeft r p → ⊥) → Performs (save_script c.file r load p) mid new None → IsUnsaved r p old new × (new.disk.sectors ≡ Some (state_at r (steps_made r)).device.sectors)
       was_unsaved never q =
           let z : Performs (run_script r load p) mid new None =
           subst (λ (x : List Call). Performs x mid new None) (unsaved_script c s rows old.disk.size before load p never) q in
@@ -163,17 +163,17 @@ module _ (law : ScriptLaws) (files : FileLaws) (words : List (List ℕ)) (c : Sa
             record {
               ended = never;
               text = text.printed ∙ ap (append_known old.sink.text) (sym text.is);
-              file = plain_stays (run_script r load p) mid new None (of_run Plain plain plain_write r load p (plain_load (save_session c) s rows)) z c.file ∙ file;
+              files = λ n. plain_stays (run_script r load p) mid new None (of_run Plain plain plain_write r load p (plain_load (save_session c) s rows)) z n ∙ files_stay n;
             },
             leaves_sectors law.store (run_script r load p) old mid new before (state_at r (steps_made r)).device.sectors a.sectors
                 (scripts_store_the_sectors law.runs words _ (save_session c) s rows before old a p is) disk z,
           )
 
       which : Performs (save_script c.file r load p) mid new None →
-          (IsSaved c s rows r p old new ⊎ IsUnsaved c r p old new) × (new.disk.sectors ≡ Some (state_at r (steps_made r)).device.sectors)
+          (IsSaved c s rows r p old new ⊎ IsUnsaved r p old new) × (new.disk.sectors ≡ Some (state_at r (steps_made r)).device.sectors)
       which q = by (is_left r p)
         where
-          by : IsLeft r p ⊎ (IsLeft r p → ⊥) → (IsSaved c s rows r p old new ⊎ IsUnsaved c r p old new) × (new.disk.sectors ≡ Some (state_at r (steps_made r)).device.sectors)
+          by : IsLeft r p ⊎ (IsLeft r p → ⊥) → (IsSaved c s rows r p old new ⊎ IsUnsaved r p old new) × (new.disk.sectors ≡ Some (state_at r (steps_made r)).device.sectors)
           by (inl l) = let h = was_saved l q in (inl h.0, h.1)
           by (inr never) = let h = was_unsaved never q in (inr h.0, h.1)
 
@@ -188,7 +188,7 @@ saves_hold law files words c s rows before old new status is a f (done _ h) m =
     let p : Performs (save_script c.file r (load_of (save_session c) s rows) t.past) h.mid new None =
     subst (λ (x : List Call). Performs x h.mid new None) t.script_is (subst (λ (b : Option Who). Performs h.script h.mid new b) n h.performs) in
     let u = got_keeps _ _ _ _ _ old h.mid (h.gets.0 (save c) is) h.files in
-    let w = which law files words c s rows before old a t.past t.is_past is h.mid new k.0 k.1 (u.files c.file) p in
+    let w = which law files words c s rows before old a t.past t.is_past is h.mid new k.0 k.1 u.files p in
     record {
       past = t.past;
       is_past = t.is_past;

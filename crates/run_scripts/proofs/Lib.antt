@@ -41,3 +41,5 @@ mod Holding
 mod Resuming
 mod Taken
 mod Rejoining
+pub mod Promised
+pub mod PromisedSaves

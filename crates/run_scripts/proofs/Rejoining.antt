@@ -44,10 +44,10 @@ same_some : (a b : List (List ℕ)) → Some a ≡ Some b → a ≡ b
 same_some a b e = cc
 
 -- words that ask for a run ask for it over another disk of as many sectors
-abbrev with_disk : Outside → List (List ℕ) → Outside
+abbrev pub with_disk : Outside → List (List ℕ) → Outside
 with_disk old before = record old { disk = record old.disk { sectors = Some before } }
 
-other_disk : (words : List (List ℕ)) (plan : Plan) (session : Session) (s : ImageSystem) (rows : Rows) (left before : List (List ℕ)) (old : Outside) → Asked words plan session s rows left old →
+pub other_disk : (words : List (List ℕ)) (plan : Plan) (session : Session) (s : ImageSystem) (rows : Rows) (left before : List (List ℕ)) (old : Outside) → Asked words plan session s rows left old →
     IsDisk old.disk.size before → Asked words plan session s rows before (with_disk old before)
 other_disk words plan session s rows left before old a disk = record {
   files = a.files;
@@ -159,7 +159,7 @@ saved_and_resumed_are_booted law c d words s rows before left machine first mid 
     (λ f. joined law c d words s rows before left machine w.past old is a l.turns l.steps f new status none h)
     (record { disk = disk; is_past = w.is_past; left = saved_so; fits = fits w.which; sectors = l.disk ∙ w.machine.are; file = l.file })
   where
-    fits : IsSaved c s rows (run_of (save_session c) s rows first.disk.size before) w.past first mid ⊎ IsUnsaved c (run_of (save_session c) s rows first.disk.size before) w.past first mid → (turns : ℕ) →
+    fits : IsSaved c s rows (run_of (save_session c) s rows first.disk.size before) w.past first mid ⊎ IsUnsaved (run_of (save_session c) s rows first.disk.size before) w.past first mid → (turns : ℕ) →
         c.boot.turns ≤ turns → turns < 2 ^ 32 →
         machine_of (wanted_by s rows turns) (saved_bytes (run_of (save_session c) s rows first.disk.size before) w.past) ≡ Ok (saved_words (run_of (save_session c) s rows first.disk.size before) w.past)
     fits (inl z) = z.fits

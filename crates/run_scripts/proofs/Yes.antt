@@ -40,7 +40,8 @@ use Rattle.cvm_shell.specs.Boot.{booted}
 use Rattle.cvm_shell.specs.Suffices.{HasStack}
 use Rattle.boot_run.specs.Closing.{says}
 use Rattle.cvm_shell.specs.Ends.{PlanAsks, done, no_file, no_memory, files_of, gets}
-use Rattle.run_scripts.specs.Checks.{SaysYes, NeverOut, YesSuffices}
+use Rattle.cvm_shell.specs.Suffices.{SaysYes, NeverOut}
+use Rattle.run_scripts.specs.Promises.{YesIsEnough}
 use Rattle.run_scripts.proofs.Broken.{nothing_moves}
 use Rattle.run_scripts.proofs.Causes.{mid_disk}
 use Rattle.run_scripts.proofs.Keeps.{wanted}
@@ -215,13 +216,13 @@ gets_print [] old new b (all_done _) = refl
 gets_print (name ∷ names) old new b (breaks c rest _ _ f) = ap (λ (o : Outside). o.sink) f.2
 gets_print (name ∷ names) old new b (goes_on c rest _ mid _ _ d p) = gets_print names mid new b p ∙ ap (λ (o : Outside). o.sink) d.3
 
-pub yes_suffices : ScriptsBlame → OneAnswer → OneObject → OpenedUnitsAreTheirSources → LongestIsKept → YesSuffices
-yes_suffices blame one read opened law words source stack s old new status (done _ h) y has =
+pub yes_is_enough : ScriptsBlame → OneAnswer → OneObject → OpenedUnitsAreTheirSources → LongestIsKept → YesIsEnough
+yes_is_enough blame one read opened law words old new status (done _ h) source stack s y has =
     let (u, is, room) = room_of read opened words source stack old new h.mid y h.plan h.script h.due h.blamed (mid_disk blame words old new status h).1
     (its_plan words old.shelf.file y.check y.asked h.plan h.is_plan.comes) h.asks h.performs in
     let enough : y.check.stack ≤ s.params.stack = subst (λ (n : ℕ). n ≤ s.params.stack) y.stack_is has.enough in
     never_out law y.check.stack u s room (system_unit one source stack s u (subst (λ (x : List ℕ). IsFrontAnswer x (Ok u)) (sym y.source_is) is) has) enough
-yes_suffices blame one read opened law words source stack s old new status (no_file c i f) y has =
+yes_is_enough blame one read opened law words old new status (no_file c i f) source stack s y has =
     absurd (not_nothing old.sink.text y.before y.rest y.before_told (sym (ap (λ (o : Output). o.text) (gets_print (f.before ++ f.name ∷ []) old new (Some TheShelf) f.performs)) ∙ y.printed))
-yes_suffices blame one read opened law words source stack s old new status (no_memory c i w) y has =
+yes_is_enough blame one read opened law words old new status (no_memory c i w) source stack s y has =
     absurd (not_nothing old.sink.text y.before y.rest y.before_told (sym (ap (λ (o : Output). o.text) (wanted (files_of c) old new w).sink) ∙ y.printed))

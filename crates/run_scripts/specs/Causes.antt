@@ -35,10 +35,15 @@ pub record IsTooSmall (words : List (List ℕ)) (old : Outside) : Type 0 where
   pub is_plan : IsPlan (AllTold words old.shelf.file) (PlanComesTo words old.shelf.file) plan
   pub more : NeedsMore plan old.disk.size
 
+-- a file is too long, which the plan refuses, and of which 67,108,865 bytes were taken
+pub record IsTooLong (words : List (List ℕ)) (old new : Outside) : Type 0 where
+  pub is_plan : IsPlan (AllTold words old.shelf.file) (PlanComesTo words old.shelf.file) (refuses too_long)
+  pub taken : new.shelf.taken ≡ TOO_LONG
+
 -- BY THE STATUS: an object failed and counted it, or the disk is too small, or a file is too long; else no count changed
 abbrev pub CausedBy : Status → List (List ℕ) → (old new : Outside) → Type 0
 CausedBy Disk words old new = Counts (Some TheDisk) old new ⊎ (Counts None old new × IsTooSmall words old)
-CausedBy Shelf words old new = Counts (Some TheShelf) old new ⊎ (Counts None old new × (new.shelf.taken ≡ TOO_LONG))
+CausedBy Shelf words old new = Counts (Some TheShelf) old new ⊎ (Counts None old new × IsTooLong words old new)
 CausedBy Sink words old new = Counts (Some TheSink) old new
 CausedBy other words old new = Counts None old new
 

@@ -1,5 +1,5 @@
 -- THE HEADLINE of boot, rom, trace and sample, as a law: what holds of a command with no failed call follows from how it ends.
-use Rattle.std.specs.Prelude.{◌≡◌, ◌≢◌, ◌⊎◌, ℕ, ◌+◌, ◌<◌, ◌≤◌, true, if◌then◌else◌, List, ◌++◌, length, All, Option, Some, None, Ok}
+use Rattle.std.specs.Prelude.{◌≡◌, ◌≢◌, ◌⊎◌, ℕ, ◌+◌, ◌<◌, ◌≤◌, true, if◌then◌else◌, List, ◌++◌, length, Option, Some, None, Ok}
 use Rattle.std.specs.Io.KnownBytes.{append_known}
 use Rattle.cvm_outside.specs.Causes.{Rose}
 use Rattle.cvm_outside.specs.Told.{TOO_LONG}
@@ -7,7 +7,7 @@ use Rattle.schedule_file.specs.Rows.{Rows}
 use Rattle.schedule_file.specs.Schedule.{schedule_of}
 use Rattle.boot_image.specs.Reading.{answer as image_of}
 use Rattle.real_layer.specs.Image.{layer_image}
-use Rattle.cvm_model.specs.Cvm.{Cvm, IsCvm, Running, cvm}
+use Rattle.cvm_model.specs.Cvm.{Cvm, IsCvm, cvm}
 use Rattle.cvm_model.specs.Journal.{journal, replay}
 use Rattle.cvm_model.specs.Primitives.{user_of}
 use Rattle.cvm_model.specs.Text.{rows_text, boot_text, trace_text, start_row, open_journal_rows}
@@ -19,18 +19,18 @@ use Rattle.kernel_linker.specs.Accept.{ImageSystem}
 use Rattle.cvm_shell.specs.declared.exit_status.Status.{Status}
 use Rattle.cvm_shell.specs.declared.exit_status.Status.TheVariants.{Done, KernelFault, Memory}
 use Rattle.cvm_shell.specs.declared.boot.Session.{Session}
-use Rattle.cvm_shell.specs.Command.{Command, IsCommand, Boot as BootWords, IsBoot, boot_session}
+use Rattle.cvm_shell.specs.Command.{Boot as BootWords, Command, IsCommand, IsBoot, boot_session}
 use Rattle.cvm_shell.specs.Plan.{Plan, boots, saves, resumes, PlanComesTo, AllTold, Accepts}
 use Rattle.cvm_outside.specs.Outside.{Outside}
 use Rattle.cvm_outside.specs.ScriptLaws.{GetsGiven}
 use Rattle.boot_turns.specs.Runs.{Run, Past, IsPast, state_at, turns_at, steps_made, has_ended, lines_met, cvm_at}
 use Rattle.cvm_shell.specs.Boot.{booted, sectors_needed, steps_before}
-use Rattle.boot_turns.specs.TurnEnds.{first_of}
+use Rattle.boot_turns.specs.TurnEnds.{first_of, TurnIsOver}
 use Rattle.boot_run.specs.RunEnds.{SeesUser}
 use Rattle.boot_run.specs.SavedRuns.{IsDisk}
 use Rattle.cvm_shell.specs.SessionRuns.{run_of}
 use Rattle.cvm_shell.specs.RunStatus.{run_status}
-use Rattle.cvm_shell.specs.Ends.{Ends, files_of, gets}
+use Rattle.cvm_shell.specs.Ends.{Ends, AreBytes, files_of, gets}
 use Rattle.run_scripts.specs.Shapes.{file_put}
 
 -- THE TEXT after t steps: the rows of the complete turns; of a trace its first row and those of what is shown, but for a last row of steps
@@ -49,13 +49,6 @@ ended_text (Trace u) r p t = trace_text u (first_of r.system u) (p.shown t) (use
 -- THE WHOLE TEXT of a run
 abbrev pub whole_text : Run → Past → List ℕ
 whole_text r p = if has_ended r then ended_text r.view r p (steps_made r) else text_at r p (steps_made r)
-
--- what is told of a file is bytes
-abbrev pub IsByte : ℕ → Type 0
-IsByte b = b < 256
-
-abbrev pub AreBytes : (List ℕ → Option (List ℕ)) → Type 0
-AreBytes file = (name bytes : List ℕ) → file name ≡ Some bytes → All IsByte bytes
 
 -- the shelf surely gives the files that a command gets, which puts none; or it counted no fault
 abbrev pub ShelfServes : Command → (old new : Outside) → Type 0
@@ -77,7 +70,7 @@ pub data IsOf (session : Session) (s : ImageSystem) (rows : Rows) : Plan → Typ
 pub record Asked (words : List (List ℕ)) (plan : Plan) (session : Session) (s : ImageSystem) (rows : Rows) (before : List (List ℕ)) (old : Outside) :
     Type 0 where
   pub files : AllTold words old.shelf.file
-  pub bytes : AreBytes old.shelf.file
+  pub bytes : (c : Command) → IsCommand words c → AreBytes old.shelf.file (files_of c)
   pub is_plan : PlanComesTo words old.shelf.file plan
   pub runs : IsOf session s rows plan
   pub user : SeesUser session.view (length s.users)
@@ -96,9 +89,9 @@ pub record Sectors (r : Run) (held : ℕ) (before : List (List ℕ)) (t : ℕ) (
   pub are : now ≡ Some (state_at r t).device.sectors
   pub beyond : Beyond held before (state_at r t).device.sectors
 
--- a run that came to its end has its turns, or an abstract run that is over
+-- a run that came to its end has its turns, or an abstract run that is over; and the machine rests as that says
 abbrev pub IsOver : Run → Past → Type 0
-IsOver r p = has_ended r ≡ true → (turns_at r (steps_made r) ≡ r.turns) ⊎ ((cvm_at r p (steps_made r)).status ≢ Running)
+IsOver r p = has_ended r ≡ true → TurnIsOver r.around r.system r.first r.turns (steps_made r) (cvm_at r p (steps_made r))
 
 -- THE HEADLINE: sectors, status and text, and that an end is one of the abstract run
 pub record Headline (r : Run) (held : ℕ) (before : List (List ℕ)) (old new : Outside) (status : Status) : Type 0 where
@@ -116,8 +109,8 @@ Headlines = (words : List (List ℕ)) (session : Session) (s : ImageSystem) (row
 
 -- THE MACHINE GOES ON: it comes to the end of every turn of the abstract run, within its bound and the steps before the layer's
 abbrev pub ItGoesOn : Type 0
-ItGoesOn = (words : List (List ℕ)) (session : Session) (s : ImageSystem) (rows : Rows) (before : List (List ℕ)) (old : Outside) →
-    Asked words (boots session s rows) session s rows before old → let r : Run = run_of session s rows old.disk.size before in
+ItGoesOn = (words : List (List ℕ)) (plan : Plan) (session : Session) (s : ImageSystem) (rows : Rows) (before : List (List ℕ)) (old : Outside) →
+    Asked words plan session s rows before old → let r : Run = run_of session s rows old.disk.size before in
     GoesOnWithin r.around r.system r.first (steps_before session.start (booted s rows))
 
 -- WANT OF MEMORY: where memory was wanted nothing was printed, and no sector and no file changed

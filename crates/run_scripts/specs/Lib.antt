@@ -5,3 +5,4 @@ pub mod Shapes
 pub mod Saving
 pub mod Checks
 pub mod Faults
+pub mod Promises

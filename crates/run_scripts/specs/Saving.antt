@@ -1,5 +1,5 @@
 -- SAVE AND RESUME, as laws: what a save leaves, that save and resume together are the boot, and what is said of a file that no save wrote.
-use Rattle.std.specs.Prelude.{◌≡◌, ◌≢◌, ◌⊎◌, ℕ, ◌+◌, ◌<◌, ◌≤◌, ◌^◌, true, false, List, [], ◌∷◌, ◌++◌, codes, Option, Some, Ok}
+use Rattle.std.specs.Prelude.{◌≡◌, ◌≢◌, ◌⊎◌, ℕ, ◌<◌, ◌≤◌, ◌^◌, true, List, [], ◌∷◌, ◌++◌, codes, Option, Some, Ok}
 use Rattle.std.specs.Io.KnownBytes.{append_known}
 use Rattle.cvm_outside.specs.Told.{retold}
 use Rattle.schedule_file.specs.Rows.{Rows}
@@ -11,17 +11,18 @@ use Rattle.cvm_shell.specs.declared.exit_status.Status.{Status}
 use Rattle.cvm_shell.specs.declared.exit_status.Status.TheVariants.{Done, KernelFault, Shelf, Memory}
 use Rattle.cvm_shell.specs.Command.{Save, IsSave, IsResume, save_session}
 use Rattle.cvm_shell.specs.Plan.{saves, resumes, wanted_by}
+use Rattle.cvm_shell.specs.Resumes.{Resumed}
 use Rattle.cvm_shell.specs.Saves.{saved_row}
 use Rattle.cvm_outside.specs.Script.{Call, Printed, Stored, Who, Performs}
 use Rattle.cvm_outside.specs.Outside.{Outside}
-use Rattle.boot_turns.specs.Runs.{Run, Past, IsPast, state_at, steps_made, has_ended, cvm_at}
+use Rattle.boot_turns.specs.Runs.{Run, Past, IsPast, steps_made, has_ended, cvm_at}
 use Rattle.boot_turns.specs.declared.answers.View.TheVariants.{Boot}
 use Rattle.boot_run.specs.SavedRuns.{IsDisk}
 use Rattle.cvm_shell.specs.Boot.{booted, sectors_needed, steps_before}
 use Rattle.cvm_shell.specs.SessionRuns.{run_of}
 use Rattle.boot_run.specs.RunScript.{rest_script, run_script, saved_words}
-use Rattle.cvm_shell.specs.RunStatus.{save_script, saved_bytes, power_status, run_status}
-use Rattle.cvm_shell.specs.Ends.{Ends, GoesOn, SavedRun, answered}
+use Rattle.cvm_shell.specs.RunStatus.{save_script, saved_bytes, run_status}
+use Rattle.cvm_shell.specs.Ends.{Ends, SavedRun, answered}
 use Rattle.run_scripts.specs.Faults.{IsLeft}
 use Rattle.run_scripts.specs.Headline.{Asked, NoneFailed, Sectors, IsOver, HasSteps, text_at, whole_text}
 
@@ -39,11 +40,11 @@ pub record IsSaved (c : Save) (s : ImageSystem) (rows : Rows) (r : Run) (p : Pas
   pub file : new.shelf.file c.file ≡ retold (old.shelf.file c.file) (saved_bytes r p)
   pub fits : (turns : ℕ) → c.boot.turns ≤ turns → turns < 2 ^ 32 → machine_of (wanted_by s rows turns) (saved_bytes r p) ≡ Ok (saved_words r p)
 
--- or it wasn't: the text is the boot's, and the file is as before
-pub record IsUnsaved (c : Save) (r : Run) (p : Past) (old new : Outside) : Type 0 where
+-- or it wasn't: the text is the boot's, and no file changed
+pub record IsUnsaved (r : Run) (p : Past) (old new : Outside) : Type 0 where
   pub ended : IsLeft r p → ⊥
   pub text : new.sink.text ≡ append_known old.sink.text (whole_text r p)
-  pub file : new.shelf.file c.file ≡ old.shelf.file c.file
+  pub files : (n : List ℕ) → new.shelf.file n ≡ old.shelf.file n
 
 -- what a save comes to, of its run
 pub record SavedSo (c : Save) (s : ImageSystem) (rows : Rows) (r : Run) (before : List (List ℕ)) (old new : Outside) (status : Status) : Type 0 where
@@ -52,7 +53,7 @@ pub record SavedSo (c : Save) (s : ImageSystem) (rows : Rows) (r : Run) (before 
   pub machine : Sectors r (sectors_needed (save_session c) s rows) before (steps_made r) new.disk.sectors
   pub status_is : status ≡ run_status r past
   pub over : IsOver r past
-  pub which : IsSaved c s rows r past old new ⊎ IsUnsaved c r past old new
+  pub which : IsSaved c s rows r past old new ⊎ IsUnsaved r past old new
   pub others : (n : List ℕ) → n ≢ c.file → new.shelf.file n ≡ old.shelf.file n
 
 -- THE THEOREM OF SAVE: sectors and status are the boot's; and so is the text, but for the row `saved`, which comes exactly where the boot prints
@@ -130,17 +131,7 @@ SavedAndResumedAreBooted = (c d : Save) (words : List (List ℕ)) (s : ImageSyst
     status ≢ Memory → IsBootBehind (run_by d s rows first before) (sectors_needed (save_session d) s rows) before
     (text_at (run_by c s rows first before) w.past (steps_made (run_by c s rows first before))) old new status
 
--- A FILE THAT NO SAVE WROTE, too: the run is that of the one machine which the file names, over the disk's sectors, and the status is told by its end and
--- its power word; where it comes to no end all steps are spent, with those that were saved; and no file changes. Of the text nothing is said.
-pub record Resumed (d : Save) (s : ImageSystem) (rows : Rows) (machine : List ℕ) (left : List (List ℕ)) (old new : Outside) (status : Status) : Type 0 where
-  pub run : Run
-  pub goes_on : GoesOn (save_session d) s rows machine old.disk.size left run
-  pub only : (other : Run) → GoesOn (save_session d) s rows machine old.disk.size left other → other ≡ run
-  pub sectors : new.disk.sectors ≡ Some (state_at run (steps_made run)).device.sectors
-  pub status_is : status ≡ power_status (has_ended run) (state_at run (steps_made run)).off
-  pub spent : has_ended run ≡ false → d.boot.steps ≤ run.first.time + steps_made run
-  pub files : (n : List ℕ) → new.shelf.file n ≡ old.shelf.file n
-
+-- A FILE THAT NO SAVE WROTE, too: the run is the machine's that the file names. Of the text nothing is said.
 abbrev pub ResumesGoOn : Type 0
 ResumesGoOn = (words : List (List ℕ)) (d : Save) (s : ImageSystem) (rows : Rows) (machine : List ℕ) (left : List (List ℕ)) (old new : Outside)
     (status : Status) → IsResume words d → Asked words (resumes (save_session d) s rows machine) (save_session d) s rows left old →

@@ -4,8 +4,9 @@ ghost use Rattle.run_scripts.specs.Keys.{RunsStart, PastsExist, PastsAgree, Text
 ghost use Rattle.run_scripts.specs.Causes.{StatusesAreCaused, WordsAreRefused, FilesAreRefused, MissingUsersAreRefused, SmallDisksAreRefused, LongFilesAreRefused, StepsAreSpent, WorkCompletes};
 ghost use Rattle.run_scripts.specs.Shapes.{PlansHaveShape, OthersStay, NothingIsLoaded, GetsComeFirst, ShelfIsCalled};
 ghost use Rattle.run_scripts.specs.Saving.{SavesHold, SavesComplete, ScriptsJoin, ResumesJoin, SavedAndResumedAreBooted, ResumesGoOn};
-ghost use Rattle.run_scripts.specs.Checks.{StackOutIsNotMet, YesSuffices};
+ghost use Rattle.run_scripts.specs.Checks.{StackOutIsNotMet};
 ghost use Rattle.run_scripts.specs.Faults.{FaultsLeave, SaveFaultsLeave};
+ghost use Rattle.run_scripts.specs.Promises.{HeadlinesHold, RunsAreComplete, TracesAreIsolated, YesIsEnough, SavesAreHeld, SavesAreComplete, ResumesAreHeld, ResumesAreComplete};
 
 use boot_image::images_are_their_spellings;
 use boot_turns::{
@@ -33,7 +34,7 @@ use mips_table::runs::{
 };
 use object_file::bytes_have_one_answer;
 use real_layer::{the_image_is_linked, the_layer_is_lawful};
-use saved_file::saved_machines_are_read_back;
+use saved_file::{resumable_words_are_answered, saved_machines_are_read_back};
 use schedule_file::busy_times_are_within_the_longest;
 use unit_runs::laws::{units_calls_follow, units_run_over_layers};
 
@@ -396,13 +397,96 @@ pub fn save_faults_leave()
     scripts_count();
 }
 
-/// A law: where a check said `yes`, no run of a system of the object's source with so much stack stops for want of it.
-pub fn yes_suffices()
-    ensures { YesSuffices }
+/// A law: the headline of each boot, rom, trace and sample with no failed call.
+pub fn headlines_hold()
+    ensures { HeadlinesHold }
+{
+    scripts_blame();
+    headlines();
+    it_goes_on();
+}
+
+/// A law: with enough steps such a command is done, or its kernel faulted.
+pub fn runs_are_complete()
+    ensures { RunsAreComplete }
+{
+    scripts_blame();
+    runs_complete();
+}
+
+/// A law: what a trace that is done, or whose kernel faulted, prints of its user is the text of the user's journal.
+pub fn traces_are_isolated()
+    ensures { TracesAreIsolated }
+{
+    scripts_blame();
+    headlines();
+    traces_isolate();
+}
+
+/// A law: where a check printed `yes`, no run of a system of the object's source with so much stack stops for want of it.
+pub fn yes_is_enough()
+    ensures { YesIsEnough }
 {
     scripts_blame();
     sources_have_one_answer();
     bytes_have_one_answer();
     opened_units_are_their_sources();
     longest_chains_are_kept();
+}
+
+/// A law: what a save with no failed call leaves: what its boot does, or the file of its machine, exactly where the boot prints `stopped`.
+pub fn saves_are_held()
+    ensures { SavesAreHeld }
+{
+    scripts_blame();
+    runs_start();
+    machines_run();
+    traces_grow();
+    turns_are_counted();
+    journal_rows_follow();
+    runs_are_taken_up();
+    resumable_words_are_answered();
+    it_goes_on();
+    saves_hold();
+}
+
+/// A law: with enough steps a save is done, or its kernel faulted.
+pub fn saves_are_complete()
+    ensures { SavesAreComplete }
+{
+    scripts_blame();
+    saves_complete();
+}
+
+/// A law: a resume with no failed call goes on as the machine that its file names, and of a saved run as its boot.
+pub fn resumes_are_held()
+    ensures { ResumesAreHeld }
+{
+    scripts_blame();
+    scripts_tell();
+    scripts_store();
+    runs_start();
+    machines_run();
+    traces_grow();
+    turns_are_counted();
+    journal_rows_follow();
+    resumable_words_are_answered();
+    it_goes_on();
+    resumes_go_on();
+}
+
+/// A law: with enough steps for the whole run a resume of a saved run is done, or its kernel faulted; and it is the boot as a whole.
+pub fn resumes_are_complete()
+    ensures { ResumesAreComplete }
+{
+    scripts_blame();
+    scripts_tell();
+    scripts_store();
+    runs_start();
+    machines_run();
+    traces_grow();
+    turns_are_counted();
+    journal_rows_follow();
+    resumable_words_are_answered();
+    it_goes_on();
 }

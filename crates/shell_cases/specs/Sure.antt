@@ -3,7 +3,7 @@ use Rattle.std.specs.Prelude.{◌≡◌, ℕ, List, None}
 use Rattle.cvm_outside.specs.Told.{TOO_LONG}
 use Rattle.cvm_shell.specs.Refusal.{too_long}
 use Rattle.cvm_shell.specs.Plan.{Plan, refuses, PlanComesTo}
-use Rattle.cvm_shell.specs.CommandEnds.{NeedsMore}
+use Rattle.run_scripts.specs.Causes.{NeedsMore}
 
 -- these words come to the refusal of a file that is too long, of which the last `get` took 67,108,865 bytes
 pub record IsTooLong (words : List (List ℕ)) (taken : ℕ) : Type 0 where

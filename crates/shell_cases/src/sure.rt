@@ -6,6 +6,7 @@ ghost use Rattle.shell_cases.specs.Sure.{IsTooLong, IsTooSmall};
 
 use cvm_outside::{MemSectors, MemShelf, MemSink, Shelf, SureSectors, SureShelf, SureSink};
 use cvm_shell::{Status, run};
+use run_scripts::laws::statuses_are_caused;
 use std::alloc::{AllocError, Global};
 
 /// Runs a command where no call of the shelf, the sink and the disk fails. A status of the sink doesn't come, one of the shelf only where a
@@ -21,6 +22,7 @@ pub fn run_surely(
     ensures shelf { result ≡ Status.Shelf → IsTooLong (texts words.now.items) (taken_of (inside shelf.new)) }
     ensures disk { result ≡ Status.Disk → IsTooSmall (texts words.now.items) (length disk.old) }
 {
+    statuses_are_caused();
     run(alloc, words, shelf, sink, disk)
 }
 

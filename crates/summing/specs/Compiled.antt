@@ -19,7 +19,7 @@ use Rattle.user_c0.specs.Users.{IsProgram}
 use Rattle.cvm_shell.specs.declared.exit_status.Status.{Status}
 use Rattle.cvm_shell.specs.declared.exit_status.Status.TheVariants.{Done, KernelFault, Memory}
 use Rattle.cvm_shell.specs.declared.boot.Session.{Session}
-use Rattle.cvm_shell.specs.Host.{Host}
+use Rattle.cvm_outside.specs.Outside.{Outside}
 use Rattle.cvm_shell.specs.Boot.{booted, around, first_state, steps_before, IsHonest}
 use Rattle.cvm_shell.specs.CommandEnds.{Headlines}
 use Rattle.kernel_theorems.specs.UserRuns.{after}
@@ -53,7 +53,7 @@ pub record ProgramSumShown (x : Environment) (y : System) (s : State) (late rais
 -- EACH BOOT of an image with the kernel's text and the images of two programs that bring numbers shows this, under every schedule
 abbrev pub AnyProgramsSum : Type 0
 AnyProgramsSum = (one two : CUnit) (n k v w : ℕ) → Brings one n v → Brings two k w → v + w < 2 ^ 31
-    → (words : List (List ℕ)) (status : Status) (old new : Host) → Headlines (λ (o : Host). o) words status old new
+    → (words : List (List ℕ)) (status : Status) (old new : Outside) → Headlines (λ (o : Outside). o) words status old new
     → (session : Session) (s : ImageSystem) (rows : Rows) (before : List (List ℕ)) → (h : IsHonest words session s rows before old new)
     → status ≢ Memory → session.view ≡ Boot → AsksSystem kernel_text (image_words one ∷ image_words two ∷ []) h.asked
     → (text : List ℕ) × (new.sink.text ≡ append_known old.sink.text text)
@@ -64,7 +64,7 @@ AnyProgramsSum = (one two : CUnit) (n k v w : ℕ) → Brings one n v → Brings
 abbrev pub AnyCountedProgramsSum : Type 0
 AnyCountedProgramsSum = (one two : CUnit) (n k v w a b : ℕ) → Brings one n v → Brings two k w → v + w < 2 ^ 31
     → TrapsBehind (first_flat (image_words one)) a → TrapsBehind (first_flat (image_words two)) b
-    → (words : List (List ℕ)) (status : Status) (old new : Host) → Headlines (λ (o : Host). o) words status old new
+    → (words : List (List ℕ)) (status : Status) (old new : Outside) → Headlines (λ (o : Outside). o) words status old new
     → (session : Session) (s : ImageSystem) (rows : Rows) (before : List (List ℕ)) → (h : IsHonest words session s rows before old new)
     → status ≢ Memory → session.view ≡ Boot → AsksSystem kernel_text (image_words one ∷ image_words two ∷ []) h.asked
     → (text : List ℕ) × (new.sink.text ≡ append_known old.sink.text text)
@@ -84,7 +84,7 @@ pub record AddersShown (x : Environment) (y : System) (s : State) (late raised t
 -- EACH BOOT of an image with the kernel's text whose users are compiled of the two texts, under every schedule; their machines at the start are those of the
 -- images of the two trees, whatever places the texts' own trees have
 abbrev pub CompiledSumsBoot : Type 0
-CompiledSumsBoot = (words : List (List ℕ)) (status : Status) (old new : Host) → Headlines (λ (o : Host). o) words status old new
+CompiledSumsBoot = (words : List (List ℕ)) (status : Status) (old new : Outside) → Headlines (λ (o : Outside). o) words status old new
     → (session : Session) (s : ImageSystem) (rows : Rows) (before : List (List ℕ)) → (h : IsHonest words session s rows before old new)
     → status ≢ Memory → session.view ≡ Boot → AsksSource kernel_text h.asked → (layer : Map → List ℕ → List ℕ) → IsLinkedOf layer text_ten text_twenty s
     → (text : List ℕ) × (new.sink.text ≡ append_known old.sink.text text)

@@ -1,38 +1,65 @@
-use Rattle.cvm_shell.proofs.BootEndings.{headline_end, completes, trace_isolated}
-use Rattle.cvm_shell.proofs.Causing.{disk_cause}
-use Rattle.cvm_shell.proofs.ResumeEndings.{resumes_hold, resumes_complete}
-use Rattle.cvm_shell.proofs.SaveEndings.{saves_hold, saves_complete}
-use Rattle.cvm_shell.proofs.Sufficient.{suffices}
+use Rattle.std.proofs.Common.{subst}
+use Rattle.cvm_shell.specs.declared.command.Command.{Command}
+use Rattle.cvm_shell.specs.Command.{IsCommand, texts}
+use Rattle.cvm_shell.specs.Views.{command_view}
+use Rattle.cvm_outside.specs.Outside.{files as told_files, drive as told_drive}
+use Rattle.cvm_shell.proofs.Doing.{bad_words_done}
 use Rattle.cvm_shell.proofs.run.Goals as goal
 
-pub returns-clause-headline : goal.returns-clause-headline
-returns-clause-headline g c = λ session s rows before honest memory. headline_end _ session s rows before _ _ _ c.run_command.ensures.ends c.run_command.ensures.causes honest memory
+pub returns-in-None : goal.returns-in-None
+returns-in-None g c = record { script = bad_words_done _ _ _ _ c.in-None.ensures.none (c.say.ensures.does (told_files g.S.Shelf c.args.shelf.now) (told_drive g.D.Sectors c.args.disk.now)) }
 
-pub returns-clause-complete : goal.returns-clause-complete
-returns-clause-complete g c = λ session s rows before honest memory has.
-    completes c.turns_are_counted.ensures _ session s rows before _ _ _ c.run_command.ensures.ends c.run_command.ensures.causes honest memory has
+pub returns-in-Some-Boot : goal.returns-in-Some-Boot
+returns-in-Some-Boot g c =
+    let P : Command → Type 0 = λ x. IsCommand (texts c.args.words.now.items) (command_view x) in
+    record { script = c.run_boot.ensures _ (subst P c.in-Some-Boot.field-0-is c.in-Some-Boot.ensures.found) }
 
-pub returns-clause-isolated : goal.returns-clause-isolated
-returns-clause-isolated g c = λ session u s rows before honest traced ends.
-    trace_isolated c.turns_are_counted.ensures c.journals_replay.ensures _ session u s rows before _ _ _ c.run_command.ensures.ends c.run_command.ensures.causes honest traced ends
+pub returns-in-Some-Trace : goal.returns-in-Some-Trace
+returns-in-Some-Trace g c =
+    let P : Command → Type 0 = λ x. IsCommand (texts c.args.words.now.items) (command_view x) in
+    record { script = c.run_boot-in-Some-Trace.ensures _ (subst P c.in-Some-Trace.field-0-is c.in-Some-Trace.ensures.found) }
 
-pub returns-clause-suffices : goal.returns-clause-suffices
-returns-clause-suffices g c = λ source stack s says has.
-    suffices c.sources_have_one_answer.ensures c.bytes_have_one_answer.ensures.one c.opened_units_are_their_sources.ensures c.longest_chains_are_kept.ensures _ source stack s _ _ _ c.run_command.ensures.ends says has
+pub returns-in-Some-Save : goal.returns-in-Some-Save
+returns-in-Some-Save g c =
+    let P : Command → Type 0 = λ x. IsCommand (texts c.args.words.now.items) (command_view x) in
+    record { script = c.run_save.ensures _ (subst P c.in-Some-Save.field-0-is c.in-Some-Save.ensures.found) }
 
-pub returns-clause-saves : goal.returns-clause-saves
-returns-clause-saves g c = λ x s rows before honest memory. saves_hold _ x s rows before _ _ _ c.run_command.ensures.ends c.run_command.ensures.causes honest memory
+pub returns-in-Some-Resume : goal.returns-in-Some-Resume
+returns-in-Some-Resume g c =
+    let P : Command → Type 0 = λ x. IsCommand (texts c.args.words.now.items) (command_view x) in
+    record { script = c.run_resume.ensures _ (subst P c.in-Some-Resume.field-0-is c.in-Some-Resume.ensures.found) }
 
-pub returns-clause-saves_complete : goal.returns-clause-saves_complete
-returns-clause-saves_complete g c = λ x s rows before honest memory has.
-    saves_complete c.turns_are_counted.ensures _ x s rows before _ _ _ c.run_command.ensures.ends c.run_command.ensures.causes honest memory has
+pub returns-in-Some-CompileUser : goal.returns-in-Some-CompileUser
+returns-in-Some-CompileUser g c =
+    let P : Command → Type 0 = λ x. IsCommand (texts c.args.words.now.items) (command_view x) in
+    record { script = c.compile_user.ensures _ (told_drive g.D.Sectors c.args.disk.now) (subst P c.in-Some-CompileUser.field-0-is c.in-Some-CompileUser.ensures.found) }
 
-pub returns-clause-resumes : goal.returns-clause-resumes
-returns-clause-resumes g c = λ x s rows machine left honest memory. resumes_hold _ x s rows machine left _ _ _ c.run_command.ensures.ends c.run_command.ensures.causes honest memory
+pub returns-in-Some-CompileKernel : goal.returns-in-Some-CompileKernel
+returns-in-Some-CompileKernel g c =
+    let P : Command → Type 0 = λ x. IsCommand (texts c.args.words.now.items) (command_view x) in
+    record { script = c.compile_kernel.ensures _ (told_drive g.D.Sectors c.args.disk.now) (subst P c.in-Some-CompileKernel.field-0-is c.in-Some-CompileKernel.ensures.found) }
 
-pub returns-clause-resumes_complete : goal.returns-clause-resumes_complete
-returns-clause-resumes_complete g c = λ x s rows machine left before shown honest memory saved has.
-    resumes_complete c.turns_are_counted.ensures _ x s rows machine left before shown _ _ _ c.run_command.ensures.ends c.run_command.ensures.causes honest memory saved has
+pub returns-in-Some-CompileProgram : goal.returns-in-Some-CompileProgram
+returns-in-Some-CompileProgram g c =
+    let P : Command → Type 0 = λ x. IsCommand (texts c.args.words.now.items) (command_view x) in
+    record { script = c.compile_program.ensures _ (told_drive g.D.Sectors c.args.disk.now) (subst P c.in-Some-CompileProgram.field-0-is c.in-Some-CompileProgram.ensures.found) }
 
-pub returns-clause-causes : goal.returns-clause-causes
-returns-clause-causes g c = record { counts = c.run_command.ensures.causes; disk = disk_cause _ _ _ _ c.run_command.ensures.ends }
+pub returns-in-Some-Link : goal.returns-in-Some-Link
+returns-in-Some-Link g c =
+    let P : Command → Type 0 = λ x. IsCommand (texts c.args.words.now.items) (command_view x) in
+    record { script = c.link_system.ensures _ (told_drive g.D.Sectors c.args.disk.now) (subst P c.in-Some-Link.field-0-is c.in-Some-Link.ensures.found) }
+
+pub returns-in-Some-Migrate : goal.returns-in-Some-Migrate
+returns-in-Some-Migrate g c =
+    let P : Command → Type 0 = λ x. IsCommand (texts c.args.words.now.items) (command_view x) in
+    record { script = c.migrate_image.ensures _ (told_drive g.D.Sectors c.args.disk.now) (subst P c.in-Some-Migrate.field-0-is c.in-Some-Migrate.ensures.found) }
+
+pub returns-in-Some-Sample : goal.returns-in-Some-Sample
+returns-in-Some-Sample g c =
+    let P : Command → Type 0 = λ x. IsCommand (texts c.args.words.now.items) (command_view x) in
+    record { script = c.run_sample.ensures _ (told_files g.S.Shelf c.args.shelf.now) (subst P c.in-Some-Sample.field-0-is c.in-Some-Sample.ensures.found) }
+
+pub returns-in-Some-Check : goal.returns-in-Some-Check
+returns-in-Some-Check g c =
+    let P : Command → Type 0 = λ x. IsCommand (texts c.args.words.now.items) (command_view x) in
+    record { script = c.check_object.ensures _ (told_drive g.D.Sectors c.args.disk.now) (subst P c.in-Some-Check.field-0-is c.in-Some-Check.ensures.found) }

@@ -1,9 +1,10 @@
-use Rattle.std.proofs.Common.{◌≡◌, [], ◌∷◌, ◌<◌, length, subst, ap, rules, List, ℕ, min, Err}
+use Rattle.std.proofs.Common.{refl, ◌≡◌, [], ◌∷◌, ◌<◌, length, subst, ap, rules, List, ℕ, min, Err}
 use Rattle.std.specs.Prelude.{Option, IfSome}
 use Rattle.std.specs.Option.{IsSome}
 use Rattle.std.proofs.lemmas.Result.{err_from_is_err_and}
 use Rattle.cvm_outside.specs.Told.{TOO_LONG, Tells}
 use Rattle.cvm_outside.specs.declared.shelf.ShelfFault.{ShelfFault}
+use Rattle.cvm_shell.specs.Ends.{AreBytes}
 use Rattle.cvm_shell.specs.Plan.{AfterFiles}
 use Rattle.cvm_shell.specs.Stages.{ready_for}
 use Rattle.cvm_shell.specs.Views.{boot_view}
@@ -11,7 +12,7 @@ use Rattle.real_layer.specs.Image.{layer_image}
 use Rattle.cvm_shell.proofs.Plans.{got_fault}
 use Rattle.cvm_shell.proofs.BootPlans.{image_got, boot_got}
 use Rattle.cvm_outside.specs.Outside.{files}
-use Rattle.cvm_shell.proofs.GotCalls.{one_got, one_stopped, are_both, stopped_then, gets_behind}
+use Rattle.cvm_shell.proofs.GotCalls.{one_got, one_stopped, are_both, stopped_then, gets_behind, got_bytes, if_ok}
 use Rattle.cvm_shell.proofs.boot.plan.Goals as goal
 
 pub returns-in_err-image-clause-comes : goal.returns-in_err-image-clause-comes
@@ -71,3 +72,12 @@ returns-clause-gets g c = λ sink disk.
     (one_got _ (files g.S.Shelf c.get.new.self) (files g.S.Shelf c.get-2.new.self) c.in_ok-schedule.schedule sink disk
     (record { files = e.files; bytes = e.bytes; all = e.all; most = e.most; long = e.long; told_long = e.told_long; count = e.count; called = record { calls = e.called; gives = e.given }; sure = e.sure })))
     c.ready_of.ensures.inside c.ready_of.ensures.short
+
+pub returns-clause-bytes : goal.returns-clause-bytes
+returns-clause-bytes g c =
+    let file = g.S.Shelf.file c.args.shelf.now in
+    let b = boot_view c.args.boot.now in
+    if_ok (AreBytes file (b.image ∷ b.schedule ∷ [])) c.ready_of.result (
+      got_bytes file file b.image c.in_ok-image.image.items refl c.in_ok-image.ensures.bytes c.are_bytes.ensures,
+      (got_bytes file (g.S.Shelf.file c.get.new.self) b.schedule c.in_ok-schedule.schedule.items (c.in_ok-image.ensures.files b.schedule) c.in_ok-schedule.ensures.bytes c.are_bytes-2.ensures, tt),
+    )

@@ -1,4 +1,4 @@
-use Rattle.std.proofs.Common.{◌≡◌, [], ◌∷◌, ◌<◌, length, subst, ap, ◌∙◌, rules, List, ℕ, min, Err}
+use Rattle.std.proofs.Common.{refl, ◌≡◌, [], ◌∷◌, ◌<◌, length, subst, ap, ◌∙◌, rules, List, ℕ, min, Err}
 use Rattle.std.specs.Prelude.{Option, IfSome}
 use Rattle.std.specs.Option.{IsSome}
 use Rattle.std.proofs.lemmas.Result.{err_from_is_err_and}
@@ -13,7 +13,7 @@ use Rattle.cvm_shell.proofs.Plans.{got_fault}
 use Rattle.cvm_shell.proofs.SavePlans.{three_come, second_stopped, third_stopped, all_got, all_stopped}
 use Rattle.cvm_outside.specs.Outside.{files}
 use Rattle.cvm_shell.specs.declared.boot.Stop.{Stop}
-use Rattle.cvm_shell.proofs.GotCalls.{one_got, one_stopped, are_both, stopped_then, stop_behind}
+use Rattle.cvm_shell.proofs.GotCalls.{one_got, one_stopped, are_both, stopped_then, stop_behind, got_bytes}
 use Rattle.cvm_shell.proofs.resuming.plan_resume.Goals as goal
 
 pub returns-in_err-image-clause-comes : goal.returns-in_err-image-clause-comes
@@ -144,3 +144,14 @@ returns-clause-gets g c = λ sink disk.
     (record { files = b.files; bytes = b.bytes; all = b.all; most = b.most; long = b.long; told_long = b.told_long; count = b.count; called = record { calls = b.called; gives = b.given }; sure = b.sure }))) (v.file ∷ []) _
     (one_got _ (files g.S.Shelf c.get-2.new.self) (files g.S.Shelf c.get-3.new.self) c.in_ok-bytes.bytes sink disk
     (record { files = d.files; bytes = d.bytes; all = d.all; most = d.most; long = d.long; told_long = d.told_long; count = d.count; called = record { calls = d.called; gives = d.given }; sure = d.sure }))
+
+pub returns-clause-bytes : goal.returns-clause-bytes
+returns-clause-bytes g c =
+    let file = g.S.Shelf.file c.args.shelf.now in
+    let v = save_view c.args.resume.now in (
+      got_bytes file file v.boot.image c.in_ok-image.image.items refl c.in_ok-image.ensures.bytes c.are_bytes.ensures,
+      (
+        got_bytes file (g.S.Shelf.file c.get.new.self) v.boot.schedule c.in_ok-schedule.schedule.items (c.in_ok-image.ensures.files v.boot.schedule) c.in_ok-schedule.ensures.bytes c.are_bytes-2.ensures,
+        (got_bytes file (g.S.Shelf.file c.get-2.new.self) v.file c.in_ok-bytes.bytes.items (c.in_ok-schedule.ensures.files v.file ∙ c.in_ok-image.ensures.files v.file) c.in_ok-bytes.ensures.bytes c.are_bytes-3.ensures, tt),
+      ),
+    )

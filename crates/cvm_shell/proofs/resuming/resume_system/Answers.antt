@@ -1,74 +1,22 @@
-use Rattle.std.proofs.Common.{inl, inr, ◌∙◌, ap, ap₂, subst, sym, Ok, Err, List, ℕ}
-use Rattle.std.specs.Io.KnownBytes.{append_known}
+use Rattle.std.proofs.Common.{inl, ◌∙◌, ap, ap₂, subst, sym, Ok, Err, List, ℕ}
 use Rattle.cvm_outside.specs.Outside.{Outside, output, drive}
-use Rattle.cvm_outside.specs.Told.{AppendsPart}
 use Rattle.boot_run.specs.Closing.{says}
-use Rattle.boot_run.specs.declared.whole.RunEnd.{RunEnd}
 use Rattle.saved_file.specs.declared.fault.SaveFault.{SaveFault}
 use Rattle.machine_save.specs.ResumeCalls.{ResumeScript}
-use Rattle.machine_save.specs.ResumeRun.{ResumeAnswers, JoinsSaved, GoesOnFromFile}
+use Rattle.machine_save.specs.ResumeRun.{ResumeAnswers}
 use Rattle.machine_save.specs.declared.resuming.ResumeFault.{ResumeFault}
 use Rattle.machine_save.specs.declared.resuming.ResumeFault.TheVariants as fault
 use Rattle.cvm_shell.specs.declared.exit_status.Status.TheVariants.{Refused, Disk}
 use Rattle.cvm_shell.specs.Does.{Acts, DoesPlan}
-use Rattle.cvm_shell.specs.Host.{counts, within}
 use Rattle.cvm_shell.specs.Refusal.{bad_save, small_disk, refusal_text}
 use Rattle.cvm_shell.specs.Stages.{resumable_for}
 use Rattle.cvm_shell.specs.Views.{save_view}
 use Rattle.cvm_shell.proofs.GotCalls.{beside}
-use Rattle.cvm_shell.proofs.ResumedCalls.{taken_does, file_does, each_case, small_resume}
-use Rattle.cvm_shell.proofs.ResumeEndings.{file_refused, small_refused, resumed_made, small_named, text_same}
+use Rattle.cvm_shell.proofs.ResumedCalls.{small_named, taken_does, file_does, each_case, small_resume}
 use Rattle.cvm_shell.proofs.resuming.resume_system.Goals as goal
 
-pub returns-in-Ok-clause-ends : goal.returns-in-Ok-clause-ends
-returns-in-Ok-clause-ends g c = λ before after files.
-    let old = within g.O.Sink g.D.Sectors before (c.args.out.now, c.args.disk.now) in
-    let new = within g.O.Sink g.D.Sectors after (c.resume_run.new.out, c.resume_run.new.disk) in
-    let r = c.args.resumable in
-    let v = save_view c.args.resume.now in
-    let P : List ℕ → Type 0 = λ bs. ResumeAnswers r.ready.boot r.ready.schedule v.boot.turns old.disk.size bs (Ok c.in-Ok.end) in
-    let Q : List ℕ → Type 0 = λ bs. JoinsSaved r.ready.boot r.ready.schedule v.boot.turns v.boot.steps old.disk.size bs old.disk.sectors new.disk.sectors (counts old.disk) (counts new.disk) old.sink.text new.sink.text (Ok c.in-Ok.end) in
-    let R : List ℕ → Type 0 = λ bs. GoesOnFromFile r.ready.boot r.ready.schedule v.boot.turns v.boot.steps old.disk.size bs old.disk.sectors new.disk.sectors (Ok c.in-Ok.end) in
-    inr (resumed_made r v old new c.in-Ok.end _ (subst P c.deref.ensures.value c.in-Ok.ensures.answers) (subst Q c.deref.ensures.value c.in-Ok.ensures.joins)
-    c.in-Ok.ensures.goes_on (subst R c.deref.ensures.value c.in-Ok.ensures.any)
-    c.in-Ok.ensures.told c.in-Ok.ensures.size (λ e. c.in-Ok.ensures.blame.disk_rose (ap (λ (x : RunEnd). Ok x) e)) files c.status_of.ensures)
-
-pub returns-in-Err-SmallDisk-clause-ends : goal.returns-in-Err-SmallDisk-clause-ends
-returns-in-Err-SmallDisk-clause-ends g c = λ before after files.
-    let old = within g.O.Sink g.D.Sectors before (c.args.out.now, c.args.disk.now) in
-    let new = within g.O.Sink g.D.Sectors after (c.refuse.new.out, c.resume_run.new.disk) in
-    let r = c.args.resumable in
-    let v = save_view c.args.resume.now in
-    let B : List ℕ → Type 0 = λ bs. ResumeAnswers r.ready.boot r.ready.schedule v.boot.turns old.disk.size bs (Err c.in-Err-SmallDisk.field-0) in
-    let P : ResumeFault → Type 0 = λ f. ResumeAnswers r.ready.boot r.ready.schedule v.boot.turns old.disk.size r.bytes.items (Err f) in
-    let answers = subst P c.in-Err-SmallDisk.field-0-is (subst B c.deref.ensures.value c.in-Err-SmallDisk.ensures.answers) in
-    let still = c.in-Err-SmallDisk.ensures.still in
-    let row = refusal_text (small_disk c.in-Err-SmallDisk.need c.in-Err-SmallDisk.have) in
-    inr (small_refused r v old new c.in-Err-SmallDisk.need c.in-Err-SmallDisk.have _
-    (small_named P c.in-Err-SmallDisk.need c.in-Err-SmallDisk.have _ _ c.in-Err-SmallDisk.need-is c.in-Err-SmallDisk.have-is answers) files
-    (record { sectors = ap g.D.Sectors.sectors still.0; size = c.in-Err-SmallDisk.ensures.size }) (ap g.D.Sectors.faults still.0) c.refuse.ensures.cases
-    (λ e. c.refuse.ensures.whole e ∙ ap (λ o. append_known (g.O.Sink.text o) row) still.1)
-    (λ e. subst (λ o. AppendsPart (g.O.Sink.text o) (g.O.Sink.text c.refuse.new.out) row) still.1 (c.refuse.ensures.part e)))
-
-pub returns-clause-ends : goal.returns-clause-ends
-returns-clause-ends g c = λ before after files.
-    let old = within g.O.Sink g.D.Sectors before (c.args.out.now, c.args.disk.now) in
-    let new = within g.O.Sink g.D.Sectors after (c.refuse_file.new.out, c.resume_run.new.disk) in
-    let r = c.args.resumable in
-    let v = save_view c.args.resume.now in
-    let B : List ℕ → Type 0 = λ bs. ResumeAnswers r.ready.boot r.ready.schedule v.boot.turns old.disk.size bs (Err c.in-Err-Save.field-0) in
-    let P : ResumeFault → Type 0 = λ f. ResumeAnswers r.ready.boot r.ready.schedule v.boot.turns old.disk.size r.bytes.items (Err f) in
-    let Q : SaveFault → Type 0 = λ f. P (fault.Save f) in
-    let answers = subst Q (sym c.in-Err-Save.fault-is) (subst P c.in-Err-Save.field-0-is (subst B c.deref.ensures.value c.in-Err-Save.ensures.answers)) in
-    let still = c.in-Err-Save.ensures.still in
-    let row = refusal_text (bad_save c.in-Err-Save.fault) in
-    file_refused r v old new c.in-Err-Save.fault _ answers files (record { sectors = ap g.D.Sectors.sectors still.0; size = c.in-Err-Save.ensures.size })
-    (text_same _ _ _ _ c.refuse_file.ensures.cases (λ e. ap g.O.Sink.text e ∙ ap g.O.Sink.text still.1))
-    (λ e. c.refuse_file.ensures.whole e ∙ ap (λ o. append_known (g.O.Sink.text o) row) still.1)
-    (λ e. subst (λ o. AppendsPart (g.O.Sink.text o) (g.O.Sink.text c.refuse_file.new.out) row) still.1 (c.refuse_file.ensures.part e))
-
-pub returns-in-Ok-clause-does : goal.returns-in-Ok-clause-does
-returns-in-Ok-clause-does g c = λ shelf.
+pub returns-in-Ok : goal.returns-in-Ok
+returns-in-Ok g c = λ shelf.
     let r = c.args.resumable in
     let v = save_view c.args.resume.now in
     let P : List ℕ → Type 0 = λ bs. ResumeAnswers r.ready.boot r.ready.schedule v.boot.turns (g.D.Sectors.size c.args.disk.now) bs (Ok c.in-Ok.end) in
@@ -77,8 +25,8 @@ returns-in-Ok-clause-does g c = λ shelf.
     (taken_does g.O.Sink g.D.Sectors r v c.args.out.now c.resume_run.new.out c.args.disk.now c.resume_run.new.disk shelf c.in-Ok.end (subst P c.deref.ensures.value c.in-Ok.ensures.answers)
     (subst Q c.deref.ensures.value c.in-Ok.ensures.script)))
 
-pub returns-in-Err-SmallDisk-clause-does : goal.returns-in-Err-SmallDisk-clause-does
-returns-in-Err-SmallDisk-clause-does g c = λ shelf.
+pub returns-in-Err-SmallDisk : goal.returns-in-Err-SmallDisk
+returns-in-Err-SmallDisk g c = λ shelf.
     let r = c.args.resumable in
     let v = save_view c.args.resume.now in
     let B : List ℕ → Type 0 = λ bs. ResumeAnswers r.ready.boot r.ready.schedule v.boot.turns (g.D.Sectors.size c.args.disk.now) bs (Err c.in-Err-SmallDisk.field-0) in
@@ -90,8 +38,8 @@ returns-in-Err-SmallDisk-clause-does g c = λ shelf.
     (small_named P c.in-Err-SmallDisk.need c.in-Err-SmallDisk.have _ _ c.in-Err-SmallDisk.need-is c.in-Err-SmallDisk.have-is answers)
     (subst A (ap₂ (λ o d. beside (output g.O.Sink o) (drive g.D.Sectors d) shelf) still.1 still.0) (c.refuse.ensures.does shelf (drive g.D.Sectors c.resume_run.new.disk))))
 
-pub returns-clause-does : goal.returns-clause-does
-returns-clause-does g c = λ shelf.
+pub returns : goal.returns
+returns g c = λ shelf.
     let r = c.args.resumable in
     let v = save_view c.args.resume.now in
     let B : List ℕ → Type 0 = λ bs. ResumeAnswers r.ready.boot r.ready.schedule v.boot.turns (g.D.Sectors.size c.args.disk.now) bs (Err c.in-Err-Save.field-0) in

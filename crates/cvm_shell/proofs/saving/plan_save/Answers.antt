@@ -36,3 +36,6 @@ returns-in_err-room-clause-gets g c = λ sink disk.
 
 pub returns-clause-gets : goal.returns-clause-gets
 returns-clause-gets g c = λ sink disk. c.in_ok-ready.ensures.gets sink disk
+
+pub returns-clause-bytes : goal.returns-clause-bytes
+returns-clause-bytes g c = c.in_ok-ready.ensures.bytes

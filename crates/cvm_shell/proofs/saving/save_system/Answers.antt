@@ -3,14 +3,10 @@ use Rattle.boot_turns.specs.declared.answers.View.TheVariants as view
 use Rattle.boot_run.specs.LoadEnds.{LoadFails, pages_needed}
 use Rattle.boot_run.specs.declared.load.LoadFault.{LoadFault}
 use Rattle.boot_run.specs.declared.load.LoadFault.TheVariants as load
-use Rattle.std.specs.Io.KnownBytes.{append_known}
-use Rattle.cvm_outside.specs.Told.{AppendsPart}
-use Rattle.cvm_shell.specs.Host.{seen}
 use Rattle.cvm_shell.specs.Refusal.{small_disk, refusal_text}
-use Rattle.cvm_shell.specs.Stages.{SaveCallAnswers, saveable_for, with_files}
+use Rattle.cvm_shell.specs.Stages.{saveable_for}
 use Rattle.cvm_shell.specs.Views.{save_view}
-use Rattle.cvm_shell.proofs.BootEndings.{small_named}
-use Rattle.cvm_shell.proofs.SaveEndings.{ok_saved, disk_saved, memory_saved, small_saved, moved_answers, no_trace, ends_disk, ends_sink, sink_ends, shelf_ends, ends_shelf, ends_no_words}
+use Rattle.cvm_shell.proofs.StartAnswers.{small_named, no_trace, same_need}
 use Rattle.cvm_outside.specs.Outside.{Outside, files as told_files, drive}
 use Rattle.boot_run.specs.Closing.{says}
 use Rattle.kernel_linker.specs.Accept.{system_of}
@@ -18,70 +14,9 @@ use Rattle.cvm_shell.specs.declared.exit_status.Status.TheVariants.{Disk}
 use Rattle.cvm_shell.specs.Command.{save_session}
 use Rattle.cvm_shell.specs.Does.{Acts, DoesPlan, SavedCalls}
 use Rattle.cvm_shell.specs.Ends.{seen as told_by}
-use Rattle.cvm_shell.proofs.StartAnswers.{same_need}
 use Rattle.cvm_shell.proofs.SavedCalls.{saved_does}
 use Rattle.cvm_shell.proofs.SystemCalls.{small_save}
 use Rattle.cvm_shell.proofs.saving.save_system.Goals as goal
-
-pub returns-in-Ok-clause-ends : goal.returns-in-Ok-clause-ends
-returns-in-Ok-clause-ends g c = λ before same.
-    let old = seen g.S.Shelf g.O.Sink g.D.Sectors (c.args.shelf.now, c.args.out.now, c.args.disk.now) in
-    let new = seen g.S.Shelf g.O.Sink g.D.Sectors (c.save_ready.new.shelf, c.save_ready.new.out, c.save_ready.new.disk) in
-    ok_saved c.args.saveable.ready (save_view c.args.save.now) (with_files before old) new c.in-Ok.end _ (moved_answers c.args.saveable.ready (save_view c.args.save.now) _ old new before same c.in-Ok.ensures.is) c.saved_status.ensures
-
-pub returns-in-Ok-clause-disk_same : goal.returns-in-Ok-clause-disk_same
-returns-in-Ok-clause-disk_same g c = λ h. c.in-Ok.ensures.disk_same (λ f. h (c.saved_status.ensures ∙ ends_disk c.in-Ok.end f))
-
-pub returns-in-Ok-clause-sink : goal.returns-in-Ok-clause-sink
-returns-in-Ok-clause-sink g c = λ e. c.in-Ok.ensures.sink (sink_ends c.in-Ok.end (sym c.saved_status.ensures ∙ e))
-
-pub returns-in-Ok-clause-sink_same : goal.returns-in-Ok-clause-sink_same
-returns-in-Ok-clause-sink_same g c = λ h. c.in-Ok.ensures.sink_same (λ f. h (c.saved_status.ensures ∙ ends_sink c.in-Ok.end f))
-
-pub returns-in-Ok-clause-shelf : goal.returns-in-Ok-clause-shelf
-returns-in-Ok-clause-shelf g c = λ e. c.in-Ok.ensures.shelf (shelf_ends c.in-Ok.end (sym c.saved_status.ensures ∙ e))
-
-pub returns-in-Ok-clause-shelf_same : goal.returns-in-Ok-clause-shelf_same
-returns-in-Ok-clause-shelf_same g c = λ h. c.in-Ok.ensures.shelf_same (λ f. h (c.saved_status.ensures ∙ ends_shelf c.in-Ok.end f))
-
-pub returns-in-Ok-clause-never : goal.returns-in-Ok-clause-never
-returns-in-Ok-clause-never g c = λ h. ends_no_words c.in-Ok.end (sym c.saved_status.ensures ∙ h)
-
-pub returns-in-Err-SmallDisk-clause-ends : goal.returns-in-Err-SmallDisk-clause-ends
-returns-in-Err-SmallDisk-clause-ends g c = λ before same.
-    let old = seen g.S.Shelf g.O.Sink g.D.Sectors (c.args.shelf.now, c.args.out.now, c.args.disk.now) in
-    let new = seen g.S.Shelf g.O.Sink g.D.Sectors (c.save_ready.new.shelf, c.refuse.new.out, c.save_ready.new.disk) in
-    let answers = c.in-Err-SmallDisk.ensures.is in
-    let P : LoadFault → Type 0 = λ f. LoadFails c.args.saveable.ready.boot view.Boot (pages_needed c.args.saveable.ready.boot) (g.D.Sectors.size c.args.disk.now) (g.D.Sectors.faults c.args.disk.now) (g.D.Sectors.faults c.save_ready.new.disk) f in
-    let refused = subst P c.in-Err-SmallDisk.field-0-is answers.refused in
-    let still : c.save_ready.new.disk ≡ c.args.disk.now = c.in-Err-SmallDisk.ensures.still (λ e. let d = c.in-Err-SmallDisk.field-0-is in cc) in
-    let row = refusal_text (small_disk c.in-Err-SmallDisk.need c.in-Err-SmallDisk.have) in
-    small_saved c.args.saveable.ready (save_view c.args.save.now) (with_files before old) new c.in-Err-SmallDisk.need c.in-Err-SmallDisk.have _ (λ n. ap (λ x. g.S.Shelf.file x n) c.in-Err-SmallDisk.ensures.unput ∙ same n)
-    (small_named P c.in-Err-SmallDisk.need c.in-Err-SmallDisk.have _ _ c.in-Err-SmallDisk.need-is c.in-Err-SmallDisk.have-is refused)
-    (record { sectors = ap g.D.Sectors.sectors still; size = answers.size }) (ap g.D.Sectors.faults still) c.refuse.ensures.cases
-    (λ e. c.refuse.ensures.whole e ∙ ap (λ o. append_known (g.O.Sink.text o) row) c.in-Err-SmallDisk.ensures.unprinted)
-    (λ e. subst (λ o. AppendsPart (g.O.Sink.text o) (g.O.Sink.text c.refuse.new.out) row) c.in-Err-SmallDisk.ensures.unprinted (c.refuse.ensures.part e))
-
-pub returns-in-Err-Disk-clause-ends : goal.returns-in-Err-Disk-clause-ends
-returns-in-Err-Disk-clause-ends g c = λ before same.
-    let old = seen g.S.Shelf g.O.Sink g.D.Sectors (c.args.shelf.now, c.args.out.now, c.args.disk.now) in
-    let new = seen g.S.Shelf g.O.Sink g.D.Sectors (c.save_ready.new.shelf, c.save_ready.new.out, c.save_ready.new.disk) in
-    disk_saved c.args.saveable.ready (save_view c.args.save.now) (with_files before old) new
-    (moved_answers c.args.saveable.ready (save_view c.args.save.now) _ old new before same (subst (λ (f : LoadFault). SaveCallAnswers c.args.saveable.ready (save_view c.args.save.now) (Err f) old new) c.in-Err-Disk.field-0-is c.in-Err-Disk.ensures.is))
-    (ap g.O.Sink.text c.in-Err-Disk.ensures.unprinted)
-
-pub returns-in-Err-Memory-clause-ends : goal.returns-in-Err-Memory-clause-ends
-returns-in-Err-Memory-clause-ends g c = λ before same.
-    let old = seen g.S.Shelf g.O.Sink g.D.Sectors (c.args.shelf.now, c.args.out.now, c.args.disk.now) in
-    let new = seen g.S.Shelf g.O.Sink g.D.Sectors (c.save_ready.new.shelf, c.save_ready.new.out, c.save_ready.new.disk) in
-    let answers = c.in-Err-Memory.ensures.is in
-    let still : c.save_ready.new.disk ≡ c.args.disk.now = c.in-Err-Memory.ensures.still (λ e. let d = c.in-Err-Memory.field-0-is in cc) in
-    memory_saved c.args.saveable.ready (save_view c.args.save.now) (with_files before old) new
-    (moved_answers c.args.saveable.ready (save_view c.args.save.now) _ old new before same (subst (λ (f : LoadFault). SaveCallAnswers c.args.saveable.ready (save_view c.args.save.now) (Err f) old new) c.in-Err-Memory.field-0-is answers))
-    (record { sectors = ap g.D.Sectors.sectors still; size = answers.size }) (ap g.O.Sink.text c.in-Err-Memory.ensures.unprinted)
-
-pub returns-in-Err-NoSuchUser-clause-ends : goal.returns-in-Err-NoSuchUser-clause-ends
-returns-in-Err-NoSuchUser-clause-ends g c = λ before same. absurd (no_trace c.args.saveable.ready.boot _ _ _ _ _ _ _ c.in-Err-NoSuchUser.field-0-is c.in-Err-NoSuchUser.ensures.is.refused)
 
 pub returns-in-Ok-clause-does : goal.returns-in-Ok-clause-does
 returns-in-Ok-clause-does g c =

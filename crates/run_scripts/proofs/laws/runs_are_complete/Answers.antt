@@ -1,0 +1,5 @@
+use Rattle.run_scripts.proofs.Promised.{runs_are_complete}
+use Rattle.run_scripts.proofs.laws.runs_are_complete.Goals as goal
+
+pub returns : goal.returns
+returns c = runs_are_complete c.scripts_blame.ensures c.runs_complete.ensures

@@ -1,0 +1,5 @@
+use Rattle.run_scripts.proofs.PromisedSaves.{saves_are_complete}
+use Rattle.run_scripts.proofs.laws.saves_are_complete.Goals as goal
+
+pub returns : goal.returns
+returns c = saves_are_complete c.scripts_blame.ensures c.saves_complete.ensures

@@ -1,0 +1,5 @@
+use Rattle.run_scripts.proofs.Promised.{traces_are_isolated}
+use Rattle.run_scripts.proofs.laws.traces_are_isolated.Goals as goal
+
+pub returns : goal.returns
+returns c = traces_are_isolated c.scripts_blame.ensures c.headlines.ensures c.traces_isolate.ensures
