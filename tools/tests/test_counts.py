@@ -103,6 +103,21 @@ class Believed(unittest.TestCase):
         self.assertEqual(len(counted), len(set(counted)))
         self.assertFalse(set(counted) & set(came))
 
+    def test_three_totals_rise_from_the_headline_to_everything(self):
+        specs, came, beside = self.believed.reach()
+        headline, boots, everything = [found for _, found in self.believed.totals(specs)]
+        self.assertTrue(set(headline) < set(boots) < set(everything))
+        self.assertEqual(set(everything), set(came).union(*[more for _, more in beside]))
+        self.assertTrue(set(came) < set(boots))
+        # how a run ends is one word of the first, and what it says is counted of the others
+        ends = specs.file('cvm_shell.specs.Ends')
+        for name in ('Ends', 'Does', 'PlanAsks'):
+            self.assertNotIn((ends.path, ends.own[name]), headline)
+            self.assertIn((ends.path, ends.own[name]), boots)
+        self.assertIn((ends.path, ends.own['seen']), headline)
+        lines = sum(self.believed.lines_of(specs.files[path].blocks[block]) for path, block in everything)
+        self.assertIn('| everything | %s |' % format(lines, ','), self.believed.of_totals(specs))
+
 
 class Edits(unittest.TestCase):
     """What docs/promises/tests.md says of the must-fail edits: which crates have none, and that no crate has more than six."""
