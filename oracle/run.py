@@ -3,12 +3,14 @@
 usage: oracle/model boot FOLDER TURNS [TURN:MASK ..]             prints the text of a boot
        oracle/model boot FOLDER TURNS trace USER [TURN:MASK ..]  prints the text of a trace of that user
 
-FOLDER has kernel.c0, user1.s to userN.s, params and schedule. Which turn takes a line is the physical machine's alone: it is given as TURN:MASK. Systems
+FOLDER has kernel.c0, user1 to userN, each .s or .c0, params and schedule. Which turn takes a line is the physical machine's alone: it is given as TURN:MASK. Systems
 that meet no line need none.
 """
 import os
+import re
 
 from oracle.assembler import assemble
+from oracle.c0.emit import image
 from oracle.c0.meaning import Fault
 from oracle.c0.tree import Parser
 from oracle.flat import Flat
@@ -29,9 +31,19 @@ class System:
         return Kernel(self.unit, self.heap, self.stack, [Flat(list(words)) for words in self.words], self.pages, self.inputs)
 
 
+def is_program(text):
+    """Whether the text of a user is a program in C0."""
+    return 'int main()' in text
+
+
+def words_of(text):
+    """The words of a user."""
+    return image(text) if is_program(text) else assemble(text)
+
+
 def of_texts(kernel, users, par, schedule):
-    """The system of the texts of a kernel, of users in assembler, of parameters and of a schedule."""
-    return System(Parser(kernel), [assemble(text) for text in users], par, schedule)
+    """The system of the texts of a kernel, of users in assembler or in C0, of parameters and of a schedule."""
+    return System(Parser(kernel), [words_of(text) for text in users], par, schedule)
 
 
 class Call:
@@ -172,8 +184,8 @@ def read(*path):
 
 
 def of_folder(folder):
-    """The system of a folder whose users are all in assembler."""
-    names = sorted((n for n in os.listdir(folder) if n.startswith('user') and n.endswith('.s')), key=lambda n: int(n[4:-2]))
+    """The system of a folder."""
+    names = sorted((n for n in os.listdir(folder) if re.fullmatch(r'user\d+\.(s|c0)', n)), key=lambda n: int(re.search(r'\d+', n).group()))
     return of_texts(read(folder, 'kernel.c0'), [read(folder, n) for n in names], read(folder, 'params'), read(folder, 'schedule'))
 
 

@@ -1,13 +1,10 @@
 """The words of a source's code, cut by what they were made of: which words the entry, the routines, each function's head and end and each statement
-became. It counts by `code.Words`, after docs/COMPILER.md; `unfit` compares the cut with words that were compiled."""
+became. They are those that `emit` makes, after docs/COMPILER.md; `unfit` compares the cut with words that were compiled."""
 from collections import namedtuple
 
-from oracle.c0.code import Words
-from oracle.c0.meaning import NUMBERS
+from oracle.assembler import assemble
+from oracle.c0.emit import ANSWER, EXITS, EXPRESSIONS, FRAME_END, PRIMITIVES, ROUTINES, SCRATCH, START, Code
 
-START = 0x10000         # the address of the code
-ENTRY, ROUTINES = 8, (('new', 18), ('multiply', 3), ('divide', 5), ('remainder', 5))
-PRIMITIVES, EXITS = 0x2000, 0x2028
 EXIT_NAMES = ('fault NullUse', 'fault Bounds', 'fault DivZero', 'fault StackOut', 'the end')
 RETURN, STACK_OUT = 0x03e00008, 2 << 26 | 0x2034 >> 2
 
@@ -15,16 +12,16 @@ RETURN, STACK_OUT = 0x03e00008, 2 << 26 | 0x2034 >> 2
 Part = namedtuple('Part', 'first count what place node')
 
 
-class Cut(Words):
+class Cut(Code):
     """The parts of a source's code, in the order of their words; `starts` has the first word of each function, `functions` their order."""
 
     def __init__(self, text, is_program=False):
-        Words.__init__(self, text)
-        self.is_program = is_program
+        Code.__init__(self, text, is_program)
         self.parts, self.at, self.starts, self.ends, self.tests = [], 0, {}, {}, {}
-        self.add(ENTRY, 'entry', None)
-        for name, count in ROUTINES:
-            self.add(count, 'routine ' + name, None)
+        self.add(len(self.entry(0, 0)), 'entry', None)
+        self.new_at = self.at
+        for name, routine in ROUTINES:
+            self.add(len(assemble(routine)), 'routine ' + name, None)
         for f in self.tree.functions:
             self.starts[f.name] = self.at
             self.cut_function(f)
@@ -38,30 +35,30 @@ class Cut(Words):
     def cut_function(self, f):
         head = f.name_span[0]
         if f.asm is not None:
-            self.add(10, 'head of %s' % f.name, head)
+            self.add(len(self.asm_head(f)), 'head of %s' % f.name, head)
             at = f.asm[1][0] + 1
             for line in f.asm[0].split('\n'):
                 self.add(1 if line.split('#')[0].strip() else 0, 'instruction', at + len(line) - len(line.lstrip()))
                 at += len(line) + 1
             return self.add(1, 'end of %s' % f.name, f.asm[1][1] - 1)
-        self.add(self.enter(f), 'head of %s' % f.name, head)
-        self.tests[f.name] = self.tested()
+        self.add(len(self.enter(f)), 'head of %s' % f.name, head)
+        self.tests[f.name] = len(self.tested(SCRATCH if self.in_registers else FRAME_END))
         self.cut_block(f.body)
-        self.add(self.node(f.result).value(False), 'return', f.return_at)
-        return self.add(self.end(), 'end of %s' % f.name, f.return_at)
+        self.add(len(self.node(f.result).value(ANSWER, EXPRESSIONS)), 'return', f.return_at)
+        return self.add(len(self.end()), 'end of %s' % f.name, f.return_at)
 
     def cut_block(self, statements):
         for s in statements:
             if s.kind not in ('if', 'while'):
-                self.add(self.statement(s), s.kind, s.span[0], s)
+                self.add(len(self.statement(s)), s.kind, s.span[0], s)
                 continue
             test, yes, no = s.parts
             if s.kind == 'while':
                 self.add(1, 'to the test', s.span[0], s)
                 self.cut_block(yes)
-                self.add(self.test(test), 'test', s.span[0], s)
+                self.add(len(self.test(test, True, 0)), 'test', s.span[0], s)
             else:
-                self.add(self.test(test), 'test', s.span[0], s)
+                self.add(len(self.test(test, False, 0)), 'test', s.span[0], s)
                 self.cut_block(yes)
                 if no:
                     self.add(1, 'over the else', s.span[0], s)
@@ -99,13 +96,10 @@ class Cut(Words):
     def entry_of(self, name):
         """The address that a call of a name goes to; None is the routine `new`."""
         if name is None:
-            return START + 4 * ENTRY
+            return START + 4 * self.new_at
         if name in self.starts and name not in self.primitive_numbers():
             return START + 4 * self.starts[name]
         return PRIMITIVES + 4 * self.primitive_numbers()[name]
-
-    def primitive_numbers(self):
-        return {'trap': 0} if self.is_program else NUMBERS
 
     # ---- what stands at an address
     def names(self):

@@ -15,8 +15,8 @@ from oracle.generate.writing import EXAMPLES, ROOM, STEPS, BrokenRule, Writer, l
 NOTE = '''The examples, from copies of their files: data/examples/NAME has those of examples/NAME, but for the pages. Written by oracle/generate/examples.py.
 
 At which turns the lines of round_robin are taken hangs on the physical machine alone: as in lines.cases that text is the program's own, checked by
-that script. So are the texts of mailing and services, whose users are compiled: of these the script checks all that the compiled code has no part in.
-All others are worked out apart.'''
+that script. All others are worked out apart; those of mailing and services, whose users are compiled, by a model of the compiler, and compared with what
+the programs mean.'''
 
 
 def names_of(folder, ending):
@@ -57,21 +57,18 @@ class Folders(Writer):
         seen = self.had(case, 0)
         return model_lines(kernel, users, par, schedule, 100000, lines_of(seen[1]), traced) if seen else '(not printed)'
 
-    # users in C0: the texts are the program's own, and all of them that the compiled code has no part in is what the programs mean
-    def own(self, case, at, holds):
-        """What the program printed of this run of the case, where that holds of it."""
-        seen = self.had(case, at)
-        if not seen:
-            return '(not printed)'
-        if not holds(seen[1]):
-            raise BrokenRule('a rule is broken: case %s, run %d' % (case, at))
-        return seen[1]
+    # users in C0: all of a text that the compiled code has no part in is what the programs mean
+    def compiled_boot(self, case, kernel, users, par):
+        text = model(kernel, users, par, '', 100000)
+        if programs.told(text) != programs.tells(kernel, users, par):
+            raise BrokenRule('a rule is broken: the boot of %s' % case)
+        return text
 
-    def own_boot(self, case, kernel, users, par):
-        return self.own(case, 0, lambda text: programs.told(text) == programs.tells(kernel, users, par))
-
-    def own_trace(self, case, kernel, users, par, u):
-        return self.own(case, u, lambda text: without_steps(text) == programs.journal(kernel, users, par, u))
+    def compiled_trace(self, case, kernel, users, par, u):
+        text = model(kernel, users, par, '', 100000, u)
+        if without_steps(text) != programs.journal(kernel, users, par, u):
+            raise BrokenRule('a rule is broken: trace %d of %s' % (u, case))
+        return text
 
 
 class Examples(Folders):
@@ -106,9 +103,9 @@ class Examples(Folders):
     def program_example(self, name):
         case, folder = 'the example ' + name, os.path.join(EXAMPLES, name)
         kernel, users, par, schedule = self.begin_system(case, folder, 'examples/' + name, names_of(folder, 'c0'), 128)
-        self.same('boot img s 100000 %d' % STEPS, self.own_boot(case, kernel, users, par), name + '/printed')
+        self.same('boot img s 100000 %d' % STEPS, self.compiled_boot(case, kernel, users, par), name + '/printed')
         for u in range(1, len(users) + 1):
-            self.same('trace img s 100000 %d %d' % (STEPS, u), self.own_trace(case, kernel, users, par, u), '%s/trace%d' % (name, u))
+            self.same('trace img s 100000 %d %d' % (STEPS, u), self.compiled_trace(case, kernel, users, par, u), '%s/trace%d' % (name, u))
         self.from_rom(name, kernel, schedule)
 
     def write(self):

@@ -13,8 +13,8 @@ EXERCISES = os.path.abspath(os.path.join(TOP, 'exercises'))
 NOTE = '''The solutions of the exercises, from copies of their files: data/exercises/NAME has those of exercises/NAME/solution. Written by
 oracle/generate/exercises.py.
 
-At which turns lines are taken hangs on the physical machine alone: as in lines.cases those texts are the program's own, checked by that script. So are
-the texts of 7_service, whose user is compiled: of these the script checks all that the compiled code has no part in. All others are worked out apart.'''
+At which turns lines are taken hangs on the physical machine alone: as in lines.cases those texts are the program's own, checked by that script. All
+others are worked out apart; those of 7_service, whose user is compiled, by a model of the compiler, and compared with what the program means.'''
 
 
 def fits(wanted, row):
@@ -49,9 +49,9 @@ class Exercises(Folders):
         """A solution with users in C0: a boot, and what each user saw."""
         case, folder = 'the exercise ' + name, os.path.join(EXERCISES, name, 'solution')
         kernel, users, par, _ = self.begin_system(case, folder, 'exercises/' + name, names_of(folder, 'c0'), 128)
-        self.booted(name, self.own_boot(case, kernel, users, par))
+        self.booted(name, self.compiled_boot(case, kernel, users, par))
         for u in range(1, len(users) + 1):
-            self.run('trace img s 100000 %d %d' % (STEPS, u), self.own_trace(case, kernel, users, par, u))
+            self.run('trace img s 100000 %d %d' % (STEPS, u), self.compiled_trace(case, kernel, users, par, u))
 
     def write(self):
         for name in sorted(os.listdir(EXERCISES)):

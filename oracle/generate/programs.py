@@ -4,8 +4,8 @@ usage: oracle/model write_programs CASES STDOUT [PRINTED]   as write_lines, whos
        oracle/model write_programs run CVM                  all kernels and 200 random programs, by the built program CVM; tells what differs
 
 Three kinds: worked rows; the kernels of code_cases that call no primitive, as programs that tell the kernel what they come to; and random programs
-under a kernel that answers by a rule. A journal is what the program means, by oracle/programs.py, and no code of a program is run here. At which turn a
-program ends is the compiled code's alone, and the program's own; so is nothing else. The gate tries all kernels and 40 random programs.
+under a kernel that answers by a rule. A journal is what the program means, by oracle/programs.py, and no code of a program is run for it; the turns of two
+boots are those of the code that oracle/c0/emit.py makes. The gate tries all kernels and 40 random programs.
 """
 import collections
 import itertools
@@ -18,7 +18,7 @@ import tempfile
 from oracle import cases
 from oracle.c0.meaning import Unit
 from oracle.c0.tree import Parser
-from oracle.generate.writing import TOP, BrokenRule, Writer, main_of
+from oracle.generate.writing import TOP, BrokenRule, Writer, main_of, model
 from oracle.programs import CALL, journal
 from oracle.words import M
 
@@ -66,7 +66,7 @@ REFUSED = [
 NOTE = '''User programs in C0: worked rows, kernels as programs, and random programs. Written by oracle/generate/programs.py.
 
 Journals are worked out by the meaning of the programs alone. At which turns the boots of the first two rows call the kernel hangs on the compiled code:
-these are the program's own, checked by that script.'''
+these are worked out by a model of the compiler.'''
 
 
 # ---- words of instructions, and bytes as the program shows them
@@ -226,26 +226,25 @@ class Programs(Writer):
         self.part('part %s %d %d' % (name, at, 4 * len(words)))
         self.told.append(spelled_words(words))
 
-    def boot_of(self, name, rows_of):
-        """A boot whose text is the program's own, of which these are the first rows, without the numbers of turns."""
-        seen = self.had(name, 0)
-        own = seen[1] if seen else '(not printed)'
-        rows = re.sub(r'turn \d+', 'turn N', own).split('\n')
-        if seen and rows[:len(rows_of)] != rows_of:
-            raise BrokenRule('a rule is broken: case %s printed\n%s' % (name, own))
-        self.run('boot img s %d %d' % (ROW_TURNS, ROW_STEPS), own)
+    def boot_of(self, kernel, text, rows_of):
+        """A boot, of which these are the first rows, without the numbers of turns."""
+        made = model(kernel, [text], ROW_PARAMS, '', ROW_TURNS)
+        rows = re.sub(r'turn \d+', 'turn N', made).split('\n')
+        if rows[:len(rows_of)] != rows_of:
+            raise BrokenRule('a rule is broken: the boot of %s prints\n%s' % (text, made))
+        self.run('boot img s %d %d' % (ROW_TURNS, ROW_STEPS), made)
 
     def worked_rows(self):
         self.part('case a program that asks twice', 'sectors 64')
         self.system(ANSWERS, ROW_PARAMS)
         self.journals(ANSWERS, TWICE, ROW_PARAMS, ROW_TURNS, ROW_STEPS)
         begins = 'turn N cause 0 data 00000000 user 0 next 1'
-        self.boot_of('a program that asks twice', [begins] + ['turn N cause 6 data 0000000c user 1 next 1'] * 2
+        self.boot_of(ANSWERS, TWICE, [begins] + ['turn N cause 6 data 0000000c user 1 next 1'] * 2
                      + ['turn N cause 6 data 0000004c user 1 next 0', 'halted', 'global s 56'])
         self.part('case a program that divides by 0', 'sectors 64')
         self.system(K1, ROW_PARAMS)
         self.program(INVERSE)
-        self.boot_of('a program that divides by 0', [begins, 'turn N cause 6 data 0000010c user 1 next 0', 'halted'])
+        self.boot_of(K1, INVERSE, [begins, 'turn N cause 6 data 0000010c user 1 next 0', 'halted'])
         self.part('case programs that use up their room', 'sectors 64')
         self.system(RULE)
         self.journals(RULE, 'int deep(int n) { int r; r = trap(n); r = deep(n + 1); return r; }\nint main() { int r; r = deep(1); return r; }')
@@ -258,7 +257,7 @@ class Programs(Writer):
         self.part('file p', TWICE)
         self.run('compile program p u1')
         self.shows_words('u1', 0, [jump(16384), 0])
-        self.shows_words('u1', 0x1008, [0, 1024, 4 * 17 * 1024, 4 * 18 * 1024, 1024, 0])
+        self.shows_words('u1', 0x1008, [0, 1024, 4 * 17 * 1024, 4 * 18 * 1024, 4 * 19 * 1024, 0])
         self.shows_words('u1', 0x2000, [addu(4, 20, 0), addu(2, 0, 0), syscall(0), 31 << 21 | 8] + [0] * 6 + [jump(2064 + 2 * i) for i in range(5)] + [0]
                          + [w for i, code in enumerate((2, 3, 4, 5, 1)) for w in (syscall(code), jump(2064 + 2 * i))] + [0])
         self.shows_words('u1', 4 * 19 * 1024 - 4, [0])

@@ -2,27 +2,27 @@
 
 usage: oracle/model write_unix CASES STDOUT [PRINTED]   as write_examples
 
-The programs' words are those that the program printed of a boot of one turn, in which no program has run yet (oracle/tests/test_unix.py compares them
-with what their sources mean). Of all else the turns that take lines alone are the program's own: every row, the console and each user's memory are
-worked out by the abstract machine over these words.
+The programs' words are those of a model of the compiler (oracle/c0/emit.py; oracle/tests/test_unix.py compares what a boot printed with what their sources
+mean). The turns that take lines alone are the program's own: every row, the console and each user's memory are worked out by the abstract machine over
+these words.
 """
 import os
 import random
 import re
 
 from oracle import hostile, run as running
-from oracle.assembler import assemble
+from oracle.c0.emit import START, image
 from oracle.c0.tree import Parser
 from oracle.generate.examples import Examples
 from oracle.generate.exercises import EXERCISES, expects
 from oracle.generate.writing import EXAMPLES, STEPS, BrokenRule, lines_of, main_of, read, spelled
-from oracle.words import of_bytes
+from oracle.run import is_program, words_of
+from oracle.words import little
 
 NOTE = '''The example unix: its session, two traces, a boot from a ROM, a run that is saved and gone on with, a shorter session under ten timers, users of
 random words beside the shell, semaphores of the same number, and a table that gets full. Written by oracle/generate/unix.py.
 
-The words of its compiled programs are the program's own, as a boot of one turn prints them, and so are the turns that take lines. All else is worked
-out apart.'''
+The turns that take lines are the program's own. All else is worked out apart, the words of its compiled programs by a model of the compiler.'''
 CASE = 'the example unix'
 FOLDER = os.path.join(EXAMPLES, 'unix')
 PLACES = 9          # users that begin with no words but the first, which is idle
@@ -80,8 +80,8 @@ waiter: sll   r4, r16, 5        # the number is that of the round
         sll   r4, r2, 5         # exit with the answer
         syscall
 '''
-# The code of a program, a page at most, which begins at word START of its image.
-CODE, START = 'part u%d 65536 4096', 16384
+# The code of a program, a page at most.
+CODE, PAGE = 'part u%%d %d 4096' % START, 1024
 # Users by their programs' names, as the kernel has them.
 PROGRAMS = dict(init=10, sh=11, echo=12, count=13, sum=14, spin=15, crash=16, forkbomb=17, sleeper=18, pingpong=19, grow=20)
 
@@ -97,11 +97,6 @@ def schedule(session, period, typed=(60000, 40000), until=1000000):
     lines = [(at, 0) for at in range(period, until, period)] + [(typed[0] + typed[1] * n, 1) for n in range(len(session))]
     rows = ['line %d %d' % line for line in sorted(lines, key=lambda line: line[0])]
     return '\n'.join(rows + ['input %d' % ord(letter) for line in session for letter in line + '\n']) + '\n'
-
-
-def is_program(text):
-    """Whether the text of a user is a program in C0."""
-    return 'int main()' in text
 
 
 def console(text):
@@ -121,23 +116,6 @@ def images(text):
     return [found[0]] + [[] for _ in range(PLACES - 1)] + found[PLACES:]
 
 
-def parts_of(path):
-    """The bytes of files that were printed, by the case and the words of the part."""
-    found, case = {}, None
-    with open(path, encoding='utf-8') as file:
-        for block in ('\n' + file.read()).split('\n== ')[1:]:
-            head, _, text = block.partition('\n')
-            case = head if head.startswith('case ') else case
-            if head.startswith('part '):
-                found[case, head] = bytes_of(text.rstrip('\n'))
-    return found
-
-
-def bytes_of(text):
-    """The bytes that are spelled so."""
-    return b''.join(bytes([int(piece[2:], 16)]) if piece.startswith('\\x') else piece.encode() for piece in re.findall(r'\\x[0-9a-f]{2}|[^\\]', text))
-
-
 class Unix(Examples):
     note = NOTE
 
@@ -145,9 +123,7 @@ class Unix(Examples):
         Examples.__init__(self, printed)
         self.kernel, self.par = read('unix', 'kernel.c0'), read('unix', 'params')
         self.tree, self.runs = Parser(self.kernel), {}
-        first = self.had(CASE, 0)
-        self.users = images(first[1]) if first else None
-        self.had_parts = parts_of(printed) if printed else {}
+        self.users = [words_of(read('unix', name)) for name in names()]
 
     def begin_unix(self, case, other={}, given='examples/unix', users=None):
         """A case over the files of the example or of an exercise, of which some users are others: texts of words."""
@@ -170,15 +146,8 @@ class Unix(Examples):
             self.run('compile %s a%d u%d' % (kind, number, number))
         self.run('link o p img ' + ' '.join(made))
 
-    def words_of(self, number, text, case):
-        """The words of another user: of a program in C0 its code as it was printed, in an image that is laid out as that of any program of so many pages."""
-        if not is_program(text):
-            return assemble(text)
-        code = of_bytes(self.had_parts['case ' + case, CODE % number])
-        return self.users[number - 1][:START] + code + self.users[number - 1][START + len(code):]
-
-    def system(self, given, other={}, case=None):
-        users = [self.words_of(number, other[number], case) if number in other else words for number, words in enumerate(self.users, 1)]
+    def system(self, given, other={}):
+        users = [words_of(other[number]) if number in other else words for number, words in enumerate(self.users, 1)]
         return running.System(self.tree, users, self.par, given)
 
     def text(self, case, given, turns=TURNS, traced=0, other={}):
@@ -186,10 +155,10 @@ class Unix(Examples):
         at = self.runs[case]
         self.runs[case] += 1
         seen = self.had(case, at)
-        if not seen or self.users is None:
+        if not seen:
             return '(not printed)'
         taken = lines_of(self.had(case, 1)[1] if traced else seen[1])
-        return running.text(self.system(given, other, case), turns, {int(turn): int(mask, 16) for turn, mask in taken}, traced)
+        return running.text(self.system(given, other), turns, {int(turn): int(mask, 16) for turn, mask in taken}, traced)
 
     def session(self):
         """The session of the folder."""
@@ -243,8 +212,7 @@ class Unix(Examples):
         for number, text in other.items():
             if is_program(text):
                 self.part(CODE % number)
-                seen = self.had_parts.get(('case ' + case, CODE % number))
-                self.told.append('(not printed)' if seen is None else spelled(seen))
+                self.told.append(spelled(little(image(text)[START // 4:][:PAGE])))
         self.part('file s', given)
         self.run('boot img s %d %d' % (TURNS, STEPS), self.text(case, given, TURNS, 0, other))
 
@@ -270,11 +238,9 @@ class Unix(Examples):
         """The solution of an exercise, as a boot of one turn and to its end."""
         case, folder = 'the exercise ' + name, os.path.join(EXERCISES, name, 'solution')
         self.begin_unix(case, given='exercises/' + name, users=names(folder))
-        texts = ['(not printed)', '(not printed)']
-        first = self.had(case, 0)
-        if first:
-            system = running.System(Parser(read(EXERCISES, name, 'solution', 'kernel.c0')), images(first[1]), self.par, '')
-            texts = [running.text(system, turns, {}) for turns in (1, TURNS)]
+        users = [words_of(read(folder, file)) for file in names(folder)]
+        system = running.System(Parser(read(folder, 'kernel.c0')), users, self.par, '')
+        texts = [running.text(system, turns, {}) for turns in (1, TURNS)]
         if not expects(name, texts[1]):
             raise BrokenRule('the solution of %s does not print what is expected' % name)
         self.run('boot img s 1 %d' % STEPS, texts[0])

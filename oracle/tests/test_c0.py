@@ -3,7 +3,7 @@ import os
 import unittest
 
 from oracle import values
-from oracle.c0 import checks, code, cut, meaning, said, stack
+from oracle.c0 import checks, code, cut, emit, meaning, said, stack
 from oracle.c0.tokens import NoTree, line_of, tokens
 from oracle.c0.tree import Parser, unit_nodes
 from oracle.sources import Source
@@ -110,9 +110,10 @@ class Code(unittest.TestCase):
         made = cut.Cut(example)
         words = [int(row.split()[1], 16) for row in said.code_case(example)]
         self.assertEqual((made.at, made.unfit(words), code.code_words(example)), (len(words), None, len(words)))
+        self.assertEqual(emit.Code(example).words(), words)
         self.assertEqual([(part.first, part.what) for part in made.parts], [
-            (0, 'entry'), (8, 'routine new'), (26, 'routine multiply'), (29, 'routine divide'), (34, 'routine remainder'), (39, 'head of dispatch'), (43, 'assign'),
-            (46, 'return'), (47, 'end of dispatch')])
+            (0, 'entry'), (6, 'routine new'), (24, 'routine multiply'), (27, 'routine divide'), (32, 'routine remainder'), (37, 'head of dispatch'), (41, 'assign'),
+            (44, 'return'), (45, 'end of dispatch')])
 
     def test_other_words_do_not_fit(self):
         example = 'int x; int f() { return 1; } int dispatch(int a, int b, int c) { while (x < 9) { x = f(); } return 0; }'
@@ -128,8 +129,10 @@ class Code(unittest.TestCase):
     def test_far_displacements(self):
         # what is past 32,767 bytes takes two words more at each access: here the three of `n`
         self.assertEqual(code.code_words('int[9000] a; ' + KERNEL), code.code_words(KERNEL) + 3 * 2)
-        # the program makes as many words of it
-        self.assertEqual((code.code_words(FAR), cut.Cut(FAR).at), (410, 410))
+        # the program makes as many words of it; an element of more words than 1,024 is found by a product, two to the eleventh ones too
+        found = KERNEL.replace('n = n + 1;', 'n = a[n][7];')
+        self.assertEqual(code.code_words('int[2048][3] a; ' + found), code.code_words('int[2047][3] a; ' + found))
+        self.assertEqual((code.code_words(FAR), cut.Cut(FAR).at), (408, 408))
 
     def test_a_program_may_have_a_dispatch_of_its_own(self):
         made = cut.Cut('int dispatch() { return 1; } int main() { int x; x = dispatch(); x = trap(x); return x; }', True)

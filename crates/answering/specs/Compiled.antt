@@ -14,12 +14,12 @@ use Rattle.run_bounds.specs.Steps.{steps_for}
 use Rattle.kernel_linker.specs.Accept.{ImageSystem}
 use Rattle.user_c0.specs.Image.{image_words}
 use Rattle.user_c0.specs.Program.{steps_of}
-use Rattle.cvm_shell.specs.declared.exit_status.Status.{Status}
-use Rattle.cvm_shell.specs.declared.exit_status.Status.TheVariants.{Done, KernelFault, Memory}
-use Rattle.cvm_shell.specs.declared.boot.Session.{Session}
+use Rattle.run_scripts.specs.declared.exit_status.Status.{Status}
+use Rattle.run_scripts.specs.declared.exit_status.Status.TheVariants.{Done, KernelFault, Memory}
+use Rattle.run_scripts.specs.declared.session.Session.{Session}
 use Rattle.cvm_outside.specs.Outside.{Outside}
-use Rattle.cvm_shell.specs.Boot.{booted, around, first_state, steps_before, IsHonest}
-use Rattle.cvm_shell.specs.CommandEnds.{Headlines}
+use Rattle.run_scripts.specs.Boot.{booted, around, first_state, steps_before, IsHonest}
+use Rattle.run_scripts.specs.CommandEnds.{Headlines}
 use Rattle.kernel_boots.specs.Boots.{AsksSource}
 use Rattle.kernel_boots.specs.Linked.{IsLinkedOf}
 use Rattle.kernel_boots.specs.Systems.{AsksSystem}
@@ -44,7 +44,7 @@ pub record ProgramsAnsweredShown (x : Environment) (y : System) (s : State) (lat
 -- EACH BOOT of an image with the kernel's text and the images of two such programs shows this, under every schedule
 abbrev pub AnyProgramsAnswered : Type 0
 AnyProgramsAnswered = (one two : CUnit) (n k v w : ℕ) → BringsAndEnds one n v v → BringsAndEnds two k w (v + w) → v + w < 2 ^ 31
-    → (words : List (List ℕ)) (status : Status) (old new : Outside) → Headlines (λ (o : Outside). o) words status old new
+    → (words : List (List ℕ)) (status : Status) (old new : Outside) → Headlines words status old new
     → (session : Session) (s : ImageSystem) (rows : Rows) (before : List (List ℕ)) → (h : IsHonest words session s rows before old new)
     → status ≢ Memory → session.view ≡ Boot → AsksSystem kernel_text (image_words one ∷ image_words two ∷ []) h.asked
     → (text : List ℕ) × (new.sink.text ≡ append_known old.sink.text text)
@@ -56,24 +56,24 @@ AnyProgramsAnswered = (one two : CUnit) (n k v w : ℕ) → BringsAndEnds one n 
 abbrev pub AnyCountedProgramsAnswered : Type 0
 AnyCountedProgramsAnswered = (one two : CUnit) (n k v w a b c d : ℕ) → BringsAndEnds one n v v → BringsAndEnds two k w (v + w) → v + w < 2 ^ 31
     → TrapsThrough (first_flat (image_words one)) (v ∷ []) (a ∷ b ∷ []) → TrapsThrough (first_flat (image_words two)) ((v + w) ∷ []) (c ∷ d ∷ [])
-    → (words : List (List ℕ)) (status : Status) (old new : Outside) → Headlines (λ (o : Outside). o) words status old new
+    → (words : List (List ℕ)) (status : Status) (old new : Outside) → Headlines words status old new
     → (session : Session) (s : ImageSystem) (rows : Rows) (before : List (List ℕ)) → (h : IsHonest words session s rows before old new)
     → status ≢ Memory → session.view ≡ Boot → AsksSystem kernel_text (image_words one ∷ image_words two ∷ []) h.asked
     → (text : List ℕ) × (new.sink.text ≡ append_known old.sink.text text)
     × AnswersShown (around rows old) (booted s rows) (first_state session s rows before) (steps_before session.start (booted s rows)) (length rows.lines) session.turns session.steps
     a b c d v w (first_flat (image_words one)) (first_flat (image_words two)) status text
 
--- THE TWO ADDERS of program_systems, answered and run to their ends: with 367 turns and L more for L `line` rows
+-- THE TWO ADDERS of program_systems, answered and run to their ends: with 363 turns and L more for L `line` rows
 pub record AddersAnswered (x : Environment) (y : System) (s : State) (late raised turns steps : ℕ) (f g : Flat) (status : Status) (text : List ℕ) : Type 0 where
-  pub shows : AnswersShown x y s late raised turns steps 123 8 223 8 55 210 f g status text
+  pub shows : AnswersShown x y s late raised turns steps 121 8 221 8 55 210 f g status text
   pub no_fault : status ≢ KernelFault
-  pub halted : 367 + raised ≤ turns → steps_for y (367 + raised) (5 + raised) 100 0 + late ≤ steps
+  pub halted : 363 + raised ≤ turns → steps_for y (363 + raised) (5 + raised) 100 0 + late ≤ steps
       → (status ≡ Done) × (length shows.shown.stands.state.rows ≤ 5 + raised)
-      × (text ≡ rows_text shows.shown.stands.state.rows ++ (codes "halted\nglobal total 265\n" ++ users_text 1 (ended 123 8 55 f ∷ ended 223 8 265 g ∷ [])))
+      × (text ≡ rows_text shows.shown.stands.state.rows ++ (codes "halted\nglobal total 265\n" ++ users_text 1 (ended 121 8 55 f ∷ ended 221 8 265 g ∷ [])))
 
 -- EACH BOOT of an image with the kernel's text whose users are compiled of the two texts, under every schedule
 abbrev pub CompiledAnswersBoot : Type 0
-CompiledAnswersBoot = (words : List (List ℕ)) (status : Status) (old new : Outside) → Headlines (λ (o : Outside). o) words status old new
+CompiledAnswersBoot = (words : List (List ℕ)) (status : Status) (old new : Outside) → Headlines words status old new
     → (session : Session) (s : ImageSystem) (rows : Rows) (before : List (List ℕ)) → (h : IsHonest words session s rows before old new)
     → status ≢ Memory → session.view ≡ Boot → AsksSource kernel_text h.asked → (layer : Map → List ℕ → List ℕ) → IsLinkedOf layer text_ten text_twenty s
     → (text : List ℕ) × (new.sink.text ≡ append_known old.sink.text text)
@@ -83,4 +83,4 @@ CompiledAnswersBoot = (words : List (List ℕ)) (status : Status) (old new : Out
 -- THE STEPS in numbers: with 20 pages for each user, 48 frames and no busy times, so many for L `line` rows, before those of a ROM
 abbrev pub AnsweredStepsAreFew : Type 0
 AnsweredStepsAreFew = (s : ImageSystem) (rows : Rows) (raised : ℕ) → s.params.pages ≡ 20 → s.params.frames ≡ 48 → length s.users ≡ 2 → longest rows ≡ 0
-    → steps_for (booted s rows) (367 + raised) (5 + raised) 100 0 ≡ 148075519 + 464561 * raised
+    → steps_for (booted s rows) (363 + raised) (5 + raised) 100 0 ≡ 146465275 + 464561 * raised

@@ -68,7 +68,7 @@ pub fn any_counted_programs_answered()
     any_users_answered();
 }
 
-/// A law: so it is of each boot of an image that was linked of what `compile program` put of the two texts, with a total of 265, and with 367 turns more than
+/// A law: so it is of each boot of an image that was linked of what `compile program` put of the two texts, with a total of 265, and with 363 turns more than
 /// the schedule has `line` rows.
 pub fn compiled_answers_boot()
     ensures { CompiledAnswersBoot }
@@ -83,7 +83,7 @@ pub fn compiled_answers_boot()
     any_counted_programs_answered();
 }
 
-/// A law: with 20 pages for each user, 48 frames and no busy times the steps that it asks for are 148,075,519, and 464,561 more for each `line` row.
+/// A law: with 20 pages for each user, 48 frames and no busy times the steps that it asks for are 146,465,275, and 464,561 more for each `line` row.
 pub fn answered_steps_are_few()
     ensures { AnsweredStepsAreFew }
 {}

@@ -6,7 +6,6 @@ use crate::tree_text::{put_bytes, put_unit, put_words};
 use c0_asm_text::read_asm;
 use c0_meaning::{Checked, frame_words};
 use c0_parser::parse;
-use c0_struct_sizes::measured;
 use c0_tree::Unit;
 use c0_types::{read_program, read_unit};
 use std::alloc::{AllocError, Global};
@@ -97,7 +96,7 @@ pub fn put_names(alloc: Global, out: &mut String, source: &[u8]) -> Result<(), A
 // The words of the frame of each function.
 fn put_frames(alloc: Global, out: &mut String, checked: &Checked) -> Result<(), AllocError> {
     let unit = checked.unit();
-    let sizes = measured(alloc, unit)?;
+    let sizes = checked.measured();
     for number in 0..unit.functions.len() as u32 {
         put_bytes(out, &unit.functions[number as usize].name.bytes)?;
         writeln!(out, " {}", frame_words(&sizes, number))?;

@@ -3,7 +3,6 @@
 use crate::faults::put_source_fault;
 use crate::tree_text::put_bytes;
 use c0_meaning::{Checked, Measured, field_offsets, global_offsets, variable_offsets};
-use c0_struct_sizes::measured;
 use c0_tree::{Body, Decl, Function, Unit};
 use c0_types::read_unit;
 use std::alloc::{AllocError, Global};
@@ -50,7 +49,7 @@ fn put_fields(
 // The offsets of a checked unit: of its globals, of each function's variables and of each struct's fields.
 fn put_all(alloc: Global, out: &mut String, checked: &Checked) -> Result<(), AllocError> {
     let unit = checked.unit();
-    let sizes = measured(alloc, unit)?;
+    let sizes = checked.measured();
     out.push_str("globals")?;
     put_decls(out, &unit.globals, &global_offsets(alloc, &sizes)?)?;
     out.push('\n')?;

@@ -1,4 +1,4 @@
-// Units that are known to be typed: a kernel's, and a user program's.
+// Units that are known to be typed, with the sizes of their structs: a kernel's, and a user program's.
 
 ghost use Rattle.std.specs.Prelude.{◌≡◌, ◌<◌, IsTrue, Some, length, position};
 ghost use Rattle.std.specs.List.{list_any};
@@ -9,9 +9,11 @@ ghost use Rattle.c0_tree.specs.declared.primitive.Program.TheVariants.{Kernel, U
 ghost use Rattle.c0_tree.specs.declared.tree.Unit.{Unit as Source};
 ghost use Rattle.c0_tree.specs.contracts.tree.Unit as source;
 ghost use Rattle.c0_meaning.specs.Limits.{first_number, is_dispatch, is_main};
+ghost use Rattle.c0_meaning.specs.Sizes.{IsMeasured};
 ghost use Rattle.c0_meaning.specs.Unit.{IsChecked, IsCheckedAs, IsWellFormed};
 
 use crate::first::first_of;
+use crate::measured::Measured;
 use c0_tree::{Program, Unit};
 use std::marker::Model;
 
@@ -19,6 +21,8 @@ use std::marker::Model;
 #[derive(Drop)]
 pub struct Checked {
     unit: Unit,
+    // The words of each struct, by its number, up to 1,048,577.
+    words: Vec<u32>,
 }
 
 impl Model for Checked {
@@ -28,16 +32,24 @@ impl Model for Checked {
 
     ghost view = { λ c. c.unit };
 
-    ghost invariant = { λ c. IsChecked (unit_view c.unit) };
+    ghost invariant = { λ c. IsChecked (unit_view c.unit) × IsMeasured (unit_view c.unit) c.words.items };
 }
 
 impl Checked {
-    /// Keeps a unit that meets the rules.
-    pub fn new(unit: Unit) -> Checked
-        requires { IsChecked (unit_view unit) }
+    /// Keeps a unit that meets the rules, with the words of its structs, by their numbers, up to 1,048,577.
+    pub fn new(unit: Unit, words: Vec<u32>) -> Checked
+        requires checked { IsChecked (unit_view unit) }
+        requires measured { IsMeasured (unit_view unit) words.items }
         ensures { result ≡ unit }
     {
-        Checked { unit }
+        Checked { unit, words }
+    }
+
+    /// Lends the unit with the words of its structs.
+    pub fn measured(&self) -> Measured<'_>
+        ensures { result ≡ self.now }
+    {
+        Measured::new(&self.unit, &self.words)
     }
 
     /// Lends the unit.
@@ -63,6 +75,8 @@ impl Checked {
 #[derive(Drop)]
 pub struct UserChecked {
     unit: Unit,
+    // The words of each struct, by its number, up to 1,048,577.
+    words: Vec<u32>,
 }
 
 impl Model for UserChecked {
@@ -72,16 +86,24 @@ impl Model for UserChecked {
 
     ghost view = { λ c. c.unit };
 
-    ghost invariant = { λ c. IsCheckedAs User (unit_view c.unit) };
+    ghost invariant = { λ c. IsCheckedAs User (unit_view c.unit) × IsMeasured (unit_view c.unit) c.words.items };
 }
 
 impl UserChecked {
-    /// Keeps a unit that meets the rules.
-    pub fn new(unit: Unit) -> UserChecked
-        requires { IsCheckedAs User (unit_view unit) }
+    /// Keeps a unit that meets the rules, with the words of its structs, by their numbers, up to 1,048,577.
+    pub fn new(unit: Unit, words: Vec<u32>) -> UserChecked
+        requires checked { IsCheckedAs User (unit_view unit) }
+        requires measured { IsMeasured (unit_view unit) words.items }
         ensures { result ≡ unit }
     {
-        UserChecked { unit }
+        UserChecked { unit, words }
+    }
+
+    /// Lends the unit with the words of its structs.
+    pub fn measured(&self) -> Measured<'_>
+        ensures { result ≡ self.now }
+    {
+        Measured::new(&self.unit, &self.words)
     }
 
     /// Lends the unit.

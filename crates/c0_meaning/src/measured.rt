@@ -13,12 +13,12 @@ ghost use Rattle.c0_meaning.specs.Unit.{IsWellFormed};
 use c0_tree::Unit;
 use std::marker::Model;
 
-/// A well formed unit, with the words of each of its structs.
+/// A well formed unit, with the words of each of its structs: both are lent.
 #[derive(Drop)]
 pub struct Measured<'a> {
     unit: &'a Unit,
     // The words of each struct, by its number, up to 1,048,577.
-    words: Vec<u32>,
+    words: &'a [u32],
 }
 
 impl<'a> Model for Measured<'a> {
@@ -28,13 +28,13 @@ impl<'a> Model for Measured<'a> {
 
     ghost view = { λ m. m.unit.now };
 
-    ghost invariant = { λ m. IsMeasured (unit_view m.unit.now) m.words.items };
+    ghost invariant = { λ m. IsMeasured (unit_view m.unit.now) m.words.now };
 }
 
 impl<'a> Measured<'a> {
-    /// Keeps a well formed unit with the words of its structs, by their numbers, up to 1,048,577.
-    pub fn new(unit: &'a Unit, words: Vec<u32>) -> Measured<'a>
-        requires { IsMeasured (unit_view unit.now) words.items }
+    /// A well formed unit with the words of its structs, by their numbers, up to 1,048,577.
+    pub fn new(unit: &'a Unit, words: &'a [u32]) -> Measured<'a>
+        requires { IsMeasured (unit_view unit.now) words.now }
         ensures { result ≡ unit.now }
     {
         Measured { unit, words }

@@ -5,7 +5,7 @@ use Rattle.mips_table.specs.Device.{Idle}
 use Rattle.mips_table.specs.Code.{Contents, with_reg, Behind, World, at_with, Reaches, CodeAt}
 use Rattle.masm.specs.declared.registers.Places.{Places}
 use Rattle.masm.specs.declared.registers.TheConstants.{ANSWER, ARGUMENTS, GLOBALS, FRAME_END, STACK_END, RETURN}
-use Rattle.layer_map.specs.Map.{heap_used_at, heap_words_at, heap_first_at, stack_first_at, stack_words_at}
+use Rattle.layer_map.specs.Map.{heap_used_at, heap_words_at, heap_first_at, stack_first_at, stack_limit_at}
 use Rattle.cvm_words.specs.Words.{int_of, word_of}
 use Rattle.c0_tree.specs.declared.tree.BinaryOp.{BinaryOp}
 use Rattle.c0_tree.specs.declared.tree.BinaryOp.TheVariants.{Mul, Div, Rem}
@@ -36,7 +36,7 @@ pub record HeapIs (w : World) (used heap first : ℕ) (c : Contents) : Type 0 wh
   pub heap_word : c.memory heap_words_at ≡ heap
   pub first_word : c.memory heap_first_at ≡ 4 * first
   pub within : used ≤ heap
-  pub behind : stack_words_at < first
+  pub behind : stack_limit_at < first
   pub inside : first + heap ≤ w.words
   pub count_free : w.kept heap_used_at ≡ None
   pub free : (k : ℕ) → k < heap → w.kept (first + k) ≡ None
@@ -113,11 +113,11 @@ pub record DivisionRuns (w : World) (op : BinaryOp) (code : List Inst) (exit : �
 abbrev pub DivideRuns : World → Type 0
 DivideRuns w = (exit : ℕ) → DivisionRuns w Div (divide_code exit) exit × DivisionRuns w Rem (remainder_code exit) exit
 
--- the layer's variables say that the stack has so many words, from word `first` on, in memory
+-- the layer's variables say that the stack has so many words, from word `first` on, in memory: they have its address and the address behind it
 pub record StackIs (w : World) (first stack : ℕ) (c : Contents) : Type 0 where
   pub first_word : c.memory stack_first_at ≡ 4 * first
-  pub stack_word : c.memory stack_words_at ≡ stack
-  pub variables : stack_words_at < w.words
+  pub limit_word : c.memory stack_limit_at ≡ 4 * (first + stack)
+  pub variables : stack_limit_at < w.words
   pub inside : first + stack ≤ w.words
 
 -- The globals' address, the end of the frames and the stack's end are in their registers, and so is the return address; all else stays.
@@ -137,14 +137,14 @@ abbrev pub with_half : ℕ → Contents → Contents
 with_half globals c = with_reg c GLOBALS (globals / 2 ^ 16 * 2 ^ 16)
 
 -- The entry's first instruction leads behind itself. From there on what stands behind it is enough: it comes to the function's first word within
--- six steps; and from where that returns to, one step leads to the layer's entry that is left by.
+-- four steps; and from where that returns to, one step leads to the layer's entry that is left by.
 pub record EntryRuns (w : World) : Type 0 where
   pub first : (n globals dispatch : ℕ) (c : Contents) (d : Behind) → CodeAt w n (entry_code globals dispatch) → d.pending ≡ Idle → Reaches w 1
       (at_with n c d) (at_with (n + 1) (with_half globals c) d)
   pub enters : (n globals dispatch first stack : ℕ) (c : Contents) (d : Behind) → CodeAt w (n + 1) (behind_first globals (4 * dispatch)) → d.pending ≡ Idle →
-      StackIs w first stack c → RoutineReturns w 6 (n + 1) dispatch (with_half globals c) d (IsEntered globals first stack (n + 7) c)
+      StackIs w first stack c → RoutineReturns w 4 (n + 1) dispatch (with_half globals c) d (IsEntered globals first stack (n + 5) c)
   pub leaves : (n globals dispatch : ℕ) (c : Contents) (d : Behind) → CodeAt w (n + 1) (behind_first globals dispatch) → d.pending ≡ Idle → Reaches w 1
-      (at_with (n + 7) c d) (at_with (LEAVE / 4) c d)
+      (at_with (n + 5) c d) (at_with (LEAVE / 4) c d)
 
 -- each routine stands where its number says, in words from the first routine on
 pub record RoutinesStand (w : World) (n : ℕ) (p : Places) : Type 0 where

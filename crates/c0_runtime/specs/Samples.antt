@@ -3,7 +3,7 @@ use Rattle.std.specs.Prelude.{◌≡◌, ℕ, ◌+◌, ◌*◌, ◌==◌, if◌t
 use Rattle.mips_table.specs.declared.inst.Inst.{Inst}
 use Rattle.mips_table.specs.Device.{Idle}
 use Rattle.mips_table.specs.Code.{Contents, World, on_flat, CodeState, at_with, code_run}
-use Rattle.layer_map.specs.Map.{heap_used_at, heap_words_at, heap_first_at, stack_first_at, stack_words_at}
+use Rattle.layer_map.specs.Map.{heap_used_at, heap_words_at, heap_first_at, stack_first_at, stack_limit_at}
 use Rattle.masm.specs.declared.registers.TheConstants.{ANSWER, ARGUMENTS, GLOBALS, FRAME_END, STACK_END, RETURN}
 use Rattle.masm.specs.Standing.{placed}
 use Rattle.c0_runtime.specs.Code.{multiply_code, divide_code, remainder_code}
@@ -19,7 +19,7 @@ memory k =
     if k == heap_words_at then 8 else
     if k == heap_first_at then 12000 else
     if k == stack_first_at then 12400 else
-    if k == stack_words_at then 64 else
+    if k == stack_limit_at then 12656 else
     7
 
 -- ANSWER and the first two arguments have these words, and RETURN the address of word 100
@@ -73,4 +73,4 @@ pub record SampleEntered (s : CodeState) : Type 0 where
   pub globals : s.contents.regs GLOBALS ≡ 0x12345678
   pub frames : s.contents.regs FRAME_END ≡ 12400
   pub stack : s.contents.regs STACK_END ≡ 12656
-  pub back : s.contents.regs RETURN ≡ 4 * 2055
+  pub back : s.contents.regs RETURN ≡ 4 * 2053

@@ -4,7 +4,7 @@ ghost use Rattle.std.specs.Prelude.{◌≡◌, ◌++◌, ◌<◌, ◌^◌, map, 
 ghost use Rattle.mips_table.specs.Encoding.{encoding};
 ghost use Rattle.c0_runtime.specs.Code.{entry_code};
 
-use layer_map::{LEAVE, STACK_FIRST, STACK_WORDS};
+use layer_map::{LEAVE, STACK_FIRST, STACK_LIMIT};
 use masm::registers::{FRAME_END, GLOBALS, STACK_END};
 use masm::roles::ZERO;
 use masm::{Block, block, code};
@@ -13,14 +13,12 @@ use std::alloc::{AllocError, Global};
 use std::vec::Vec;
 
 /// The words of the entry.
-pub const ENTRY_WORDS: u32 = 8;
+pub const ENTRY_WORDS: u32 = 6;
 
 /// The end of the first frame (none stands yet, so it is the stack's first address) and the stack's end, from the layer's variables.
-const LOAD_ENDS: [Inst; 4] = code! {
+const LOAD_ENDS: [Inst; 2] = code! {
     lw FRAME_END, STACK_FIRST(ZERO);
-    lw STACK_END, STACK_WORDS(ZERO);
-    sll STACK_END, STACK_END, 2;            // its words in bytes
-    addu STACK_END, FRAME_END, STACK_END;
+    lw STACK_END, STACK_LIMIT(ZERO);
 };
 
 /// Appends the entry: the globals' address `globals`, the end of the frames and the stack's end go to their registers, the
@@ -37,7 +35,7 @@ pub fn emit_entry(
     ensures appended { OnOk result (code.new.items ≡ code.old.items ++ map encoding (entry_code globals dispatch)) }
     ensures unchanged { OnErr result (code.new.items ≡ code.old.items) }
 {
-    let entry: Block<8> = block! {
+    let entry: Block<6> = block! {
         lui GLOBALS, globals / 65536;
         ori GLOBALS, GLOBALS, globals % 65536;
         code LOAD_ENDS;

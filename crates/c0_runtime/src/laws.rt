@@ -58,5 +58,5 @@ pub fn sample_runs_are_right()
     ensures made { LastWords (after new_code (contents 3 0 0) 22) }
     ensures refused { NoRoom (after new_code (contents 4 0 0) 7) }
     ensures answers { SampleAnswers }
-    ensures entered { SampleEntered (after (entry_code 0x12345678 12) (contents 0 0 0) 7) }
+    ensures entered { SampleEntered (after (entry_code 0x12345678 12) (contents 0 0 0) 5) }
 {}

@@ -128,7 +128,7 @@ module _ (runs : RunLaws) (compose : RunsCompose) (W E : Type 0) (Outer : W → 
           led_to (record here { answer = Some v }) refl,
           record {
             objects = objects;
-            stands = record { typed = st2.typed; declared = st2.declared; used = st2.used; room = st2.room; stack_room = st2.stack_room; globals = st2.globals; heap = st2.heap; used_word = st2.used_word; heap_size = st2.heap_size; heap_first = st2.heap_first; stack_first = st2.stack_first; stack_size = st2.stack_size; globals_at = st2.globals_at; stack_end = st2.stack_end; outer = st2.outer; idle = st2.idle };
+            stands = record { typed = st2.typed; declared = st2.declared; used = st2.used; room = st2.room; stack_room = st2.stack_room; globals = st2.globals; heap = st2.heap; used_word = st2.used_word; heap_size = st2.heap_size; heap_first = st2.heap_first; stack_first = st2.stack_first; stack_limit = st2.stack_limit; globals_at = st2.globals_at; stack_end = st2.stack_end; outer = st2.outer; idle = st2.idle };
             no_frames = sym e;
             at = ah;
             value = v;

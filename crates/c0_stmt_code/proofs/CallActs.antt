@@ -71,7 +71,7 @@ module _ (runs : RunLaws) (compose : RunsCompose) (W E : Type 0) (Outer : W → 
         heap_size = s.heap_size;
         heap_first = s.heap_first;
         stack_first = s.stack_first;
-        stack_size = s.stack_size;
+        stack_limit = s.stack_limit;
         globals_at = r28 ∙ st.globals_at;
         stack_end = r30 ∙ st.stack_end;
         outer = z.outer_stays h.world c c' d (λ y o. ap (λ m. m y) memory) special st.outer;

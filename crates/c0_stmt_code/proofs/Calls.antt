@@ -92,7 +92,7 @@ module _ (runs : RunLaws) (compose : RunsCompose) (W E : Type 0) (Outer : W → 
           heap_size = same 1027 (inl (omega (arith, lo, gf, hf))) ∙ st.heap_size;
           heap_first = same 1028 (inl (omega (arith, lo, gf, hf))) ∙ st.heap_first;
           stack_first = same 1029 (inl (omega (arith, lo, gf, hf))) ∙ st.stack_first;
-          stack_size = same 1030 (inl (omega (arith, lo, gf, hf))) ∙ st.stack_size;
+          stack_limit = same 1030 (inl (omega (arith, lo, gf, hf))) ∙ st.stack_limit;
           globals_at = r28 ∙ st.globals_at;
           stack_end = r30 ∙ st.stack_end;
           outer = subst (λ v. Outer v c' d) (sym eo) (z.outer_stays world c c' d (λ x no. elim (cases_Bool (nat_lt x low)) [

@@ -199,7 +199,7 @@ module _ (W E : Type 0) (Outer : W → Contents → Behind → Type 0) (z : Setu
           heap_size = others 1027 (λ e. absurd (omega (arith, e))) (inl (omega (arith, lo, gf))) ∙ st.heap_size;
           heap_first = others 1028 (λ e. absurd (omega (arith, e))) (inl (omega (arith, lo, gf))) ∙ st.heap_first;
           stack_first = others 1029 (λ e. absurd (omega (arith, e))) (inl (omega (arith, lo, gf))) ∙ st.stack_first;
-          stack_size = others 1030 (λ e. absurd (omega (arith, e))) (inl (omega (arith, lo, gf))) ∙ st.stack_size;
+          stack_limit = others 1030 (λ e. absurd (omega (arith, e))) (inl (omega (arith, lo, gf))) ∙ st.stack_limit;
           globals_at = r28 ∙ st.globals_at;
           stack_end = r30 ∙ st.stack_end;
           outer = z.outer_stays world c c' d (λ x no. others x (λ e. no (inr e)) (beside x no)) special st.outer;

@@ -186,7 +186,7 @@ module _ (runs : RunLaws) (compose : RunsCompose) (W E : Type 0) (Outer : W → 
         heap_size = s1.heap_size;
         heap_first = s1.heap_first;
         stack_first = s1.stack_first;
-        stack_size = s1.stack_size;
+        stack_limit = s1.stack_limit;
         globals_at = s1.globals_at;
         stack_end = s1.stack_end;
         outer = s1.outer;

@@ -122,7 +122,7 @@ module _ (runs : RunLaws) (compose : RunsCompose) (W E : Type 0) (Outer : W → 
           heap_size = b.variables 1027 (omega arith) (omega arith) ∙ ap (λ m. m 1027) memory ∙ st.heap_size;
           heap_first = b.variables 1028 (omega arith) (omega arith) ∙ ap (λ m. m 1028) memory ∙ st.heap_first;
           stack_first = b.variables 1029 (omega arith) (omega arith) ∙ ap (λ m. m 1029) memory ∙ st.stack_first;
-          stack_size = b.variables 1030 (omega arith) (omega arith) ∙ ap (λ m. m 1030) memory ∙ st.stack_size;
+          stack_limit = b.variables 1030 (omega arith) (omega arith) ∙ ap (λ m. m 1030) memory ∙ st.stack_limit;
           globals_at = b.globals_at ∙ r28 ∙ st.globals_at;
           stack_end = b.stack_end ∙ r30 ∙ st.stack_end;
           outer = outer;

@@ -159,7 +159,7 @@ module _ (runs : RunLaws) (compose : RunsCompose) (W E : Type 0) (Outer : W → 
         heap_size = s.heap_size;
         heap_first = s.heap_first;
         stack_first = s.stack_first;
-        stack_size = s.stack_size;
+        stack_limit = s.stack_limit;
         globals_at = r28 ∙ st.globals_at;
         stack_end = r30 ∙ st.stack_end;
         outer = z.outer_stays world c c' d (λ y o. ap (λ m. m y) memory) special st.outer;
@@ -211,7 +211,7 @@ module _ (runs : RunLaws) (compose : RunsCompose) (W E : Type 0) (Outer : W → 
         led_to (record there { answer = Some v }) refl,
         record {
           objects = objects;
-          stands = let s = stands_below c' memory special r28 r30 in record { typed = s.typed; declared = s.declared; used = s.used; room = s.room; stack_room = s.stack_room; globals = s.globals; heap = s.heap; used_word = s.used_word; heap_size = s.heap_size; heap_first = s.heap_first; stack_first = s.stack_first; stack_size = s.stack_size; globals_at = s.globals_at; stack_end = s.stack_end; outer = s.outer; idle = s.idle };
+          stands = let s = stands_below c' memory special r28 r30 in record { typed = s.typed; declared = s.declared; used = s.used; room = s.room; stack_room = s.stack_room; globals = s.globals; heap = s.heap; used_word = s.used_word; heap_size = s.heap_size; heap_first = s.heap_first; stack_first = s.stack_first; stack_limit = s.stack_limit; globals_at = s.globals_at; stack_end = s.stack_end; outer = s.outer; idle = s.idle };
           no_frames = sym e;
           at = ah;
           value = v;

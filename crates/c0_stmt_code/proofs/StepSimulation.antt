@@ -55,7 +55,7 @@ module _ (runs : RunLaws) (compose : RunsCompose) (W E : Type 0) (Outer : W → 
     heap_size = ap (λ m. m 1027) k.memory ∙ st.heap_size;
     heap_first = ap (λ m. m 1028) k.memory ∙ st.heap_first;
     stack_first = ap (λ m. m 1029) k.memory ∙ st.stack_first;
-    stack_size = ap (λ m. m 1030) k.memory ∙ st.stack_size;
+    stack_limit = ap (λ m. m 1030) k.memory ∙ st.stack_limit;
     globals_at = k.above 28 (omega arith) (omega arith) ∙ st.globals_at;
     stack_end = k.above 30 (omega arith) (omega arith) ∙ st.stack_end;
     outer = z.outer_stays h.world c c' d (λ y o. ap (λ m. m y) k.memory) k.special st.outer;

@@ -96,7 +96,7 @@ module _ (W E : Type 0) (Outer : W → Contents → Behind → Type 0) (z : Setu
             heap_size = other 1027 (λ e. absurd (omega (arith, e, from, low))) ∙ st.heap_size;
             heap_first = other 1028 (λ e. absurd (omega (arith, e, from, low))) ∙ st.heap_first;
             stack_first = other 1029 (λ e. absurd (omega (arith, e, from, low))) ∙ st.stack_first;
-            stack_size = other 1030 (λ e. absurd (omega (arith, e, from, low))) ∙ st.stack_size;
+            stack_limit = other 1030 (λ e. absurd (omega (arith, e, from, low))) ∙ st.stack_limit;
             globals_at = above 28 (omega arith) ∙ st.globals_at;
             stack_end = above 30 (omega arith) ∙ st.stack_end;
             outer = z.outer_stays world c c' d (λ y no. other y (λ e. no (inl (omega (arith, e, from), omega (arith, e, to))))) special st.outer;
@@ -132,7 +132,7 @@ module _ (W E : Type 0) (Outer : W → Contents → Behind → Type 0) (z : Setu
             heap_size = other 1027 (λ e. absurd (omega (arith, e, from, low))) ∙ st.heap_size;
             heap_first = other 1028 (λ e. absurd (omega (arith, e, from, low))) ∙ st.heap_first;
             stack_first = other 1029 (λ e. absurd (omega (arith, e, from, low))) ∙ st.stack_first;
-            stack_size = other 1030 (λ e. absurd (omega (arith, e, from, low))) ∙ st.stack_size;
+            stack_limit = other 1030 (λ e. absurd (omega (arith, e, from, low))) ∙ st.stack_limit;
             globals_at = above 28 (omega arith) ∙ st.globals_at;
             stack_end = above 30 (omega arith) ∙ st.stack_end;
             outer = z.outer_stays world c c' d (λ y no. other y (λ e. no (inl (omega (arith, e, from), omega (arith, e, to))))) special st.outer;
@@ -171,7 +171,7 @@ module _ (W E : Type 0) (Outer : W → Contents → Behind → Type 0) (z : Setu
             heap_size = other 1027 (λ e. absurd (omega (arith, e, from, low))) ∙ st.heap_size;
             heap_first = other 1028 (λ e. absurd (omega (arith, e, from, low))) ∙ st.heap_first;
             stack_first = other 1029 (λ e. absurd (omega (arith, e, from, low))) ∙ st.stack_first;
-            stack_size = other 1030 (λ e. absurd (omega (arith, e, from, low))) ∙ st.stack_size;
+            stack_limit = other 1030 (λ e. absurd (omega (arith, e, from, low))) ∙ st.stack_limit;
             globals_at = above 28 (omega arith) ∙ st.globals_at;
             stack_end = above 30 (omega arith) ∙ st.stack_end;
             outer = z.outer_stays world c c' d (λ y no. other y (λ e. no (inl (omega (arith, e, from), omega (arith, e, to))))) special st.outer;

@@ -100,7 +100,7 @@ module _ (W E : Type 0) (Outer : W → Contents → Behind → Type 0) (z : Setu
     pub heap_size : c.memory 1027 ≡ z.p.heap
     pub heap_first : c.memory 1028 ≡ 4 * z.a.heap
     pub stack_first : c.memory 1029 ≡ 4 * z.a.stack
-    pub stack_size : c.memory 1030 ≡ z.p.stack
+    pub stack_limit : c.memory 1030 ≡ 4 * (z.a.stack + z.p.stack)
     pub globals_at : c.regs 28 ≡ 4 * z.a.globals
     pub stack_end : c.regs 30 ≡ 4 * (z.a.stack + z.p.stack)
     pub outer : Outer h.world c d

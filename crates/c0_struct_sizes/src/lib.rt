@@ -7,4 +7,4 @@ mod unit;
 mod walk;
 
 pub use sizes::{StructSizes, struct_sizes};
-pub use unit::{measured, struct_numbers};
+pub use unit::struct_numbers;

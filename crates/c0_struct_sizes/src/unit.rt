@@ -1,16 +1,12 @@
-// The numbers of structs, and the sizes of a well formed unit.
+// The numbers of structs.
 
 ghost use Rattle.std.specs.Prelude.{◌≡◌, ◌<◌, ◌^◌, IfOk, List, length, map};
-ghost use Rattle.c0_meaning.specs.Unit.{IsWellFormed};
 ghost use Rattle.c0_name_check.specs.Names.{look};
 ghost use Rattle.c0_struct_sizes.specs.Parts.{TellsFirst};
-ghost use Rattle.c0_tree.specs.Primitives.{CPrimitive};
-ghost use Rattle.c0_tree.specs.View.{struct_view, unit_view};
+ghost use Rattle.c0_tree.specs.View.{struct_view};
 
-use crate::sizes::struct_sizes;
-use c0_meaning::Measured;
 use c0_name_check::names::{Names, set_name};
-use c0_tree::{StructDef, Unit};
+use c0_tree::StructDef;
 use indexmap::IndexMap;
 use std::alloc::{AllocError, Global};
 
@@ -26,16 +22,4 @@ pub fn struct_numbers(alloc: Global, structs: &[StructDef]) -> Result<Names, All
         number += 1;
     }
     Ok(names)
-}
-
-/// A well formed unit with the words of each of its structs.
-///
-/// Its time grows with the number of fields, and it does not recurse along structs.
-pub fn measured<'a>(alloc: Global, unit: &'a Unit) -> Result<Measured<'a>, AllocError>
-    requires { (primitives : List CPrimitive) × IsWellFormed primitives (unit_view unit.now) }
-    ensures { IfOk result (λ m. m ≡ unit.now) }
-{
-    let names = struct_numbers(alloc, &unit.structs)?;
-    let sizes = struct_sizes(alloc, &names, &unit.structs)?;
-    Ok(Measured::new(unit, sizes.words))
 }

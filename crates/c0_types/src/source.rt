@@ -4,6 +4,7 @@ ghost use Rattle.std.specs.Prelude.{◌≡◌, ◌<◌, [], length, Err, IfOk, I
 ghost use Rattle.c0_tree.specs.View.{unit_view};
 ghost use Rattle.c0_parser.specs.declared.fault.ReadFault.TheVariants.{SourceTooLong};
 ghost use Rattle.c0_tree.specs.declared.primitive.Program.TheVariants.{User};
+ghost use Rattle.c0_meaning.specs.Sizes.{IsMeasured};
 ghost use Rattle.c0_meaning.specs.Unit.{IsCheckedAs};
 ghost use Rattle.c0_types.specs.Source.{checked_unit, source_faults};
 ghost use Rattle.c0_types.specs.Front.{OfTree, IsCheckedOf, IsUnitAs, IsUnitOf, IsFaultAs, IsSourceFaultOf, IsFaultIn, IsFaultInAs};
@@ -16,13 +17,14 @@ use c0_parser::parse;
 use c0_tree::{Program, Unit};
 use std::alloc::Global;
 
-// The checked unit of the source of a kernel or a user program.
-fn read_as(alloc: Global, program: Program, source: &[u8]) -> Result<Unit, SourceFault>
+// The checked unit of the source of a kernel or a user program, and the words of its structs.
+fn read_as(alloc: Global, program: Program, source: &[u8]) -> Result<(Unit, Vec<u32>), SourceFault>
     ensures too_long { 1048576 < length source.now → result ≡ Err (Reading SourceTooLong) }
-    ensures checked { IfOk result (λ v. IsCheckedAs program (unit_view v)) }
-    ensures found { IfOk result (λ v. IsUnitAs program source.now (unit_view v)) }
+    ensures checked { IfOk result (λ v. IsCheckedAs program (unit_view v.0)) }
+    ensures measured { IfOk result (λ v. IsMeasured (unit_view v.0) v.1.items) }
+    ensures found { IfOk result (λ v. IsUnitAs program source.now (unit_view v.0)) }
     ensures fault { IfErr result (IsFaultAs program source.now) }
-    ensures only { OfTree source.now (λ u. MatchResult result (λ v. IsCheckedOf program u (unit_view v)) (IsFaultInAs program u)) }
+    ensures only { OfTree source.now (λ u. MatchResult result (λ v. IsCheckedOf program u (unit_view v.0)) (IsFaultInAs program u)) }
 {
     match parse(alloc, source) {
         Ok(unit) => match checked(alloc, program, unit) {
@@ -44,7 +46,7 @@ pub fn read_unit(alloc: Global, source: &[u8]) -> Result<Checked, SourceFault>
     ensures only { OfTree source.now (λ u. MatchResult result (λ c. (source_faults u ≡ []) × (unit_view c ≡ checked_unit u)) (IsFaultIn u)) }
 {
     match read_as(alloc, Program::Kernel, source) {
-        Ok(unit) => Ok(Checked::new(unit)),
+        Ok((unit, words)) => Ok(Checked::new(unit, words)),
         Err(fault) => Err(fault),
     }
 }
@@ -57,7 +59,7 @@ pub fn read_program(alloc: Global, source: &[u8]) -> Result<UserChecked, SourceF
     ensures only { OfTree source.now (λ u. MatchResult result (λ c. IsCheckedOf User u (unit_view c)) (IsFaultInAs User u)) }
 {
     match read_as(alloc, Program::User, source) {
-        Ok(unit) => Ok(UserChecked::new(unit)),
+        Ok((unit, words)) => Ok(UserChecked::new(unit, words)),
         Err(fault) => Err(fault),
     }
 }

@@ -8,6 +8,7 @@ ghost use Rattle.c0_meaning.specs.Env.{Shape, shape_of};
 ghost use Rattle.c0_meaning.specs.Fault.{kept_all};
 ghost use Rattle.c0_meaning.specs.Names.{struct_name_faults, decl_name_faults};
 ghost use Rattle.c0_meaning.specs.Resolved.{resolved_structs};
+ghost use Rattle.c0_meaning.specs.Sizes.{struct_sizes as table};
 ghost use Rattle.c0_meaning.specs.Ty as ty;
 ghost use Rattle.c0_meaning.specs.Unit.{structs_faults};
 ghost use Rattle.c0_meaning.specs.Words.{holds};
@@ -146,6 +147,7 @@ pub fn check_structs(
     requires few { length structs.old < 2 ^ 32 }
     requires few_fields { All (λ s. length s.fields < 2 ^ 32) (map struct_view structs.old) }
     ensures known { IfOk result (λ k. KnowsStructs k.names k.words.items (map shape_of (map struct_view structs.old))) }
+    ensures words { IfOk result (λ k. k.words.items ≡ table (map shape_of (map struct_view structs.old))) }
     ensures fields { IfOk result (λ k. FieldsTell k.field_names.items structs.new) }
     ensures named { OnOk result (map struct_view structs.new ≡ resolved_structs (map shape_of (map struct_view structs.old)) 0 (map struct_view structs.old)) }
     ensures met { OnOk result (Meets least.old least.new (faults_of_structs (map struct_view structs.old))) }

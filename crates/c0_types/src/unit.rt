@@ -4,6 +4,8 @@ ghost use Rattle.std.specs.Prelude.{◌≡◌, ◌<◌, ◌-◌, ◌^◌, true, 
 ghost use Rattle.std.specs.List.{list_any, list_all};
 ghost use Rattle.c0_meaning.specs.Fault.{kept_all};
 ghost use Rattle.c0_meaning.specs.Limits as limits;
+ghost use Rattle.c0_meaning.specs.Sizes.{IsMeasured, struct_sizes};
+ghost use Rattle.c0_meaning.specs.Sound.{shapes};
 ghost use Rattle.c0_meaning.specs.Unit.{IsCheckedAs};
 ghost use Rattle.c0_name_check.specs.Met.{Meets, met_view, mistake_number};
 ghost use Rattle.c0_name_check.specs.Structs.{OfStructs};
@@ -135,6 +137,7 @@ fn check_outside(
     requires plain { is_plain (unit_view unit.old) ≡ true }
     requires table { length table.now < 2 ^ 32 }
     ensures tells { IfOk result (λ k. TellUnit k.0 k.1 unit.new.structs.items unit.new.globals.items unit.new.functions.items table.now) }
+    ensures words { IfOk result (λ k. k.0.words.items ≡ struct_sizes (shapes (unit_view unit.old))) }
     ensures met { OnOk result (met_view least.new ≡ kept_all (met_view least.old) (outer_faults (map primitive_view table.now) (unit_view unit.old))) }
     ensures named { OnOk result (unit_view unit.new ≡ outer_unit (unit_view unit.old)) }
 {
@@ -164,17 +167,19 @@ fn whole(unit: &Unit) -> Span
     }
 }
 
-// Checks a unit by a table of primitives: its faults are met, its names are resolved, and its asm bodies get their words.
+// Checks a unit by a table of primitives: its faults are met, its names are resolved, and its asm bodies get their words. The answer has
+// the words of its structs.
 fn check_by(
     alloc: Global,
     program: Program,
     table: &[Primitive],
     unit: &mut Unit,
     least: &mut Option<Fault>,
-) -> Result<(), AllocError>
+) -> Result<Vec<u32>, AllocError>
     requires plain { is_plain (unit_view unit.old) ≡ true }
     requires rows { map primitive_view table.now ≡ primitives_of program }
     requires few { length table.now < 2 ^ 32 }
+    ensures words { IfOk result (λ w. w.items ≡ struct_sizes (shapes (unit_view unit.old))) }
     ensures met { OnOk result (met_view least.new ≡ kept_all (met_view least.old) (source_faults_as program (unit_view unit.old))) }
     ensures resolved { OnOk result (unit_view unit.new ≡ checked_as program (unit_view unit.old)) }
 {
@@ -193,17 +198,18 @@ fn check_by(
     meet_if(least, nodes > MAX_UNIT_NODES, Mistake::UnitTooLarge, span);
     let found = has_first(program, &unit.functions);
     meet_if(least, !found, without_first(program), span);
-    Ok(())
+    Ok(known.words)
 }
 
-// Checks the unit of a kernel or a user program.
+// Checks the unit of a kernel or a user program, and answers the words of its structs.
 fn check_unit(
     alloc: Global,
     program: Program,
     unit: &mut Unit,
     least: &mut Option<Fault>,
-) -> Result<(), AllocError>
+) -> Result<Vec<u32>, AllocError>
     requires plain { is_plain (unit_view unit.old) ≡ true }
+    ensures words { IfOk result (λ w. w.items ≡ struct_sizes (shapes (unit_view unit.old))) }
     ensures met { OnOk result (met_view least.new ≡ kept_all (met_view least.old) (source_faults_as program (unit_view unit.old))) }
     ensures resolved { OnOk result (unit_view unit.new ≡ checked_as program (unit_view unit.old)) }
 {
@@ -213,14 +219,19 @@ fn check_unit(
     }
 }
 
-// The unit of a kernel or a user program with its asm texts read and its names resolved, if no fault stands in it; else the fault that
-// comes first.
-pub(crate) fn checked(alloc: Global, program: Program, unit: Unit) -> Result<Unit, TypeFault>
+// The unit of a kernel or a user program with its asm texts read and its names resolved, and the words of its structs, if no fault stands
+// in it; else the fault that comes first.
+pub(crate) fn checked(
+    alloc: Global,
+    program: Program,
+    unit: Unit,
+) -> Result<(Unit, Vec<u32>), TypeFault>
     requires plain { is_plain (unit_view unit) ≡ true }
-    ensures checked { IfOk result (λ v. IsCheckedAs program (unit_view v)) }
+    ensures checked { IfOk result (λ v. IsCheckedAs program (unit_view v.0)) }
+    ensures measured { IfOk result (λ v. IsMeasured (unit_view v.0) v.1.items) }
     ensures faultless { IfOk result (λ v. source_faults_as program (unit_view unit) ≡ []) }
     ensures typed { IfOk result (λ v. IsTypedSource program (unit_view unit)) }
-    ensures resolved { IfOk result (λ v. unit_view v ≡ checked_as program (unit_view unit)) }
+    ensures resolved { IfOk result (λ v. unit_view v.0 ≡ checked_as program (unit_view unit)) }
     ensures fault { IfErr result (FaultAnswersAs program (unit_view unit)) }
 {
     kept_fault_is_least();
@@ -229,10 +240,10 @@ pub(crate) fn checked(alloc: Global, program: Program, unit: Unit) -> Result<Uni
     sources_are_typed_or_faulty();
     let mut unit = unit;
     let mut least = None;
-    check_unit(alloc, program, &mut unit, &mut least)?;
+    let words = check_unit(alloc, program, &mut unit, &mut least)?;
     match least {
         Some(fault) => Err(answer_of(fault)),
-        None => Ok(unit),
+        None => Ok((unit, words)),
     }
 }
 
@@ -247,7 +258,7 @@ pub fn check(alloc: Global, unit: Unit) -> Result<Checked, TypeFault>
     ensures fault { IfErr result (FaultAnswers (unit_view unit)) }
 {
     match checked(alloc, Program::Kernel, unit) {
-        Ok(unit) => Ok(Checked::new(unit)),
+        Ok((unit, words)) => Ok(Checked::new(unit, words)),
         Err(fault) => Err(fault),
     }
 }
@@ -262,7 +273,7 @@ pub fn check_user(alloc: Global, unit: Unit) -> Result<UserChecked, TypeFault>
     ensures fault { IfErr result (FaultAnswersAs User (unit_view unit)) }
 {
     match checked(alloc, Program::User, unit) {
-        Ok(unit) => Ok(UserChecked::new(unit)),
+        Ok((unit, words)) => Ok(UserChecked::new(unit, words)),
         Err(fault) => Err(fault),
     }
 }

@@ -106,7 +106,7 @@ module _ (u : CUnit) where
       ∙ ap (λ (xs : List ℕ). starts_from (base + length before) xs) (sym whole))))
 
   -- how long the code is with any number of functions
-  pub code_few : FunctionsAreShort → LengthsAreFixed → (by : List ℕ) (n : ℕ) (before code : List ℕ) → length before ≤ 39 → all_nodes u.functions ≤ 100000
+  pub code_few : FunctionsAreShort → LengthsAreFixed → (by : List ℕ) (n : ℕ) (before code : List ℕ) → length before ≤ 37 → all_nodes u.functions ≤ 100000
       → code ≡ before ++ map encoding (functions_code u by (take n u.functions)) → length code ≤ 3300000
   code_few short fixed by n before code few nodes is =
       let long = ap (λ (ws : List ℕ). length ws) is in

@@ -113,7 +113,7 @@ module _ (u : CUnit) (places : Places) (checked : IsCheckedAs User u) (are : Are
   module _ (runs : RunLaws) (entry : EntryRuns (on_flat p)) (typed : FirstIsTyped) (areas : AreasHold) (zeros : ZerosAreHeld) (main : HasFirst User) (each : StepsRun (List ℤ) ℤ Outer)
       (c : Contents) (loaded : IsUnitLoaded u r c) (answers : List ℤ) where
     stack_is : StackIs (on_flat p) r.stack r.stack_words c
-    stack_is = let sf = h.stack in let hf = h.heap in let gf = h.globals in record { first_word = loaded.stack_first; stack_word = loaded.stack_words; variables = omega (arith, sf, hf, gf); inside = sf }
+    stack_is = let sf = h.stack in let hf = h.heap in let gf = h.globals in record { first_word = loaded.stack_first; limit_word = loaded.stack_limit; variables = omega (arith, sf, hf, gf); inside = sf }
 
     main_is : (f : CFunction) × (slice_get u.functions (first_number User u) ≡ Some f) × (length f.params ≡ 0)
     main_is =
@@ -127,7 +127,7 @@ module _ (u : CUnit) (places : Places) (checked : IsCheckedAs User u) (are : Are
     none_typed : IsTypedWith u [] (first_state u)
     none_typed = no_objects u typed checked.well_formed
 
-    stands : (c' : Contents) → IsEntered places.globals r.stack r.stack_words (layer_words + 7) c c' → ConfigurationStands (List ℤ) ℤ Outer setup [] (started u answers) c' nothing_behind
+    stands : (c' : Contents) → IsEntered places.globals r.stack r.stack_words (layer_words + 5) c c' → ConfigurationStands (List ℤ) ℤ Outer setup [] (started u answers) c' nothing_behind
     stands c' ent = record {
       typed = record { global_values = none_typed.global_values; heap_values = none_typed.heap_values; frames = none_typed.frames };
       declared = λ i t e. absurd (cc);
@@ -141,7 +141,7 @@ module _ (u : CUnit) (places : Places) (checked : IsCheckedAs User u) (are : Are
       heap_size = ap (λ m. m 1027) ent.memory ∙ loaded.heap_words;
       heap_first = ap (λ m. m 1028) ent.memory ∙ loaded.heap_first;
       stack_first = ap (λ m. m 1029) ent.memory ∙ loaded.stack_first;
-      stack_size = ap (λ m. m 1030) ent.memory ∙ loaded.stack_words;
+      stack_limit = ap (λ m. m 1030) ent.memory ∙ loaded.stack_limit;
       globals_at = ent.globals ∙ are.globals_at;
       stack_end = ent.stack;
       outer = tt;
@@ -161,7 +161,7 @@ module _ (u : CUnit) (places : Places) (checked : IsCheckedAs User u) (are : Are
           meaning = refl;
           trap_at = st.primitives 0 (omega arith);
           exits = st.exits;
-          back = entry_stands.1.1.1.1.1.1.1.0;
+          back = entry_stands.1.1.1.1.1.0;
           behind = omega arith;
           steps = f.steps + e.2.steps;
           few = omega (arith, a, b);
@@ -176,7 +176,7 @@ module _ (u : CUnit) (places : Places) (checked : IsCheckedAs User u) (are : Are
             function = main_is.0;
             is = main_is.1;
             at = refl;
-            to = layer_words + 7;
+            to = layer_words + 5;
             return_at = e.1.back;
             fits = no_params (shapes u) (store_typing u []) main_is.0.params main_is.2;
             arguments = tt;

@@ -183,7 +183,7 @@ module _ (faultless : UnitsAreFaultless) (short : FunctionsAreShort) (table : Li
       its_place : (n : ℕ) (f : CFunction) → slice_get u.functions n ≡ Some f → StandsIn u first ((links_of p).function n) (function_code (scope_of u f p) (links_of p) f)
       its_place n f is =
           let r = function_stands fixed u (function_starts u) u.functions functions_at n f is in
-          let b = behind (entry_code (globals_start u) first_start ++ routines_code) (function_code (scope u f) (links (function_starts u)) f) (functions_code u (function_starts u) u.functions) r.0 39 refl r.2 in
+          let b = behind (entry_code (globals_start u) first_start ++ routines_code) (function_code (scope u f) (links (function_starts u)) f) (functions_code u (function_starts u) u.functions) r.0 37 refl r.2 in
           let at = r.1 in
           let far = ap (λ (ns : List ℕ). slice_index ns n / 4) h.functions in
           let long = b.from in

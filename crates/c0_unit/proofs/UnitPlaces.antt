@@ -95,7 +95,7 @@ behind front part whole at n e p = record {
 }
 
 -- the places that the first emission gives are those of the unit
-pub are_places_of : (u : CUnit) (p : Places) (starts before after : List ℕ) (globals long : ℕ) → ArePlacedAt p starts globals → length before ≡ 39
+pub are_places_of : (u : CUnit) (p : Places) (starts before after : List ℕ) (globals long : ℕ) → ArePlacedAt p starts globals → length before ≡ 37
     → starts ≡ starts_from (layer_words + length before) (words_of_functions u u.functions) → long ≡ length before + sum (words_of_functions u u.functions) → globals ≡ (layer_words + long + 1023) / 1024 * 4096 → ArePlacesOf u p
 are_places_of u p starts before after globals long h e are is to = record {
   globals_at = h.globals_at ∙ (to ∙ globals_same);

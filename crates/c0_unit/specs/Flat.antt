@@ -3,7 +3,7 @@ use Rattle.std.specs.Prelude.{◌≡◌, ℕ, ℤ, ◌+◌, ◌*◌, ◌/◌, �
 use Rattle.mips_table.specs.declared.inst.Inst.TheVariants.{J, Jal}
 use Rattle.mips_table.specs.Code.{Contents, Behind, CodeState, at_with, Program, on_flat, Sound, Steps}
 use Rattle.mips_table.specs.Simulation.{nothing_behind}
-use Rattle.layer_map.specs.Map.{layer_words, next_page, heap_used_at, heap_words_at, heap_first_at, stack_first_at, stack_words_at, primitives_at, exits_at, leave_at}
+use Rattle.layer_map.specs.Map.{layer_words, next_page, heap_used_at, heap_words_at, heap_first_at, stack_first_at, stack_limit_at, primitives_at, exits_at, leave_at}
 use Rattle.c0_tree.specs.declared.primitive.Program.TheVariants.{User}
 use Rattle.c0_tree.specs.Primitives.{user_primitives}
 use Rattle.c0_tree.specs.Tree.{CUnit}
@@ -32,7 +32,7 @@ pub record Rooms : Type 0 where
 
 -- where its data stand, and the word to which `main` returns
 abbrev pub unit_data : CUnit → Rooms → UnitData
-unit_data u r = record { globals = next_page (layer_words + code_words u); heap = r.heap; stack = r.stack; back = layer_words + 7 }
+unit_data u r = record { globals = next_page (layer_words + code_words u); heap = r.heap; stack = r.stack; back = layer_words + 5 }
 
 -- A flat machine holds a program: its code stands from 0x10000 on, and alone calls words below; globals, heap and stack follow it, and may be written.
 pub record HoldsProgram (u : CUnit) (r : Rooms) (p : Program) : Type 0 where
@@ -51,7 +51,7 @@ pub record IsUnitLoaded (u : CUnit) (r : Rooms) (c : Contents) : Type 0 where
   pub heap_words : c.memory heap_words_at ≡ r.heap_words
   pub heap_first : c.memory heap_first_at ≡ 4 * r.heap
   pub stack_first : c.memory stack_first_at ≡ 4 * r.stack
-  pub stack_words : c.memory stack_words_at ≡ r.stack_words
+  pub stack_limit : c.memory stack_limit_at ≡ 4 * (r.stack + r.stack_words)
   pub zeros : AreZeros c.memory (unit_data u r).globals (global_words u)
 
 -- nothing of the machine stands for the answers that are left: a call of `trap` takes them from what answers it
@@ -66,7 +66,7 @@ setting u r = record { unit = u; heap = r.heap_words; stack = r.stack_words; mea
 abbrev pub started : CUnit → List ℤ → Configuration (List ℤ) ℤ
 started u answers = beginning (record (first_state u) { frames = [] }) answers
 
--- THE RUN OF A PROGRAM'S CODE: within 7 steps it comes to `main`, and from there on each step of the meaning is a run of the code, of at most 30
+-- THE RUN OF A PROGRAM'S CODE: within 5 steps it comes to `main`, and from there on each step of the meaning is a run of the code, of at most 30
 -- steps a unit. A call of `trap` is made at the entry of primitive 0, and goes on wherever it comes back with its answer; `main` returns to a word
 -- that leads to the last exit, and faults leave by their own.
 pub record FlatRun (u : CUnit) (r : Rooms) (p : Program) (c : Contents) (answers : List ℤ) : Type 0 where
@@ -79,7 +79,7 @@ pub record FlatRun (u : CUnit) (r : Rooms) (p : Program) (c : Contents) (answers
   pub back : p.code z.a.back ≡ Some (J leave_at)
   pub behind : layer_words ≤ z.a.back
   pub steps : ℕ
-  pub few : steps ≤ 7
+  pub few : steps ≤ 5
   pub entered : CodeState
   pub run : Steps (on_flat p) steps (at_with layer_words c nothing_behind) entered
   pub stands : Simulated (List ℤ) ℤ Outer z 0 (begin (first_number User u) empty ∷ []) (started u answers) entered

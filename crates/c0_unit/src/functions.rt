@@ -26,7 +26,7 @@ pub fn emit_functions(
 ) -> Result<Vec<u32>, AllocError>
     requires places { ArePlaces places.now }
     requires placed { ArePlacedAt places.now places.now.functions.items places.now.globals }
-    requires room { length code.old.items ≤ 39 }
+    requires room { length code.old.items ≤ 37 }
     ensures appended { Appends code.old.items code.new.items (all_functions (unit_view layout.now.unit.now) places.now.functions.items) result }
     ensures starts { IfOk result (λ s. s.items ≡ starts_from (layer_words + length code.old.items) (lengths_of (unit_view layout.now.unit.now))) }
     ensures length { OnOk result (length code.new.items ≡ length code.old.items + sum (lengths_of (unit_view layout.now.unit.now))) }

@@ -1,11 +1,9 @@
 // The words of a unit.
 
-ghost use Rattle.std.specs.Prelude.{◌≡◌, ◌+◌, ◌*◌, ◌<◌, ◌≤◌, List, length, slice_index, IfOk};
+ghost use Rattle.std.specs.Prelude.{◌≡◌, ◌+◌, ◌*◌, ◌<◌, ◌≤◌, length, slice_index, IfOk};
 ghost use Rattle.masm.specs.Places.{ArePlaces};
-ghost use Rattle.c0_tree.specs.Primitives.{CPrimitive};
 ghost use Rattle.c0_tree.specs.View.{unit_view};
 ghost use Rattle.c0_meaning.specs.Limits.{all_nodes};
-ghost use Rattle.c0_meaning.specs.Unit.{IsWellFormed};
 ghost use Rattle.c0_unit.specs.Code.{program_words, unit_words, words_from};
 ghost use Rattle.c0_unit.specs.Flat.{RunsFlat};
 ghost use Rattle.c0_unit.specs.Laws.{ArePlacesOf};
@@ -14,12 +12,10 @@ use crate::functions::emit_functions;
 use crate::laws::{programs_run_flat, units_are_short};
 use crate::placing::placed_at;
 use c0_expr_code::Layout;
-use c0_meaning::{Checked, UserChecked};
+use c0_meaning::{Checked, Measured, UserChecked};
 use c0_runtime::entry::ENTRY_WORDS;
 use c0_runtime::runtime::RUNTIME_WORDS;
 use c0_runtime::{emit_entry, emit_runtime};
-use c0_struct_sizes::measured;
-use c0_tree::Unit;
 use layer_map::LAYER_WORDS;
 use masm::registers::Places;
 use std::alloc::{AllocError, Global};
@@ -45,16 +41,14 @@ fn start_of(places: &Places, number: u32) -> u32
     places.functions[number as usize]
 }
 
-// The code of a well-formed unit that begins with the function of the number `first`, for the address 0x10000.
-fn compile_from(alloc: Global, unit: &Unit, first: u32) -> Result<Vec<u32>, AllocError>
-    requires well_formed { (table : List CPrimitive) × IsWellFormed table (unit_view unit.now) }
-    requires there { first < length unit.now.functions.items }
+// The code of a unit that begins with the function of the number `first`, for the address 0x10000.
+fn compile_from(alloc: Global, unit: &Measured<'_>, first: u32) -> Result<Vec<u32>, AllocError>
+    requires { first < length unit.now.functions.items }
     ensures words { IfOk result (λ v. v.items ≡ words_from (unit_view unit.now) first) }
     ensures few { IfOk result (λ v. length v.items ≤ 512 + 32 * all_nodes (unit_view unit.now).functions) }
 {
     units_are_short();
-    let sizes = measured(alloc, unit)?;
-    let layout = Layout::new(alloc, &sizes)?;
+    let layout = Layout::new(alloc, unit)?;
     let places = unit_places(alloc, &layout)?;
     let start = start_of(&places, first);
     let mut code = Vec::new(alloc);
@@ -69,7 +63,7 @@ pub fn compile(alloc: Global, unit: &Checked) -> Result<Vec<u32>, AllocError>
     ensures words { IfOk result (λ v. v.items ≡ unit_words (unit_view unit.now)) }
     ensures few { IfOk result (λ v. length v.items ≤ 512 + 32 * all_nodes (unit_view unit.now).functions) }
 {
-    compile_from(alloc, unit.unit(), unit.first())
+    compile_from(alloc, &unit.measured(), unit.first())
 }
 
 /// The code of a user program's unit, for the address 0x10000: at most 512 words and 32 for each node. The one error is want of memory.
@@ -82,5 +76,6 @@ pub fn compile_flat(alloc: Global, unit: &UserChecked) -> Result<Vec<u32>, Alloc
     ensures few { IfOk result (λ v. length v.items ≤ 512 + 32 * all_nodes (unit_view unit.now).functions) }
 {
     programs_run_flat();
-    compile_from(alloc, unit.unit(), unit.first())
+    let _unit = unit.unit();
+    compile_from(alloc, &unit.measured(), unit.first())
 }

@@ -5,7 +5,7 @@ use crate::stubs::{ARGUMENTS, PRIMITIVES, STUBS, start, stub};
 use cvm_outside::{DiskFault, MemSectors};
 use layer_map::{
     EXITS, HEAP_FIRST, HEAP_USED, HEAP_WORDS, LAYER_WORDS, LEAVE, Map, PRIMITIVES as ENTRIES,
-    STACK_FIRST, STACK_WORDS,
+    STACK_FIRST, STACK_LIMIT,
 };
 use mips_machine::{Event, Machine};
 use schedule_file::{Schedule, read};
@@ -28,7 +28,7 @@ pub struct Parts {
     pub heap: u32,
     pub heap_words: u32,
     pub stack: u32,
-    pub stack_words: u32,
+    pub stack_limit: u32,
 }
 
 /// A machine with 256 frames and a disk of 8 sectors, and the parts of its memory.
@@ -71,7 +71,7 @@ impl Desk {
                 heap: map.heap(),
                 heap_words: params.heap,
                 stack: map.stack(),
-                stack_words: params.stack,
+                stack_limit: map.stack_limit(),
             },
         };
         desk.load(alloc, code)?;
@@ -117,7 +117,7 @@ impl Desk {
         self.set(HEAP_WORDS, self.parts.heap_words);
         self.set(HEAP_FIRST, self.parts.heap);
         self.set(STACK_FIRST, self.parts.stack);
-        self.set(STACK_WORDS, self.parts.stack_words);
+        self.set(STACK_LIMIT, self.parts.stack_limit);
         Ok(())
     }
 
@@ -246,13 +246,10 @@ impl Desk {
         let heap = parts
             .heap
             .saturating_add(4u32.saturating_mul(parts.heap_words));
-        let stack = parts
-            .stack
-            .saturating_add(4u32.saturating_mul(parts.stack_words));
         self.others(code, parts.globals)
             .saturating_add(self.others(globals, parts.heap))
             .saturating_add(self.others(heap, parts.stack))
-            .saturating_add(self.others(stack, 4 * WORDS))
+            .saturating_add(self.others(parts.stack_limit, 4 * WORDS))
     }
 
     /// Calls `dispatch` with the arguments, tells how it ends, and says whether it was left.

@@ -2,7 +2,6 @@
 
 use crate::desk::Desk;
 use c0_meaning::{Checked, Measured};
-use c0_struct_sizes::measured;
 use c0_tree::CType;
 use c0_types::read_unit;
 use c0_unit::compile;
@@ -31,14 +30,13 @@ fn type_words(ty: &CType, sizes: &Measured<'_>) -> u64 {
 }
 
 // The words of the globals.
-fn global_words(alloc: Global, unit: &Checked) -> Result<u64, AllocError> {
-    let unit = unit.unit();
-    let sizes = measured(alloc, unit)?;
+fn global_words(unit: &Checked) -> u64 {
+    let sizes = unit.measured();
     let mut words = 0u64;
-    for decl in &unit.globals {
+    for decl in &unit.unit().globals {
         words = words.saturating_add(type_words(&decl.ty, &sizes));
     }
-    Ok(words)
+    words
 }
 
 // A decimal number.
@@ -64,7 +62,7 @@ fn arguments(field: &str) -> Option<(u32, u32, u32)> {
 // The machine for a kernel with a heap and a stack of so many words, if it isn't too large.
 fn desk(alloc: Global, unit: &Checked, heap: u32, stack: u32) -> Result<Option<Desk>, AllocError> {
     let code = compile(alloc, unit)?;
-    let globals = global_words(alloc, unit)?;
+    let globals = global_words(unit);
     if code.len() > 100_000 || globals > 100_000 || heap > 50_000 || stack < 64 || stack > 50_000 {
         return Ok(None);
     }

@@ -8,7 +8,7 @@ use Rattle.mips_table.specs.Flat.{Flat}
 use Rattle.mips_table.specs.Machine.{State, LOG_ROOM}
 use Rattle.mips_table.specs.Turns.{is_on, in_user}
 use Rattle.mips_table.specs.Fits.{CpuFits, Fits}
-use Rattle.layer_map.specs.Map.{Map, current_at, heap_used_at, heap_words_at, stack_words_at, block_at, globals_at, heap_at, memory_words, table_of}
+use Rattle.layer_map.specs.Map.{Map, current_at, heap_used_at, heap_words_at, stack_limit_at, block_at, globals_at, heap_at, memory_words, table_of}
 use Rattle.layer_map.specs.declared.places.TheConstants.{BLOCK_SIZE, BLOCK_HI, BLOCK_LO}
 use Rattle.page_model.specs.Paging.{PagingInvariant}
 use Rattle.page_model.specs.Places.{page_layout}
@@ -49,7 +49,7 @@ pub record DataStands (y : Site) (memory : List ℕ) (c : C0State) : Type 0 wher
   pub globals : HoldsWords memory (globals_at y.map) (flat (address_of y.map c) c.global_values)
   pub heap : HoldsWords memory (heap_at y.map) (flat (address_of y.map c) c.heap_values)
   pub used : slice_index memory heap_used_at ≡ c.heap_words
-  pub places : (k : ℕ) → heap_words_at ≤ k → k ≤ stack_words_at → slice_index memory k ≡ slice_index y.linked k
+  pub places : (k : ℕ) → heap_words_at ≤ k → k ≤ stack_limit_at → slice_index memory k ≡ slice_index y.linked k
   pub linked : (k : ℕ) → k < length y.linked → is_own y.map k ≡ false → slice_index memory k ≡ slice_index y.linked k
 
 -- pc, registers, hi and lo, as user u's control block has them

@@ -9,7 +9,6 @@ ghost use Rattle.kernel_linker.specs.Linked.{linked, map_for, pages_for, sizes_o
 
 use c0_meaning::Checked;
 use c0_meaning::laws::units_are_typed_or_faulty;
-use c0_struct_sizes::measured;
 use c0_unit::{compile, global_words};
 use layer_contract::{Layer, LayerMaker};
 use layer_map::{Map, Params};
@@ -46,23 +45,16 @@ fn sizes(alloc: Global, users: &[Vec<u32>]) -> Result<Vec<u32>, AllocError>
 }
 
 // The map of a system.
-fn map_of(
-    alloc: Global,
-    unit: &Checked,
-    code: &[u32],
-    params: &Params,
-    users: u32,
-) -> Result<Map, AllocError>
+fn map_of(unit: &Checked, code: &[u32], params: &Params, users: u32) -> Map
     requires code { code.now ≡ unit_words (unit_view unit.now) }
     requires most { length code.now ≤ 4177920 }
     requires params { ParamsInRange params.now }
     requires users { users ≤ 64 }
-    ensures value { IfOk result (λ m. m ≡ map_for (unit_view unit.now) params.now users) }
-    ensures range { IfOk result MapInRange }
+    ensures value { result ≡ map_for (unit_view unit.now) params.now users }
+    ensures range { MapInRange result }
 {
-    let sized = measured(alloc, unit.unit())?;
-    let globals = global_words(&sized);
-    Ok(Map::of(params, users, code.len() as u32, globals))
+    let globals = global_words(&unit.measured());
+    Map::of(params, users, code.len() as u32, globals)
 }
 
 /// Links the code of a unit, which is given, with the layer that is made for it, the parameters and the users. The one error is want of
@@ -87,7 +79,7 @@ pub fn link_words<M: LayerMaker>(
     ensures least { IfOk result (λ j. 16384 ≤ length j.words.items) }
     ensures most { IfOk result (λ j. length j.words.items ≤ 4194304) }
 {
-    let map = map_of(alloc, unit, code, params, users.len() as u32)?;
+    let map = map_of(unit, code, params, users.len() as u32);
     let sizes = sizes(alloc, users)?;
     let layer = M::make(alloc, &map, &sizes)?;
     layer.keeps_laws();

@@ -17,7 +17,7 @@ use Rattle.c0_meaning.specs.Value.{group, empty}
 use Rattle.layer_contract.specs.declared.registers.TheConstants.{ARGUMENT, ANSWER, RETURN, KEPT}
 use Rattle.layer_contract.specs.declared.entry.Entry.{Entry}
 use Rattle.layer_contract.specs.declared.entry.Entry.TheVariants.{Dispatch, Primitive, Fault as Exit, Leave}
-use Rattle.layer_map.specs.Map.{Map, MapInRange, layer_words, current_at, hand_at, heap_used_at, heap_words_at, heap_first_at, stack_first_at, stack_words_at}
+use Rattle.layer_map.specs.Map.{Map, MapInRange, layer_words, current_at, hand_at, heap_used_at, heap_words_at, heap_first_at, stack_first_at, stack_limit_at}
 use Rattle.layer_map.specs.Map.{primitives_at, exits_at, leave_at, block_at, code_at, heap_at, stack_at, table_of, memory_words}
 use Rattle.layer_map.specs.declared.places.TheConstants.{BLOCK_SIZE, BLOCK_WORDS}
 use Rattle.page_model.specs.Paging.{IsAccessible}
@@ -135,7 +135,7 @@ pub record Linked (m : Map) (sizes words : List ℕ) : Type 0 where
   pub heap_words : slice_index words heap_words_at ≡ m.params.heap
   pub heap_first : slice_index words heap_first_at ≡ 4 * heap_at m
   pub stack_first : slice_index words stack_first_at ≡ 4 * stack_at m
-  pub stack_words : slice_index words stack_words_at ≡ m.params.stack
+  pub stack_limit : slice_index words stack_limit_at ≡ 4 * (stack_at m + m.params.stack)
   pub blocks : (u : ℕ) → u < length sizes → BlockLinked words (u + 1) (slice_index sizes u)
 
 -- the state of a run at its start: globals 0, no heap, users with pc, registers, hi and lo 0, and an empty log

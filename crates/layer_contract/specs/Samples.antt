@@ -1,12 +1,12 @@
 -- Small systems over a layer without code, whose machines stand for their starts.
-use Rattle.std.specs.Prelude.{◌≡◌, codes, true, ℕ, ◌-◌, ◌*◌, ◌/◌, ◌%◌, ◌==◌, ◌&&◌, nat_le, if◌then◌else◌, List, [], ◌∷◌, ◌++◌, map, replicate, slice_index}
+use Rattle.std.specs.Prelude.{◌≡◌, codes, true, ℕ, ◌+◌, ◌-◌, ◌*◌, ◌/◌, ◌%◌, ◌==◌, ◌&&◌, nat_le, if◌then◌else◌, List, [], ◌∷◌, ◌++◌, map, replicate, slice_index}
 use Rattle.std.specs.List.{range_with_len}
 use Rattle.mips_table.specs.declared.inst.Inst.TheVariants.{Addi, Ori, Lui}
 use Rattle.mips_table.specs.Encoding.{encoding}
 use Rattle.mips_table.specs.Device.{Environment}
 use Rattle.mips_table.specs.Machine.{State}
 use Rattle.layer_map.specs.declared.params.Params.{Params}
-use Rattle.layer_map.specs.Map.{Map, layer_words, heap_words_at, heap_first_at, stack_first_at, stack_words_at, heap_at, stack_at, blocks_at}
+use Rattle.layer_map.specs.Map.{Map, layer_words, heap_words_at, heap_first_at, stack_first_at, stack_limit_at, heap_at, stack_at, blocks_at}
 use Rattle.layer_map.specs.declared.places.TheConstants.{BLOCK_SIZE, BLOCK_WORDS}
 use Rattle.page_model.specs.Paging.{Paged, MapsTo}
 use Rattle.c0_tree.specs.declared.tree.Kind.{Kind}
@@ -26,7 +26,7 @@ plain_word m sizes k =
     if k == heap_words_at then m.params.heap else
     if k == heap_first_at then 4 * heap_at m else
     if k == stack_first_at then 4 * stack_at m else
-    if k == stack_words_at then m.params.stack else
+    if k == stack_limit_at then 4 * (stack_at m + m.params.stack) else
     if nat_le blocks_at k && k % BLOCK_WORDS == BLOCK_SIZE then slice_index sizes ((k - blocks_at) / BLOCK_WORDS) else
     0
 

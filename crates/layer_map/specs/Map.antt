@@ -55,9 +55,9 @@ heap_first_at = 1028
 abbrev pub stack_first_at : ℕ
 stack_first_at = 1029
 
--- the word of the stack's size, in words
-abbrev pub stack_words_at : ℕ
-stack_words_at = 1030
+-- the word of the first address behind the stack
+abbrev pub stack_limit_at : ℕ
+stack_limit_at = 1030
 
 -- the first word of the layer's further variables
 abbrev pub variables_at : ℕ

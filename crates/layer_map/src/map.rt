@@ -100,6 +100,13 @@ impl Map {
         4 * next_page(self.heap() / 4 + self.params.heap)
     }
 
+    /// The first address behind the kernel's stack.
+    pub fn stack_limit(&self) -> u32
+        ensures { result ≡ 4 * (stack_at self.now + self.now.params.stack) }
+    {
+        self.stack() + 4 * self.params.stack
+    }
+
     /// The first address of the page tables. They have a word for each page of each user.
     pub fn page_tables(&self) -> u32
         ensures { result ≡ 4 * tables_at self.now }

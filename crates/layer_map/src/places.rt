@@ -1,7 +1,7 @@
 // The places of the layer's part.
 
 ghost use Rattle.std.specs.Prelude.{◌≡◌, ◌*◌, ◌≤◌};
-ghost use Rattle.layer_map.specs.Map.{block_at, current_at, hand_at, heap_used_at, heap_words_at, heap_first_at, stack_first_at, stack_words_at, variables_at, variables_end, layer_words};
+ghost use Rattle.layer_map.specs.Map.{block_at, current_at, hand_at, heap_used_at, heap_words_at, heap_first_at, stack_first_at, stack_limit_at, variables_at, variables_end, layer_words};
 
 /// The words of the layer's part, which begins memory.
 pub const LAYER_WORDS: u32 = 16384;
@@ -30,8 +30,8 @@ pub const HEAP_FIRST: u32 = 0x1010;
 /// The address of the stack's first address.
 pub const STACK_FIRST: u32 = 0x1014;
 
-/// The address of the stack's size, in words.
-pub const STACK_WORDS: u32 = 0x1018;
+/// The address of the first address behind the stack.
+pub const STACK_LIMIT: u32 = 0x1018;
 
 /// The address of the first of the layer's further variables.
 pub const VARIABLES: u32 = 0x101c;
@@ -72,7 +72,7 @@ pub fn places_are_words()
     ensures hand { HAND ≡ 4 * hand_at }
     ensures used { HEAP_USED ≡ 4 * heap_used_at }
     ensures heap { (HEAP_WORDS ≡ 4 * heap_words_at) × (HEAP_FIRST ≡ 4 * heap_first_at) }
-    ensures stack { (STACK_WORDS ≡ 4 * stack_words_at) × (STACK_FIRST ≡ 4 * stack_first_at) }
+    ensures stack { (STACK_LIMIT ≡ 4 * stack_limit_at) × (STACK_FIRST ≡ 4 * stack_first_at) }
     ensures variables { (VARIABLES ≡ 4 * variables_at) × (VARIABLES_END ≡ 4 * variables_end) }
     ensures layer { LAYER_WORDS ≡ layer_words }
 {}

@@ -234,7 +234,7 @@ map_bare u = λ j. record {
 }
 
 pub images_ignore_places : ImagesIgnorePlaces
-images_ignore_places u = λ j. laid [] (parts (words_bare u j) (4 * heap_at (map_bare u j)) (4 * stack_at (map_bare u j)) (tables_at (map_bare u j)))
+images_ignore_places u = λ j. laid [] (parts (words_bare u j) (4 * heap_at (map_bare u j)) (4 * stack_at (map_bare u j)) (4 * (stack_at (map_bare u j) + ROOM)) (tables_at (map_bare u j)))
 
 -- so the image of a text's unit is that of its tree: this may be cited from other crates
 pub image_is : ImagesIgnorePlaces → (text : List ℕ) (tree : CUnit) → MeansProgram text tree → (u : CUnit) → IsUnitAs User text u → image_words u ≡ image_words tree

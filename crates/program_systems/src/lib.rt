@@ -81,7 +81,7 @@ pub fn adders_call()
     ensures { AddersCall }
 {}
 
-/// A law: their images call behind 123 and behind 223 steps, and end behind 8 more.
+/// A law: their images call behind 121 and behind 221 steps, and end behind 8 more.
 pub fn adders_are_counted()
     ensures { AddersAreCounted }
 {

@@ -12,9 +12,9 @@ use Rattle.schedule_file.specs.Rows.{Rows}
 use Rattle.kernel_linker.specs.Accept.{ImageSystem}
 use Rattle.kernel_linker.specs.Sources.{AcceptedAreOfImages}
 use Rattle.cvm_model.specs.JournalWords.{IsOrdinary}
-use Rattle.cvm_shell.specs.declared.boot.Session.{Session}
-use Rattle.cvm_shell.specs.Boot.{booted, AskFor, by_boot, by_trace, by_sample}
-use Rattle.cvm_shell.specs.Plan.{Accepts}
+use Rattle.run_scripts.specs.declared.session.Session.{Session}
+use Rattle.run_scripts.specs.Boot.{booted, AskFor, by_boot, by_trace, by_sample}
+use Rattle.run_scripts.specs.Plan.{Accepts}
 use Rattle.kernel_boots.proofs.EightLines.{few_of}
 use Rattle.kernel_boots.proofs.Room.{roomy, room_of}
 

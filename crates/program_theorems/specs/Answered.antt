@@ -4,11 +4,11 @@ use Rattle.schedule_file.specs.Rows.{Rows}
 use Rattle.kernel_linker.specs.Accept.{ImageSystem}
 use Rattle.cvm_model.specs.JournalWords.{IsOrdinary}
 use Rattle.user_c0.specs.Events.{Event, journal_of, IsAnsweredJournal}
-use Rattle.cvm_shell.specs.declared.exit_status.Status.{Status}
-use Rattle.cvm_shell.specs.declared.boot.Session.{Session}
+use Rattle.run_scripts.specs.declared.exit_status.Status.{Status}
+use Rattle.run_scripts.specs.declared.session.Session.{Session}
 use Rattle.cvm_outside.specs.Outside.{Outside}
-use Rattle.cvm_shell.specs.Boot.{booted, IsHonest}
-use Rattle.cvm_shell.specs.Isolation.{IsolatedTrace}
+use Rattle.run_scripts.specs.Boot.{booted, IsHonest}
+use Rattle.run_scripts.specs.Isolation.{IsolatedTrace}
 
 -- A LAW: each system that is run is ordinary: its kernel is a checked unit, its parameters are in range, its users are few, and they and its input have room
 abbrev pub BootedAreOrdinary : Type 0

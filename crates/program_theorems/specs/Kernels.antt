@@ -7,11 +7,11 @@ use Rattle.cvm_model.specs.Invariant.{Dispatch, dispatches_of}
 use Rattle.cvm_model.specs.Journal.{changes_of, journal}
 use Rattle.kernel_linker.specs.Accept.{ImageSystem}
 use Rattle.user_c0.specs.Events.{SYSCALL, CALL_CAUSE, Event, journal_of, IsAnsweredJournal}
-use Rattle.cvm_shell.specs.declared.exit_status.Status.{Status}
-use Rattle.cvm_shell.specs.declared.boot.Session.{Session}
+use Rattle.run_scripts.specs.declared.exit_status.Status.{Status}
+use Rattle.run_scripts.specs.declared.session.Session.{Session}
 use Rattle.cvm_outside.specs.Outside.{Outside}
-use Rattle.cvm_shell.specs.Boot.{booted, IsHonest}
-use Rattle.cvm_shell.specs.Isolation.{IsolatedTrace, lines_met}
+use Rattle.run_scripts.specs.Boot.{booted, IsHonest}
+use Rattle.run_scripts.specs.Isolation.{IsolatedTrace, lines_met}
 
 -- what a dispatch changes of its caller: nothing, or register 2, once
 abbrev pub IsReply : List JournalEntry → Type 0

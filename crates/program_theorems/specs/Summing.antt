@@ -11,12 +11,12 @@ use Rattle.cvm_model.specs.Cvm.{first_flat}
 use Rattle.cvm_model.specs.Journal.{replay}
 use Rattle.user_c0.specs.Image.{image_words}
 use Rattle.user_c0.specs.Events.{SYSCALL, Event, call, other, journal_of, IsAnsweredJournal, calls}
-use Rattle.cvm_shell.specs.declared.exit_status.Status.{Status}
-use Rattle.cvm_shell.specs.declared.boot.Session.{Session}
+use Rattle.run_scripts.specs.declared.exit_status.Status.{Status}
+use Rattle.run_scripts.specs.declared.session.Session.{Session}
 use Rattle.cvm_outside.specs.Outside.{Outside}
-use Rattle.cvm_shell.specs.Isolation.{IsolatedTrace}
+use Rattle.run_scripts.specs.Isolation.{IsolatedTrace}
 use Rattle.cvm_shell.specs.Linked.{AreAcceptedAs}
-use Rattle.cvm_shell.specs.Plan.{Accepts}
+use Rattle.run_scripts.specs.Plan.{Accepts}
 use Rattle.cvm_shell.specs.Programs.{IsProgramFile}
 use Rattle.program_theorems.specs.SummingText.{text}
 

@@ -60,7 +60,7 @@ module _ (m : Map) (sizes code : List ℕ) (made : IsMade m sizes code) where
     heap_words = variable 3 (omega arith);
     heap_first = variable 4 (omega arith);
     stack_first = variable 5 (omega arith);
-    stack_words = variable 6 (omega arith);
+    stack_limit = variable 6 (omega arith);
     blocks = λ u lt. record { size = block u 32 lt (omega arith) ∙ block_size (slice_index sizes u); others = λ i less ne. block u i lt less ∙ block_zero (slice_index sizes u) i less ne };
   }
 

@@ -10,7 +10,7 @@ use Rattle.mips_table.specs.Flat.{Flat}
 use Rattle.mips_table.specs.Fits.{CpuFits, Fits}
 use Rattle.mips_table.specs.Code.{Behind}
 use Rattle.mips_table.specs.Simulation.{space, sectors_of, behind_of}
-use Rattle.layer_map.specs.Map.{Map, MapInRange, layer_words, current_at, hand_at, heap_used_at, stack_words_at, block_at, globals_at, heap_at, stack_at, tables_at, frame_table_at, zero_frame_at, memory_words}
+use Rattle.layer_map.specs.Map.{Map, MapInRange, layer_words, current_at, hand_at, heap_used_at, stack_limit_at, block_at, globals_at, heap_at, stack_at, tables_at, frame_table_at, zero_frame_at, memory_words}
 use Rattle.page_model.specs.Paging.{Pages, PagingInvariant}
 use Rattle.page_model.specs.Places.{page_layout, places_of, paged_view}
 use Rattle.page_model.specs.Edits.{Alike}
@@ -47,7 +47,7 @@ pub record Shown (y : Site) (c : Core) (words : ℕ → ℕ) (d : Behind) : Type
 
 -- a word of the kernel's data: of the heap's and the stack's variables, or from the kernel's code on up to the page tables
 abbrev pub IsKernels : Map → ℕ → Type 0
-IsKernels m k = ((heap_used_at ≤ k) × (k ≤ stack_words_at)) ⊎ ((layer_words ≤ k) × (k < tables_at m))
+IsKernels m k = ((heap_used_at ≤ k) × (k ≤ stack_limit_at)) ⊎ ((layer_words ≤ k) × (k < tables_at m))
 
 -- what the words of a state are in memory
 pub space_is : (memory buffer : List ℕ) (sector k : ℕ) → k < length memory → space memory buffer sector k ≡ slice_index memory k

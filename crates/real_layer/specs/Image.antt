@@ -70,9 +70,9 @@ abbrev pub zero_padded : ℕ → List ℕ → List ℕ
 zero_padded n words = words ++ replicate (n - length words) 0
 
 -- the layer's variables from the current user on: current user, hand, words used of the heap, its size and first address, first
--- address and size of the stack
+-- address of the stack, and the address behind it
 abbrev pub variables : Map → List ℕ
-variables m = 0 ∷ 0 ∷ 0 ∷ m.params.heap ∷ 4 * heap_at m ∷ 4 * stack_at m ∷ m.params.stack ∷ []
+variables m = 0 ∷ 0 ∷ 0 ∷ m.params.heap ∷ 4 * heap_at m ∷ 4 * stack_at m ∷ 4 * (stack_at m + m.params.stack) ∷ []
 
 -- a control block at load: BLOCK_WORDS words, all 0 but for the size
 abbrev pub block_words : ℕ → List ℕ

@@ -66,7 +66,15 @@ fn first_variables(map: &Map) -> [u32; 7]
     ensures { result ≡ variables map.now }
 {
     let params = map.params();
-    [0, 0, 0, params.heap, map.heap(), map.stack(), params.stack]
+    [
+        0,
+        0,
+        0,
+        params.heap,
+        map.heap(),
+        map.stack(),
+        map.stack_limit(),
+    ]
 }
 
 // The handler of interrupts.

@@ -59,6 +59,10 @@ impl Layer for RealLayer {
         &self.words
     }
 
+    fn memory_map(&self) -> Map {
+        self.map
+    }
+
     fn keeps_laws(&self) {
         the_image_is_linked();
         the_layer_is_lawful();

@@ -12,12 +12,12 @@ use Rattle.c0_meaning.specs.Value.{int, bool, empty, part}
 use Rattle.cvm_model.specs.Invariant.{HasUsers}
 use Rattle.run_bounds.specs.Steps.{steps_for}
 use Rattle.kernel_linker.specs.Accept.{ImageSystem}
-use Rattle.cvm_shell.specs.declared.exit_status.Status.{Status}
-use Rattle.cvm_shell.specs.declared.exit_status.Status.TheVariants.{Done, KernelFault, Memory}
-use Rattle.cvm_shell.specs.declared.boot.Session.{Session}
+use Rattle.run_scripts.specs.declared.exit_status.Status.{Status}
+use Rattle.run_scripts.specs.declared.exit_status.Status.TheVariants.{Done, KernelFault, Memory}
+use Rattle.run_scripts.specs.declared.session.Session.{Session}
 use Rattle.cvm_outside.specs.Outside.{Outside}
-use Rattle.cvm_shell.specs.Boot.{booted, around, first_state, steps_before, IsHonest}
-use Rattle.cvm_shell.specs.CommandEnds.{Headlines}
+use Rattle.run_scripts.specs.Boot.{booted, around, first_state, steps_before, IsHonest}
+use Rattle.run_scripts.specs.CommandEnds.{Headlines}
 use Rattle.kernel_theorems.specs.Lines.{by_lines}
 use Rattle.kernel_boots.specs.Systems.{AsksSystem, SystemShown}
 use Rattle.summing.specs.Text.{text as kernel_text}
@@ -43,7 +43,7 @@ pub record SumShown (x : Environment) (y : System) (s : State) (late raised turn
 -- EACH BOOT of an image with the kernel's text and two users that call shows this, under every schedule, whatever else their programs are
 abbrev pub AnyUsersSum : Type 0
 AnyUsersSum = (one two : List ℕ) (m n v w : ℕ) → CallsAfter (first_flat one) m v → CallsAfter (first_flat two) n w → v + w < 2 ^ 31
-    → (words : List (List ℕ)) (status : Status) (old new : Outside) → Headlines (λ (o : Outside). o) words status old new
+    → (words : List (List ℕ)) (status : Status) (old new : Outside) → Headlines words status old new
     → (session : Session) (s : ImageSystem) (rows : Rows) (before : List (List ℕ)) → (h : IsHonest words session s rows before old new)
     → status ≢ Memory → session.view ≡ Boot → AsksSystem kernel_text (one ∷ two ∷ []) h.asked
     → (text : List ℕ) × (new.sink.text ≡ append_known old.sink.text text)
@@ -82,7 +82,7 @@ pub record NamedSumShown (x : Environment) (y : System) (s : State) (late raised
 
 -- EACH BOOT of an image with the kernel's text and these two users, under every schedule
 abbrev pub SummingBoots : Type 0
-SummingBoots = (words : List (List ℕ)) (status : Status) (old new : Outside) → Headlines (λ (o : Outside). o) words status old new
+SummingBoots = (words : List (List ℕ)) (status : Status) (old new : Outside) → Headlines words status old new
     → (session : Session) (s : ImageSystem) (rows : Rows) (before : List (List ℕ)) → (h : IsHonest words session s rows before old new)
     → status ≢ Memory → session.view ≡ Boot → AsksSystem kernel_text (user_one ∷ user_two ∷ []) h.asked
     → (text : List ℕ) × (new.sink.text ≡ append_known old.sink.text text)

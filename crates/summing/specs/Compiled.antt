@@ -16,12 +16,12 @@ use Rattle.kernel_linker.specs.Accept.{ImageSystem}
 use Rattle.user_c0.specs.Image.{image_words}
 use Rattle.user_c0.specs.Program.{steps_of}
 use Rattle.user_c0.specs.Users.{IsProgram}
-use Rattle.cvm_shell.specs.declared.exit_status.Status.{Status}
-use Rattle.cvm_shell.specs.declared.exit_status.Status.TheVariants.{Done, KernelFault, Memory}
-use Rattle.cvm_shell.specs.declared.boot.Session.{Session}
+use Rattle.run_scripts.specs.declared.exit_status.Status.{Status}
+use Rattle.run_scripts.specs.declared.exit_status.Status.TheVariants.{Done, KernelFault, Memory}
+use Rattle.run_scripts.specs.declared.session.Session.{Session}
 use Rattle.cvm_outside.specs.Outside.{Outside}
-use Rattle.cvm_shell.specs.Boot.{booted, around, first_state, steps_before, IsHonest}
-use Rattle.cvm_shell.specs.CommandEnds.{Headlines}
+use Rattle.run_scripts.specs.Boot.{booted, around, first_state, steps_before, IsHonest}
+use Rattle.run_scripts.specs.CommandEnds.{Headlines}
 use Rattle.kernel_theorems.specs.UserRuns.{after}
 use Rattle.kernel_boots.specs.Boots.{AsksSource}
 use Rattle.kernel_boots.specs.Linked.{IsLinkedOf}
@@ -53,7 +53,7 @@ pub record ProgramSumShown (x : Environment) (y : System) (s : State) (late rais
 -- EACH BOOT of an image with the kernel's text and the images of two programs that bring numbers shows this, under every schedule
 abbrev pub AnyProgramsSum : Type 0
 AnyProgramsSum = (one two : CUnit) (n k v w : ℕ) → Brings one n v → Brings two k w → v + w < 2 ^ 31
-    → (words : List (List ℕ)) (status : Status) (old new : Outside) → Headlines (λ (o : Outside). o) words status old new
+    → (words : List (List ℕ)) (status : Status) (old new : Outside) → Headlines words status old new
     → (session : Session) (s : ImageSystem) (rows : Rows) (before : List (List ℕ)) → (h : IsHonest words session s rows before old new)
     → status ≢ Memory → session.view ≡ Boot → AsksSystem kernel_text (image_words one ∷ image_words two ∷ []) h.asked
     → (text : List ℕ) × (new.sink.text ≡ append_known old.sink.text text)
@@ -64,27 +64,27 @@ AnyProgramsSum = (one two : CUnit) (n k v w : ℕ) → Brings one n v → Brings
 abbrev pub AnyCountedProgramsSum : Type 0
 AnyCountedProgramsSum = (one two : CUnit) (n k v w a b : ℕ) → Brings one n v → Brings two k w → v + w < 2 ^ 31
     → TrapsBehind (first_flat (image_words one)) a → TrapsBehind (first_flat (image_words two)) b
-    → (words : List (List ℕ)) (status : Status) (old new : Outside) → Headlines (λ (o : Outside). o) words status old new
+    → (words : List (List ℕ)) (status : Status) (old new : Outside) → Headlines words status old new
     → (session : Session) (s : ImageSystem) (rows : Rows) (before : List (List ℕ)) → (h : IsHonest words session s rows before old new)
     → status ≢ Memory → session.view ≡ Boot → AsksSystem kernel_text (image_words one ∷ image_words two ∷ []) h.asked
     → (text : List ℕ) × (new.sink.text ≡ append_known old.sink.text text)
     × SumShown (around rows old) (booted s rows) (first_state session s rows before) (steps_before session.start (booted s rows)) (length rows.lines) session.turns session.steps
     a b v w (first_flat (image_words one)) (first_flat (image_words two)) status text
 
--- THE TWO ADDERS, whose machines at the start are f and g: the status is no kernel's fault; and under a schedule of L `line` rows, with 349 turns and L more,
+-- THE TWO ADDERS, whose machines at the start are f and g: the status is no kernel's fault; and under a schedule of L `line` rows, with 345 turns and L more,
 -- and the steps of the machine for them, it is done, has halted, and its text is at most 3 + L rows and then the report, which says the total of 265 and each
 -- user's machine behind its call
 pub record AddersShown (x : Environment) (y : System) (s : State) (late raised turns steps : ℕ) (f g : Flat) (status : Status) (text : List ℕ) : Type 0 where
-  pub shows : SumShown x y s late raised turns steps 123 223 55 210 f g status text
+  pub shows : SumShown x y s late raised turns steps 121 221 55 210 f g status text
   pub no_fault : status ≢ KernelFault
-  pub halted : 349 + raised ≤ turns → steps_for y (349 + raised) (3 + raised) 100 0 + late ≤ steps
+  pub halted : 345 + raised ≤ turns → steps_for y (345 + raised) (3 + raised) 100 0 + late ≤ steps
       → (status ≡ Done) × (length shows.shown.stands.state.rows ≤ 3 + raised)
-      × (text ≡ rows_text shows.shown.stands.state.rows ++ (codes "halted\nglobal total 265\nglobal done true\n" ++ users_text 1 (after 124 f ∷ after 224 g ∷ [])))
+      × (text ≡ rows_text shows.shown.stands.state.rows ++ (codes "halted\nglobal total 265\nglobal done true\n" ++ users_text 1 (after 122 f ∷ after 222 g ∷ [])))
 
 -- EACH BOOT of an image with the kernel's text whose users are compiled of the two texts, under every schedule; their machines at the start are those of the
 -- images of the two trees, whatever places the texts' own trees have
 abbrev pub CompiledSumsBoot : Type 0
-CompiledSumsBoot = (words : List (List ℕ)) (status : Status) (old new : Outside) → Headlines (λ (o : Outside). o) words status old new
+CompiledSumsBoot = (words : List (List ℕ)) (status : Status) (old new : Outside) → Headlines words status old new
     → (session : Session) (s : ImageSystem) (rows : Rows) (before : List (List ℕ)) → (h : IsHonest words session s rows before old new)
     → status ≢ Memory → session.view ≡ Boot → AsksSource kernel_text h.asked → (layer : Map → List ℕ → List ℕ) → IsLinkedOf layer text_ten text_twenty s
     → (text : List ℕ) × (new.sink.text ≡ append_known old.sink.text text)
@@ -94,4 +94,4 @@ CompiledSumsBoot = (words : List (List ℕ)) (status : Status) (old new : Outsid
 -- THE STEPS in numbers: with 20 pages for each user, 48 frames and no busy times, so many for L `line` rows, before those of a ROM
 abbrev pub CompiledStepsAreFew : Type 0
 CompiledStepsAreFew = (s : ImageSystem) (rows : Rows) (raised : ℕ) → s.params.pages ≡ 20 → s.params.frames ≡ 48 → length s.users ≡ 2 → longest rows ≡ 0
-    → steps_for (booted s rows) (349 + raised) (3 + raised) 100 0 ≡ 140705421 + 464561 * raised
+    → steps_for (booted s rows) (345 + raised) (3 + raised) 100 0 ≡ 139095177 + 464561 * raised

@@ -98,7 +98,7 @@ pub fn any_counted_programs_sum()
     any_users_sum();
 }
 
-/// A law: so it is of each boot of an image that was linked of what `compile program` put of the two texts, with a total of 265, and with 349 turns more than
+/// A law: so it is of each boot of an image that was linked of what `compile program` put of the two texts, with a total of 265, and with 345 turns more than
 /// the schedule has `line` rows, which are those that it takes without them.
 pub fn compiled_sums_boot()
     ensures { CompiledSumsBoot }
@@ -113,7 +113,7 @@ pub fn compiled_sums_boot()
     any_counted_programs_sum();
 }
 
-/// A law: with 20 pages for each user, 48 frames and no busy times the steps that `compiled_sums_boot` asks for are 140,705,421, and 464,561 more for each
+/// A law: with 20 pages for each user, 48 frames and no busy times the steps that `compiled_sums_boot` asks for are 139,095,177, and 464,561 more for each
 /// `line` row.
 pub fn compiled_steps_are_few()
     ensures { CompiledStepsAreFew }

@@ -1,10 +1,9 @@
 // The system of a case: its kernel, users and parameters, linked and loaded.
-ghost use Rattle.std.specs.Prelude.{◌≤◌, IfOk};
+ghost use Rattle.std.specs.Prelude.{◌≤◌};
 
 use crate::desk::Desk;
 use crate::plan::Plan;
 use c0_meaning::{Checked, Measured};
-use c0_struct_sizes::measured;
 use c0_tree::CType;
 use c0_types::read_unit;
 use c0_unit::compile;
@@ -45,16 +44,15 @@ fn type_words(ty: &CType, sizes: &Measured<'_>) -> u64 {
 }
 
 // The words of the globals.
-fn words_of_globals(alloc: Global, unit: &Checked) -> Result<u32, AllocError>
-    ensures { IfOk result (λ n. n ≤ 262144) }
+fn words_of_globals(unit: &Checked) -> u32
+    ensures { result ≤ 262144 }
 {
-    let unit = unit.unit();
-    let sizes = measured(alloc, unit)?;
+    let sizes = unit.measured();
     let mut words = 0u64;
-    for decl in &unit.globals {
+    for decl in &unit.unit().globals {
         words = words.saturating_add(type_words(&decl.ty, &sizes));
     }
-    Ok(words.min(262_144) as u32)
+    words.min(262_144) as u32
 }
 
 // The words of the users, each assembled from its text; none for a text that is none.
@@ -113,7 +111,7 @@ pub fn load(alloc: Global, plan: &Plan) -> Result<Option<System>, AllocError> {
     let code = compile(alloc, &unit)?;
     let users = users_of(alloc, plan)?;
     let sizes = sizes_of(alloc, &users)?;
-    let global_words = words_of_globals(alloc, &unit)?;
+    let global_words = words_of_globals(&unit);
     if users.len() > 64 || code.len() > 100_000 {
         return Ok(None);
     }

@@ -199,7 +199,7 @@ module _ (simulates : MachineSimulates) (joins : RunsJoin) (fitting : StaysFitti
       let b = g.bounds.memory in let cd = g.bounds.code in let d = g.bounds.globals in let e = g.bounds.heap in let f = g.bounds.stack in let h = g.bounds.tables in let i = g.bounds.frame_table in let big = g.big in
       record {
         first_word = variable 1029 _ (omega arith) (omega arith) variables.stack_first;
-        stack_word = variable 1030 _ (omega arith) (omega arith) variables.stack_words;
+        limit_word = variable 1030 _ (omega arith) (omega arith) variables.stack_limit;
         variables = omega (arith, b, cd, d, e, f, h, i, big);
         inside = omega (arith, b, f, h, i, big);
       }
@@ -213,7 +213,7 @@ module _ (simulates : MachineSimulates) (joins : RunsJoin) (fitting : StaysFitti
   -- the function is entered, and the run stands there
   pub record Begun : Type 0 where
     pub base : ℕ
-    pub few : base ≤ 7
+    pub few : base ≤ 5
     pub end : CodeState
     pub come : Here base end
     pub counts : CountsCalls x s0 base 0
@@ -247,7 +247,7 @@ module _ (simulates : MachineSimulates) (joins : RunsJoin) (fitting : StaysFitti
       (λ j lt. word_there (heap_at y.map + j) (omega (arith, lt, flat_scalars (address_of y.map c.c0) c.c0.heap_values, n, b, e, f, h, i, big)) ∙ standing.kernel.heap j lt)
 
   -- the data, with the registers as the entry left them
-  stands : (c' : Contents) → IsEntered p.globals (stack_at y.map) y.map.params.stack (layer_words + 7) (seen s0) c' → code_run.ConfigurationStands Machines Changes (Outer y c.current) z typed.0 started c' (behind s0)
+  stands : (c' : Contents) → IsEntered p.globals (stack_at y.map) y.map.params.stack (layer_words + 5) (seen s0) c' → code_run.ConfigurationStands Machines Changes (Outer y c.current) z typed.0 started c' (behind s0)
   stands c' ent =
       let used = standing.whole.used in let room = standing.whole.heap in
       let memory = ent.memory in
@@ -263,7 +263,7 @@ module _ (simulates : MachineSimulates) (joins : RunsJoin) (fitting : StaysFitti
         heap_size = ap (λ m. m 1027) ent.memory ∙ variable 1027 _ (omega arith) (omega arith) variables.heap_words;
         heap_first = ap (λ m. m 1028) ent.memory ∙ variable 1028 _ (omega arith) (omega arith) variables.heap_first;
         stack_first = ap (λ m. m 1029) ent.memory ∙ variable 1029 _ (omega arith) (omega arith) variables.stack_first;
-        stack_size = ap (λ m. m 1030) ent.memory ∙ variable 1030 _ (omega arith) (omega arith) variables.stack_words;
+        stack_limit = ap (λ m. m 1030) ent.memory ∙ variable 1030 _ (omega arith) (omega arith) variables.stack_limit;
         globals_at = ent.globals ∙ st.globals;
         stack_end = ent.stack;
         outer = z.outer_stays (machines_of y.map.params c) (seen s0) c' (behind s0) (λ k no. ap (λ m. m k) ent.memory) ent.special (outer_of alikes x y g.bounds whole_so s0 c standing (no_user s0 called.at.inside.mode));
@@ -271,7 +271,7 @@ module _ (simulates : MachineSimulates) (joins : RunsJoin) (fitting : StaysFitti
       }
 
   -- an argument's register
-  passed : (c' : Contents) → IsEntered p.globals (stack_at y.map) y.map.params.stack (layer_words + 7) (seen s0) c' → (r : ℕ) (a : ℤ) → r < 28 → signed (slice_index s0.cpu.regs r) ≡ a → c'.regs r ≡ cast_unsigned w32 a
+  passed : (c' : Contents) → IsEntered p.globals (stack_at y.map) y.map.params.stack (layer_words + 5) (seen s0) c' → (r : ℕ) (a : ℤ) → r < 28 → signed (slice_index s0.cpu.regs r) ≡ a → c'.regs r ≡ cast_unsigned w32 a
   passed c' ent r a lt is =
       let n = standing.fits.cpu.regs.size in
       ent.regs r lt ∙ sym (of_z-to_z w32 (slice_index s0.cpu.regs r) (standing.fits.cpu.regs.each r 0 (omega (arith, n, lt)))) ∙ ap (cast_unsigned w32) is
@@ -281,7 +281,7 @@ module _ (simulates : MachineSimulates) (joins : RunsJoin) (fitting : StaysFitti
       let f = first in
       let e = entry.enters layer_words p.globals target (stack_at y.map) y.map.params.stack (seen s0) (behind s0) code_at standing.idle stack_is in
       let ent = e.1 in
-      let one = f.few in let six = e.2.within in
+      let one = f.few in let four = e.2.within in
       let d = dispatch u st.checked in
       let is : slice_get u.functions (dispatch_number u) ≡ Some d.1 = subst (λ k. slice_get u.functions k ≡ Some d.1) (sym (ap (λ o. unwrap_or o 0) d.2)) d.3 in
       let k = and_parts _ _ d.4 in
@@ -290,7 +290,7 @@ module _ (simulates : MachineSimulates) (joins : RunsJoin) (fitting : StaysFitti
       let frame = ent.frame in
       record {
         base = f.steps + e.2.steps;
-        few = omega (arith, one, six);
+        few = omega (arith, one, four);
         end = at_with target e.0 (behind s0);
         come = goes_on simulates joins x y code words sound s0 f.steps e.2.steps (at_with (layer_words + 1) (with_half p.globals (seen s0)) (behind s0)) (at_with target e.0 (behind s0)) f.come e.2.run;
         counts = counts_on simulates joins x y code words sound s0 f.steps e.2.steps (at_with (layer_words + 1) (with_half p.globals (seen s0)) (behind s0)) (at_with target e.0 (behind s0)) f.come e.2.run 0 f.counts;
@@ -303,7 +303,7 @@ module _ (simulates : MachineSimulates) (joins : RunsJoin) (fitting : StaysFitti
           function = d.1;
           is = is;
           at = refl;
-          to = layer_words + 7;
+          to = layer_words + 5;
           return_at = e.1.back;
           fits = three_ints same_types (shapes u) (store_typing u typed.0) d.1.params cause edata user ints.0 (subst (FitsSigned w32) a0 (signed_fits _)) (subst (FitsSigned w32) a1 (signed_fits _)) (subst (FitsSigned w32) a2 (signed_fits _));
           arguments = (passed e.0 e.1 20 cause (omega arith) a0, (passed e.0 e.1 21 edata (omega arith) a1, (passed e.0 e.1 22 user (omega arith) a2, tt)));

@@ -136,7 +136,7 @@ module _ (simulates : MachineSimulates) (joins : RunsJoin) (fitting : StaysFitti
   is_at k a s h objects e here sd at place = record { inside = inside_of x (run x s0 k) here.quiet; pc = pc_of k a s here at ∙ place; stands = stands_now k s h objects here sd }
 
   module _ (entry : EntryRuns (on_machine x (program y.map (layer_words + 1) code words))) (code_at : CodeAt (on_machine x (program y.map (layer_words + 1) code words)) (layer_words + 1) (behind_first p.globals (4 * (links_of p).function (dispatch_number u))))
-      (base n : ℕ) (few : base ≤ 7) where
+      (base n : ℕ) (few : base ≤ 5) where
     abbrev To : c0_run.Outcome Machines Changes → Type 0
     To o = RunTo simulates joins fitting alikes rows x y u p code words longest c.current st g user_ok small sound s0 base n o
 
@@ -152,10 +152,10 @@ module _ (simulates : MachineSimulates) (joins : RunsJoin) (fitting : StaysFitti
     -- the first function has returned: a jump leads to the entry at which the kernel is left
     pub left : (cost : Cost) (d : H) → To (c0_run.Done cost d) → Left cost d
     left cost d r =
-        let at_back : ◌≡◌ {A = CodeState} r.1 (at_with (layer_words + 7) r.1.contents r.1.behind) = ap (λ i. at_with i r.1.contents r.1.behind) r.3.at in
+        let at_back : ◌≡◌ {A = CodeState} r.1 (at_with (layer_words + 5) r.1.contents r.1.behind) = ap (λ i. at_with i r.1.contents r.1.behind) r.3.at in
         let jump = entry.leaves layer_words p.globals (4 * (links_of p).function (dispatch_number u)) r.1.contents r.1.behind code_at r.3.stands.idle in
         let there = subst (Here r.0) at_back r.2 in
-        let here = goes_on simulates joins x y code words sound s0 r.0 jump.steps (at_with (layer_words + 7) r.1.contents r.1.behind) (at_with 2062 r.1.contents r.1.behind) there jump.run in
+        let here = goes_on simulates joins x y code words sound s0 r.0 jump.steps (at_with (layer_words + 5) r.1.contents r.1.behind) (at_with 2062 r.1.contents r.1.behind) there jump.run in
         let one = jump.within in let high = r.4 in let some = r.5 in
         record {
           steps = r.0 + jump.steps;
@@ -165,7 +165,7 @@ module _ (simulates : MachineSimulates) (joins : RunsJoin) (fitting : StaysFitti
           answer = λ a is fits.
               let value : r.3.value ≡ int a = some_same (sym r.3.is ∙ is) in
               ap (λ q. signed (q.contents.regs 2)) here.same ∙ ap signed r.3.answer ∙ ap (λ v. signed (word (unit_scope u) (its_bases r.3.objects) v)) value ∙ to_z-of_z w32 a fits;
-          counts = counts_on simulates joins x y code words sound s0 r.0 jump.steps (at_with (layer_words + 7) r.1.contents r.1.behind) (at_with 2062 r.1.contents r.1.behind) there jump.run (length (journal d)) r.6.counts;
+          counts = counts_on simulates joins x y code words sound s0 r.0 jump.steps (at_with (layer_words + 5) r.1.contents r.1.behind) (at_with 2062 r.1.contents r.1.behind) there jump.run (length (journal d)) r.6.counts;
         }
       where
         some_same : {v w : Value} → Some v ≡ Some w → v ≡ w

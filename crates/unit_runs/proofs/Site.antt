@@ -40,7 +40,7 @@ kernels_few = (omega arith, (omega arith, (omega arith, (omega arith, (omega ari
 
 -- where the unit's data stand on a map, and the word behind the entry's call
 abbrev pub regions_on : Map → UnitData
-regions_on m = record { globals = globals_at m; heap = heap_at m; stack = stack_at m; back = layer_words + 7 }
+regions_on m = record { globals = globals_at m; heap = heap_at m; stack = stack_at m; back = layer_words + 5 }
 
 module _ (x : Environment) (y : Site) (u : CUnit) (p : Places) (code : List Inst) (words : List ℕ) (st : CodeStands u p y code) (b : Bounds y.map)
     (big : memory_words y.map ≤ length words) (small : length words < 2 ^ 26) (alikes : AlikesStand) (current : ℕ) where

@@ -77,7 +77,7 @@ module _ (simulates : MachineSimulates) (joins : RunsJoin) (fitting : StaysFitti
     (x : Environment) (y : Site) (u : CUnit) (p : Places) (code : List Inst) (words : List ℕ) (longest : ℕ) (c : Core) (st : CodeStands u p y code) (g : Ground x y words longest) (user_ok : c.current ≤ y.map.users)
     (small : length words < 2 ^ 26) (sound : Sound (on_machine x (program y.map (layer_words + 1) code words))) (s0 : State)
     (flats : HeldIsFlat) (opened : IsOpened (shapes u)) (entry : EntryRuns (on_machine x (program y.map (layer_words + 1) code words)))
-    (code_at : CodeAt (on_machine x (program y.map (layer_words + 1) code words)) (layer_words + 1) (behind_first p.globals (4 * (links_of p).function (dispatch_number u)))) (base n : ℕ) (few : base ≤ 7) where
+    (code_at : CodeAt (on_machine x (program y.map (layer_words + 1) code words)) (layer_words + 1) (behind_first p.globals (4 * (links_of p).function (dispatch_number u)))) (base n : ℕ) (few : base ≤ 5) where
   abbrev To : c0_run.Outcome Machines Changes → Type 0
   To o = RunTo simulates joins fitting alikes rows x y u p code words longest c.current st g user_ok small sound s0 base n o
 

@@ -3,7 +3,7 @@ use Rattle.std.specs.Prelude.{◌≡◌, ℕ, ◌+◌, ◌<◌, ◌≤◌, false
 use Rattle.mips_table.specs.Code.{Contents, Behind}
 use Rattle.mips_table.specs.Machine.{LOG_ROOM}
 use Rattle.mips_table.specs.Processor.{Cpu}
-use Rattle.layer_map.specs.Map.{current_at, heap_words_at, stack_words_at, block_at}
+use Rattle.layer_map.specs.Map.{current_at, heap_words_at, stack_limit_at, block_at}
 use Rattle.layer_map.specs.declared.places.TheConstants.{BLOCK_SIZE, BLOCK_HI, BLOCK_LO}
 use Rattle.page_model.specs.Paging.{PagingInvariant}
 use Rattle.page_model.specs.Places.{page_layout, places_of, paged_view}
@@ -27,7 +27,7 @@ pub record Outer (y : Site) (current : ℕ) (v : Machines) (c : Contents) (d : B
   pub sizes : (u : ℕ) → 1 ≤ u → u ≤ length v.users → c.memory (block_at u + BLOCK_SIZE) ≡ pages_of (user_of v.users u)
   pub blocks : (u : ℕ) → 1 ≤ u → u ≤ length v.users → BlockIs c.memory u (user_of v.users u).cpu
   pub user : c.memory current_at ≡ current
-  pub places : (k : ℕ) → heap_words_at ≤ k → k ≤ stack_words_at → c.memory k ≡ slice_index y.linked k
+  pub places : (k : ℕ) → heap_words_at ≤ k → k ≤ stack_limit_at → c.memory k ≡ slice_index y.linked k
   pub linked : (k : ℕ) → k < length y.linked → is_own y.map k ≡ false → c.memory k ≡ slice_index y.linked k
   pub pages : PagingInvariant (page_layout y.map) (pages_by y.map.params.pages v.users) (paged_view (places_of y.map) c.memory d.sectors)
   pub log_room : length v.console.log ≤ LOG_ROOM

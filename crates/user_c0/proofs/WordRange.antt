@@ -70,8 +70,8 @@ zero_fits = omega arith
 joined : (n : ℕ) (before part : List ℕ) → All IsWord before → All IsWord part → All IsWord (before ++ (replicate n 0 ++ part))
 joined n before part a b = All-append IsWord before (replicate n 0 ++ part) a (All-append IsWord (replicate n 0) part (All-replicate IsWord n 0 zero_fits) b)
 
-variables : (heap stack : ℕ) → IsWord heap → IsWord stack → All IsWord (variables_of heap stack)
-variables heap stack h s = All-from_recursion IsWord (variables_of heap stack) (omega arith, (omega arith, (h, (s, (omega arith, tt)))))
+variables : (heap stack limit : ℕ) → IsWord heap → IsWord stack → IsWord limit → All IsWord (variables_of heap stack limit)
+variables heap stack limit h s l = All-from_recursion IsWord (variables_of heap stack limit) (omega arith, (omega arith, (h, (s, (l, tt)))))
 
 start_fits : All IsWord (map encoding start_code)
 start_fits = code_words start_code (All-from_recursion InRange start_code (search rules))
@@ -85,27 +85,27 @@ exits_fit = code_words exits_code (All-from_recursion InRange exits_code (search
 loops_fit : All IsWord (map encoding loops_code)
 loops_fit = code_words loops_code (All-from_recursion InRange loops_code (search rules))
 
--- the words below the unit's code, part by part: they hang on the map by two addresses alone
-abbrev with_start : (heap stack : ℕ) → List ℕ
-with_start heap stack = map encoding start_code ++ (replicate 1025 0 ++ variables_of heap stack)
+-- the words below the unit's code, part by part: they hang on the map by three addresses alone
+abbrev with_start : (heap stack limit : ℕ) → List ℕ
+with_start heap stack limit = map encoding start_code ++ (replicate 1025 0 ++ variables_of heap stack limit)
 
-abbrev with_stub : (heap stack : ℕ) → List ℕ
-with_stub heap stack = with_start heap stack ++ (replicate 1017 0 ++ map encoding stub_code)
+abbrev with_stub : (heap stack limit : ℕ) → List ℕ
+with_stub heap stack limit = with_start heap stack limit ++ (replicate 1017 0 ++ map encoding stub_code)
 
-abbrev with_exits : (heap stack : ℕ) → List ℕ
-with_exits heap stack = with_stub heap stack ++ (replicate 6 0 ++ map encoding exits_code)
+abbrev with_exits : (heap stack limit : ℕ) → List ℕ
+with_exits heap stack limit = with_stub heap stack limit ++ (replicate 6 0 ++ map encoding exits_code)
 
-abbrev with_loops : (heap stack : ℕ) → List ℕ
-with_loops heap stack = with_exits heap stack ++ (replicate 1 0 ++ map encoding loops_code)
+abbrev with_loops : (heap stack limit : ℕ) → List ℕ
+with_loops heap stack limit = with_exits heap stack limit ++ (replicate 1 0 ++ map encoding loops_code)
 
-abbrev pub low_words : (heap stack : ℕ) → List ℕ
-low_words heap stack = with_loops heap stack ++ replicate 14310 0
+abbrev pub low_words : (heap stack limit : ℕ) → List ℕ
+low_words heap stack limit = with_loops heap stack limit ++ replicate 14310 0
 
 -- they are words
-pub low_fit : (heap stack : ℕ) → IsWord heap → IsWord stack → All IsWord (low_words heap stack)
-low_fit heap stack h s =
-    let a = joined 1025 (map encoding start_code) (variables_of heap stack) start_fits (variables heap stack h s) in
-    let b = joined 1017 (with_start heap stack) (map encoding stub_code) a stub_fits in
-    let c = joined 6 (with_stub heap stack) (map encoding exits_code) b exits_fit in
-    let d = joined 1 (with_exits heap stack) (map encoding loops_code) c loops_fit in
-    All-append IsWord (with_loops heap stack) (replicate 14310 0) d (All-replicate IsWord 14310 0 zero_fits)
+pub low_fit : (heap stack limit : ℕ) → IsWord heap → IsWord stack → IsWord limit → All IsWord (low_words heap stack limit)
+low_fit heap stack limit h s l =
+    let a = joined 1025 (map encoding start_code) (variables_of heap stack limit) start_fits (variables heap stack limit h s l) in
+    let b = joined 1017 (with_start heap stack limit) (map encoding stub_code) a stub_fits in
+    let c = joined 6 (with_stub heap stack limit) (map encoding exits_code) b exits_fit in
+    let d = joined 1 (with_exits heap stack limit) (map encoding loops_code) c loops_fit in
+    All-append IsWord (with_loops heap stack limit) (replicate 14310 0) d (All-replicate IsWord 14310 0 zero_fits)

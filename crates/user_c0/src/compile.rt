@@ -13,7 +13,6 @@ use crate::image::{ROOM, image};
 use crate::laws::{images_are_whole, images_run};
 use c0_meaning::UserChecked;
 use c0_meaning::laws::units_are_typed_or_faulty;
-use c0_struct_sizes::measured;
 use c0_unit::laws::{units_have_places, units_stand};
 use c0_unit::{compile_flat, global_words};
 use layer_map::{Map, Params};
@@ -35,22 +34,22 @@ fn compiled(alloc: Global, unit: &UserChecked) -> Result<Vec<u32>, AllocError>
 }
 
 // Where the parts of a program's image stand, whose code has so many words.
-fn image_map(alloc: Global, unit: &UserChecked, code: &[u32]) -> Result<Map, AllocError>
+fn image_map(unit: &UserChecked, code: &[u32]) -> Map
     requires code { code.now ≡ program_words (unit_view unit.now) }
     requires most { length code.now ≤ 4177920 }
-    ensures { IfOk result (λ m. m ≡ map_of (unit_view unit.now)) }
+    ensures { result ≡ map_of (unit_view unit.now) }
 {
     units_have_places();
     units_stand();
-    let sized = measured(alloc, unit.unit())?;
+    let _unit = unit.unit();
     let params = Params {
         pages: 1,
         frames: 2,
         heap: ROOM,
         stack: ROOM,
     };
-    let globals = global_words(&sized);
-    Ok(Map::of(&params, 0, code.len() as u32, globals))
+    let globals = global_words(&unit.measured());
+    Map::of(&params, 0, code.len() as u32, globals)
 }
 
 // How many words a program's image has.
@@ -80,7 +79,14 @@ fn laid_out(
     images_are_whole();
     let _unit = unit.unit();
     let words = (map.page_tables() / 4) as usize;
-    let laid = image(alloc, code, map.heap(), map.stack(), words)?;
+    let laid = image(
+        alloc,
+        code,
+        map.heap(),
+        map.stack(),
+        map.stack_limit(),
+        words,
+    )?;
     Ok(laid)
 }
 
@@ -97,9 +103,7 @@ pub fn compile_user(alloc: Global, unit: &UserChecked) -> Result<Vec<u32>, UserF
     let Ok(code) = compiled(alloc, unit) else {
         return Err(UserFault::Memory);
     };
-    let Ok(map) = image_map(alloc, unit, &code) else {
-        return Err(UserFault::Memory);
-    };
+    let map = image_map(unit, &code);
     let words = image_size(unit, &map);
     if words > MOST {
         return Err(UserFault::TooLarge { words });

@@ -1,6 +1,6 @@
 use Rattle.std.proofs.Common.{◌∙◌}
-use Rattle.cvm_shell.specs.Boot.{booted}
-use Rattle.cvm_shell.specs.Isolation.{lines_met}
+use Rattle.run_scripts.specs.Boot.{booted}
+use Rattle.run_scripts.specs.Isolation.{lines_met}
 use Rattle.program_theorems.proofs.Answering.{are_events}
 use Rattle.program_theorems.proofs.kernels_answer.Goals as goal
 

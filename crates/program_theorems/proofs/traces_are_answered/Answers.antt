@@ -1,6 +1,6 @@
 use Rattle.std.proofs.Common.{sym, subst, ◌∙◌}
-use Rattle.cvm_shell.specs.Boot.{booted}
-use Rattle.cvm_shell.specs.Isolation.{lines_met}
+use Rattle.run_scripts.specs.Boot.{booted}
+use Rattle.run_scripts.specs.Isolation.{lines_met}
 use Rattle.user_c0.specs.Events.{IsAnsweredJournal}
 use Rattle.program_theorems.proofs.traces_are_answered.Goals as goal
 

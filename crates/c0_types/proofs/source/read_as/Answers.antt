@@ -9,7 +9,7 @@ use Rattle.c0_types.proofs.source.read_as.Goals as goal
 
 pub returns-in-Ok-checked-clause-only : goal.returns-in-Ok-checked-clause-only
 returns-in-Ok-checked-clause-only c = λ u le r.
-    subst (λ t. (source_faults_as c.args.program t ≡ []) × (unit_view c.in-Ok-checked.unit ≡ checked_as c.args.program t))
+    subst (λ t. (source_faults_as c.args.program t ≡ []) × (unit_view c.in-Ok-checked.unit.0 ≡ checked_as c.args.program t))
     (c.in-Ok.ensures.only u le r) (c.in-Ok-checked.ensures.faultless, c.in-Ok-checked.ensures.resolved)
 
 pub returns-in-Err-checked-clause-only : goal.returns-in-Err-checked-clause-only

@@ -16,6 +16,7 @@ use Rattle.c0_meaning.specs.Fault.{kept_all, GLOBALS_TOO_LARGE}
 use Rattle.c0_meaning.specs.Limits.{MAX_GLOBAL_WORDS, whole}
 use Rattle.c0_meaning.specs.Names.{struct_name_faults, unit_name_faults}
 use Rattle.c0_meaning.specs.Resolved.{resolved_decls, resolved_structs}
+use Rattle.c0_meaning.specs.Sizes.{struct_sizes}
 use Rattle.c0_meaning.specs.Unit.{structs_faults}
 use Rattle.c0_meaning.specs.Words.{all_words}
 use Rattle.c0_name_check.specs.Met.{met_view}
@@ -62,6 +63,9 @@ check_headings-requires c =
       few = subst (λ (l : List Function). length l < 2 ^ 32) (sym c.deref_mut-3.ensures.value) p.functions;
       plain = subst (λ (l : List Function). list_all is_plain_function (map function_view l) ≡ true) (sym c.deref_mut-3.ensures.value) p.bodies;
     }
+
+pub returns-clause-words : goal.returns-clause-words
+returns-clause-words c = c.in_ok-known.ensures.words ∙ ap (λ (l : List StructDef). struct_sizes (map shape_of (map struct_view l))) c.deref_mut.ensures.value
 
 pub returns-clause-tells : goal.returns-clause-tells
 returns-clause-tells c =

@@ -1,6 +1,6 @@
 -- The words of the parts, together.
 use Rattle.std.specs.Prelude.{map, sum, ◌++◌}
-use Rattle.std.proofs.Common.{◌≡◌, ℕ, ◌+◌, ◌*◌, ◌≤◌, List, length, ap, ◌∙◌, arith, length-append}
+use Rattle.std.proofs.Common.{◌≡◌, ℕ, ◌+◌, ◌*◌, ◌≤◌, List, length, ap, arith, length-append}
 use Rattle.mips_table.specs.Encoding.{encoding}
 use Rattle.c0_tree.specs.declared.tree.Unit.{Unit as Source}
 use Rattle.c0_tree.specs.View.{unit_view}
@@ -12,9 +12,8 @@ use Rattle.c0_unit.proofs.whole.compile_from.Goals as goal
 
 pub returns-clause-few : goal.returns-clause-few
 returns-clause-few c =
-    let same = c.in_ok-layout.ensures ∙ c.in_ok-sizes.ensures in
-    let words = ap (λ (s : Source). sum (words_of_functions (unit_view s) (unit_view s).functions)) same in
-    let first : length c.emit_entry.new.code.items ≡ 8 =
+    let words = ap (λ (s : Source). sum (words_of_functions (unit_view s) (unit_view s).functions)) c.in_ok-layout.ensures in
+    let first : length c.emit_entry.new.code.items ≡ 6 =
     let e : c.emit_entry.new.code.items ≡ c.new-code.result.items ++ map encoding (entry_code c.in_ok-places.places.globals c.start_of-start.result) = c.in_ok-emit_entry.ensures.appended in
     let none = ap (λ (ws : List ℕ). length ws) c.new-code.ensures.items in
     let l = ap (λ (ws : List ℕ). length ws) e in
@@ -27,14 +26,13 @@ returns-clause-few c =
     let few : code_words (unit_view c.args.unit.now) ≤ 512 + 32 * all_nodes (unit_view c.args.unit.now).functions = c.units_are_short.ensures (unit_view c.args.unit.now) in
     by_parts words first then last few
   where
-    by_parts : {a b x y z n : ℕ} → a ≡ b → x ≡ 8 → y ≡ x + 31 → z ≡ y + a → 8 + 31 + b ≤ n → z ≤ n
+    by_parts : {a b x y z n : ℕ} → a ≡ b → x ≡ 6 → y ≡ x + 31 → z ≡ y + a → 6 + 31 + b ≤ n → z ≤ n
     by_parts e f g h l = omega (arith, e, f, g, h, l)
 
 -- the first function's number is below the count of addresses
 pub start_of-start-requires : goal.start_of-start-requires
 start_of-start-requires c =
-    let same = c.in_ok-layout.ensures ∙ c.in_ok-sizes.ensures in
     let placed = ap (λ (ns : List ℕ). length ns) c.in_ok-places.ensures.placed.functions in
     let many = starts_are_many c.in_ok-layout.layout.unit.now in
-    let one = ap (λ (s : Source). length s.functions.items) same in
-    omega (arith, placed, many, one, c.requires.there, c.in_ok-places.places.functions.ok)
+    let one = ap (λ (s : Source). length s.functions.items) c.in_ok-layout.ensures in
+    omega (arith, placed, many, one, c.requires, c.in_ok-places.places.functions.ok)

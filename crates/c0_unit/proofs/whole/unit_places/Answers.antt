@@ -10,7 +10,7 @@ use Rattle.c0_unit.proofs.whole.unit_places.Goals as goal
 
 pub returns-clause-placed : goal.returns-clause-placed
 returns-clause-placed c =
-    let start : length c.in_ok-code.code.items ≡ 39 = let e = c.in_ok-code.ensures.len in omega (arith, e, c.in_ok-code.code.ok) in
+    let start : length c.in_ok-code.code.items ≡ 37 = let e = c.in_ok-code.ensures.len in omega (arith, e, c.in_ok-code.code.ok) in
     let long : c.len.result ≡ length c.in_ok-code.code.items + sum (words_of_functions (unit_view c.args.layout.now.unit.now) (unit_view c.args.layout.now.unit.now).functions) =
     let l = c.len.ensures in
     let n = c.in_ok-starts.ensures.length in
