@@ -1,14 +1,12 @@
 -- What a call leaves, by what its calls left.
-use Rattle.std.proofs.Common.{◌≡◌, ℕ, zero, suc, ◌+◌, ◌≤◌, ◌++◌, List, Option, Result, Ok, Err, OnOk, OnErr, refl, sym, ap, ap₂, ◌∙◌, subst, arith}
+use Rattle.std.proofs.Common.{◌≡◌, ℕ, zero, suc, ◌+◌, ◌≤◌, ◌++◌, List, Option, Result, Ok, Err, OnOk, OnErr, sym, ap, ap₂, ◌∙◌, subst, arith}
 use Rattle.std.specs.Io.KnownBytes.{append_known}
 use Rattle.cvm_outside.specs.Causes.{Counts, Rose}
 use Rattle.cvm_outside.specs.Numbering.{Tally, until_fault, called}
 use Rattle.cvm_outside.specs.Told.{AppendsPart}
 use Rattle.cvm_outside.proofs.Parts.{puts-both, part-back}
 use Rattle.mips_machine.specs.Machine.{Held}
-use Rattle.boot_report.specs.declared.fault.ReportFault.{ReportFault}
-use Rattle.boot_report.specs.declared.fault.ReportFault.TheVariants.{Disk, Sink}
-use Rattle.boot_report.specs.Leaves.{CallsDisk, AsksFor, OnlyViews, PrintsAll, PutsRows}
+use Rattle.boot_report.specs.Leaves.{OnlyViews, PrintsAll, PutsRows}
 use Rattle.boot_report.specs.Texts.{SameButViewed}
 
 on_ok : {T E P Q : Type 0} (r : Result T E) → (P → Q) → OnOk r P → OnOk r Q
@@ -20,10 +18,6 @@ on_err (Ok v) f h = tt
 on_err (Err e) f h = f h
 
 module _ {T E O : Type 0} (text : O → Option (List ℕ)) (broke : O → ℕ) (out mid reout : O) (rows : List ℕ) where
-  -- rows are put
-  pub done : (v : T) → text reout ≡ append_known (text out) rows → broke reout ≡ broke out → PutsRows {T = T} {E = E} text broke out reout rows (Ok v)
-  done v all same = record { ok = all; err = tt; count = record { later = omega (arith, same); rose = tt; same = same } }
-
   -- a part of them is put, where the last call failed and none before it
   pub fails : (r : Result T E) (e : E) → r ≡ Err e → broke mid ≡ broke out → broke mid ≤ broke reout → Rose (broke mid) (broke reout) → AppendsPart (text out) (text reout) rows → PutsRows text broke out reout rows r
   fails r e is same later rose part =
@@ -65,30 +59,3 @@ views_twice told large a b c one two three v w = record { same = same_twice a b 
 pub called_behind : (p q : ℕ) (x y : Tally) → y.faults ≡ x.faults → y.calls ≡ called q x → called p y ≡ called (p + q) x
 called_behind zero q x y same e = e ∙ ap (λ k. called k x) (let z : q ≡ 0 + q = omega arith in z)
 called_behind (suc p) q x y same e = ap₂ until_fault same (called_behind p q x y same e) ∙ ap (λ k. called k x) (let z : suc (p + q) ≡ suc p + q = omega arith in z)
-
--- nothing was asked of the disk
-pub asks_none : (P : Type 0) (x : Tally) → (P → ⊥) → CallsDisk P x x
-asks_none P x never = record { made = 0; calls = refl; some = λ h. absurd (never h) }
-
--- what was asked of it in two parts, where the first met no fault
-pub asks_twice : (O P : Type 0) (x y z : Tally) → y.faults ≡ x.faults → CallsDisk O x y → CallsDisk P y z → CallsDisk P x z
-asks_twice O P x y z same first then = record {
-  made = then.made + first.made;
-  calls = then.calls ∙ called_behind then.made first.made x y same first.calls;
-  some = λ h. let e = then.some h in omega (arith, e);
-}
-
--- what was asked of it, where another answer says whose fault that was
-pub asks_as : (O P : Type 0) (x y : Tally) → (P → O) → CallsDisk O x y → CallsDisk P x y
-asks_as O P x y of a = record { made = a.made; calls = a.calls; some = λ h. a.some (of h) }
-
--- and where it was called just so often
-pub asks_for : (n : ℕ) (P : Type 0) (x y : Tally) → AsksFor n P x y → CallsDisk P x y
-asks_for n P x y a = record { made = n; calls = a.calls; some = λ h. let e = a.some h in omega (arith, e) }
-
-pub asks_one : (n : ℕ) (P : Type 0) (x y : Tally) → n ≡ 1 → y.calls ≡ until_fault x.faults x.calls → AsksFor n P x y
-asks_one n P x y one made = record { calls = made ∙ ap (λ k. called k x) (sym one); some = λ h. one }
-
--- a fault of the sink is none of the disk
-pub not_disk : {T : Type 0} (r : Result T ReportFault) (f : ReportFault) → r ≡ Err f → f ≡ Sink → r ≡ Err Disk → ⊥
-not_disk r f is at_sink e = cc

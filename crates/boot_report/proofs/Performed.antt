@@ -4,11 +4,10 @@ use Rattle.std.specs.Prelude.{IfOk, IfSome, if◌then◌else◌}
 use Rattle.std.proofs.Math.Nat.{mul-le-mul_right}
 use Rattle.cvm_outside.specs.Causes.{Counts}
 use Rattle.cvm_outside.specs.Numbering.{called}
-use Rattle.cvm_outside.specs.Outside.{Outside, Output, no_files, no_output, counts, output, drive}
-use Rattle.cvm_outside.specs.Script.{Call, Read, Who, TheSink, TheDisk, Performs, done, Prints, Asks, Makes, WritesNoSector, spoken, blame, of_disk}
+use Rattle.cvm_outside.specs.Outside.{Outside, no_files, no_output, counts, output, drive}
+use Rattle.cvm_outside.specs.Script.{Call, Read, Who, TheSink, TheDisk, Performs, done, Asks, Makes, WritesNoSector, spoken, blame, of_disk}
 use Rattle.cvm_outside.specs.ScriptLaws.{Blamed, Counted, PrintedBy}
 use Rattle.cvm_outside.specs.declared.sink.Sink as sink_of
-use Rattle.cvm_outside.specs.declared.sink.SinkFault.{SinkFault}
 use Rattle.cvm_outside.specs.declared.sectors.Sectors as sectors_of
 use Rattle.cvm_outside.specs.declared.sectors.DiskFault.{DiskFault}
 use Rattle.cvm_outside.proofs.Blame.{blame_one}
@@ -22,20 +21,13 @@ use Rattle.cvm_model.specs.Paged.{paged_of}
 use Rattle.boot_report.specs.declared.fault.ReportFault.{ReportFault}
 use Rattle.boot_report.specs.declared.fault.ReportFault.TheVariants.{Disk, Sink}
 use Rattle.boot_report.specs.Blames.{Blames}
-use Rattle.boot_report.specs.Leaves.{AsksFor, PrintsAll, PutsRows, Reads, ReadsFor}
+use Rattle.boot_report.specs.Leaves.{AsksFor, PrintsAll, Reads, ReadsFor}
 use Rattle.boot_report.specs.Resident.{is_resident, page_of_word, word_reads, word_calls, word_told}
 use Rattle.boot_report.specs.Scripts.{of_report}
 use Rattle.boot_report.specs.Stand.{WordStands}
 use Rattle.boot_report.specs.Told.{user_word}
 use Rattle.boot_report.proofs.MemoryLemmas.{reads_quiet}
 use Rattle.boot_report.proofs.Spoken.{shown_is}
-
--- rows that a sink was given
-pub prints_puts : {O T : Type 0} (told : sink_of.Ghosts O) (old new : O) (rows : List ℕ) (r : Result T SinkFault) → Prints told old new rows r → PutsRows told.text told.faults old new rows r
-prints_puts told old new rows (Ok v) p =
-    let same = ap (λ (o : Output). o.faults) p.by in
-    record { ok = ap (λ (o : Output). o.text) p.by; err = tt; count = record { later = omega (arith, same); rose = tt; same = same } }
-prints_puts told old new rows (Err e) p = record { ok = tt; err = p.by.0; count = record { later = p.by.1.later; rose = p.by.1.rose; same = tt } }
 
 -- whom an answer of a report blames
 is_disk : {T : Type 0} (r : Result T ReportFault) → blame of_report r ≡ Some TheDisk → r ≡ Err Disk

@@ -68,9 +68,6 @@ module _ (x : Environment) (y : Site) (held : Held) (ss : List (List ℕ)) (stat
   abbrev s : State
   s = state_of held ss
 
-  abbrev per : ℕ
-  per = y.map.params.pages
-
   abbrev a : Paged
   a = paged_of y.map s
 

@@ -1,5 +1,5 @@
 -- Texts that are put one after another.
-use Rattle.std.proofs.Common.{◌≡◌, ℕ, zero, suc, ◌+◌, ◌-◌, ◌*◌, ◌<◌, List, [], ◌∷◌, ◌++◌, length, get_or, Option, Some, None, refl, sym, ap, ap₂, ◌∙◌, arith, append-nil, append_assoc}
+use Rattle.std.proofs.Common.{◌≡◌, ℕ, zero, suc, ◌+◌, ◌-◌, ◌*◌, ◌<◌, List, [], ◌++◌, Option, Some, None, refl, sym, ap, ap₂, ◌∙◌, arith, append-nil, append_assoc}
 use Rattle.cvm_outside.specs.Outside.{Output}
 use Rattle.cvm_outside.specs.Script.{Puts, Who}
 use Rattle.cvm_outside.proofs.Putting.{puts_none, puts_both, puts_first, puts_same}
@@ -53,9 +53,3 @@ rows_stop f i n old mid new whom lt p q =
     let d : i + 1 + (n - (i + 1)) ≡ n = omega (arith, lt) in
     puts_same (texts f (i + 1) ++ texts (λ k. f (i + 1 + k)) (n - (i + 1))) (texts f n) old new (Some whom) (sym (texts-add f (i + 1) (n - (i + 1))) ∙ ap (texts f) d)
     (puts_first (texts f (i + 1)) (texts (λ k. f (i + 1 + k)) (n - (i + 1))) old new whom (rows_more f i (i + 1) old mid new (Some whom) refl p q))
-
--- an element of a list doesn't hang on the default
-pub same_default : {A : Type 0} (xs : List A) (i : ℕ) (a b : A) → i < length xs → get_or xs i a ≡ get_or xs i b
-same_default [] i a b lt = absurd (omega arith)
-same_default (x ∷ xs) zero a b lt = refl
-same_default (x ∷ xs) (suc i) a b lt = same_default xs i a b (omega arith)

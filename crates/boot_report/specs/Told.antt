@@ -1,5 +1,5 @@
 -- What is printed of the users is what the abstract machine's text says of them, where the machine stands for its state.
-use Rattle.std.specs.Prelude.{◌≡◌, ℕ, ◌+◌, ◌-◌, ◌*◌, ◌/◌, ◌%◌, ◌<◌, ◌≤◌, Bool, true, false, Option, Some, List, length, slice_index}
+use Rattle.std.specs.Prelude.{◌≡◌, ℕ, ◌+◌, ◌-◌, ◌*◌, ◌/◌, ◌%◌, ◌<◌, ◌≤◌, true, false, Option, Some, List, length, slice_index}
 use Rattle.mips_table.specs.Device.{Environment}
 use Rattle.mips_machine.specs.Machine.{Held, state_of}
 use Rattle.mips_table.specs.Machine.{State}
@@ -11,7 +11,7 @@ use Rattle.cvm_model.specs.Cvm.{Status}
 use Rattle.cvm_model.specs.Paged.{paged_of}
 use Rattle.cvm_model.specs.Stands.{Site, RunningRelation, IsUser, runs_user}
 use Rattle.cvm_model.specs.Text.{user_text, users_text, log_text}
-use Rattle.boot_report.specs.Texts.{rows_of_one, rows_of_user, users_rows, log_rows, EntriesFit}
+use Rattle.boot_report.specs.Texts.{rows_of_user, users_rows, log_rows, EntriesFit}
 
 -- P of the sectors, where they are told and valid entries of page tables name frames of the memory
 abbrev pub WhereSectors : (told : Option (List (List ℕ))) → Held → Map → (List (List ℕ) → Type 0) → Type 0
@@ -20,14 +20,6 @@ WhereSectors told held m P = (ss : List (List ℕ)) → told ≡ Some ss → Ent
 -- P of the pages, where the sectors are told so
 abbrev pub WherePaged : (told : Option (List (List ℕ))) → Held → Map → (Paged → Type 0) → Type 0
 WherePaged told held m P = WhereSectors told held m (λ ss. P (paged_of m (state_of held ss)))
-
--- P of the rows of user u, who runs or not, and a result
-abbrev pub ForUser : {R : Type 0} → (told : Option (List (List ℕ))) → Held → Map → (runs : Bool) → (u : ℕ) → (List ℕ → R → Type 0) → R → Type 0
-ForUser told held m runs u P result = WherePaged told held m (λ a. P (rows_of_one m held a runs u) result)
-
--- P of the rows of all users, of whom one may run, and a result
-abbrev pub ForUsers : {R : Type 0} → (told : Option (List (List ℕ))) → Held → Map → (running : ℕ) → (List ℕ → R → Type 0) → R → Type 0
-ForUsers told held m running P result = WherePaged told held m (λ a. P (users_rows m held a running m.users) result)
 
 -- the user whom the machine runs has this number, and where it runs none the number is 0
 pub record IsRunning (held : Held) (ss : List (List ℕ)) (c : Core) (running : ℕ) : Type 0 where

@@ -64,9 +64,6 @@ use Rattle.boot_run.proofs.ReadingCalls.{reads_behind}
 use Rattle.boot_run.proofs.ScriptParts.{at}
 use Rattle.boot_run.proofs.TraceReporting.{is_user, told_user, users_are_those}
 
-no_fault : (b : Bool) → b ≡ true → b ≡ false → ⊥
-no_fault b e f = cc
-
 -- which calls a report makes, where nothing is told
 of_if : (b : Bool) (q : ℕ) → AreReads (untold (if b then [] else Read q ∷ []))
 of_if true q = tt

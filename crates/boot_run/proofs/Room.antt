@@ -1,15 +1,14 @@
 -- What a loaded run has room for.
-use Rattle.std.proofs.Common.{◌≡◌, ℕ, zero, suc, ◌+◌, ◌*◌, ◌<◌, ◌≤◌, List, [], ◌∷◌, length, map, refl, sym, ap, ◌∙◌, subst, arith}
+use Rattle.std.proofs.Common.{◌≡◌, ℕ, zero, suc, ◌+◌, ◌<◌, ◌≤◌, List, [], ◌∷◌, length, map, refl, sym, ap, ◌∙◌, subst, arith}
 use Rattle.std.specs.Prelude.{slice_index}
 use Rattle.std.proofs.lemmas.List.{length-map}
-use Rattle.std.proofs.Math.Nat.{mul-le-mul}
 use Rattle.c0_tree.specs.View.{unit_view, decl_view}
 use Rattle.c0_meaning.specs.Env.{Shape, Typed, typed_of}
 use Rattle.c0_meaning.specs.Words.{words, all_words}
 use Rattle.c0_meaning.specs.Offsets.{offsets_from}
 use Rattle.c0_meaning.specs.Sound.{shapes}
 use Rattle.c0_meaning.specs.TypedState.{types_of}
-use Rattle.layer_map.specs.Map.{Map, PartsInOrder, MemoryIsWhole, globals_at, memory_words}
+use Rattle.layer_map.specs.Map.{Map, PartsInOrder, globals_at, memory_words}
 use Rattle.layer_contract.specs.declared.boot.Boot.{Boot as Booted}
 use Rattle.boot_run.specs.Placed.{PlacesHold}
 
@@ -30,12 +29,6 @@ module _ (b : Booted) (m : Map) (places memory : List ℕ) (count : ℕ) (p : Pl
       let f = length-map b.unit.globals.items decl_view in
       ap length p.globals ∙ places_many (shapes (unit_view b.unit)) (map typed_of (unit_view b.unit).globals) 0 ∙ e ∙ f
 
-  pub few_users : m.users ≤ 64
-  few_users = p.range.users
-
-  pub small : MemoryIsWhole m → memory_words m ≤ 30000000
-  small whole = let e = whole.frames in let f = whole.most in omega (arith, e, f)
-
   pub inside : PartsInOrder m → (i : ℕ) → i < length places → globals_at m + slice_index places i < memory_words m
   inside order i lt =
       let words : m.global_words ≡ all_words (shapes (unit_view b.unit)) (map typed_of (unit_view b.unit).globals) = ap (λ (q : Map). q.global_words) p.map in
@@ -50,15 +43,3 @@ module _ (b : Booted) (m : Map) (places memory : List ℕ) (count : ℕ) (p : Pl
       let t = order.tables in
       let f = order.frame_table in
       omega (arith, words, at, a, h, s, t, f)
-
-  pub few_pages : m.users * m.params.pages ≤ 65536
-  few_pages = let h : m.users * m.params.pages ≤ 64 * 1024 = mul-le-mul p.range.users p.range.params.pages in h
-
-  pub room : (size : ℕ) → size ≡ count → m.users * m.params.pages ≤ size
-  room size e =
-      let need : m.users * m.params.pages ≡ length b.users.items * b.params.pages = ap (λ (q : Map). q.users * q.params.pages) p.map ∙ ap (λ n. n * b.params.pages) (length-map b.users.items (λ words. words.items)) in
-      let s = p.sectors in
-      omega (arith, need, s, e)
-
-  pub layer : 16384 ≤ memory_words m
-  layer = omega arith

@@ -68,10 +68,6 @@ two a b c old mid new blamed none p q = with_none (a ++ b) c old new blamed none
 pub one : (a b c : List Call) (old new : Outside) (whom : Who) → Performs a old new (Some whom) → Performs (a ++ b ++ c) old new (Some whom)
 one a b c old new whom p = first (a ++ b) c old new whom (first a b old new whom p)
 
--- THE ROWS OF TURNS stand behind those before them
-same_some : (a b : Cvm) → Some a ≡ Some b → a ≡ b
-same_some a b e = cc
-
 no_more : (a d e : List Row) → a ≡ a ++ d ++ e → d ≡ []
 no_more a d e h = none d (let n = ap (λ (l : List Row). length l) h in omega (arith, n, length-append (a ++ d) e, length-append a d))
   where

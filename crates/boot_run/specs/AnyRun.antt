@@ -1,20 +1,20 @@
 -- What the calls of a loaded run come to on any run of the machine, whatever state that begins from: a run that is resumed from a file that no saved
 -- run left is one. Nothing is said of the text.
-use Rattle.std.specs.Prelude.{◌≡◌, ◌⊎◌, ℕ, suc, ◌+◌, ◌<◌, Bool, true, false, Option, Some, None, List, Result, MatchResult}
+use Rattle.std.specs.Prelude.{◌≡◌, ℕ, ◌+◌, Bool, true, false, Some, None, Result, MatchResult}
 use Rattle.mips_table.specs.Device.{Environment}
 use Rattle.mips_table.specs.Machine.{State, run}
 use Rattle.mips_machine.specs.Steps.{outside_of}
 use Rattle.boot_turns.specs.AnyTurns.{BrokeOff}
-use Rattle.boot_turns.specs.Sooner.{NoSooner, ComesTo}
+use Rattle.boot_turns.specs.Sooner.{ComesTo}
 use Rattle.boot_turns.specs.declared.answers.Turn.{Turn}
 use Rattle.boot_turns.specs.declared.answers.View.{View}
 use Rattle.boot_turns.specs.declared.answers.View.TheVariants.{Boot, Trace}
 use Rattle.boot_turns.specs.declared.answers.RunFault.{RunFault}
 use Rattle.boot_run.specs.declared.whole.RunEnd.{RunEnd}
-use Rattle.boot_run.specs.declared.whole.RunEnd.TheVariants.{KernelFaulted, DiskFault}
+use Rattle.boot_run.specs.declared.whole.RunEnd.TheVariants.{KernelFaulted}
 use Rattle.boot_run.specs.LoadEnds.{Kept}
 use Rattle.boot_run.specs.TurnCalls.{Around}
-use Rattle.boot_run.specs.AnyEnds.{ended_off, AnyEnds, SectorsTold}
+use Rattle.boot_run.specs.AnyEnds.{ended_off}
 
 -- from step t on the machine came to the end of turns, k in all
 pub record CameTo (x : Environment) (s : State) (k t : ℕ) (before after : Around) : Type 0 where
@@ -53,15 +53,3 @@ AnyGoRuns count r turns before after result = FromAnywhere count r before
 abbrev pub is_faulted : RunEnd → Bool
 is_faulted KernelFaulted = true
 is_faulted other = false
-
--- of a trace the disk may fail in a step that is done, where a page is read for its rows
-abbrev pub AnyRunEnds : Environment → State → View → (k total : ℕ) → (told : Option (List (List ℕ))) → RunEnd → Type 0
-AnyRunEnds x s Boot k total told e = AnyEnds x s k total told e
-AnyRunEnds x s (Trace u) k total told DiskFault = AnyEnds x s k total told DiskFault
-    ⊎ ((at : ℕ) × NoSooner x s k (suc at) × (at < total) × SectorsTold x s (suc at) told)
-AnyRunEnds x s (Trace u) k total told e = AnyEnds x s k total told e
-
--- of a loaded run, from each step of each run in which its machine stands
-abbrev pub AnyRunsToEnd : {L : Type 0} → (count : ℕ) → Kept L → (turns : ℕ) → (before : Around) → (retold : Option (List (List ℕ))) → RunEnd → Type 0
-AnyRunsToEnd count r turns before retold result = FromAnywhere count r before
-    (λ x s k t. AnyRunEnds x s r.view (k + turns) (before.budget + t) retold result)

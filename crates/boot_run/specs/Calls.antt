@@ -1,21 +1,14 @@
 -- What the calls of a loaded run come to, by the run, the disk, the budget and the sink before, and then by those after. The first three
 -- words of each tell the disk's size, its sectors and the sink's text.
 use Rattle.std.specs.Prelude.{◌≡◌, ℕ, Option, None, List, Result}
-use Rattle.cvm_outside.specs.Numbering.{Tally}
-use Rattle.schedule_file.specs.Rows.{Rows}
-use Rattle.layer_contract.specs.declared.boot.Boot.{Boot as Booted}
 use Rattle.boot_turns.specs.declared.answers.Turn.{Turn}
-use Rattle.boot_turns.specs.declared.answers.View.{View}
 use Rattle.boot_turns.specs.declared.answers.RunFault.{RunFault}
-use Rattle.boot_run.specs.declared.load.LoadFault.{LoadFault}
-use Rattle.boot_run.specs.declared.whole.RunEnd.{RunEnd}
-use Rattle.boot_run.specs.AnyRun.{AnyTurnsRun, AnyGoRuns, AnyRunsToEnd}
+use Rattle.boot_run.specs.AnyRun.{AnyTurnsRun, AnyGoRuns}
 use Rattle.boot_run.specs.LoadEnds.{Kept}
 use Rattle.boot_run.specs.Report.{ReportRuns}
 use Rattle.boot_run.specs.TurnCalls.{around, TurnsRun}
 use Rattle.boot_run.specs.TurnParts.{MakesTurn}
-use Rattle.boot_run.specs.Whole.{RomEnds, WholeEnds}
-use Rattle.boot_run.specs.Pieces.{CloseRuns, GoRuns, RunsToEnd}
+use Rattle.boot_run.specs.Pieces.{GoRuns}
 
 module _ {D O : Type 0} (size : D → ℕ) (sectors : D → Option (List (List ℕ))) (text : O → Option (List ℕ)) where
   -- the machine makes turns, so many at most
@@ -51,29 +44,3 @@ module _ {D O : Type 0} (size : D → ℕ) (sectors : D → Option (List (List �
   abbrev pub GoesAnyhow : {L : Type 0} → (turns : ℕ) → Kept L → D → ℕ → O → Kept L → D → ℕ → O → Result (Unit {0}) RunFault → Type 0
   GoesAnyhow turns run disk budget out new retold left printed result =
       AnyGoRuns (size disk) run turns (around run (sectors disk) budget (text out)) (around new (sectors retold) left (text printed)) result
-
-  -- the run is closed, whatever is left of the budget
-  abbrev pub Closes : {L : Type 0} → Kept L → D → O → Kept L → D → O → RunEnd → Type 0
-  Closes run disk out new retold printed result = (budget : ℕ) →
-      CloseRuns (size disk) run (around run (sectors disk) budget (text out)) (around new (sectors retold) budget (text printed)) result
-
-  -- and so of any run of the machine
-  abbrev pub FinishesAnyhow : {L : Type 0} → (turns steps : ℕ) → Kept L → D → O → D → RunEnd → Type 0
-  FinishesAnyhow turns steps run disk out retold result = AnyRunsToEnd (size disk) run turns (around run (sectors disk) steps (text out)) (sectors retold) result
-
--- those that end a run: the disk's counts are told, too
-module _ {D O : Type 0} (size : D → ℕ) (sectors : D → Option (List (List ℕ))) (called : D → Tally) (text : O → Option (List ℕ)) where
-  -- it is run to its end, in so many turns and steps at most
-  abbrev pub Finishes : {L : Type 0} → (turns steps : ℕ) → Kept L → D → O → D → O → RunEnd → Type 0
-  Finishes turns steps run disk out retold printed result =
-      RunsToEnd (size disk) run turns steps (around run (sectors disk) steps (text out)) (sectors retold) (called disk) (called retold) (text printed) result
-
-  -- what is booted over such a disk, under a schedule, is run to its end, or refused
-  abbrev pub RunsWhole : Booted → Rows → View → (turns steps : ℕ) → D → O → D → O → Result RunEnd LoadFault → Type 0
-  RunsWhole boot rows view turns steps disk out retold printed result =
-      WholeEnds boot rows (size disk) view turns steps (sectors disk) (sectors retold) (called disk) (called retold) (text out) (text printed) result
-
-  -- and so of the machine with its boot ROM
-  abbrev pub RunsFromRom : Booted → Rows → View → (turns steps : ℕ) → D → O → D → O → Result RunEnd LoadFault → Type 0
-  RunsFromRom boot rows view turns steps disk out retold printed result =
-      RomEnds boot rows (size disk) view turns steps (sectors disk) (sectors retold) (called disk) (called retold) (text out) (text printed) result

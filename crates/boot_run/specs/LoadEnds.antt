@@ -1,5 +1,5 @@
 -- What contracts see of a loaded run, and how a call of `load` ends.
-use Rattle.std.specs.Prelude.{◌≡◌, ◌≢◌, ℕ, ◌+◌, ◌*◌, ◌/◌, ◌<◌, ◌≤◌, ◌&&◌, Bool, true, nat_lt, Option, Some, None, IsSome, List, length}
+use Rattle.std.specs.Prelude.{◌≡◌, ◌≢◌, ℕ, ◌+◌, ◌*◌, ◌/◌, ◌<◌, ◌≤◌, ◌&&◌, Bool, true, nat_lt, Option, Some, None, List, length}
 use Rattle.std.specs.Prelude.{Result, Err, IfOk, IfErr, OnErr}
 use Rattle.std.specs.Option.{option_map}
 use Rattle.cvm_outside.specs.Causes.{Rose}
@@ -105,12 +105,10 @@ module _ {D : Type 0} (size : D → ℕ) (sectors : D → Option (List (List ℕ
     pub still : result ≢ Err Disk → OnErr result (redisk ≡ disk)
     pub same_size : size redisk ≡ size disk
 
--- WHAT EVERY CALL SAYS THAT LOADS A RUN AND MAKES IT, beside how that ends: what it leaves of the disk, and that sectors that are told stay told; where no
--- run is loaded nothing is printed
+-- WHAT EVERY CALL SAYS THAT LOADS A RUN AND MAKES IT, beside its script: what it leaves of the disk; where no run is loaded nothing is printed
 module _ {D O : Type 0} (size : D → ℕ) (sectors : D → Option (List (List ℕ))) (broke called : D → ℕ) where
   pub record LoadsRun {A : Type 0} (b : Booted) (view : View) (need : ℕ) (Stopped : (told retold : Option (List (List ℕ))) → (made remade : Tally) → Type 0)
       (disk : D) (out : O) (redisk : D) (reout : O) (result : Result A LoadFault) : Type 0 where
     pub leaves : LoadLeaves size sectors broke called b view need Stopped disk redisk result
     pub loaded : IfOk result (λ _. HasDiskRoom b view need (size disk))
     pub unprinted : IfErr result (λ _. reout ≡ out)
-    pub told : IsSome (sectors disk) → IsSome (sectors redisk)

@@ -32,7 +32,3 @@ with_call live faults made q = if live q then until_fault faults made else made
 abbrev pub calls_made : (live : ℕ → Bool) → ℕ → Tally → ℕ
 calls_made live zero made = made.calls
 calls_made live (suc n) made = with_call live made.faults (calls_made live n made) n
-
--- both its counts then
-abbrev pub tally_made : (live : ℕ → Bool) → ℕ → Tally → Tally
-tally_made live n made = record { faults = made.faults; calls = calls_made live n made }

@@ -29,12 +29,6 @@ pub record CanRun {L : Type 0} (steps : ℕ) (run : Kept L) (count : ℕ) : Type
   pub fine : run.fault ≡ None
   pub time : run.machine.time + steps < 2 ^ 64
 
--- what a call leaves that goes on with a run or ends it: how large the disk is, and that each object is blamed only where its count of faults rose; by
--- what blames the disk and the sink, the disk's size, both counts, and the objects before and after
-pub record RunLeaves {D O : Type 0} (OfDisk OfSink : Type 0) (size broke : D → ℕ) (cut : O → ℕ) (disk : D) (out : O) (redisk : D) (reout : O) : Type 0 where
-  pub same_size : size redisk ≡ size disk
-  pub blame : Blames OfDisk OfSink broke disk redisk cut out reout
-
 -- by the disk's size, its sectors and its count of faults, and the sink's text and its count
 module _ {D O : Type 0} (size : D → ℕ) (sectors : D → Option (List (List ℕ))) (broke : D → ℕ) (text : O → Option (List ℕ)) (cut : O → ℕ) where
   -- beside what the turns come to, where a run that kept no fault and hasn't ended makes turns, so many at most, with a disk, a budget and a sink, before

@@ -1,6 +1,5 @@
 -- What the pieces of a whole run come to, from which its end is put together: the premises, the loop over turns, what closes a run, and a run to its end.
-use Rattle.std.specs.Prelude.{◌≡◌, ℕ, suc, ◌+◌, ◌≤◌, false, Option, Some, List, length, Result, MatchResult}
-use Rattle.cvm_outside.specs.Numbering.{Tally}
+use Rattle.std.specs.Prelude.{⊤, ◌≡◌, ℕ, suc, ◌+◌, ◌≤◌, false, Option, Some, List, Result, MatchResult}
 use Rattle.mips_table.specs.Device.{Environment}
 use Rattle.mips_table.specs.Machine.{State, run}
 use Rattle.mips_table.specs.Turns.{is_end, IsTurnEnd, end_within}
@@ -14,12 +13,8 @@ use Rattle.layer_contract.specs.Boots.{boot_of}
 use Rattle.layer_contract.specs.Follows.{loaded}
 use Rattle.layer_contract.specs.Starts.{user_sectors, Beyond}
 use Rattle.boot_turns.specs.Sooner.{NoSooner}
-use Rattle.boot_turns.specs.Completes.{SeenPorts}
 use Rattle.boot_turns.specs.TurnEnds.{Printed}
-use Rattle.boot_turns.specs.Headline as headline
-use Rattle.boot_turns.specs.Headline.{StepBroken, TurnPutFails, ending_of}
 use Rattle.boot_turns.specs.Premises.{StartsFrom}
-use Rattle.boot_turns.specs.Tracing.{reads_of}
 use Rattle.boot_turns.specs.Rom.{rom_sectors, rom_steps}
 use Rattle.boot_turns.specs.declared.answers.View.{View}
 use Rattle.boot_turns.specs.declared.answers.RunFault.{RunFault}
@@ -28,9 +23,7 @@ use Rattle.boot_run.specs.declared.whole.RunEnd.{RunEnd}
 use Rattle.boot_run.specs.declared.whole.RunEnd.TheVariants as ends
 use Rattle.boot_run.specs.Loading.{system_of}
 use Rattle.boot_run.specs.LoadEnds.{Kept, pages_needed, rom_needed}
-use Rattle.boot_run.specs.RunEnds.{SeesUser, CallsFrom, ShownRunEnds, ending_of_end}
-use Rattle.boot_run.specs.TurnCalls.{Around, Ready, Stand}
-use Rattle.boot_run.specs.Report.{Reported, ReportBroken}
+use Rattle.boot_run.specs.TurnCalls.{Around, Ready}
 use Rattle.boot_run.specs.Sink.{Base}
 use Rattle.boot_run.specs.Whole.{rom_start_of}
 
@@ -72,15 +65,10 @@ pub record Late (x : Environment) (y : System) (s : State) (v : View) (base : Ba
   pub printed : Printed x y s v (end_within x s turns steps) shown
   pub text : after.text ≡ base.shows shown
 
--- a fault of a turn
+-- the steps were spent; what a fault of the disk or the sink leaves the script tells
 abbrev pub GoFails : Environment → System → State → View → Base → (turns steps : ℕ) → Around → RunFault → Type 0
 GoFails x y s v base turns steps after StepLimit = Late x y s v base turns steps after
-GoFails x y s v base turns steps after Disk = (shown : List ℕ) × (now : List (List ℕ)) × Stand after now
-    × StepBroken x y s now v turns steps after.steps (reads_of after.tracer) shown
-    × SeenPorts (run x s after.steps) after.state × (after.text ≡ base.shows shown)
-GoFails x y s v base turns steps after Sink = (shown : List ℕ) × (now : List (List ℕ)) × Stand after now
-    × TurnPutFails x y s now v turns steps after.steps (reads_of after.tracer) shown
-    × SeenPorts (run x s after.steps) after.state × (after.text ≡ base.shows shown)
+GoFails x y s v base turns steps after other = ⊤
 
 -- k turns are complete at step t for the first time: before, fewer were, and the machine was on
 abbrev pub FirstAt : Environment → State → (k t : ℕ) → Type 0
@@ -95,32 +83,6 @@ GoRuns count r turns before after result =
     Ready (outside_of r.machine.rows count) y s r.view base k t c before →
     MatchResult result (λ _. Gone (outside_of r.machine.rows count) y s r.view base wanted steps after)
     (GoFails (outside_of r.machine.rows count) y s r.view base wanted steps after)
-
--- what closes a run at step t: the report, or where the kernel faulted nothing
-abbrev pub CloseEnds : Environment → System → State → View → Base → ℕ → Cvm → (before after : Around) → RunEnd → Type 0
-CloseEnds x y s v base t c before after ends.Done = (ending_of c.status ≡ headline.Done) × Reported x y s v base t before after
-CloseEnds x y s v base t c before after ends.KernelFaulted = (ending_of c.status ≡ headline.KernelFaulted) × (after ≡ before)
-CloseEnds x y s v base t c before after ends.OutOfSteps = ⊥
-CloseEnds x y s v base t c before after ends.DiskFault = (ending_of c.status ≡ headline.Done) × ReportBroken x y s v base t before after Disk
-CloseEnds x y s v base t c before after ends.SinkFault = (ending_of c.status ≡ headline.Done) × ReportBroken x y s v base t before after Sink
-
-abbrev pub CloseRuns : {L : Type 0} → (count : ℕ) → Kept L → (before after : Around) → RunEnd → Type 0
-CloseRuns count r before after result =
-    (y : System) (s : State) (late held : ℕ) (old : List (List ℕ)) (base : Base) (k t : ℕ) (c : Cvm) →
-    Bootable r.boot r.machine.rows count y s late held old → Ready (outside_of r.machine.rows count) y s r.view base (suc k) t c before →
-    CloseEnds (outside_of r.machine.rows count) y s r.view base t c before after result
-
--- a loaded run to its end, of one of the users where it is traced, and then from before any word was read for its rows
-abbrev pub RunsToEnd : {L : Type 0} → (count : ℕ) → Kept L → (turns steps : ℕ) → (before : Around) → (retold : Option (List (List ℕ))) → (made remade : Tally) →
-    (after : Option (List ℕ)) → RunEnd → Type 0
-RunsToEnd count r turns steps before retold made remade after result =
-    (y : System) (s : State) (late held : ℕ) (old : List (List ℕ)) (base : Base) (k t wanted total : ℕ) (c : Cvm) →
-    Bootable r.boot r.machine.rows count y s late held old → SeesUser r.view (length y.boot.users) →
-    FirstAt (outside_of r.machine.rows count) s k t → 1 ≤ wanted → k + turns ≡ wanted → steps + t ≡ total →
-    Ready (outside_of r.machine.rows count) y s r.view base k t c before → reads_of before.tracer ≡ 0 →
-    (now : List (List ℕ)) × (retold ≡ Some now)
-    × ShownRunEnds (outside_of r.machine.rows count) y s held old now r.view wanted total (CallsFrom (run (outside_of r.machine.rows count) s t) made remade) base after
-    (ending_of_end result)
 
 -- how an ended run is told, and a fault
 abbrev pub end_of_fault : RunFault → RunEnd

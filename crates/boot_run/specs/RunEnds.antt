@@ -4,8 +4,6 @@ use Rattle.boot_turns.specs.declared.answers.View.{View}
 use Rattle.boot_turns.specs.declared.answers.View.TheVariants.{Boot, Trace}
 use Rattle.mips_table.specs.Device.{Environment}
 use Rattle.mips_table.specs.Machine.{State}
-use Rattle.cvm_outside.specs.Numbering.{Tally}
-use Rattle.sector_disk.specs.Ports.{CallsWith, ports_of}
 use Rattle.cvm_model.specs.Cvm.{System}
 use Rattle.boot_turns.specs.Headline.{Ending, RunEndsFrom}
 use Rattle.boot_run.specs.declared.whole.RunEnd.{RunEnd}
@@ -25,10 +23,6 @@ ending_of_end ends.KernelFaulted = headline.KernelFaulted
 ending_of_end ends.OutOfSteps = headline.OutOfSteps
 ending_of_end ends.DiskFault = headline.DiskFault
 ending_of_end ends.SinkFault = headline.SinkFault
-
--- a disk's counts before and after fit a state that a run came to from another: one call for each command that was done between them, and so many more
-abbrev pub CallsFrom : (from : State) → (made remade : Tally) → (more : ℕ) → State → Type 0
-CallsFrom from made remade more s = CallsWith more (ports_of from.device) (ports_of s.device) made remade
 
 -- how a loaded run from `s` ends, over a disk that had the sectors `old` before the load, and a sink that shows what `base` says
 abbrev pub ShownRunEnds : Environment → System → State → (held : ℕ) → (old now : List (List ℕ)) → View → (turns steps : ℕ) → (calls : ℕ → State → Type 0)

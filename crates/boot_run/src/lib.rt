@@ -21,4 +21,4 @@ pub use places::frames_of;
 pub use resuming::{run_on, saved_boots_are_of_runs};
 pub use run::Run;
 pub use saving::{SaveEnd, run_to_save};
-pub use whole::{RunEnd, run_rom, run_whole, saved_runs_are_taken_up, saved_runs_join};
+pub use whole::{RunEnd, run_rom, run_whole, saved_runs_are_taken_up};

@@ -11,7 +11,6 @@ ghost use Rattle.boot_report.specs.Given.{places_of as offsets_of};
 
 use c0_meaning::laws::well_formed_units_are_sized;
 use c0_meaning::{Measured, global_offsets, words_of};
-use c0_struct_sizes::measured;
 use c0_tree::Decl;
 use layer_contract::Boot;
 use layer_map::{LAYER_WORDS, Map};
@@ -57,7 +56,7 @@ pub(crate) fn places_of(alloc: Global, boot: &Boot) -> Result<Places, AllocError
     ensures map { IfOk result (λ p. p.map ≡ map_of (boot_of boot.now)) }
     ensures globals { IfOk result (λ p. p.offsets.items ≡ offsets_of (unit_view boot.now.unit)) }
 {
-    let unit = measured(alloc, boot.unit.unit())?;
+    let unit = boot.unit.measured();
     let code_words = (boot.words.len() as u32).saturating_sub(LAYER_WORDS);
     let map = Map::of(
         &boot.params,

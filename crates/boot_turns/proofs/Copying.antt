@@ -49,9 +49,6 @@ module _ (m : Map) (a : Paged) (u steps address : ℕ) where
   abbrev words : ℕ → List ℕ
   words n = user_words m a u (address / 4) n
 
-  abbrev rows : ℕ → List ℕ
-  rows n = copy_rows m a u steps address n
-
   long : (n : ℕ) → length (user_words m a u (address / 4) n) ≡ n
   long zero = refl
   long (suc n) = length_one (user_words m a u (address / 4) n) (user_word m a u (address / 4 + n)) ∙ ap suc (long n)

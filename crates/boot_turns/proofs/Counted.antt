@@ -1,6 +1,6 @@
 -- An untrapped step that keeps user mode is counted where a trace is printed, and has no rows.
 -- It serves `step_traced` alone.
-use Rattle.std.proofs.Common.{◌≡◌, ℕ, zero, suc, ◌+◌, ◌≤◌, ◌&&◌, Bool, true, false, Option, Some, None, Ok, List, [], ◌∷◌, slice_index, refl, sym, ap, ap₂, ◌∙◌, subst, arith}
+use Rattle.std.proofs.Common.{◌≡◌, ℕ, zero, suc, ◌+◌, ◌&&◌, Bool, true, false, Option, Some, None, Ok, List, [], ◌∷◌, slice_index, refl, sym, ap, ap₂, ◌∙◌, subst, arith}
 use Rattle.std.specs.Prelude.{◌==◌, not, if◌then◌else◌, nat_lt, IfSome}
 use Rattle.std.specs.Option.{option_map}
 use Rattle.std.specs.Io.KnownBytes.{append_known}
@@ -26,33 +26,10 @@ use Rattle.boot_turns.specs.Completes.{state_seen, note}
 use Rattle.boot_turns.specs.Entries.{turn_begins, TracesGrow}
 use Rattle.boot_turns.specs.Returns.{entry_note, noted_at, notes_on}
 use Rattle.boot_turns.specs.JournalText.{steps_after, RowsFollow}
-use Rattle.boot_turns.specs.Tracing.{CanTrace, counted_step, followed, kept_after, reads_of}
+use Rattle.boot_turns.specs.Tracing.{counted_step, followed, kept_after, reads_of}
 use Rattle.boot_turns.specs.TraceSteps.{StepTraces}
 use Rattle.boot_turns.proofs.Entering.{is_at}
 use Rattle.boot_turns.proofs.Tracking.{step_goes, step_untraced}
-
--- what is known of a tracer stays
-pub counted_can : (m : Map) (words time count current : ℕ) (o : Option Tracer) → IfSome o (CanTrace m words time count) → IfSome (option_map (counted_step current) o) (CanTrace m words (time + 1) count)
-counted_can m words time count current None h = tt
-counted_can m words time count current (Some k) h = record {
-  some = h.some;
-  user = h.user;
-  few = by (current == k.user);
-  read = let r = h.read in omega (arith, r);
-  pages = h.pages;
-  memory = h.memory;
-  small = h.small;
-  all = h.all;
-  room = h.room;
-}
-  where
-    by : (b : Bool) → (if b then k.steps + 1 else k.steps) ≤ time + 1
-    by true = let f = h.few in omega (arith, f)
-    by false = let f = h.few in omega (arith, f)
-
-pub counted_user : (current : ℕ) (o : Option Tracer) → option_map (λ k. k.user) (option_map (counted_step current) o) ≡ option_map (λ k. k.user) o
-counted_user current None = refl
-counted_user current (Some k) = refl
 
 -- and no word is read
 pub counted_reads : (current : ℕ) (o : Option Tracer) → reads_of (option_map (counted_step current) o) ≡ reads_of o

@@ -43,9 +43,6 @@ use Rattle.boot_turns.proofs.Journals.{calls_grow, get_same, Known, known_more, 
 none_some : {A : Type 0} (p : A) → None ≡ Some p → ⊥
 none_some p e = cc
 
-same_some : {A : Type 0} (a b : A) → Some a ≡ Some b → a ≡ b
-same_some a b h = cc
-
 true_false : (b : Bool) → b ≡ true → b ≡ false → ⊥
 true_false b e f = cc
 

@@ -11,7 +11,7 @@ use Rattle.boot_image.specs.declared.fault.ImageFault.{ImageFault}
 use Rattle.kernel_linker.specs.Linked.{linked, sizes_of}
 use Rattle.kernel_linker.specs.Accept.{ImageSystem, accept_answer}
 use Rattle.cvm_shell.specs.Linked.{IsAcceptedAs}
-use Rattle.cvm_shell.specs.Plan.{Accepts}
+use Rattle.run_scripts.specs.Plan.{Accepts}
 
 abbrev Layers : Type 0
 Layers = Map → List ℕ → List ℕ

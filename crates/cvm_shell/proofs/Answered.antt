@@ -13,7 +13,7 @@ use Rattle.kernel_linker.specs.declared.fault.AcceptFault.{AcceptFault}
 use Rattle.kernel_linker.specs.declared.fault.AcceptFault.TheVariants as accepting
 use Rattle.cvm_shell.specs.declared.boot.Stop.TheVariants as Stops
 use Rattle.cvm_shell.specs.declared.refusal.Refusal.TheVariants as by
-use Rattle.cvm_shell.specs.Plan.{Answered}
+use Rattle.run_scripts.specs.Plan.{Answered}
 use Rattle.cvm_shell.specs.Stages.{accept_stop}
 use Rattle.cvm_shell.proofs.Fronts.{OneAnswer, IsWant, first_or_memory, one_fault, not_both}
 

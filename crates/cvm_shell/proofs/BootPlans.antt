@@ -14,9 +14,9 @@ use Rattle.kernel_linker.specs.declared.fault.AcceptFault.{AcceptFault}
 use Rattle.cvm_shell.specs.declared.boot.Stop.{Stop}
 use Rattle.cvm_shell.specs.declared.boot.Stop.TheVariants as Stops
 use Rattle.cvm_shell.specs.declared.refusal.Refusal.TheVariants as by
-use Rattle.cvm_shell.specs.declared.boot.Session.{Session}
-use Rattle.cvm_shell.specs.Command.{Boot}
-use Rattle.cvm_shell.specs.Plan.{Plan, boots, Got, Accepts, scheduled_plan, accepted_plan, AfterFiles, IsPlan}
+use Rattle.run_scripts.specs.declared.session.Session.{Session}
+use Rattle.run_scripts.specs.Command.{Boot}
+use Rattle.run_scripts.specs.Plan.{Plan, boots, Got, Accepts, scheduled_plan, accepted_plan, AfterFiles, IsPlan}
 use Rattle.cvm_shell.specs.Stages.{accept_stop, schedule_stop, IsBootPlan}
 use Rattle.cvm_shell.specs.Views.{IfRefused, IfPlan}
 use Rattle.cvm_shell.proofs.Plans.{got_whole, if_refused, if_plan}

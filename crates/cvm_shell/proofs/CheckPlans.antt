@@ -22,9 +22,9 @@ use Rattle.kernel_linker.specs.Open.{open_answer, OpensTo}
 use Rattle.kernel_linker.specs.declared.fault.LinkFault.{LinkFault}
 use Rattle.kernel_linker.specs.declared.fault.LinkFault.TheVariants as linking
 use Rattle.cvm_shell.specs.declared.boot.Stop.{Stop}
-use Rattle.cvm_shell.specs.Check.{Check, Told, TellsUnit, has_longest, has_loop, TellsOpened, TellsObject, no_object, has_object}
-use Rattle.cvm_shell.specs.Refusal.{bad_object, unlinked}
-use Rattle.cvm_shell.specs.Plan.{Plan, refuses, prints, told_plan, AfterChecked, IsPlan}
+use Rattle.run_scripts.specs.Check.{Check, Told, TellsUnit, has_longest, has_loop, TellsOpened, TellsObject, no_object, has_object}
+use Rattle.run_scripts.specs.Refusal.{bad_object, unlinked}
+use Rattle.run_scripts.specs.Plan.{Plan, refuses, prints, told_plan, AfterChecked, IsPlan}
 use Rattle.cvm_shell.specs.Stages.{object_stop, link_stop, IsCheckPlan}
 use Rattle.cvm_shell.specs.Views.{IfRefused, IfPlan}
 use Rattle.cvm_shell.proofs.Plans.{got_whole, if_plan}

@@ -1,7 +1,7 @@
 -- The words of a check are those of one.
 use Rattle.std.proofs.Common.{◌≡◌, ℕ, ◌≤◌, List, [], ◌∷◌, sym, ap, ◌∙◌, arith, Some}
 use Rattle.std.specs.Prelude.{decimal, codes}
-use Rattle.cvm_shell.specs.Check.{Check, IsCheck}
+use Rattle.run_scripts.specs.Check.{Check, IsCheck}
 use Rattle.cvm_shell.proofs.Spellings.{same_number}
 
 -- these words, with the number that the third spells, are a check

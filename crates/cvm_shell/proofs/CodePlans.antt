@@ -17,8 +17,8 @@ use Rattle.c0_types.specs.Front.{IsUnitAs, IsMistypedAs, IsFaultAs, IsFaultInAs}
 use Rattle.c0_types.specs.declared.source_fault.SourceFault.{SourceFault}
 use Rattle.c0_types.specs.declared.source_fault.SourceFault.TheVariants.{Reading, Typing}
 use Rattle.cvm_shell.specs.declared.boot.Stop.{Stop}
-use Rattle.cvm_shell.specs.Refusal.{bad_source}
-use Rattle.cvm_shell.specs.Plan.{Plan, refuses, Got, AfterCode, unread, mistyped, compiles, IsPlan}
+use Rattle.run_scripts.specs.Refusal.{bad_source}
+use Rattle.run_scripts.specs.Plan.{Plan, refuses, Got, AfterCode, unread, mistyped, compiles, IsPlan}
 use Rattle.cvm_shell.specs.Stages.{source_stop}
 use Rattle.cvm_shell.specs.Views.{IfRefused, IfPlan}
 use Rattle.cvm_shell.proofs.Plans.{got_whole, if_plan}

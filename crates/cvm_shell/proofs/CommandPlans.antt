@@ -4,13 +4,14 @@ use Rattle.std.specs.Prelude.{Option}
 use Rattle.real_layer.specs.Image.{layer_image}
 use Rattle.cvm_shell.specs.declared.refusal.Refusal.{Refusal as ByCode}
 use Rattle.cvm_shell.specs.declared.refusal.Refusal.TheVariants as by
-use Rattle.cvm_shell.specs.declared.boot.Session.{Session}
+use Rattle.run_scripts.specs.declared.session.Session.{Session}
 use Rattle.boot_turns.specs.declared.answers.View.{View}
 use Rattle.boot_turns.specs.declared.answers.View.TheVariants as view
-use Rattle.cvm_shell.specs.Command.{Boot, Command, boot, trace, save, resume, compile_user, compile_kernel, compile_program, link, migrate, sample, IsCommand, IsNoCommand, boot_session, trace_session, command_of, check}
-use Rattle.cvm_shell.specs.Refusal.{Refusal, too_long}
-use Rattle.cvm_shell.specs.Plan.{Plan, bad_words, refuses, BootPlan, SavePlan, ResumePlan, UserPlan, KernelPlan, ProgramPlan, LinkPlan, MigratePlan, SamplePlan, PlanComesTo, no_command, boot_plan, trace_plan, save_plan, resume_plan, user_plan, kernel_plan, image_plan, link_plan, migrate_plan, sample_plan, AllTold, IsPlan, CheckPlan, check_plan}
-use Rattle.cvm_shell.specs.Stages.{IsBootPlan, IsSavePlan, IsResumePlan, IsUserPlan, IsKernelPlan, IsProgramPlan, IsLinkPlan, IsMigratePlan, IsSamplePlan, IsCheckPlan}
+use Rattle.run_scripts.specs.Command.{Boot, Command, boot, trace, save, resume, compile_user, compile_kernel, compile_program, link, migrate, sample, IsCommand, IsNoCommand, boot_session, trace_session, command_of, check}
+use Rattle.run_scripts.specs.Refusal.{Refusal, too_long}
+use Rattle.run_scripts.specs.Plan.{Plan, bad_words, refuses, BootPlan, SavePlan, ResumePlan, UserPlan, KernelPlan, ProgramPlan, LinkPlan, MigratePlan, SamplePlan, PlanComesTo, no_command, boot_plan, trace_plan, save_plan, resume_plan, user_plan, kernel_plan, image_plan, link_plan, migrate_plan, sample_plan, AllTold, IsPlan, CheckPlan, check_plan}
+use Rattle.cvm_shell.specs.Stages.{IsBootPlan}
+use Rattle.cvm_shell.specs.Does.{FilesPlan}
 use Rattle.cvm_shell.specs.Views.{refusal_view}
 use Rattle.cvm_shell.proofs.OneCommand.{one_command}
 
@@ -27,20 +28,6 @@ CommandPlan file (link l) = LinkPlan layer_image file l
 CommandPlan file (migrate m) = MigratePlan layer_image file m
 CommandPlan file (sample x) = SamplePlan layer_image x.number
 CommandPlan file (check c) = CheckPlan file c
-
--- and to no other
-abbrev pub FilesPlan : (List ℕ → Option (List ℕ)) → Command → Plan → Type 0
-FilesPlan file (boot b) p = IsBootPlan layer_image file b (boot_session b) p
-FilesPlan file (trace t) p = IsBootPlan layer_image file t.boot (trace_session t) p
-FilesPlan file (save c) p = IsSavePlan layer_image file c p
-FilesPlan file (resume c) p = IsResumePlan layer_image file c p
-FilesPlan file (compile_user c) p = IsUserPlan file c p
-FilesPlan file (compile_kernel c) p = IsKernelPlan file c p
-FilesPlan file (compile_program c) p = IsProgramPlan file c p
-FilesPlan file (link l) p = IsLinkPlan layer_image file l p
-FilesPlan file (migrate m) p = IsMigratePlan layer_image file m p
-FilesPlan file (sample x) p = IsSamplePlan layer_image x.number p
-FilesPlan file (check c) p = IsCheckPlan file c p
 
 its_command : (words : List (List ℕ)) (file : List ℕ → Option (List ℕ)) (c d : Command) (q : Plan) → IsCommand words c → IsCommand words d → CommandPlan file d q → CommandPlan file c q
 its_command words file c d q is other got = let P : Command → Type 0 = λ x. CommandPlan file x q in subst P (sym (one_command words c d is other)) got

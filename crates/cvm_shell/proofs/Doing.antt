@@ -1,10 +1,12 @@
 -- How a command ends, by the gets of its stage and by what was done behind them.
 use Rattle.std.proofs.Common.{◌≡◌, ◌≢◌, ◌⊎◌, inl, inr, ℕ, List, [], ◌∷◌, ◌++◌, append-nil, refl, sym, ◌∙◌, subst, Some, None, Ok, Err}
 use Rattle.std.specs.Prelude.{Option, Result, IfSome, OnOk, OnErr, codes}
+use Rattle.std.specs.Global.{Vec}
 use Rattle.std.specs.Io.KnownBytes.{append_known}
 use Rattle.cvm_outside.specs.Causes.{Counts}
 use Rattle.cvm_outside.specs.Told.{AppendsPart, TOO_LONG}
-use Rattle.cvm_outside.specs.Outside.{Outside, Files, Output, Drive}
+use Rattle.cvm_outside.specs.Outside.{Outside, Files, Output, Drive, output}
+use Rattle.cvm_outside.specs.declared.sink.Sink as sink_of
 use Rattle.cvm_outside.specs.Script.{Call, Stored, TheShelf, Performs, done as all_done, breaks, goes_on, blame, of_sink}
 use Rattle.cvm_outside.specs.declared.shelf.ShelfFault.{ShelfFault}
 use Rattle.cvm_outside.specs.declared.sink.SinkFault.{SinkFault}
@@ -15,19 +17,21 @@ use Rattle.boot_run.specs.SavedRuns.{IsDisk}
 use Rattle.machine_save.proofs.SaveCalls.{OnePut, put_does, put_fails}
 use Rattle.boot_turns.specs.declared.answers.View.{View}
 use Rattle.boot_turns.specs.declared.answers.View.TheVariants as view
-use Rattle.cvm_shell.specs.declared.exit_status.Status.{Status}
-use Rattle.cvm_shell.specs.declared.exit_status.Status.TheVariants.{Done, Words, Shelf, Memory}
+use Rattle.run_scripts.specs.declared.exit_status.Status.{Status}
+use Rattle.run_scripts.specs.declared.exit_status.Status.TheVariants.{Done, Words, Shelf, Memory}
+use Rattle.cvm_shell.specs.declared.boot.Stop.{Stop}
 use Rattle.cvm_shell.specs.declared.boot.Stop.TheVariants as Stops
 use Rattle.cvm_shell.specs.declared.refusal.Refusal.{Refusal as ByCode}
 use Rattle.cvm_shell.specs.declared.refusal.Refusal.TheVariants as by
-use Rattle.cvm_shell.specs.Command.{Boot, Sample, Command, boot, sample, IsCommand, IsNoCommand, IsSample, command_of}
-use Rattle.cvm_shell.specs.Plan.{Plan, bad_words, refuses, puts, boots, saves, resumes, prints, no_command}
-use Rattle.cvm_shell.specs.Refusal.{too_long}
-use Rattle.cvm_shell.specs.Views.{refusal_view, stated_row, stated_status}
+use Rattle.run_scripts.specs.Command.{Boot, Sample, Command, boot, sample, IsCommand, IsNoCommand, IsSample, command_of}
+use Rattle.run_scripts.specs.Plan.{Plan, bad_words, refuses, puts, boots, saves, resumes, prints, no_command}
+use Rattle.run_scripts.specs.Refusal.{too_long}
+use Rattle.cvm_shell.specs.Views.{IfPlan, refusal_view, stated_row, stated_status}
 use Rattle.cvm_shell.specs.Stages.{IsSamplePlan}
-use Rattle.cvm_shell.specs.Ends.{Ends, done, no_file, no_memory, GetsFor, all, up_to, CommandGets, files_of, gets, AreBytes, IsFound, Finds, IsNotGot, Wants, behind, answered}
-use Rattle.cvm_shell.specs.Does.{AreGot, StopGets, Acts, DoesPlan, DoesOrWants}
-use Rattle.cvm_shell.proofs.CommandPlans.{FilesPlan, plan_of, only_none, which, one_refusal}
+use Rattle.run_scripts.specs.Ends.{Ends, done, no_file, no_memory, GetsFor, all, up_to, CommandGets, AreBytes, IsFound, Finds, IsNotGot, Wants, behind, answered}
+use Rattle.run_scripts.specs.Served.{files_of, gets}
+use Rattle.cvm_shell.specs.Does.{FilesPlan, SaysStop, AreGot, StopGets, AnswerGets, Acts, DoesPlan, DoesOrWants}
+use Rattle.cvm_shell.proofs.CommandPlans.{plan_of, only_none, which, one_refusal}
 use Rattle.cvm_shell.proofs.GotCalls.{beside}
 use Rattle.cvm_shell.proofs.OneCommand.{one_command}
 
@@ -193,6 +197,22 @@ shelf_done words c old new is h = no_file c is h
 -- or there was no memory
 pub memory_done : (words : List (List ℕ)) (c : Command) (old new : Outside) → IsCommand words c → Wants (files_of c) old new → Ends words old new Memory
 memory_done words c old new is h = no_memory c is h
+
+-- WHAT A STAGE MADE of the files that it got, of a command that puts it under a name
+pub record StageMade (c : Command) (name : List ℕ) (sink : Output) (disk : Drive) (old mid : Files) (made : Result (Vec ℕ) Stop) : Type 0 where
+  pub gets : AnswerGets (files_of c) (beside sink disk old) (beside sink disk mid) made
+  pub plan : IfPlan (λ v. puts name v.items) (FilesPlan old.file c) made
+
+-- it stopped, and it was said why
+pub stop_done : {O : Type 0} (told : sink_of.Ghosts O) (words : List (List ℕ)) (c : Command) (name : List ℕ) (disk : Drive) (old mid : Files) (s : Stop) (o o' : O) (status : Status) → IsCommand words c
+    → StageMade c name (output told o) disk old mid (Err s) → SaysStop told s o o' status → Ends words (beside (output told o) disk old) (beside (output told o') disk mid) status
+stop_done told words c name disk old mid (Stops.Refused r) o o' status is h says = refused_done words c r _ _ _ status is h.plan h.gets refl (says mid disk)
+stop_done {O} told words c name disk old mid Stops.Shelf o o' status is h (same, e) =
+    subst (λ (x : O). Ends words (beside (output told o) disk old) (beside (output told x) disk mid) status) (sym same)
+    (subst (Ends words (beside (output told o) disk old) (beside (output told o) disk mid)) (sym e) (shelf_done words c _ _ is h.gets))
+stop_done {O} told words c name disk old mid Stops.Memory o o' status is h (same, e) =
+    subst (λ (x : O). Ends words (beside (output told o) disk old) (beside (output told x) disk mid) status) (sym same)
+    (subst (Ends words (beside (output told o) disk old) (beside (output told o) disk mid)) (sym e) (memory_done words c _ _ is h.gets))
 
 -- THE WORDS ARE NO COMMAND
 pub bad_words_done : (words : List (List ℕ)) (old new : Outside) (status : Status) → IsNoCommand words → Acts (says (codes "bad words\n")) Words old new status → Ends words old new status

@@ -12,8 +12,9 @@ use Rattle.cvm_outside.proofs.Follow.{both}
 use Rattle.cvm_shell.specs.declared.boot.Stop.{Stop}
 use Rattle.cvm_shell.specs.declared.boot.Stop.TheVariants as Stops
 use Rattle.cvm_shell.specs.declared.refusal.Refusal.TheVariants as by
-use Rattle.cvm_shell.specs.Command.{texts}
-use Rattle.cvm_shell.specs.Ends.{IsByte, gets, AreShort, MayBeShort, MayBeLong, IsNotGot, Wants, behind, within, wants}
+use Rattle.run_scripts.specs.Command.{texts}
+use Rattle.run_scripts.specs.Ends.{IsByte, AreShort, MayBeShort, MayBeLong, IsNotGot, Wants, behind, within, wants}
+use Rattle.run_scripts.specs.Served.{gets}
 use Rattle.cvm_shell.specs.Stages.{stop_of}
 use Rattle.cvm_shell.specs.Does.{AreGot, IsLong, StopGets, AnswerGets}
 

@@ -9,9 +9,9 @@ use Rattle.cvm_outside.specs.declared.shelf.ShelfFault.TheVariants.{Failed, TooL
 use Rattle.cvm_shell.specs.declared.boot.Stop.{Stop}
 use Rattle.cvm_shell.specs.declared.boot.Stop.TheVariants.{Refused, Shelf, Memory}
 use Rattle.cvm_shell.specs.declared.refusal.Refusal.{Refusal as ByCode}
-use Rattle.cvm_shell.specs.Command.{texts}
-use Rattle.cvm_shell.specs.Refusal.{too_long}
-use Rattle.cvm_shell.specs.Plan.{Plan, refuses, GotAll, AreTold, IsPlan}
+use Rattle.run_scripts.specs.Command.{texts}
+use Rattle.run_scripts.specs.Refusal.{too_long}
+use Rattle.run_scripts.specs.Plan.{Plan, refuses, GotAll, AreTold, IsPlan}
 use Rattle.cvm_shell.specs.Stages.{stop_of, Fetched, LongAmong, NotFetched}
 use Rattle.cvm_shell.specs.Views.{refusal_view, IfRefused}
 use Rattle.cvm_shell.proofs.Plans.{got_whole, got_long, long_contents}

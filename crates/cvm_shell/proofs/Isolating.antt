@@ -9,8 +9,8 @@ use Rattle.cvm_model.specs.KernelMeaning.{UnitsAreKernels, UnitsReplay}
 use Rattle.cvm_model.specs.Journal.{replay, Isolated as AreIsolated}
 use Rattle.cvm_model.specs.Text.{trace_text}
 use Rattle.boot_turns.specs.TurnEnds.{first_of}
-use Rattle.cvm_shell.specs.Boot.{booted}
-use Rattle.cvm_shell.specs.Isolation.{replayed_text, TellTheSame, EqualJournalsTellTheSame}
+use Rattle.run_scripts.specs.Boot.{booted}
+use Rattle.run_scripts.specs.Isolation.{replayed_text, TellTheSame, EqualJournalsTellTheSame}
 use Rattle.cvm_shell.specs.Stages.{JournalsReplay}
 
 -- the law of every system, from those of the model

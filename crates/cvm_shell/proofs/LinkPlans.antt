@@ -31,10 +31,10 @@ use Rattle.kernel_linker.specs.declared.fault.LinkFault.TheVariants as linking
 use Rattle.cvm_shell.specs.declared.boot.Stop.{Stop}
 use Rattle.cvm_shell.specs.declared.boot.Stop.TheVariants as Stops
 use Rattle.cvm_shell.specs.declared.refusal.Refusal.TheVariants as by
-use Rattle.cvm_shell.specs.Command.{Link, link}
-use Rattle.cvm_shell.specs.Refusal.{bad_object, bad_file, unlinked}
+use Rattle.run_scripts.specs.Command.{Link, link}
+use Rattle.run_scripts.specs.Refusal.{bad_object, bad_file, unlinked}
 use Rattle.cvm_shell.specs.Linked.{IsAcceptedAs}
-use Rattle.cvm_shell.specs.Plan.{Plan, refuses, puts, Got, GotAll, words_from, linked_plan, AfterParts, unfit, answered, AfterUsers, AfterParams, AfterSystem, no_object, has_object, AreTold, GetsTold, IsPlan}
+use Rattle.run_scripts.specs.Plan.{Plan, refuses, puts, Got, GotAll, words_from, linked_plan, AfterParts, unfit, answered, AfterUsers, AfterParams, AfterSystem, no_object, has_object, AreTold, GetsTold, IsPlan}
 use Rattle.cvm_shell.specs.Stages.{object_stop, file_stop, link_stop, Fetched, IsLinkPlan}
 use Rattle.cvm_shell.specs.Views.{IfRefused, IfPlan}
 use Rattle.cvm_shell.proofs.Plans.{got_whole, if_refused, if_plan}

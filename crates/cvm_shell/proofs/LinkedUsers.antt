@@ -23,8 +23,8 @@ use Rattle.user_c0.specs.Compiled.{ImagesAreWhole, ImagesAreWords}
 use Rattle.user_c0.specs.declared.fault.UserFault.TheVariants.{TooLarge}
 use Rattle.user_c0.specs.Image.{map_of, image_words}
 use Rattle.user_c0.specs.Program.{MAX_IMAGE}
-use Rattle.cvm_shell.specs.Refusal.{Refusal, bad_program}
-use Rattle.cvm_shell.specs.Plan.{Plan, refuses, puts, bytes_of, Accepts, unread, mistyped, compiles, program_plan, AfterProgram, words_from, before_them}
+use Rattle.run_scripts.specs.Refusal.{Refusal, bad_program}
+use Rattle.run_scripts.specs.Plan.{Plan, refuses, puts, bytes_of, Accepts, unread, mistyped, compiles, program_plan, AfterProgram, words_from, before_them}
 use Rattle.cvm_shell.specs.Programs.{IsProgramFile, LinkedPrograms}
 
 no_put : (r : Refusal) (name bytes : List ℕ) → refuses r ≡ puts name bytes → ⊥

@@ -15,9 +15,9 @@ use Rattle.kernel_linker.specs.Accept.{accept_answer}
 use Rattle.kernel_linker.specs.Migrate.{migrate_answer, Migrates, MigratedAreAccepted}
 use Rattle.kernel_linker.specs.declared.fault.AcceptFault.{AcceptFault}
 use Rattle.cvm_shell.specs.declared.boot.Stop.{Stop}
-use Rattle.cvm_shell.specs.Command.{Migrate}
+use Rattle.run_scripts.specs.Command.{Migrate}
 use Rattle.cvm_shell.specs.Linked.{IsAcceptedAs, IsAcceptedAsOld}
-use Rattle.cvm_shell.specs.Plan.{Plan, puts, Renews, renewed_plan, AfterOld, IsPlan}
+use Rattle.run_scripts.specs.Plan.{Plan, puts, Renews, renewed_plan, AfterOld, IsPlan}
 use Rattle.cvm_shell.specs.Stages.{accept_stop, IsMigratePlan}
 use Rattle.cvm_shell.specs.Views.{IfRefused, IfPlan}
 use Rattle.cvm_shell.proofs.Plans.{got_whole, if_plan}

@@ -3,9 +3,9 @@ use Rattle.std.proofs.Common.{◌≡◌, ℕ, ◌<◌, ◌^◌, List, [], ◌∷
 use Rattle.std.specs.Prelude.{decimal, slice_index, ◌==◌, if◌then◌else◌}
 use Rattle.std.specs.Str.Parse.{digits_value}
 use Rattle.std.proofs.lemmas.Fmt.{decimal_is_IsNumeral}
-use Rattle.cvm_shell.specs.declared.boot.StartPoint.{StartPoint}
-use Rattle.cvm_shell.specs.declared.boot.StartPoint.TheVariants.{Loaded, Rom}
-use Rattle.cvm_shell.specs.Command.{Boot, Trace, Save, Command, boot, trace, save, resume, compile_user, compile_kernel, compile_program, link, migrate, sample, IsCommand, start_word, check}
+use Rattle.run_scripts.specs.declared.session.StartPoint.{StartPoint}
+use Rattle.run_scripts.specs.declared.session.StartPoint.TheVariants.{Loaded, Rom}
+use Rattle.run_scripts.specs.Command.{Boot, Trace, Save, Command, boot, trace, save, resume, compile_user, compile_kernel, compile_program, link, migrate, sample, IsCommand, start_word, check}
 
 -- what stands at a place
 abbrev at : List (List ℕ) → ℕ → List ℕ

@@ -11,9 +11,9 @@ use Rattle.mips_asm.specs.declared.fault.AsmFault.{AsmFault}
 use Rattle.mips_asm.specs.declared.fault.AsmFault.TheVariants.{BadByte, UnknownMnemonic, BadOperand, OutOfRange, UnknownLabel, LabelTwice, TooLong, Memory}
 use Rattle.cvm_shell.specs.declared.boot.Stop.{Stop}
 use Rattle.cvm_shell.specs.declared.boot.Stop.TheVariants.{Refused, Shelf, Memory as OutOfMemory}
-use Rattle.cvm_shell.specs.Command.{CompileUser}
-use Rattle.cvm_shell.specs.Refusal.{too_long, bad_text}
-use Rattle.cvm_shell.specs.Plan.{Plan, refuses, puts, Got, long, whole, AfterText, no_words, assembles, bytes_of, IsPlan}
+use Rattle.run_scripts.specs.Command.{CompileUser}
+use Rattle.run_scripts.specs.Refusal.{too_long, bad_text}
+use Rattle.run_scripts.specs.Plan.{Plan, refuses, puts, Got, long, whole, AfterText, no_words, assembles, bytes_of, IsPlan}
 use Rattle.cvm_shell.specs.Stages.{stop_of, text_stop, IsUserPlan}
 use Rattle.cvm_shell.specs.Views.{refusal_view, IfRefused, IfPlan}
 

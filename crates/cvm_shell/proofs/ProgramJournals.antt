@@ -24,8 +24,8 @@ use Rattle.kernel_linker.specs.Accept.{ImageSystem}
 use Rattle.user_c0.specs.Image.{image_words}
 use Rattle.user_c0.specs.Events.{IsAnsweredJournal}
 use Rattle.user_c0.specs.Program.{ImagesRun, FollowsMain}
-use Rattle.cvm_shell.specs.declared.exit_status.Status.TheVariants.{StepLimit}
-use Rattle.cvm_shell.specs.Boot.{booted, around, first_state, ended_as}
+use Rattle.run_scripts.specs.declared.exit_status.Status.TheVariants.{StepLimit}
+use Rattle.run_scripts.specs.Boot.{booted, around, first_state, ended_as}
 use Rattle.cvm_shell.specs.Stages.{JournalsReplay}
 use Rattle.cvm_shell.specs.Programs.{HasProgram, BootedProgramsRun, SpentTracesTell, SpentProgramsRun}
 

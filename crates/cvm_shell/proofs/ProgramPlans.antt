@@ -13,8 +13,8 @@ use Rattle.user_c0.specs.declared.fault.UserFault.TheVariants.{TooLarge, Memory}
 use Rattle.user_c0.specs.Compiled.{IsSizeFaultOf}
 use Rattle.user_c0.specs.Image.{image_words}
 use Rattle.user_c0.specs.Program.{MAX_IMAGE}
-use Rattle.cvm_shell.specs.Refusal.{bad_program}
-use Rattle.cvm_shell.specs.Plan.{refuses, puts, bytes_of, AfterProgram, program_plan, IsPlan}
+use Rattle.run_scripts.specs.Refusal.{bad_program}
+use Rattle.run_scripts.specs.Plan.{refuses, puts, bytes_of, AfterProgram, program_plan, IsPlan}
 use Rattle.cvm_shell.specs.Stages.{program_stop}
 use Rattle.cvm_shell.specs.Views.{IfRefused}
 use Rattle.cvm_shell.proofs.CodePlans.{plan_compiles}

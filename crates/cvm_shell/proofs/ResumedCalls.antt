@@ -31,20 +31,20 @@ use Rattle.machine_save.specs.ResumeCalls.{ResumeScript}
 use Rattle.machine_save.specs.ResumeRun.{ResumeAnswers}
 use Rattle.machine_save.specs.declared.resuming.ResumeFault.TheVariants as fault
 use Rattle.kernel_linker.specs.Accept.{ImageSystem, system_of}
-use Rattle.cvm_shell.specs.declared.exit_status.Status.{Status}
-use Rattle.cvm_shell.specs.declared.exit_status.Status.TheVariants.{Done, Refused, Disk, Memory}
+use Rattle.run_scripts.specs.declared.exit_status.Status.{Status}
+use Rattle.run_scripts.specs.declared.exit_status.Status.TheVariants.{Done, Refused, Disk, Memory}
 use Rattle.cvm_shell.specs.declared.boot.Ready.{Ready}
-use Rattle.cvm_shell.specs.declared.boot.Session.{Session}
+use Rattle.run_scripts.specs.declared.session.Session.{Session}
 use Rattle.cvm_shell.specs.declared.resuming.Resumable.{Resumable}
 use Rattle.cvm_shell.specs.declared.refusal.Refusal.TheVariants as by
-use Rattle.cvm_shell.specs.Boot.{sectors_needed, ended_as}
-use Rattle.cvm_shell.specs.Command.{Save, save_session}
-use Rattle.cvm_shell.specs.Plan.{Plan, bad_words, refuses, resumes, taken_plan, wanted_by}
-use Rattle.cvm_shell.specs.Refusal.{bad_save, small_disk, too_long, refusal_text}
-use Rattle.cvm_shell.specs.RunStatus.{power_status, run_status}
-use Rattle.cvm_shell.specs.SessionRuns.{run_of}
+use Rattle.run_scripts.specs.Boot.{sectors_needed, ended_as}
+use Rattle.run_scripts.specs.Command.{Save, save_session}
+use Rattle.run_scripts.specs.Plan.{Plan, bad_words, refuses, resumes, taken_plan, wanted_by}
+use Rattle.run_scripts.specs.Refusal.{bad_save, small_disk, too_long, refusal_text}
+use Rattle.run_scripts.specs.RunStatus.{power_status, run_status}
+use Rattle.run_scripts.specs.SessionRuns.{run_of}
 use Rattle.cvm_shell.specs.Stages.{resumable_for}
-use Rattle.cvm_shell.specs.Ends.{small, over_told, over_untold, SavedRun, Joins, answered}
+use Rattle.run_scripts.specs.Ends.{small, over_told, over_untold, SavedRun, Joins, answered}
 use Rattle.cvm_shell.specs.Does.{Acts, DoesPlan, DoesOrWants}
 use Rattle.machine_save.specs.declared.resuming.ResumeFault.{ResumeFault}
 use Rattle.cvm_shell.proofs.StartAnswers.{same_wanted, same_need}

@@ -20,12 +20,12 @@ use Rattle.kernel_linker.specs.Object.{object_of}
 use Rattle.kernel_linker.specs.declared.fault.LinkFault.{LinkFault}
 use Rattle.kernel_linker.specs.declared.fault.LinkFault.TheVariants as linking
 use Rattle.sample_maker.specs.Parts.{SampleParts as Sampled}
-use Rattle.cvm_shell.specs.declared.boot.Session.{Session}
+use Rattle.run_scripts.specs.declared.session.Session.{Session}
 use Rattle.cvm_shell.specs.declared.boot.Stop.{Stop}
 use Rattle.cvm_shell.specs.declared.boot.Stop.TheVariants as Stops
 use Rattle.cvm_shell.specs.declared.refusal.Refusal.TheVariants as by
-use Rattle.cvm_shell.specs.Refusal.{bad_source, unlinked}
-use Rattle.cvm_shell.specs.Plan.{Plan, refuses, AfterFiles, AfterLinking, AfterSource, PartsPlan, IsLinkedTo, IsPlan}
+use Rattle.run_scripts.specs.Refusal.{bad_source, unlinked}
+use Rattle.run_scripts.specs.Plan.{Plan, refuses, AfterFiles, AfterLinking, AfterSource, PartsPlan, IsLinkedTo, IsPlan}
 use Rattle.cvm_shell.specs.Stages.{source_stop, link_stop}
 use Rattle.cvm_shell.specs.Views.{IfRefused, IfPlan}
 use Rattle.cvm_shell.proofs.Plans.{if_plan}

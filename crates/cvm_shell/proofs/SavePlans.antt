@@ -7,17 +7,18 @@ use Rattle.cvm_outside.specs.Told.{TOO_LONG, Tells}
 use Rattle.layer_map.specs.Map.{Map}
 use Rattle.saved_file.specs.declared.fault.SaveFault.{SaveFault}
 use Rattle.saved_file.specs.declared.fault.SaveFault.TheVariants as saving
-use Rattle.machine_save.specs.Room.{Filled, IsRoom, most_words, FILE_ROOM}
+use Rattle.machine_save.specs.Room.{Filled, IsRoom}
+use Rattle.boot_run.specs.SaveRoom.{most_words, FILE_ROOM}
 use Rattle.schedule_file.specs.Rows.{Rows}
 use Rattle.kernel_linker.specs.Accept.{ImageSystem}
-use Rattle.cvm_shell.specs.declared.boot.Session.{Session}
+use Rattle.run_scripts.specs.declared.session.Session.{Session}
 use Rattle.cvm_shell.specs.declared.boot.Stop.{Stop}
 use Rattle.cvm_shell.specs.declared.boot.Stop.TheVariants.{Refused, Shelf, Memory}
 use Rattle.cvm_shell.specs.declared.refusal.Refusal.{Refusal as ByCode}
 use Rattle.cvm_shell.specs.declared.refusal.Refusal.TheVariants as by
-use Rattle.cvm_shell.specs.Command.{Save, resume, save_session}
-use Rattle.cvm_shell.specs.Refusal.{bad_save}
-use Rattle.cvm_shell.specs.Plan.{Plan, refuses, boots, saves, Got, frames_of, most_bytes, saved_plan, taken_up, AfterFiles, AfterThree, GetsTold, IsPlan}
+use Rattle.run_scripts.specs.Command.{Save, resume, save_session}
+use Rattle.run_scripts.specs.Refusal.{bad_save}
+use Rattle.run_scripts.specs.Plan.{Plan, refuses, boots, saves, Got, frames_of, most_bytes, saved_plan, taken_up, AfterFiles, AfterThree, GetsTold, IsPlan}
 use Rattle.cvm_shell.specs.Stages.{save_stop, HasNoRoom, IsBootPlan, IsSavePlan, IsResumePlan}
 use Rattle.cvm_shell.specs.Views.{refusal_view, IfRefused}
 use Rattle.cvm_shell.proofs.Plans.{got_whole, if_refused}

@@ -1,8 +1,8 @@
 -- The words of a save or of a resume, which differ by their first word, are those of one.
 use Rattle.std.proofs.Common.{◌≡◌, ℕ, ◌<◌, ◌≤◌, ◌^◌, List, [], ◌∷◌, refl, sym, ap, ◌∙◌}
 use Rattle.std.specs.Prelude.{decimal}
-use Rattle.cvm_shell.specs.declared.boot.StartPoint.TheVariants.{Loaded}
-use Rattle.cvm_shell.specs.Command.{Boot, Save, start_word, IsBoot, IsSaveBy}
+use Rattle.run_scripts.specs.declared.session.StartPoint.TheVariants.{Loaded}
+use Rattle.run_scripts.specs.Command.{Boot, Save, start_word, IsBoot, IsSaveBy}
 use Rattle.cvm_shell.proofs.Spellings.{words_of_one, none_for_turns, none_for_steps}
 
 -- these words, with numbers that they spell, are a save

@@ -6,11 +6,12 @@ use Rattle.mips_machine.specs.Steps.{outside_of}
 use Rattle.layer_contract.specs.Follows.{loaded}
 use Rattle.boot_turns.specs.Headline.{BootRan as RanOf}
 use Rattle.boot_turns.specs.declared.answers.View.TheVariants as view
-use Rattle.boot_run.specs.SavedRuns.{SavedAt, IsDisk}
-use Rattle.machine_save.specs.Room.{FILE_ROOM}
-use Rattle.cvm_shell.specs.Plan.{whole}
-use Rattle.cvm_shell.specs.Boot.{booted, around}
-use Rattle.cvm_shell.specs.Resumes.{IsHonestResume, SavedAndResumedAreBooted}
+use Rattle.boot_run.specs.SavedRuns.{IsDisk}
+use Rattle.boot_run.specs.SaveRoom.{FILE_ROOM}
+use Rattle.run_scripts.specs.Plan.{whole}
+use Rattle.run_scripts.specs.Boot.{booted, around}
+use Rattle.run_scripts.specs.Resumes.{IsHonestResume, SavedAndResumedAreBooted}
+use Rattle.run_scripts.specs.Saves.{IsSavedAt}
 
 pub saved_and_resumed : SavedAndResumedAreBooted
 saved_and_resumed c d s rows before first mid old new words status a clause asked l memory =
@@ -24,14 +25,12 @@ saved_and_resumed c d s rows before first mid old new words status a clause aske
       fits = a.fits d.boot.turns l.turns asked.turns_fit;
       sectors = l.sectors;
       enough = l.enough;
-      shelf_done = l.shelf_done;
-      disk_done = l.disk_done;
-      sink_done = l.sink_done;
+      served = l.served;
     } in
     let y = booted s rows in
     let disk : IsDisk old.disk.size before = subst (λ (n : ℕ). IsDisk n before) (sym l.size) a.disk in
-    let saved : SavedAt (around rows old) y (loaded y before) c.boot.turns c.boot.steps a.words a.after a.shown =
-    subst (λ (n : ℕ). SavedAt (outside_of rows n) y (loaded y before) c.boot.turns c.boot.steps a.words a.after a.shown) (sym l.size) a.saved_at in
+    let saved : IsSavedAt (around rows old) y (loaded y before) c.boot.turns c.boot.steps a.words a.after a.shown =
+    subst (λ (n : ℕ). IsSavedAt (outside_of rows n) y (loaded y before) c.boot.turns c.boot.steps a.words a.after a.shown) (sym l.size) a.saved_at in
     let whole = (clause d s rows a.words a.after honest memory).joins before a.shown
     (record { turns = c.boot.turns; steps = c.boot.steps; disk = disk; fewer = l.steps; saved_at = saved }) in
     record {

@@ -25,16 +25,16 @@ use Rattle.machine_save.specs.SaveCalls.{leave_script, put_script, of_saved, sav
 use Rattle.machine_save.specs.declared.saving.SavedEnd.{SavedEnd}
 use Rattle.machine_save.specs.declared.saving.SavedEnd.TheVariants as saved_end
 use Rattle.kernel_linker.specs.Accept.{system_of}
-use Rattle.cvm_shell.specs.declared.exit_status.Status.{Status}
-use Rattle.cvm_shell.specs.declared.exit_status.Status.TheVariants.{Done, Disk}
+use Rattle.run_scripts.specs.declared.exit_status.Status.{Status}
+use Rattle.run_scripts.specs.declared.exit_status.Status.TheVariants.{Done, Disk}
 use Rattle.cvm_shell.specs.declared.boot.Ready.{Ready}
-use Rattle.cvm_shell.specs.Boot.{sectors_needed}
-use Rattle.cvm_shell.specs.Command.{Save, save_session}
-use Rattle.cvm_shell.specs.Plan.{saves}
-use Rattle.cvm_shell.specs.SessionRuns.{run_of}
-use Rattle.cvm_shell.specs.RunStatus.{status_of, run_status, save_script, leaving_script}
+use Rattle.run_scripts.specs.Boot.{sectors_needed}
+use Rattle.run_scripts.specs.Command.{Save, save_session}
+use Rattle.run_scripts.specs.Plan.{saves}
+use Rattle.run_scripts.specs.SessionRuns.{run_of}
+use Rattle.run_scripts.specs.RunStatus.{status_of, run_status, save_script, leaving_script}
 use Rattle.cvm_shell.specs.Stages.{status_of_saved}
-use Rattle.cvm_shell.specs.Ends.{over_told, over_untold, SomeSaveAsks, as_boot, is_saved, load_of, answered, seen}
+use Rattle.run_scripts.specs.Ends.{over_told, over_untold, SomeSaveAsks, as_boot, is_saved, load_of, answered, seen}
 use Rattle.cvm_shell.specs.Does.{DoesPlan, SavedCalls, SessionPasts}
 use Rattle.cvm_shell.proofs.StartAnswers.{same_need}
 use Rattle.cvm_shell.proofs.SystemCalls.{some_status}

@@ -5,10 +5,10 @@ use Rattle.std.specs.List.{prefix_len}
 use Rattle.std.specs.Char.{is_ascii_digit}
 use Rattle.std.proofs.lemmas.Fmt.{decimal_injective}
 use Rattle.cvm_text.specs.Number.{number_at}
-use Rattle.cvm_shell.specs.CompileProgram.{CompileProgram, IsCompileProgram}
-use Rattle.cvm_shell.specs.declared.boot.StartPoint.{StartPoint}
-use Rattle.cvm_shell.specs.declared.boot.StartPoint.TheVariants.{Loaded, Rom}
-use Rattle.cvm_shell.specs.Command.{Boot, Trace, CompileUser, CompileKernel, Migrate, Sample, start_word, IsBoot, IsTrace, IsCompileUser, IsCompileKernel, IsLink, IsMigrate, IsSample}
+use Rattle.run_scripts.specs.CompileProgram.{CompileProgram, IsCompileProgram}
+use Rattle.run_scripts.specs.declared.session.StartPoint.{StartPoint}
+use Rattle.run_scripts.specs.declared.session.StartPoint.TheVariants.{Loaded, Rom}
+use Rattle.run_scripts.specs.Command.{Boot, Trace, CompileUser, CompileKernel, Migrate, Sample, start_word, IsBoot, IsTrace, IsCompileUser, IsCompileKernel, IsLink, IsMigrate, IsSample}
 
 -- that the numbers which are spelled are read, as the reader of numbers says it
 abbrev pub AreRead : Type 0

@@ -13,9 +13,9 @@ use Rattle.boot_turns.specs.Headline as headline
 use Rattle.boot_turns.specs.Headline.{Ending, TextAt}
 use Rattle.boot_turns.specs.declared.answers.View.{View}
 use Rattle.boot_turns.specs.declared.answers.View.TheVariants as view
-use Rattle.cvm_shell.specs.Boot.{booted, around, first_state}
+use Rattle.run_scripts.specs.Boot.{booted, around, first_state}
 use Rattle.boot_report.specs.Texts.{fault_row}
-use Rattle.cvm_shell.specs.Suffices.{EndsWith, StackOutIsNotPrinted}
+use Rattle.run_scripts.specs.Suffices.{EndsWith, StackOutIsNotPrinted}
 use Rattle.cvm_shell.proofs.StackTexts.{IsClean, rows_clean, boot_clean, journal_clean, trace_clean, clean_end}
 
 -- behind what stood there

@@ -23,13 +23,13 @@ use Rattle.boot_run.proofs.Premises.{are_pages}
 use Rattle.cvm_outside.specs.Told.{IsSector}
 use Rattle.machine_save.specs.SaveRun.{IfUnput}
 use Rattle.machine_save.specs.declared.saving.SavedEnd.{SavedEnd}
-use Rattle.cvm_shell.specs.Plan.{wanted_by}
+use Rattle.run_scripts.specs.Plan.{wanted_by}
 use Rattle.cvm_shell.specs.declared.boot.Ready.{Ready}
-use Rattle.cvm_shell.specs.declared.boot.Session.{Session}
-use Rattle.cvm_shell.specs.declared.boot.StartPoint.{StartPoint}
-use Rattle.cvm_shell.specs.declared.boot.StartPoint.TheVariants.{Loaded, Rom}
+use Rattle.run_scripts.specs.declared.session.Session.{Session}
+use Rattle.run_scripts.specs.declared.session.StartPoint.{StartPoint}
+use Rattle.run_scripts.specs.declared.session.StartPoint.TheVariants.{Loaded, Rom}
 use Rattle.cvm_outside.specs.Outside.{Outside}
-use Rattle.cvm_shell.specs.Boot.{booted, held_of}
+use Rattle.run_scripts.specs.Boot.{booted, held_of}
 use Rattle.cvm_shell.specs.Stages.{CallAnswers}
 
 -- the users are counted alike

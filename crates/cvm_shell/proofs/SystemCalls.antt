@@ -24,18 +24,18 @@ use Rattle.boot_run.specs.RunEnds.{SeesUser, ending_of_end}
 use Rattle.boot_run.specs.RunScript.{run_script}
 use Rattle.boot_run.specs.Whole.{rom_start_of}
 use Rattle.kernel_linker.specs.Accept.{ImageSystem, system_of}
-use Rattle.cvm_shell.specs.declared.exit_status.Status.{Status}
-use Rattle.cvm_shell.specs.declared.exit_status.Status.TheVariants.{Done, Refused, KernelFault, StepLimit, Disk}
+use Rattle.run_scripts.specs.declared.exit_status.Status.{Status}
+use Rattle.run_scripts.specs.declared.exit_status.Status.TheVariants.{Done, Refused, KernelFault, StepLimit, Disk}
 use Rattle.cvm_shell.specs.declared.boot.Ready.{Ready}
-use Rattle.cvm_shell.specs.declared.boot.Session.{Session}
-use Rattle.cvm_shell.specs.declared.boot.StartPoint.{StartPoint}
-use Rattle.cvm_shell.specs.declared.boot.StartPoint.TheVariants.{Loaded, Rom}
-use Rattle.cvm_shell.specs.Boot.{sectors_needed, ended_as}
-use Rattle.cvm_shell.specs.Refusal.{small_disk, no_such_user, refusal_text}
-use Rattle.cvm_shell.specs.Plan.{boots, saves}
-use Rattle.cvm_shell.specs.SessionRuns.{run_of}
-use Rattle.cvm_shell.specs.RunStatus.{status_of, run_status}
-use Rattle.cvm_shell.specs.Ends.{no_user, small, over_told, over_untold, load_of, answered}
+use Rattle.run_scripts.specs.declared.session.Session.{Session}
+use Rattle.run_scripts.specs.declared.session.StartPoint.{StartPoint}
+use Rattle.run_scripts.specs.declared.session.StartPoint.TheVariants.{Loaded, Rom}
+use Rattle.run_scripts.specs.Boot.{sectors_needed, ended_as}
+use Rattle.run_scripts.specs.Refusal.{small_disk, no_such_user, refusal_text}
+use Rattle.run_scripts.specs.Plan.{boots, saves}
+use Rattle.run_scripts.specs.SessionRuns.{run_of}
+use Rattle.run_scripts.specs.RunStatus.{status_of, run_status}
+use Rattle.run_scripts.specs.Ends.{no_user, small, over_told, over_untold, load_of, answered}
 use Rattle.cvm_shell.specs.Does.{Acts, DoesPlan, SessionCalls, SessionPasts}
 use Rattle.cvm_shell.proofs.StartAnswers.{from, same_need, same_rom_need}
 

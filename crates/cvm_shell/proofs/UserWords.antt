@@ -4,7 +4,7 @@ use Rattle.std.specs.Prelude.{Result, flat_map}
 use Rattle.std.proofs.lemmas.List.{length-append, drop_more}
 use Rattle.cvm_words.specs.Bytes.{word, words_of_bytes}
 use Rattle.system_files.specs.declared.fault.FileFault.{FileFault}
-use Rattle.cvm_shell.specs.Plan.{words_from, before_them}
+use Rattle.run_scripts.specs.Plan.{words_from, before_them}
 
 -- words that were read, before what is still to be read
 abbrev pub behind : List (List ℕ) → Result (List (List ℕ)) FileFault → Result (List (List ℕ)) FileFault

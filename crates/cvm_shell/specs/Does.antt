@@ -1,4 +1,5 @@
 -- Only for the contracts inside the crate: what the stages of a command do, by their scripts.
+use Rattle.std.specs.Global.{Vec}
 use Rattle.std.specs.Prelude.{◌≡◌, ◌≢◌, ◌⊎◌, ◌≤◌, ℕ, List, [], ◌∷◌, ◌++◌, length, Option, None, Some, Result, MatchResult}
 use Rattle.cvm_outside.specs.Told.{TOO_LONG}
 use Rattle.cvm_outside.specs.Outside.{Outside, Files, Output, Drive, files, output, drive}
@@ -15,18 +16,22 @@ use Rattle.boot_run.specs.RunEnds.{SeesUser}
 use Rattle.machine_save.specs.SaveCalls.{SavedScript}
 use Rattle.machine_save.specs.declared.saving.SavedEnd.{SavedEnd}
 use Rattle.kernel_linker.specs.Accept.{system_of}
-use Rattle.cvm_shell.specs.declared.exit_status.Status.{Status}
-use Rattle.cvm_shell.specs.declared.exit_status.Status.TheVariants.{Memory}
+use Rattle.real_layer.specs.Image.{layer_image}
+use Rattle.run_scripts.specs.declared.exit_status.Status.{Status}
+use Rattle.run_scripts.specs.declared.exit_status.Status.TheVariants.{Shelf, Memory}
 use Rattle.cvm_shell.specs.declared.boot.Ready.{Ready}
-use Rattle.cvm_shell.specs.declared.boot.Session.{Session}
+use Rattle.run_scripts.specs.declared.session.Session.{Session}
 use Rattle.cvm_shell.specs.declared.boot.Stop.{Stop}
 use Rattle.cvm_shell.specs.declared.boot.Stop.TheVariants as stop
 use Rattle.cvm_shell.specs.declared.refusal.Refusal.TheVariants as refusal
-use Rattle.cvm_shell.specs.Command.{Command, Save, IsCommand, IsSample, save_session}
-use Rattle.cvm_shell.specs.Plan.{Plan}
-use Rattle.cvm_shell.specs.Boot.{booted, first_state, sectors_needed}
-use Rattle.cvm_shell.specs.SessionRuns.{run_of}
-use Rattle.cvm_shell.specs.Ends.{Ends, PlanAsks, Joins, IsNotGot, Wants, AreShort, MayBeLong, answered, gets, load_of, seen}
+use Rattle.cvm_shell.specs.Stages.{IsBootPlan, IsSavePlan, IsResumePlan, IsUserPlan, IsKernelPlan, IsProgramPlan, IsLinkPlan, IsMigratePlan, IsSamplePlan, IsCheckPlan}
+use Rattle.cvm_shell.specs.Views.{IfPlan, stated_row, stated_status}
+use Rattle.run_scripts.specs.Command.{Command, Save, boot, trace, save, resume, compile_user, compile_kernel, compile_program, link, migrate, sample, check, IsCommand, IsSample, boot_session, trace_session, save_session}
+use Rattle.run_scripts.specs.Plan.{Plan, puts}
+use Rattle.run_scripts.specs.Boot.{booted, first_state, sectors_needed}
+use Rattle.run_scripts.specs.SessionRuns.{run_of}
+use Rattle.run_scripts.specs.Ends.{Ends, PlanAsks, Joins, IsNotGot, Wants, AreShort, MayBeLong, answered, load_of, seen}
+use Rattle.run_scripts.specs.Served.{files_of, gets}
 
 -- FILES WERE GOT, one after the other, and none is too long
 pub record AreGot (names : List (List ℕ)) (old new : Outside) : Type 0 where
@@ -71,6 +76,12 @@ abbrev pub SaysAs : {O : Type 0} → sink_of.Ghosts O → (due : Status) → (te
 SaysAs told due text old new status = (shelf : Files) (disk : Drive) →
     Acts (says text) due (record { shelf = shelf; sink = output told old; disk = disk }) (record { shelf = shelf; sink = output told new; disk = disk }) status
 
+-- WHY A STAGE STOPPED is said: the row of what is refused, or nothing beside the status
+abbrev pub SaysStop : {O : Type 0} → sink_of.Ghosts O → Stop → (old new : O) → Status → Type 0
+SaysStop told (stop.Refused r) old new status = SaysAs told (stated_status r) (stated_row r) old new status
+SaysStop told stop.Shelf old new status = (new ≡ old) × (status ≡ Shelf)
+SaysStop told stop.Memory old new status = (new ≡ old) × (status ≡ Memory)
+
 -- WHAT WAS DONE of a plan, behind the gets
 pub record DoesPlan (p : Plan) (old new : Outside) (status : Status) : Type 0 where
   pub script : List Call
@@ -85,6 +96,26 @@ pub record DoesPlan (p : Plan) (old new : Outside) (status : Status) : Type 0 wh
 abbrev pub CommandDoes : {S O : Type 0} → shelf_of.Ghosts S → sink_of.Ghosts O → Command → Status → (old new : S × O) → Type 0
 CommandDoes shelf sink c status (s, o) (s', o') = (words : List (List ℕ)) (disk : Drive) → IsCommand words c → Ends words
     (record { shelf = files shelf s; sink = output sink o; disk = disk }) (record { shelf = files shelf s'; sink = output sink o'; disk = disk }) status
+
+-- the files of a command come to a plan, and to no other
+abbrev pub FilesPlan : (List ℕ → Option (List ℕ)) → Command → Plan → Type 0
+FilesPlan file (boot b) p = IsBootPlan layer_image file b (boot_session b) p
+FilesPlan file (trace t) p = IsBootPlan layer_image file t.boot (trace_session t) p
+FilesPlan file (save c) p = IsSavePlan layer_image file c p
+FilesPlan file (resume c) p = IsResumePlan layer_image file c p
+FilesPlan file (compile_user c) p = IsUserPlan file c p
+FilesPlan file (compile_kernel c) p = IsKernelPlan file c p
+FilesPlan file (compile_program c) p = IsProgramPlan file c p
+FilesPlan file (link l) p = IsLinkPlan layer_image file l p
+FilesPlan file (migrate m) p = IsMigratePlan layer_image file m p
+FilesPlan file (sample x) p = IsSamplePlan layer_image x.number p
+FilesPlan file (check c) p = IsCheckPlan file c p
+
+-- WHAT A STAGE MADE IS PUT under a name, or it is said why the stage stopped: so the command ends whose stage it was, from the shelf that it began with
+abbrev pub PutsMade : {S O : Type 0} → shelf_of.Ghosts S → sink_of.Ghosts O → (name : List ℕ) → Result (Vec ℕ) Stop → Status → (old new : S × O) → Type 0
+PutsMade {S} shelf sink name made status (s, o) (s', o') = (words : List (List ℕ)) (c : Command) (first : S) (disk : Drive) → IsCommand words c →
+    Gets shelf (files_of c) first s made → IfPlan (λ v. puts name v.items) (FilesPlan (shelf.file first) c) made → Ends words
+    (record { shelf = files shelf first; sink = output sink o; disk = disk }) (record { shelf = files shelf s'; sink = output sink o'; disk = disk }) status
 
 -- and over a disk
 abbrev pub RunDoes : {S O D : Type 0} → shelf_of.Ghosts S → sink_of.Ghosts O → sectors_of.Ghosts D → Command → Status → (old new : S × O × D) → Type 0

@@ -12,8 +12,8 @@ use Rattle.system_files.specs.Params.{params_of}
 use Rattle.boot_image.specs.Parts.{ImageParts as Image}
 use Rattle.boot_image.specs.Reading.{answer as image_of, old_answer as old_image_of}
 use Rattle.kernel_linker.specs.Linked.{linked, sizes_of}
-use Rattle.cvm_shell.specs.Command.{Link, Migrate}
-use Rattle.cvm_shell.specs.Plan.{Accepts, words_from}
+use Rattle.run_scripts.specs.Command.{Link, Migrate}
+use Rattle.run_scripts.specs.Plan.{Accepts, words_from}
 use Rattle.cvm_shell.specs.Stages.{Fetched}
 
 -- ACCEPTED of a source, parameters and users: the bytes are an image, and it is accepted as the system of the checked unit of that source, these

@@ -43,23 +43,23 @@ use Rattle.schedule_file.specs.declared.fault.ScheduleFault.TheVariants as sched
 use Rattle.saved_file.specs.Answer.{answer as machine_of}
 use Rattle.saved_file.specs.declared.fault.SaveFault.{SaveFault}
 use Rattle.saved_file.specs.declared.fault.SaveFault.TheVariants as saving
-use Rattle.machine_save.specs.Room.{FILE_ROOM}
+use Rattle.boot_run.specs.SaveRoom.{FILE_ROOM}
 use Rattle.cvm_shell.specs.declared.boot.Ready.{Ready}
 use Rattle.cvm_shell.specs.declared.saving.Saveable.{Saveable}
 use Rattle.cvm_shell.specs.declared.resuming.Resumable.{Resumable}
 use Rattle.cvm_shell.specs.declared.boot.Stop.{Stop}
 use Rattle.cvm_shell.specs.declared.boot.Stop.TheVariants as stop
 use Rattle.cvm_shell.specs.declared.refusal.Refusal.TheVariants as refusal
-use Rattle.cvm_shell.specs.declared.exit_status.Status.{Status}
-use Rattle.cvm_shell.specs.declared.exit_status.Status.TheVariants.{Done, Shelf, Sink, Memory}
+use Rattle.run_scripts.specs.declared.exit_status.Status.{Status}
+use Rattle.run_scripts.specs.declared.exit_status.Status.TheVariants.{Done, Shelf, Sink, Memory}
 use Rattle.std.specs.Global.{Vec}
-use Rattle.cvm_shell.specs.declared.boot.Session.{Session}
-use Rattle.cvm_shell.specs.CompileProgram.{CompileProgram}
-use Rattle.cvm_shell.specs.Command.{Boot, Save, CompileUser, CompileKernel, Link, Migrate, boot, save, resume, save_session, compile_user, compile_kernel, compile_program, link as link_command, migrate, check}
-use Rattle.cvm_shell.specs.Plan.{Plan, puts, boots, saves, most_bytes, wanted_by, taken_plan, BootPlan, SavePlan, ResumePlan, UserPlan, KernelPlan, ProgramPlan, LinkPlan, MigratePlan, SamplePlan, GetsTold, IsPlan, words_from, prints, CheckPlan}
-use Rattle.cvm_shell.specs.Check.{Check}
+use Rattle.run_scripts.specs.declared.session.Session.{Session}
+use Rattle.run_scripts.specs.CompileProgram.{CompileProgram}
+use Rattle.run_scripts.specs.Command.{Boot, Save, CompileUser, CompileKernel, Link, Migrate, boot, save, resume, save_session, compile_user, compile_kernel, compile_program, link as link_command, migrate, check}
+use Rattle.run_scripts.specs.Plan.{Plan, puts, boots, saves, most_bytes, wanted_by, taken_plan, BootPlan, SavePlan, ResumePlan, UserPlan, KernelPlan, ProgramPlan, LinkPlan, MigratePlan, SamplePlan, GetsTold, IsPlan, words_from, prints, CheckPlan}
+use Rattle.run_scripts.specs.Check.{Check}
 use Rattle.cvm_shell.specs.Views.{IfPlan}
-use Rattle.cvm_shell.specs.Boot.{booted, sectors_needed, ended_as}
+use Rattle.run_scripts.specs.Boot.{booted, sectors_needed, ended_as}
 
 -- what a fault of the shelf comes to
 abbrev pub stop_of : ShelfFault → Stop

@@ -1,11 +1,11 @@
 -- Only for the contracts inside the crate: what they see of the enums and structs of the code, and of a stage that may stop.
 use Rattle.std.specs.Prelude.{◌≡◌, ◌≤◌, ℕ, List, Option, Result, MatchOption, MatchResult, decimal, ⊤}
-use Rattle.cvm_shell.specs.declared.exit_status.Status.{Status}
-use Rattle.cvm_shell.specs.Command as command
-use Rattle.cvm_shell.specs.CompileProgram as compiling
-use Rattle.cvm_shell.specs.Check as checking
-use Rattle.cvm_shell.specs.Refusal as refusal
-use Rattle.cvm_shell.specs.Plan.{Plan, refuses}
+use Rattle.run_scripts.specs.declared.exit_status.Status.{Status}
+use Rattle.run_scripts.specs.Command as command
+use Rattle.run_scripts.specs.CompileProgram as compiling
+use Rattle.run_scripts.specs.Check as checking
+use Rattle.run_scripts.specs.Refusal as refusal
+use Rattle.run_scripts.specs.Plan.{Plan, refuses}
 use Rattle.cvm_shell.specs.declared.command.Boot.{Boot}
 use Rattle.cvm_shell.specs.declared.command.Trace.{Trace}
 use Rattle.cvm_shell.specs.declared.saving_words.Save.{Save}

@@ -1,10 +1,10 @@
 // The image of a user: its text, assembled.
 ghost use Rattle.std.specs.Prelude.{◌≡◌, ◌≢◌, ◌↔◌, ◌*◌, ⊤, ℕ, List, length, IfOk, IfErr, IsErrOf};
 ghost use Rattle.cvm_outside.specs.Told.{TOO_LONG};
-ghost use Rattle.cvm_shell.specs.Command as Command;
+ghost use Rattle.run_scripts.specs.Command as Command;
 ghost use Rattle.cvm_shell.specs.Does.{Gets};
-ghost use Rattle.cvm_shell.specs.Ends.{files_of};
-ghost use Rattle.cvm_shell.specs.Plan.{AfterText, IsPlan, bytes_of};
+ghost use Rattle.run_scripts.specs.Served.{files_of};
+ghost use Rattle.run_scripts.specs.Plan.{AfterText, IsPlan, bytes_of};
 ghost use Rattle.cvm_shell.specs.Stages.{text_stop, PlanCounts, compiled, IsUserPlan};
 ghost use Rattle.cvm_shell.specs.Views.{user_view, IfPlan};
 

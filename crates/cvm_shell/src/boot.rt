@@ -3,26 +3,27 @@ ghost use Rattle.std.specs.Prelude.{All, ◌≡◌, ◌≢◌, ◌↔◌, ◌≤
 ghost use Rattle.cvm_outside.specs.Told.{TOO_LONG};
 ghost use Rattle.real_layer.specs.Image.{layer_image};
 ghost use Rattle.boot_run.specs.RunEnds.{ending_of_end};
-ghost use Rattle.cvm_shell.specs.Boot.{ended_as};
-ghost use Rattle.cvm_shell.specs.Command.{boot as of_boot};
+ghost use Rattle.run_scripts.specs.Boot.{ended_as};
+ghost use Rattle.run_scripts.specs.Command.{boot as of_boot};
 ghost use Rattle.cvm_shell.specs.Does.{Gets, SystemDoes};
-ghost use Rattle.cvm_shell.specs.Ends.{AreBytes, IsByte, files_of};
-ghost use Rattle.cvm_shell.specs.Plan.{AfterFiles, IsPlan};
+ghost use Rattle.run_scripts.specs.Ends.{AreBytes, IsByte};
+ghost use Rattle.run_scripts.specs.Served.{files_of};
+ghost use Rattle.run_scripts.specs.Plan.{AfterFiles, IsPlan};
 ghost use Rattle.cvm_shell.specs.Stages.{stop_of, accept_stop, schedule_stop, PlanCounts, ready_for, IsBootPlan, SystemFollows};
 ghost use Rattle.cvm_shell.specs.Views.{boot_view, IfPlan};
 
 use crate::accepted::accept_image;
 use crate::command::Boot;
-use crate::exit_status::Status;
 use crate::refusal::Refusal;
 use crate::saying::refuse;
 use crate::starting::load_and_run;
-use boot_run::{LoadFault, RunEnd, View};
+use boot_run::{LoadFault, RunEnd};
 use c0_types::laws::sources_have_one_answer;
 use cvm_outside::{Sectors, Shelf, ShelfFault, Sink};
 use kernel_linker::AcceptFault;
 use layer_contract::Boot as Booted;
 use real_layer::RealLayer;
+use run_scripts::{Session, Status};
 use schedule_file::{Schedule, ScheduleFault, read};
 use std::alloc::Global;
 
@@ -80,28 +81,6 @@ pub struct Ready {
     pub layer: RealLayer,
     /// The schedule.
     pub schedule: Schedule,
-}
-
-/// Where the run of a system starts.
-#[derive(Clone, Copy, Debug, PartialEq, Eq)]
-pub enum StartPoint {
-    /// At the loaded machine, whose memory holds the linked words.
-    Loaded,
-    /// At the machine with a boot ROM, which brings the linked words from the disk.
-    Rom,
-}
-
-/// What is run of an accepted system, under its schedule.
-#[derive(Clone, Copy, Debug, PartialEq, Eq)]
-pub struct Session {
-    /// Where it starts.
-    pub start: StartPoint,
-    /// What is printed: the rows and the report of a boot, or the trace of one user.
-    pub view: View,
-    /// How many turns are wanted, at least 1.
-    pub turns: u32,
-    /// The most steps of the machine.
-    pub steps: u64,
 }
 
 /// Gets the files of a boot, the image first; accepts the image, and reads the schedule: what is to be run, by whatever session.

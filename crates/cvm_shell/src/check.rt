@@ -2,18 +2,17 @@
 ghost use Rattle.std.specs.Prelude.{◌≡◌, ◌≢◌, ◌↔◌, ⊤, ℕ, List, IfSome, IfNone, IfOk, IfErr, IsErrOf, Some, option_map};
 ghost use Rattle.c0_tree.specs.View.{unit_view};
 ghost use Rattle.cvm_outside.specs.Told.{TOO_LONG};
-ghost use Rattle.cvm_shell.specs.Check as checking;
-ghost use Rattle.cvm_shell.specs.Check.{IsCheck, TellsUnit};
-ghost use Rattle.cvm_shell.specs.Command as command;
+ghost use Rattle.run_scripts.specs.Check as checking;
+ghost use Rattle.run_scripts.specs.Check.{IsCheck, TellsUnit};
+ghost use Rattle.run_scripts.specs.Command as command;
 ghost use Rattle.cvm_shell.specs.Does.{Gets, CommandDoes};
-ghost use Rattle.cvm_shell.specs.Ends.{files_of};
-ghost use Rattle.cvm_shell.specs.Plan.{AfterChecked, IsPlan};
+ghost use Rattle.run_scripts.specs.Served.{files_of};
+ghost use Rattle.run_scripts.specs.Plan.{AfterChecked, IsPlan};
 ghost use Rattle.cvm_shell.specs.Stages.{PlanCounts, told_text, IsCheckPlan};
 ghost use Rattle.cvm_shell.specs.Views.{check_view, IfPlan, IsStackNumber};
 
 use crate::boot::Stop;
 use crate::command::read_number;
-use crate::exit_status::Status;
 use crate::refusal::Refusal;
 use crate::saying::{refuse, say};
 use bound_check::{answer_text, answers_are_one, bound};
@@ -22,6 +21,7 @@ use c0_types::laws::sources_have_one_answer;
 use cvm_outside::{Shelf, Sink};
 use kernel_linker::open_object;
 use object_file::{bytes_have_one_answer, read};
+use run_scripts::Status;
 use std::alloc::{AllocError, Global};
 
 /// The fewest words of stack that a check names, as many as the least of a system.

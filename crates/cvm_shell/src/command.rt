@@ -1,13 +1,13 @@
 // The words of a command.
 ghost use Rattle.std.specs.Prelude.{◌≡◌, ◌<◌, ◌≤◌, ◌^◌, ℕ, IfSome, IfNone, MatchOption, decimal, Some, option_map};
-ghost use Rattle.cvm_shell.specs.Command as command;
+ghost use Rattle.run_scripts.specs.Command as command;
 ghost use Rattle.cvm_shell.specs.Views.{boot_view, trace_view, user_view, kernel_view, link_view, migrate_view, sample_view, command_view, IsUserNumber};
 
-use crate::boot::StartPoint;
 use crate::check::{Check, read_check};
 use crate::program::{CompileProgram, read_compile_program};
 use crate::saving_words::{Save, read_resume, read_save};
 use cvm_text::{read_decimal, spelled_numbers_are_read};
+use run_scripts::StartPoint;
 
 /// The most turns that a command names, and the last sample.
 const MOST_TURNS: u64 = 4_294_967_295;

@@ -2,10 +2,15 @@
 #![tactic(auto)]
 
 ghost use Rattle.std.specs.Prelude.{◌≤◌};
-ghost use Rattle.cvm_shell.specs.Command as command;
-ghost use Rattle.cvm_shell.specs.Command.{texts};
+ghost use Rattle.run_scripts.specs.Command as command;
+ghost use Rattle.run_scripts.specs.Command.{texts};
 ghost use Rattle.cvm_shell.specs.Does.{CommandDoes, RunDoes, SampleDoes};
-ghost use Rattle.cvm_shell.specs.Ends.{Ends, seen as told_by};
+ghost use Rattle.run_scripts.specs.CommandEnds.{Headlines, RunCompletes, Isolates, SavesComplete, ResumesComplete};
+ghost use Rattle.run_scripts.specs.Ends.{Ends, seen as told_by};
+ghost use Rattle.run_scripts.specs.Promises.{OfCall};
+ghost use Rattle.run_scripts.specs.Resumes.{Resumes};
+ghost use Rattle.run_scripts.specs.Saves.{Saves};
+ghost use Rattle.run_scripts.specs.Suffices.{Suffices};
 ghost use Rattle.cvm_shell.specs.Stages.{JournalsReplay};
 ghost use Rattle.cvm_shell.specs.Views.{boot_view, user_view, kernel_view, link_view, migrate_view};
 
@@ -14,12 +19,12 @@ pub mod assembly;
 pub mod boot;
 pub mod check;
 pub mod command;
-pub mod exit_status;
 pub mod laws;
 pub mod linking;
 pub mod migration;
 pub mod object;
 pub mod program;
+pub mod putting;
 pub mod refusal;
 pub mod resuming;
 pub mod sampling;
@@ -29,7 +34,7 @@ pub mod saying;
 mod starting;
 
 pub use assembly::{user_image, words_have_four_bytes};
-pub use boot::{Ready, Session, StartPoint, Stop, plan, run_system};
+pub use boot::{Ready, Stop, plan, run_system};
 use boot_run::View;
 pub use check::{Check, check_object, read_check, stack_text};
 pub use command::{
@@ -39,15 +44,20 @@ pub use command::{
 };
 use cvm_model::{units_are_kernels, units_dont_matter, units_replay, users_are_isolated};
 use cvm_outside::{Sectors, Shelf, Sink};
-pub use exit_status::Status;
 pub use linking::system_image;
 pub use migration::migrated_image;
 pub use object::kernel_object;
 use program::compile_program;
 pub use program::{CompileProgram, program_image, read_compile_program};
+use putting::put_made;
 use real_layer::RealLayer;
 pub use refusal::Refusal;
 pub use resuming::{Resumable, plan_resume, run_resume};
+use run_scripts::laws::{
+    headlines_hold, resumes_are_complete, resumes_are_held, runs_are_complete, saves_are_complete,
+    saves_are_held, traces_are_isolated, yes_is_enough,
+};
+pub use run_scripts::{Session, StartPoint, Status};
 pub use sampling::sampled;
 pub use saving::{Saveable, plan_save, run_save};
 pub use saving_words::{Save, read_resume, read_save};
@@ -74,11 +84,11 @@ use std::alloc::Global;
 /// row of their own, and a sink that fails is `Sink`, also in place of another status whose text it was to take. No file changes but the
 /// one that a `compile user`, a `compile kernel`, a `compile program`, a `link`, a `migrate` or a `save` names to be put, and no sector but
 /// those of the users' pages of a `boot`, a `rom`, a `trace`, a `save`, a `resume` or a `sample`, and of the linked words of a `rom`. A
-/// `resume` of a file that no `save` put changes sectors as the machine does whose state the file names.
+/// `resume` that doesn't go on from what a `save` left, file and disk, changes sectors as the machine does whose state the file names.
 ///
-/// How it ends is said once, for every command, and exactly (`Ends`): by the script of calls that words and files ask for. What follows from that are the
-/// laws of `run_scripts`: the headline, that enough steps are enough, isolation, what a `yes` means, saves and resumes, why a status is what it is,
-/// and what stands after a fault.
+/// How it ends is said once, for every command, and exactly (`script`): by the script of calls that words and files ask for. What is promised of a run
+/// follows from that, by laws of `run_scripts`: the headline, that enough steps are enough, isolation, what a `yes` means, and saves and resumes are clauses
+/// here; why a status is what it is, and what stands after a fault, are laws there.
 pub fn run<S: Shelf, O: Sink, D: Sectors>(
     alloc: Global,
     words: &Vec<String>,
@@ -87,6 +97,36 @@ pub fn run<S: Shelf, O: Sink, D: Sectors>(
     disk: &mut D,
 ) -> Status
     ensures script { Ends (texts words.now.items) (told_by S.Shelf O.Sink D.Sectors shelf.old out.old disk.old)
+        (told_by S.Shelf O.Sink D.Sectors shelf.new out.new disk.new) result }
+    ensures headline { OfCall Headlines S.Shelf O.Sink D.Sectors words.now.items result shelf.old out.old disk.old shelf.new out.new disk.new }
+    ensures complete { OfCall RunCompletes S.Shelf O.Sink D.Sectors words.now.items result shelf.old out.old disk.old shelf.new out.new disk.new }
+    ensures isolated { OfCall Isolates S.Shelf O.Sink D.Sectors words.now.items result shelf.old out.old disk.old shelf.new out.new disk.new }
+    ensures suffices { OfCall Suffices S.Shelf O.Sink D.Sectors words.now.items result shelf.old out.old disk.old shelf.new out.new disk.new }
+    ensures saves { OfCall Saves S.Shelf O.Sink D.Sectors words.now.items result shelf.old out.old disk.old shelf.new out.new disk.new }
+    ensures saves_complete { OfCall SavesComplete S.Shelf O.Sink D.Sectors words.now.items result shelf.old out.old disk.old shelf.new out.new disk.new }
+    ensures resumes { OfCall Resumes S.Shelf O.Sink D.Sectors words.now.items result shelf.old out.old disk.old shelf.new out.new disk.new }
+    ensures resumes_complete { OfCall ResumesComplete S.Shelf O.Sink D.Sectors words.now.items result shelf.old out.old disk.old shelf.new out.new disk.new }
+{
+    headlines_hold();
+    runs_are_complete();
+    traces_are_isolated();
+    yes_is_enough();
+    saves_are_held();
+    saves_are_complete();
+    resumes_are_held();
+    resumes_are_complete();
+    run_command(alloc, words, shelf, out, disk)
+}
+
+// Runs the command of these words: each makes the calls of its script.
+fn run_command<S: Shelf, O: Sink, D: Sectors>(
+    alloc: Global,
+    words: &Vec<String>,
+    shelf: &mut S,
+    out: &mut O,
+    disk: &mut D,
+) -> Status
+    ensures { Ends (texts words.now.items) (told_by S.Shelf O.Sink D.Sectors shelf.old out.old disk.old)
         (told_by S.Shelf O.Sink D.Sectors shelf.new out.new disk.new) result }
 {
     match read_command(words) {
@@ -155,16 +195,8 @@ fn compile_user<S: Shelf, O: Sink>(
 ) -> Status
     ensures { CommandDoes S.Shelf O.Sink (command.compile_user (user_view names.now)) result (shelf.old, out.old) (shelf.new, out.new) }
 {
-    let image = match user_image(alloc, names, shelf) {
-        Ok(image) => image,
-        Err(Stop::Refused(refusal)) => return refuse(&refusal, out),
-        Err(Stop::Shelf) => return Status::Shelf,
-        Err(Stop::Memory) => return Status::Memory,
-    };
-    match shelf.put(names.image, &image) {
-        Ok(()) => Status::Done,
-        Err(_) => Status::Shelf,
-    }
+    let image = user_image(alloc, names, shelf);
+    put_made(image, names.image, shelf, out)
 }
 
 // Puts the object of a kernel, whose source is got, read, checked and compiled.
@@ -176,32 +208,16 @@ fn compile_kernel<S: Shelf, O: Sink>(
 ) -> Status
     ensures { CommandDoes S.Shelf O.Sink (command.compile_kernel (kernel_view names.now)) result (shelf.old, out.old) (shelf.new, out.new) }
 {
-    let object = match kernel_object(alloc, names, shelf) {
-        Ok(object) => object,
-        Err(Stop::Refused(refusal)) => return refuse(&refusal, out),
-        Err(Stop::Shelf) => return Status::Shelf,
-        Err(Stop::Memory) => return Status::Memory,
-    };
-    match shelf.put(names.object, &object) {
-        Ok(()) => Status::Done,
-        Err(_) => Status::Shelf,
-    }
+    let object = kernel_object(alloc, names, shelf);
+    put_made(object, names.object, shelf, out)
 }
 
 // Puts the image of a system, whose object, parameters and users are got, read and linked.
 fn link_system<S: Shelf, O: Sink>(alloc: Global, names: &Link, shelf: &mut S, out: &mut O) -> Status
     ensures { CommandDoes S.Shelf O.Sink (command.link (link_view names.now)) result (shelf.old, out.old) (shelf.new, out.new) }
 {
-    let linked = match system_image::<RealLayer, S>(alloc, names, shelf) {
-        Ok(linked) => linked,
-        Err(Stop::Refused(refusal)) => return refuse(&refusal, out),
-        Err(Stop::Shelf) => return Status::Shelf,
-        Err(Stop::Memory) => return Status::Memory,
-    };
-    match shelf.put(names.image, &linked) {
-        Ok(()) => Status::Done,
-        Err(_) => Status::Shelf,
-    }
+    let linked = system_image::<RealLayer, S>(alloc, names, shelf);
+    put_made(linked, names.image, shelf, out)
 }
 
 // Puts the image that is made anew of one of form 2, which is got and read.
@@ -213,16 +229,8 @@ fn migrate_image<S: Shelf, O: Sink>(
 ) -> Status
     ensures { CommandDoes S.Shelf O.Sink (command.migrate (migrate_view names.now)) result (shelf.old, out.old) (shelf.new, out.new) }
 {
-    let made = match migrated_image::<RealLayer, S>(alloc, names, shelf) {
-        Ok(made) => made,
-        Err(Stop::Refused(refusal)) => return refuse(&refusal, out),
-        Err(Stop::Shelf) => return Status::Shelf,
-        Err(Stop::Memory) => return Status::Memory,
-    };
-    match shelf.put(names.image, &made) {
-        Ok(()) => Status::Done,
-        Err(_) => Status::Shelf,
-    }
+    let made = migrated_image::<RealLayer, S>(alloc, names, shelf);
+    put_made(made, names.image, shelf, out)
 }
 
 // Makes, links and boots the sample of a number.

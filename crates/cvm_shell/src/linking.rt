@@ -1,11 +1,11 @@
 // The image of a system: its object, parameters and users, read and linked.
 ghost use Rattle.std.specs.Prelude.{◌≡◌, ◌≢◌, ◌↔◌, ℕ, List, map, IfOk, IfErr, IsErrOf};
 ghost use Rattle.cvm_outside.specs.Told.{TOO_LONG};
-ghost use Rattle.cvm_shell.specs.Command.{link as link_command, texts};
+ghost use Rattle.run_scripts.specs.Command.{link as link_command, texts};
 ghost use Rattle.cvm_shell.specs.Does.{Gets};
-ghost use Rattle.cvm_shell.specs.Ends.{files_of};
+ghost use Rattle.run_scripts.specs.Served.{files_of};
 ghost use Rattle.cvm_shell.specs.Linked.{IsAcceptedAs, AreAcceptedAs, LinkIsAccepted};
-ghost use Rattle.cvm_shell.specs.Plan.{AfterParts, AfterSystem};
+ghost use Rattle.run_scripts.specs.Plan.{AfterParts, AfterSystem};
 ghost use Rattle.cvm_shell.specs.Stages.{object_stop, file_stop, link_stop, Fetched, NotFetched, AreWordsOf, PlanCounts, LinksTo, linked_to, IsLinkPlan};
 ghost use Rattle.cvm_shell.specs.Views.{link_view, IfPlan};
 

@@ -1,11 +1,11 @@
 // An image of form 2, read and made anew.
 ghost use Rattle.std.specs.Prelude.{◌≡◌, ◌≢◌, ◌↔◌, ⊤, ℕ, List, IfOk, IfErr, IsErrOf};
 ghost use Rattle.cvm_outside.specs.Told.{TOO_LONG};
-ghost use Rattle.cvm_shell.specs.Command as Command;
+ghost use Rattle.run_scripts.specs.Command as Command;
 ghost use Rattle.cvm_shell.specs.Does.{Gets};
-ghost use Rattle.cvm_shell.specs.Ends.{files_of};
+ghost use Rattle.run_scripts.specs.Served.{files_of};
 ghost use Rattle.cvm_shell.specs.Linked.{IsAcceptedAsOld, MigrateIsAccepted};
-ghost use Rattle.cvm_shell.specs.Plan.{AfterOld, IsPlan};
+ghost use Rattle.run_scripts.specs.Plan.{AfterOld, IsPlan};
 ghost use Rattle.cvm_shell.specs.Stages.{PlanCounts, renewed, IsMigratePlan};
 ghost use Rattle.cvm_shell.specs.Views.{migrate_view, IfPlan};
 

@@ -5,10 +5,10 @@ ghost use Rattle.c0_types.specs.Front.{IsUnitOf};
 ghost use Rattle.c0_tree.specs.View.{unit_view};
 ghost use Rattle.kernel_linker.specs.Object.{object_of};
 ghost use Rattle.object_file.specs.Format.{spelling};
-ghost use Rattle.cvm_shell.specs.Command as Command;
+ghost use Rattle.run_scripts.specs.Command as Command;
 ghost use Rattle.cvm_shell.specs.Does.{Gets};
-ghost use Rattle.cvm_shell.specs.Ends.{files_of};
-ghost use Rattle.cvm_shell.specs.Plan.{AfterKernel, IsPlan, MOST_SOURCE};
+ghost use Rattle.run_scripts.specs.Served.{files_of};
+ghost use Rattle.run_scripts.specs.Plan.{AfterKernel, IsPlan, MOST_SOURCE};
 ghost use Rattle.cvm_shell.specs.Stages.{source_stop, PlanCounts, linkable, IsKernelPlan};
 ghost use Rattle.cvm_shell.specs.Views.{kernel_view, IfPlan};
 

@@ -1,22 +1,22 @@
 // The image of a user program: its source, read, checked and compiled.
 ghost use Rattle.std.specs.Prelude.{◌≡◌, ◌≢◌, ◌↔◌, ⊤, ℕ, List, IfErr, IfSome, IfNone, IsErrOf, Some, option_map};
 ghost use Rattle.cvm_outside.specs.Told.{TOO_LONG};
-ghost use Rattle.cvm_shell.specs.Command as command;
-ghost use Rattle.cvm_shell.specs.CompileProgram as compiling;
+ghost use Rattle.run_scripts.specs.Command as command;
+ghost use Rattle.run_scripts.specs.CompileProgram as compiling;
 ghost use Rattle.cvm_shell.specs.Does.{Gets, CommandDoes};
-ghost use Rattle.cvm_shell.specs.Ends.{files_of};
-ghost use Rattle.cvm_shell.specs.Plan.{AfterProgram, IsPlan};
+ghost use Rattle.run_scripts.specs.Served.{files_of};
+ghost use Rattle.run_scripts.specs.Plan.{AfterProgram, IsPlan};
 ghost use Rattle.cvm_shell.specs.Stages.{program_stop, PlanCounts, runnable, IsProgramPlan};
 ghost use Rattle.cvm_shell.specs.Views.{program_view, IfPlan};
 
 use crate::assembly::little_endian;
 use crate::boot::Stop;
-use crate::exit_status::Status;
+use crate::putting::put_made;
 use crate::refusal::Refusal;
-use crate::saying::refuse;
 use c0_meaning::laws::least_fault_is_there;
 use c0_types::read_program;
 use cvm_outside::{Shelf, Sink};
+use run_scripts::Status;
 use std::alloc::Global;
 use user_c0::{UserFault, compile_user};
 
@@ -102,14 +102,6 @@ pub fn compile_program<S: Shelf, O: Sink>(
 ) -> Status
     ensures { CommandDoes S.Shelf O.Sink (command.compile_program (program_view names.now)) result (shelf.old, out.old) (shelf.new, out.new) }
 {
-    let image = match program_image(alloc, names, shelf) {
-        Ok(image) => image,
-        Err(Stop::Refused(refusal)) => return refuse(&refusal, out),
-        Err(Stop::Shelf) => return Status::Shelf,
-        Err(Stop::Memory) => return Status::Memory,
-    };
-    match shelf.put(names.image, &image) {
-        Ok(()) => Status::Done,
-        Err(_) => Status::Shelf,
-    }
+    let image = program_image(alloc, names, shelf);
+    put_made(image, names.image, shelf, out)
 }

@@ -1,12 +1,11 @@
 // The refusals, with the row and the status of each.
 ghost use Rattle.std.specs.Prelude.{◌≡◌, ◌≢◌, ◌≤◌, ◌+◌, ◌++◌, [], ◌∷◌, length, decimal};
 ghost use Rattle.c0_types.specs.declared.source_fault.SourceFault.TheVariants.{Reading, Typing};
-ghost use Rattle.cvm_shell.specs.Refusal.{refusal_text, refusal_status, field_text, signed_field_text, start_of, end_of};
-ghost use Rattle.cvm_shell.specs.Refusal.{text_fault_row, source_fault_row, object_fault_row, schedule_fault_row};
-ghost use Rattle.cvm_shell.specs.Refusal as rows;
+ghost use Rattle.run_scripts.specs.Refusal.{refusal_text, refusal_status, field_text, signed_field_text, start_of, end_of};
+ghost use Rattle.run_scripts.specs.Refusal.{text_fault_row, source_fault_row, object_fault_row, schedule_fault_row};
+ghost use Rattle.run_scripts.specs.Refusal as rows;
 ghost use Rattle.cvm_shell.specs.Views.{refusal_view};
 
-use crate::exit_status::Status;
 use arrayvec::ArrayString;
 use c0_parser::ReadFault;
 use c0_tree::Span;
@@ -15,6 +14,7 @@ use cvm_text::{decimal, decimal_u64};
 use kernel_linker::{AcceptFault, LinkFault};
 use mips_asm::AsmFault;
 use object_file::ObjectFault;
+use run_scripts::Status;
 use saved_file::SaveFault;
 use schedule_file::ScheduleFault;
 use system_files::FileFault;

@@ -2,20 +2,21 @@
 ghost use Rattle.std.specs.Prelude.{◌≡◌, ◌≢◌, ◌⊎◌, ◌↔◌, ℕ, List, IfOk, IsErrOf};
 ghost use Rattle.cvm_outside.specs.Told.{TOO_LONG};
 ghost use Rattle.real_layer.specs.Image.{layer_image};
-ghost use Rattle.cvm_shell.specs.Command.{resume as of_resume};
+ghost use Rattle.run_scripts.specs.Command.{resume as of_resume};
 ghost use Rattle.cvm_shell.specs.Does.{Gets, RunDoes, SaysAs, SystemDoes};
-ghost use Rattle.cvm_shell.specs.Ends.{AreBytes, files_of};
-ghost use Rattle.cvm_shell.specs.Refusal.{bad_save, refusal_text};
+ghost use Rattle.run_scripts.specs.Ends.{AreBytes};
+ghost use Rattle.run_scripts.specs.Served.{files_of};
+ghost use Rattle.run_scripts.specs.Refusal.{bad_save, refusal_text};
 ghost use Rattle.cvm_shell.specs.Stages.{resumable_for, SystemFollows, IsResumePlan, PlanCounts};
 ghost use Rattle.cvm_shell.specs.Views.{save_view, IfPlan};
 
 use crate::boot::{Ready, Stop, are_bytes, ready_of, status_of};
-use crate::exit_status::Status;
 use crate::refusal::Refusal;
 use crate::saving_words::Save;
 use crate::saying::refuse;
 use cvm_outside::{Sectors, Shelf, Sink};
 use machine_save::{ResumeFault, SaveFault, resume_run};
+use run_scripts::Status;
 use std::alloc::Global;
 
 /// An accepted system under its schedule, with the bytes of the file of a saved machine.

@@ -2,12 +2,12 @@
 ghost use Rattle.std.specs.Prelude.{◌≡◌, ◌≢◌, ⊤, IfOk, IfErr, IsErrOf};
 ghost use Rattle.real_layer.specs.Image.{layer_image};
 ghost use Rattle.cvm_shell.specs.declared.boot.Stop.TheVariants as stop;
-ghost use Rattle.cvm_shell.specs.Command.{sample_session};
-ghost use Rattle.cvm_shell.specs.Plan.{PartsPlan, IsLinkedTo, IsPlan};
+ghost use Rattle.run_scripts.specs.Command.{sample_session};
+ghost use Rattle.run_scripts.specs.Plan.{PartsPlan, IsLinkedTo, IsPlan};
 ghost use Rattle.cvm_shell.specs.Stages.{ready_for, IsSamplePlan, SystemFollows};
 ghost use Rattle.cvm_shell.specs.Views.{IfPlan, IfRefused};
 
-use crate::boot::{Ready, Session, Stop, ready_of};
+use crate::boot::{Ready, Stop, ready_of};
 use crate::refusal::Refusal;
 use boot_image::write;
 use c0_types::laws::sources_have_one_answer;
@@ -15,6 +15,7 @@ use c0_types::read_unit;
 use kernel_linker::{link, make_object};
 use layer_contract::LayerMaker;
 use real_layer::RealLayer;
+use run_scripts::Session;
 use sample_maker::{Sample, sample};
 use std::alloc::{AllocError, Global};
 

@@ -2,17 +2,17 @@
 ghost use Rattle.std.specs.Prelude.{◌≡◌, ◌≢◌, ◌↔◌, ◌<◌, ◌≤◌, ◌^◌, ℕ, List, IfOk, IfErr, OnErr, IsErrOf, Err};
 ghost use Rattle.cvm_outside.specs.Told.{TOO_LONG};
 ghost use Rattle.kernel_linker.specs.Accept.{system_of};
-ghost use Rattle.machine_save.specs.Room.{most_words, FILE_ROOM};
+ghost use Rattle.boot_run.specs.SaveRoom.{most_words, FILE_ROOM};
 ghost use Rattle.real_layer.specs.Image.{layer_image};
-ghost use Rattle.cvm_shell.specs.Command.{save as of_save, save_session};
+ghost use Rattle.run_scripts.specs.Command.{save as of_save, save_session};
 ghost use Rattle.cvm_shell.specs.Does.{Gets, RunDoes, SaveDoes, SavedCalls, SessionPasts};
-ghost use Rattle.cvm_shell.specs.Ends.{AreBytes, files_of};
-ghost use Rattle.cvm_shell.specs.Plan.{frames_of, most_bytes};
+ghost use Rattle.run_scripts.specs.Ends.{AreBytes};
+ghost use Rattle.run_scripts.specs.Served.{files_of};
+ghost use Rattle.run_scripts.specs.Plan.{frames_of, most_bytes};
 ghost use Rattle.cvm_shell.specs.Stages.{save_stop, saveable_for, SaveAnswers, status_of_saved, SystemFollows, HasNoRoom, IsSavePlan, PlanCounts};
 ghost use Rattle.cvm_shell.specs.Views.{save_view, IfPlan};
 
 use crate::boot::{Ready, Stop, plan, status_of};
-use crate::exit_status::Status;
 use crate::refusal::Refusal;
 use crate::saving_words::Save;
 use crate::saying::refuse;
@@ -20,6 +20,7 @@ use boot_run::{LoadFault, frames_of, pasts_exist};
 use cvm_outside::{Sectors, Shelf, Sink};
 use layer_contract::Layer;
 use machine_save::{Room, SaveFault, SavedEnd, boots_hold, save_run};
+use run_scripts::Status;
 use std::alloc::Global;
 
 impl From<SaveFault> for Stop {

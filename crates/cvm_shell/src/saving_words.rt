@@ -1,10 +1,10 @@
 // The words of a save and of a resume.
 ghost use Rattle.std.specs.Prelude.{◌≡◌, IfSome, IfNone, Some, option_map};
-ghost use Rattle.cvm_shell.specs.Command as command;
+ghost use Rattle.run_scripts.specs.Command as command;
 ghost use Rattle.cvm_shell.specs.Views.{save_view};
 
-use crate::boot::StartPoint;
 use crate::command::{Boot, read_number, read_turns};
+use run_scripts::StartPoint;
 
 /// The command `save IMAGE SCHEDULE TURNS STEPS FILE`, or `resume IMAGE SCHEDULE TURNS STEPS FILE`.
 #[derive(Clone, Copy, Drop)]

@@ -1,11 +1,12 @@
 // What is said beside a status.
 ghost use Rattle.std.specs.Prelude.{◌≡◌, ◌≢◌, ◌⊎◌};
-ghost use Rattle.cvm_shell.specs.Does.{SaysAs};
+ghost use Rattle.cvm_shell.specs.Does.{SaysAs, SaysStop};
 ghost use Rattle.cvm_shell.specs.Views.{stated_row, stated_status};
 
-use crate::exit_status::Status;
+use crate::boot::Stop;
 use crate::refusal::Refusal;
 use cvm_outside::Sink;
+use run_scripts::Status;
 
 /// Prints a text beside a status. A sink that fails is `Sink`.
 pub fn say<O: Sink>(out: &mut O, text: &[u8], status: Status) -> Status
@@ -26,4 +27,15 @@ pub fn refuse<O: Sink>(refusal: &Refusal, out: &mut O) -> Status
 {
     let row = refusal.row();
     say(out, row.as_str().as_bytes(), refusal.status())
+}
+
+/// Says why a stage stopped: the row of what is refused, or nothing beside the status. A sink that fails is `Sink`.
+pub fn say_stop<O: Sink>(stop: Stop, out: &mut O) -> Status
+    ensures { SaysStop O.Sink stop out.old out.new result }
+{
+    match stop {
+        Stop::Refused(refusal) => refuse(&refusal, out),
+        Stop::Shelf => Status::Shelf,
+        Stop::Memory => Status::Memory,
+    }
 }

@@ -7,11 +7,12 @@ ghost use Rattle.boot_run.specs.RunEnds.{SeesUser};
 ghost use Rattle.cvm_shell.specs.Does.{SessionCalls, SessionPasts};
 ghost use Rattle.cvm_shell.specs.Stages.{within, AnswersAs, SystemFollows};
 
-use crate::boot::{Ready, Session, StartPoint};
+use crate::boot::Ready;
 use boot_rom::rom_words;
 use boot_run::{LoadFault, RunEnd, View, pasts_exist, run_rom, run_whole};
 use cvm_outside::{Sectors, Sink};
 use layer_contract::Layer;
+use run_scripts::{Session, StartPoint};
 use std::alloc::Global;
 
 // Loads a system for its session's start, and runs it to its end.

@@ -18,12 +18,12 @@ use Rattle.boot_image.specs.declared.fault.ImageFault.{ImageFault}
 use Rattle.boot_image.specs.Reading.{answer as image_of}
 use Rattle.kernel_linker.specs.Accept.{ImageSystem}
 use Rattle.kernel_linker.specs.Sources.{IsOfImage, AcceptedAreOfImages}
-use Rattle.cvm_shell.specs.declared.exit_status.Status.{Status}
-use Rattle.cvm_shell.specs.declared.exit_status.Status.TheVariants.{KernelFault}
-use Rattle.cvm_shell.specs.declared.boot.Session.{Session}
+use Rattle.run_scripts.specs.declared.exit_status.Status.{Status}
+use Rattle.run_scripts.specs.declared.exit_status.Status.TheVariants.{KernelFault}
+use Rattle.run_scripts.specs.declared.session.Session.{Session}
 use Rattle.cvm_outside.specs.Outside.{Outside}
-use Rattle.cvm_shell.specs.Plan.{Accepts}
-use Rattle.cvm_shell.specs.Boot.{booted, around, first_state, sectors_needed, ended_as, AskFor, by_boot, by_trace, by_sample, Headline}
+use Rattle.run_scripts.specs.Plan.{Accepts}
+use Rattle.run_scripts.specs.Boot.{booted, around, first_state, sectors_needed, ended_as, AskFor, by_boot, by_trace, by_sample, Headline}
 use Rattle.kernel_boots.specs.Boots.{OfStates, AlwaysHas, TextOfState, turns_made, StandsAt, SessionStands, BootStands, BootsStand, BootsShow, HasSource, AsksSource, RunsItsSource, BootsOf}
 use Rattle.kernel_boots.proofs.Room.{Roomy, room_of, roomy}
 use Rattle.kernel_boots.proofs.EightLines.{eight_of, few_of, turns_have_eight}

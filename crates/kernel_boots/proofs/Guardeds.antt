@@ -3,7 +3,7 @@ use Rattle.std.proofs.Common.{◌≡◌, ◌≤◌, ℕ, zero, suc, length, Some
 use Rattle.cvm_model.specs.Cvm.{System, Cvm, IsCvm, first_cvm}
 use Rattle.cvm_model.specs.Invariant.{HasEight, IsSafe, RunsAreLawful}
 use Rattle.kernel_linker.specs.Sources.{AcceptedAreOfImages}
-use Rattle.cvm_shell.specs.Boot.{booted}
+use Rattle.run_scripts.specs.Boot.{booted}
 use Rattle.kernel_theorems.specs.Text.{Means}
 use Rattle.kernel_theorems.specs.GuardedTree.{guarded}
 use Rattle.kernel_theorems.specs.Guarded.{text, RunsGuarded, GuardedNeverFaults}

@@ -15,9 +15,9 @@ use Rattle.schedule_file.specs.Rows.{Rows}
 use Rattle.kernel_linker.specs.Accept.{ImageSystem}
 use Rattle.kernel_linker.specs.Sources.{AcceptedAreOfImages}
 use Rattle.user_c0.specs.Image.{image_words}
-use Rattle.cvm_shell.specs.declared.boot.Session.{Session}
-use Rattle.cvm_shell.specs.Boot.{AskFor, by_boot, by_trace, by_sample}
-use Rattle.cvm_shell.specs.Plan.{Accepts, words_from, before_them}
+use Rattle.run_scripts.specs.declared.session.Session.{Session}
+use Rattle.run_scripts.specs.Boot.{AskFor, by_boot, by_trace, by_sample}
+use Rattle.run_scripts.specs.Plan.{Accepts, words_from, before_them}
 use Rattle.cvm_shell.specs.Programs.{HasProgram, LinkedPrograms}
 use Rattle.real_layer.specs.Image.{layer_image}
 use Rattle.kernel_boots.specs.Boots.{AsksSource, HasSource}

@@ -2,7 +2,7 @@
 use Rattle.std.proofs.Common.{◌≡◌, length, arith}
 use Rattle.cvm_model.specs.Invariant.{dispatches_of, RunsAreLawful}
 use Rattle.kernel_linker.specs.Sources.{AcceptedAreOfImages}
-use Rattle.cvm_shell.specs.Boot.{booted}
+use Rattle.run_scripts.specs.Boot.{booted}
 use Rattle.kernel_theorems.specs.Text.{Means}
 use Rattle.kernel_theorems.specs.MailboxTree.{mailbox}
 use Rattle.kernel_theorems.specs.Mailbox.{text, IsDelivered, MessagesAreDelivered}

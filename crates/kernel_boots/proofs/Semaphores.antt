@@ -3,7 +3,7 @@ use Rattle.std.proofs.Common.{◌≡◌, ℕ, zero, suc, [], length, Some, refl,
 use Rattle.cvm_model.specs.Cvm.{System, Cvm, IsCvm, first_cvm}
 use Rattle.cvm_model.specs.Invariant.{dispatches_of, HasEight, RunsAreLawful}
 use Rattle.kernel_linker.specs.Sources.{AcceptedAreOfImages}
-use Rattle.cvm_shell.specs.Boot.{booted}
+use Rattle.run_scripts.specs.Boot.{booted}
 use Rattle.kernel_theorems.specs.Text.{Means}
 use Rattle.kernel_boots.proofs.Boots.{boots_of}
 use Rattle.kernel_theorems.specs.SemaphoreTree.{semaphore}

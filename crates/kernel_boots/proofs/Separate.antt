@@ -16,12 +16,12 @@ use Rattle.kernel_linker.specs.Accept.{ImageSystem}
 use Rattle.kernel_linker.specs.Sources.{AcceptedAreOfImages}
 use Rattle.kernel_theorems.specs.UserRuns.{after}
 use Rattle.kernel_theorems.specs.Text.{TextsMeanTrees}
-use Rattle.cvm_shell.specs.declared.exit_status.Status.TheVariants.{Done}
-use Rattle.cvm_shell.specs.declared.boot.Session.{Session}
+use Rattle.run_scripts.specs.declared.exit_status.Status.TheVariants.{Done}
+use Rattle.run_scripts.specs.declared.session.Session.{Session}
 use Rattle.cvm_outside.specs.Outside.{Outside}
-use Rattle.cvm_shell.specs.Plan.{Accepts}
-use Rattle.cvm_shell.specs.Boot.{booted, ended_as, AskFor, by_boot, by_trace, by_sample, IsHonest}
-use Rattle.cvm_shell.specs.Isolation.{lines_met}
+use Rattle.run_scripts.specs.Plan.{Accepts}
+use Rattle.run_scripts.specs.Boot.{booted, ended_as, AskFor, by_boot, by_trace, by_sample, IsHonest}
+use Rattle.run_scripts.specs.Isolation.{lines_met}
 use Rattle.kernel_boots.specs.Boots.{BootStands, AsksSource, RunsItsSource}
 use Rattle.kernel_boots.specs.Systems.{BootIsChain, BootsAreChains}
 use Rattle.kernel_boots.proofs.Boots.{of_image}

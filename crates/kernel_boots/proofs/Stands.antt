@@ -1,16 +1,16 @@
 -- Traces, saves and resumes print the text of the state where their run stands.
-use Rattle.std.proofs.Common.{◌≡◌, inl, inr, ℕ, zero, suc, ◌≤◌, List, ◌++◌, length, Bool, true, false, Option, Some, None, refl, sym, ap, ◌∙◌, subst}
-use Rattle.std.specs.Prelude.{◌≢◌, ◌⊎◌, if◌then◌else◌, option_map}
+use Rattle.std.proofs.Common.{◌≡◌, inl, inr, ℕ, zero, suc, ◌≤◌, List, ◌++◌, length, Bool, true, false, Option, Some, None, refl, sym, ap, ◌∙◌, subst, arith}
+use Rattle.std.specs.Prelude.{◌≢◌, ◌⊎◌, if◌then◌else◌, option_map, is_some, not}
 use Rattle.std.specs.Io.KnownBytes.{append_known}
 use Rattle.schedule_file.specs.Rows.{Rows}
 use Rattle.mips_table.specs.Device.{Environment}
 use Rattle.mips_table.specs.Machine.{State, run}
-use Rattle.mips_table.specs.Turns.{complete, end_within, lines_of_turn, is_end}
+use Rattle.mips_table.specs.Turns.{complete, end_within, lines_of_turn, is_end, IsTurnEnd, TurnLaws, SumLaws}
 use Rattle.mips_table.specs.Flat.{Flat}
 use Rattle.cvm_model.specs.Kernel.{JournalEntry}
 use Rattle.cvm_model.specs.KernelMeaning.{UnitsReplay}
 use Rattle.cvm_model.specs.Primitives.{user_of}
-use Rattle.cvm_model.specs.Cvm.{System, Cvm, Status as CvmStatus, Running, Halted, Faulted, first_cvm, cvm}
+use Rattle.cvm_model.specs.Cvm.{System, Cvm, Status as CvmStatus, Running, Halted, Faulted, first_cvm, cvm, IsCvm}
 use Rattle.cvm_model.specs.Invariant.{HasEight, RunsAreLawful}
 use Rattle.cvm_model.specs.Journal.{journal, replay, Isolated}
 use Rattle.cvm_model.specs.Text.{start_row, open_journal_rows, trace_text}
@@ -19,23 +19,22 @@ use Rattle.boot_turns.specs.declared.answers.View.{View}
 use Rattle.boot_turns.specs.declared.answers.View.TheVariants as view
 use Rattle.boot_turns.specs.Headline.{Ending, Done as IsDone, KernelFaulted, OutOfSteps, ending_of, ending, TextAt, RanFrom}
 use Rattle.boot_turns.specs.Headline as headline
-use Rattle.boot_turns.specs.TurnEnds.{first_of, Stood, Printed, TurnIsOver}
+use Rattle.boot_turns.specs.TurnEnds.{first_of, Stood, Printed, TurnIsOver, RestsAfter}
 use Rattle.boot_run.specs.RunEnds.{SeesUser}
-use Rattle.boot_run.specs.SavedRuns.{SavedAt}
 use Rattle.kernel_linker.specs.Accept.{ImageSystem}
-use Rattle.cvm_shell.specs.declared.exit_status.Status.{Status}
-use Rattle.cvm_shell.specs.declared.exit_status.Status.TheVariants as statuses
-use Rattle.cvm_shell.specs.declared.boot.Session.{Session}
-use Rattle.cvm_shell.specs.Command.{Save, save_session}
+use Rattle.run_scripts.specs.declared.exit_status.Status.{Status}
+use Rattle.run_scripts.specs.declared.exit_status.Status.TheVariants as statuses
+use Rattle.run_scripts.specs.declared.session.Session.{Session}
+use Rattle.run_scripts.specs.Command.{Save, save_session}
 use Rattle.cvm_outside.specs.Outside.{Outside}
-use Rattle.cvm_shell.specs.Boot.{booted, around, first_state, sectors_needed, ended_as, AreFilesOf, Headline}
-use Rattle.cvm_shell.specs.Isolation.{IsolatedTrace}
-use Rattle.cvm_shell.specs.Saves.{saved_row, Stopped, IsSavedIn, SaveHolds, as_boot, is_saved}
-use Rattle.cvm_shell.specs.Resumes.{IsBootBehind}
+use Rattle.run_scripts.specs.Boot.{booted, around, first_state, sectors_needed, ended_as, AreFilesOf, Headline}
+use Rattle.run_scripts.specs.Isolation.{IsolatedTrace}
+use Rattle.run_scripts.specs.Saves.{saved_row, Stopped, IsSavedIn, SaveHolds, as_boot, is_saved, IsSavedAt}
+use Rattle.run_scripts.specs.Resumes.{IsBootBehind}
 use Rattle.kernel_boots.specs.Boots.{SessionStands, BootStands}
 use Rattle.kernel_boots.specs.Stands.{lines_met, under_way, TraceTextOf, TraceStandsAt, TracesStand, SavedStands, SaveStands, SavesStand, ResumesStand}
 use Rattle.kernel_boots.proofs.EightLines.{eight_of, turns_have_eight}
-use Rattle.kernel_boots.proofs.Boots.{ones, stands, asked_eight}
+use Rattle.kernel_boots.proofs.Boots.{RunsAreOne, ones, stands, asked_eight}
 
 -- THE STATUS of a run with no failed call
 abbrev Allowed : Status → Type 0
@@ -179,30 +178,49 @@ boot_stands laws session s rows before status old new seen h =
       goes_on = h.goes_on;
     }
 
-saved_stands : (c : Save) (s : ImageSystem) (rows : Rows) (before : List (List ℕ)) (old new : Outside) → Stopped (save_session c) s rows before old new (IsSavedIn c.file old new) → SavedStands c s rows before old new
-saved_stands c s rows before old new h =
-    let w : SavedAt (around rows old) (booted s rows) (first_state (save_session c) s rows before) c.boot.turns c.boot.steps h.words h.after h.shown = h.saved_at in
+-- where so many turns are complete for the first time and the machine is on, it rests as the abstract run's state there says, by the end of the boot
+stood_there : (x : Environment) (y : System) (s : State) → RunsAreOne y → TurnLaws → SumLaws → (turns steps at : ℕ) (past last : Cvm) → 1 ≤ turns → IsTurnEnd x s turns at → at ≤ steps → (run x s at).off ≡ None
+    → IsCvm y (lines_of_turn x s) turns past → IsCvm y (lines_of_turn x s) (complete x s (end_within x s turns steps)) last
+    → (is_end x s turns (end_within x s turns steps) ≡ true → TurnIsOver x y s turns (end_within x s turns steps) last) → Stood x y s turns at past
+stood_there x y s one count sums zero steps at past last some end within on is last_is over = absurd (omega (arith, some))
+stood_there x y s one count sums (suc few) steps at past last some end within on is last_is over =
+    let there : end_within x s (suc few) steps ≡ at = count.ends x s (suc few) steps at end within in
+    let all = sums.rests x s few at end (ap (λ (o : Option ℕ). not (is_some o)) on) in
+    let over_there : TurnIsOver x y s (suc few) at last =
+    subst (λ (n : ℕ). TurnIsOver x y s (suc few) n last) there (over (subst (λ (n : ℕ). is_end x s (suc few) n ≡ true) (sym there) end.here)) in
+    let same : last ≡ past = one (lines_of_turn x s) (suc few) last past (subst (λ (k : ℕ). IsCvm y (lines_of_turn x s) k last) (ap (complete x s) there ∙ all.0) last_is) is in
+    let rests : RestsAfter x y s (suc few) at past =
+    subst (λ (d : Cvm). RestsAfter x y s (suc few) at d) same (subst (λ (k : ℕ). RestsAfter x y s k at last) all.0 over_there.rests) in
+    record { cvm = is; turn = sym all.1 ∙ all.0; all = all.0; rests = rests }
+
+saved_stands : RunsAreLawful → TurnLaws → SumLaws → (c : Save) (s : ImageSystem) (rows : Rows) (before : List (List ℕ)) (old new : Outside) → 1 ≤ c.boot.turns
+    → Stopped (save_session c) s rows before old new (IsSavedIn c.file old new) → SavedStands c s rows before old new
+saved_stands laws count sums c s rows before old new some h =
+    let w : IsSavedAt (around rows old) (booted s rows) (first_state (save_session c) s rows before) c.boot.turns c.boot.steps h.words h.after h.shown = h.saved_at in
+    let stood : Stood (around rows old) (booted s rows) (first_state (save_session c) s rows before) c.boot.turns w.at w.past =
+    stood_there (around rows old) (booted s rows) (first_state (save_session c) s rows before) (ones laws s rows) count sums c.boot.turns c.boot.steps w.at w.past h.ran.past some w.end w.within w.on w.cvm h.ran.cvm h.ran.over in
     record {
       state = w.past;
-      is = w.stood.cvm;
-      running = stood_runs (around rows old) (booted s rows) (first_state (save_session c) s rows before) c.boot.turns w.at w.past w.on w.stood;
+      is = w.cvm;
+      running = stood_runs (around rows old) (booted s rows) (first_state (save_session c) s rows before) c.boot.turns w.at w.past w.on stood;
       at = w.at;
       within = w.within;
       first = w.end;
-      stood = w.stood;
+      stood = stood;
       on = w.on;
       printed = h.left.1 ∙ ap (λ text. append_known old.sink.text (text ++ saved_row)) w.shown_is;
     }
 
-save_stands : RunsAreLawful → (c : Save) (s : ImageSystem) (rows : Rows) (before : List (List ℕ)) (status : Status) (old new : Outside) → AreFilesOf old.shelf.file c.boot s rows → SaveHolds c s rows before old new status
-    → SaveStands c s rows before status old new
-save_stands laws c s rows before status old new files (as_boot h halted others) =
+save_stands : RunsAreLawful → TurnLaws → SumLaws → (c : Save) (s : ImageSystem) (rows : Rows) (before : List (List ℕ)) (status : Status) (old new : Outside) → 1 ≤ c.boot.turns → AreFilesOf old.shelf.file c.boot s rows
+    → SaveHolds c s rows before old new status → SaveStands c s rows before status old new
+save_stands laws count sums c s rows before status old new some files (as_boot h halted others) =
     record { shows = inl (boot_stands laws (save_session c) s rows before status old new refl h); eight = files_eight old.shelf.file c s rows before old files }
-save_stands laws c s rows before status old new files (is_saved done others stopped) =
-    record { shows = inr (done, saved_stands c s rows before old new stopped); eight = files_eight old.shelf.file c s rows before old files }
+save_stands laws count sums c s rows before status old new some files (is_saved done others stopped) =
+    record { shows = inr (done, saved_stands laws count sums c s rows before old new some stopped); eight = files_eight old.shelf.file c s rows before old files }
 
-pub saves_stand : RunsAreLawful → SavesStand
-saves_stand laws words status old new saves c s rows before honest some = save_stands laws c s rows before status old new honest.files (saves c s rows before honest some)
+pub saves_stand : RunsAreLawful → TurnLaws → SumLaws → SavesStand
+saves_stand laws count sums words status old new saves c s rows before honest some =
+    save_stands laws count sums c s rows before status old new honest.asked.some_turns honest.files (saves c s rows before honest some)
 
 -- A RESUME
 pub resumes_stand : RunsAreLawful → ResumesStand

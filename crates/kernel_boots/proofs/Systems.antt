@@ -22,13 +22,13 @@ use Rattle.run_bounds.specs.Steps.{steps_for, BoundsAreSmall}
 use Rattle.run_bounds.specs.Lines.{turns_with_lines, LinesTakenAreFew, RaisedLinesAreFew}
 use Rattle.kernel_linker.specs.Accept.{ImageSystem}
 use Rattle.kernel_linker.specs.Sources.{AcceptedAreOfImages}
-use Rattle.cvm_shell.specs.declared.exit_status.Status.{Status}
-use Rattle.cvm_shell.specs.declared.exit_status.Status.TheVariants.{Done, KernelFault}
-use Rattle.cvm_shell.specs.declared.boot.Session.{Session}
-use Rattle.cvm_shell.specs.Plan.{Accepts}
+use Rattle.run_scripts.specs.declared.exit_status.Status.{Status}
+use Rattle.run_scripts.specs.declared.exit_status.Status.TheVariants.{Done, KernelFault}
+use Rattle.run_scripts.specs.declared.session.Session.{Session}
+use Rattle.run_scripts.specs.Plan.{Accepts}
 use Rattle.real_layer.specs.Image.{layer_image}
 use Rattle.boot_image.specs.Reading.{answer as image_of}
-use Rattle.cvm_shell.specs.Boot.{booted, around, first_state, steps_before, ended_as, AskFor, by_boot, by_trace, by_sample}
+use Rattle.run_scripts.specs.Boot.{booted, around, first_state, steps_before, ended_as, AskFor, by_boot, by_trace, by_sample}
 use Rattle.kernel_boots.specs.Boots.{TextOfState, StandsAt, turns_made, BootStands, AsksSource}
 use Rattle.kernel_boots.specs.Systems.{SystemEndsWithin, HasHalted, SystemShown, HasSystem, AsksSystem, SystemsBoot, BootsAreChains}
 use Rattle.kernel_boots.proofs.Room.{Roomy}

@@ -1,4 +1,4 @@
--- What each boot of an image shows, where each state of the abstract run has a property: over the headline of `run` (`Headlines` of cvm_shell/specs/CommandEnds) as it stands.
+-- What each boot of an image shows, where each state of the abstract run has a property: over the headline of `run` (`Headlines` of run_scripts/specs/CommandEnds) as it stands.
 use Rattle.std.specs.Prelude.{◌≡◌, ◌≢◌, true, ℕ, List, Option, Ok}
 use Rattle.std.specs.Io.KnownBytes.{append_known}
 use Rattle.schedule_file.specs.Rows.{Rows}
@@ -15,12 +15,12 @@ use Rattle.cvm_model.specs.Cvm.{System, Cvm, IsCvm}
 use Rattle.cvm_model.specs.Invariant.{HasEight, IsSafe}
 use Rattle.cvm_model.specs.Text.{rows_text, boot_text}
 use Rattle.kernel_linker.specs.Accept.{ImageSystem}
-use Rattle.cvm_shell.specs.declared.exit_status.Status.{Status}
-use Rattle.cvm_shell.specs.declared.exit_status.Status.TheVariants.{KernelFault, StepLimit, Memory}
-use Rattle.cvm_shell.specs.declared.boot.Session.{Session}
+use Rattle.run_scripts.specs.declared.exit_status.Status.{Status}
+use Rattle.run_scripts.specs.declared.exit_status.Status.TheVariants.{KernelFault, StepLimit, Memory}
+use Rattle.run_scripts.specs.declared.session.Session.{Session}
 use Rattle.cvm_outside.specs.Outside.{Outside}
-use Rattle.cvm_shell.specs.Boot.{booted, around, first_state, ended_as, SessionGoesOn, AskFor, by_boot, by_trace, by_sample, IsHonest}
-use Rattle.cvm_shell.specs.CommandEnds.{Headlines}
+use Rattle.run_scripts.specs.Boot.{booted, around, first_state, ended_as, SessionGoesOn, AskFor, by_boot, by_trace, by_sample, IsHonest}
+use Rattle.run_scripts.specs.CommandEnds.{Headlines}
 
 -- a property of a state after so many turns with these lines
 abbrev pub OfStates : Type 1
@@ -69,7 +69,7 @@ pub record BootStands (session : Session) (s : ImageSystem) (rows : Rows) (befor
 
 -- a law: EACH BOOT with no failed call shows the state of its own run
 abbrev pub BootsStand : Type 0
-BootsStand = (words : List (List ℕ)) (status : Status) (old new : Outside) → Headlines (λ (o : Outside). o) words status old new
+BootsStand = (words : List (List ℕ)) (status : Status) (old new : Outside) → Headlines words status old new
     → (session : Session) (s : ImageSystem) (rows : Rows) (before : List (List ℕ)) → IsHonest words session s rows before old new
     → status ≢ Memory → session.view ≡ Boot → BootStands session s rows before status old new
 
@@ -80,7 +80,7 @@ pub record BootShows (session : Session) (s : ImageSystem) (rows : Rows) (before
 
 -- THE COROLLARY, for any property of states: by the headline of `run` each boot with no failed call shows it, where the system's run always has it
 abbrev pub BootsShow : Type 1
-BootsShow = (P : OfStates) (words : List (List ℕ)) (status : Status) (old new : Outside) → Headlines (λ (o : Outside). o) words status old new
+BootsShow = (P : OfStates) (words : List (List ℕ)) (status : Status) (old new : Outside) → Headlines words status old new
     → (session : Session) (s : ImageSystem) (rows : Rows) (before : List (List ℕ)) → IsHonest words session s rows before old new
     → status ≢ Memory → session.view ≡ Boot → AlwaysHas (booted s rows) P → BootShows session s rows before P old new status
 
@@ -108,7 +108,7 @@ ShowsOf session s rows before P old new status =
 -- EACH BOOT of an image with this source: where a fact of its system is given (how many users it has), it shows a property that excludes faults. A boot is
 -- one by `boot`, `rom` or `sample` under the headline's premises, with a status other than 8.
 abbrev pub BootsOf : (source : List ℕ) → (ImageSystem → Type 0) → (System → OfStates) → Type 0
-BootsOf source Is P = (words : List (List ℕ)) (status : Status) (old new : Outside) → Headlines (λ (o : Outside). o) words status old new
+BootsOf source Is P = (words : List (List ℕ)) (status : Status) (old new : Outside) → Headlines words status old new
     → (session : Session) (s : ImageSystem) (rows : Rows) (before : List (List ℕ)) → (h : IsHonest words session s rows before old new)
     → status ≢ Memory → session.view ≡ Boot → AsksSource source h.asked → Is s
     → ShowsOf session s rows before (P (booted s rows)) old new status

@@ -4,7 +4,7 @@ use Rattle.layer_map.specs.Map.{Map}
 use Rattle.boot_image.specs.Reading.{answer as image_of}
 use Rattle.kernel_linker.specs.Accept.{ImageSystem}
 use Rattle.cvm_shell.specs.Linked.{AreAcceptedAs}
-use Rattle.cvm_shell.specs.Plan.{puts, Accepts, AfterProgram}
+use Rattle.run_scripts.specs.Plan.{puts, Accepts, AfterProgram}
 
 -- A SYSTEM IS LINKED of programs with these texts: `compile program` puts the files of the texts, and the system is that of an image that was linked of an
 -- object, parameters and the files

@@ -20,13 +20,13 @@ use Rattle.called_primitives.specs.Calls.{calls_only}
 use Rattle.called_primitives.specs.Kernels.{ChangesNoMachine, only_reads}
 use Rattle.kernel_theorems.specs.Text.{IsTextOf}
 use Rattle.kernel_theorems.specs.UserRuns.{after}
-use Rattle.cvm_shell.specs.declared.exit_status.Status.{Status}
-use Rattle.cvm_shell.specs.declared.exit_status.Status.TheVariants.{Done}
-use Rattle.cvm_shell.specs.declared.boot.Session.{Session}
+use Rattle.run_scripts.specs.declared.exit_status.Status.{Status}
+use Rattle.run_scripts.specs.declared.exit_status.Status.TheVariants.{Done}
+use Rattle.run_scripts.specs.declared.session.Session.{Session}
 use Rattle.cvm_outside.specs.Outside.{Outside}
-use Rattle.cvm_shell.specs.Boot.{booted, around, first_state, AskFor, by_boot, by_trace, by_sample, IsHonest}
-use Rattle.cvm_shell.specs.CommandEnds.{Headlines}
-use Rattle.cvm_shell.specs.Isolation.{IsolatedTrace}
+use Rattle.run_scripts.specs.Boot.{booted, around, first_state, AskFor, by_boot, by_trace, by_sample, IsHonest}
+use Rattle.run_scripts.specs.CommandEnds.{Headlines}
+use Rattle.run_scripts.specs.Isolation.{IsolatedTrace}
 use Rattle.kernel_boots.specs.Boots.{turns_made, AsksSource}
 use Rattle.kernel_boots.specs.OwnRuns.{own_steps, own_journal}
 
@@ -39,7 +39,7 @@ pub record DoneBoot : Type 0 where
   pub words : List (List ℕ)
   pub old : Outside
   pub new : Outside
-  pub headlines : Headlines (λ (o : Outside). o) words Done old new
+  pub headlines : Headlines words Done old new
   pub session : Session
   pub system : ImageSystem
   pub rows : Rows

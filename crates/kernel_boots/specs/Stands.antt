@@ -18,15 +18,15 @@ use Rattle.boot_turns.specs.Headline.{ending}
 use Rattle.boot_turns.specs.Trace.{entries_so_far}
 use Rattle.boot_turns.specs.TurnEnds.{first_of, TurnIsOver, Stood}
 use Rattle.kernel_linker.specs.Accept.{ImageSystem}
-use Rattle.cvm_shell.specs.declared.exit_status.Status.{Status}
-use Rattle.cvm_shell.specs.declared.exit_status.Status.TheVariants.{Done, StepLimit, Memory}
-use Rattle.cvm_shell.specs.declared.boot.Session.{Session}
-use Rattle.cvm_shell.specs.Command.{Save, save_session}
+use Rattle.run_scripts.specs.declared.exit_status.Status.{Status}
+use Rattle.run_scripts.specs.declared.exit_status.Status.TheVariants.{Done, StepLimit, Memory}
+use Rattle.run_scripts.specs.declared.session.Session.{Session}
+use Rattle.run_scripts.specs.Command.{Save, save_session}
 use Rattle.cvm_outside.specs.Outside.{Outside}
-use Rattle.cvm_shell.specs.Boot.{booted, around, first_state, ended_as, SessionGoesOn, IsHonest}
-use Rattle.cvm_shell.specs.CommandEnds.{Headlines, Isolates}
-use Rattle.cvm_shell.specs.Saves.{saved_row, IsHonestSave, Saves}
-use Rattle.cvm_shell.specs.Resumes.{IsHonestResume, IsSavedRun, Resumes}
+use Rattle.run_scripts.specs.Boot.{booted, around, first_state, ended_as, SessionGoesOn, IsHonest}
+use Rattle.run_scripts.specs.CommandEnds.{Headlines, Isolates}
+use Rattle.run_scripts.specs.Saves.{saved_row, IsHonestSave, Saves}
+use Rattle.run_scripts.specs.Resumes.{IsHonestResume, IsSavedRun, Resumes}
 use Rattle.kernel_boots.specs.Boots.{turns_made, SessionStands, BootStands}
 
 -- the lines that the machine of a session's run met
@@ -66,8 +66,8 @@ pub record TraceStands (session : Session) (u : ℕ) (s : ImageSystem) (rows : R
 
 -- a law: so does each trace with no failed call, by `headlines_hold` and `traces_are_isolated` of run_scripts
 abbrev pub TracesStand : Type 0
-TracesStand = (words : List (List ℕ)) (status : Status) (old new : Outside) → Headlines (λ (o : Outside). o) words status old new
-    → Isolates (λ (o : Outside). o) words status old new → (session : Session) (u : ℕ) (s : ImageSystem) (rows : Rows) (before : List (List ℕ))
+TracesStand = (words : List (List ℕ)) (status : Status) (old new : Outside) → Headlines words status old new
+    → Isolates words status old new → (session : Session) (u : ℕ) (s : ImageSystem) (rows : Rows) (before : List (List ℕ))
     → IsHonest words session s rows before old new → status ≢ Memory → session.view ≡ view.Trace u → TraceStands session u s rows before status old new
 
 -- A RUN WAS SAVED: all turns that were asked for are complete, the state behind them is running, and the machine rests in it at its first step there; what is
@@ -90,7 +90,7 @@ pub record SaveStands (c : Save) (s : ImageSystem) (rows : Rows) (before : List 
 
 -- a law: so does each save with no failed call, by `saves_are_held`
 abbrev pub SavesStand : Type 0
-SavesStand = (words : List (List ℕ)) (status : Status) (old new : Outside) → Saves (λ (o : Outside). o) words status old new
+SavesStand = (words : List (List ℕ)) (status : Status) (old new : Outside) → Saves words status old new
     → (c : Save) (s : ImageSystem) (rows : Rows) (before : List (List ℕ)) → IsHonestSave words c s rows before old new → status ≢ Memory
     → SaveStands c s rows before status old new
 
@@ -106,6 +106,6 @@ pub record ResumeStands (c : Save) (s : ImageSystem) (rows : Rows) (before : Lis
 
 -- a law: so does each resume of a saved run, with no failed call, by `resumes_are_held`
 abbrev pub ResumesStand : Type 0
-ResumesStand = (words : List (List ℕ)) (status : Status) (old new : Outside) → Resumes (λ (o : Outside). o) words status old new
+ResumesStand = (words : List (List ℕ)) (status : Status) (old new : Outside) → Resumes words status old new
     → (c : Save) (s : ImageSystem) (rows : Rows) (machine : List ℕ) (left before : List (List ℕ)) (shown : List ℕ)
     → IsHonestResume words c s rows machine left old new → status ≢ Memory → IsSavedRun c s rows machine left before shown old → ResumeStands c s rows before shown status old new

@@ -15,12 +15,12 @@ use Rattle.cvm_model.specs.Invariant.{Dispatch, IsSafe, HasUsers, dispatches_of}
 use Rattle.cvm_model.specs.Systems.{SystemProperty, status_after, lines_taken, EndsBelow, UsePages, SystemHolds, Chain}
 use Rattle.run_bounds.specs.Steps.{steps_for}
 use Rattle.kernel_linker.specs.Accept.{ImageSystem}
-use Rattle.cvm_shell.specs.declared.exit_status.Status.{Status}
-use Rattle.cvm_shell.specs.declared.exit_status.Status.TheVariants.{Done, KernelFault, Memory}
-use Rattle.cvm_shell.specs.declared.boot.Session.{Session}
+use Rattle.run_scripts.specs.declared.exit_status.Status.{Status}
+use Rattle.run_scripts.specs.declared.exit_status.Status.TheVariants.{Done, KernelFault, Memory}
+use Rattle.run_scripts.specs.declared.session.Session.{Session}
 use Rattle.cvm_outside.specs.Outside.{Outside}
-use Rattle.cvm_shell.specs.Boot.{booted, around, first_state, steps_before, AskFor, by_boot, by_trace, by_sample, IsHonest}
-use Rattle.cvm_shell.specs.CommandEnds.{Headlines}
+use Rattle.run_scripts.specs.Boot.{booted, around, first_state, steps_before, AskFor, by_boot, by_trace, by_sample, IsHonest}
+use Rattle.run_scripts.specs.CommandEnds.{Headlines}
 use Rattle.kernel_boots.specs.Boots.{StandsAt, turns_made, BootStands, AsksSource}
 
 -- so long a system runs, by its invariant, where lines are taken in so many dispatches at most: it is running before N turns alone, N at least 1, with at most d
@@ -62,7 +62,7 @@ AsksSystem source users (by_sample x is same parts) = HasSystem source users par
 
 -- THE COROLLARY: each boot of an image with this source, of whose system a fact is given (which users it has), shows the invariant of its system
 abbrev pub SystemsBoot : (source : List ℕ) → (ImageSystem → Type 0) → (n : ℕ) → (System → Core → Type 0) → (System → SystemProperty) → Type 0
-SystemsBoot source Is n Fit I = (words : List (List ℕ)) (status : Status) (old new : Outside) → Headlines (λ (o : Outside). o) words status old new
+SystemsBoot source Is n Fit I = (words : List (List ℕ)) (status : Status) (old new : Outside) → Headlines words status old new
     → (session : Session) (s : ImageSystem) (rows : Rows) (before : List (List ℕ)) → (h : IsHonest words session s rows before old new)
     → status ≢ Memory → session.view ≡ Boot → AsksSource source h.asked → Is s
     → (text : List ℕ) × (new.sink.text ≡ append_known old.sink.text text)
@@ -81,6 +81,6 @@ pub record BootIsChain (session : Session) (s : ImageSystem) (rows : Rows) (befo
 
 -- a law: so it is of each boot with no failed call
 abbrev pub BootsAreChains : Type 0
-BootsAreChains = (words : List (List ℕ)) (status : Status) (old new : Outside) → Headlines (λ (o : Outside). o) words status old new
+BootsAreChains = (words : List (List ℕ)) (status : Status) (old new : Outside) → Headlines words status old new
     → (session : Session) (s : ImageSystem) (rows : Rows) (before : List (List ℕ)) → IsHonest words session s rows before old new
     → status ≢ Memory → session.view ≡ Boot → BootIsChain session s rows before status old new

@@ -19,6 +19,7 @@ use kernel_theorems::mailbox::{messages_are_delivered, text_is_mailbox};
 use kernel_theorems::round_robin::{round_robin_is_fair, text_is_round_robin};
 use kernel_theorems::semaphore::{at_most_one_is_inside, text_is_semaphore};
 use kernel_theorems::texts_mean_trees;
+use mips_table::runs::{runs_are_taken_up, turns_are_counted};
 
 pub mod separation;
 
@@ -53,6 +54,8 @@ pub fn saves_show_their_states()
     ensures { SavesStand }
 {
     runs_are_lawful();
+    turns_are_counted();
+    runs_are_taken_up();
 }
 
 /// A law: each resume of a saved run, with no failed call, printed behind what that run had printed the rest of the text of the state of the whole run.

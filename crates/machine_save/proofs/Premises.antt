@@ -5,33 +5,22 @@ use Rattle.std.specs.List.{flat_map}
 use Rattle.cvm_words.specs.Bytes.{word}
 use Rattle.cvm_outside.specs.Told.{IsSector}
 use Rattle.schedule_file.specs.Rows.{Rows}
-use Rattle.c0_tree.specs.Tree.{CUnit}
-use Rattle.c0_meaning.specs.TypedState.{IsTypedState}
 use Rattle.mips_table.specs.Machine.{run}
 use Rattle.mips_machine.specs.Steps.{outside_of}
 use Rattle.layer_contract.specs.declared.boot.Boot.{Boot as Booted}
 use Rattle.layer_contract.specs.Follows.{loaded}
-use Rattle.layer_contract.specs.Starts.{user_sectors}
-use Rattle.boot_turns.specs.RunMachines.{MachinesRun}
 use Rattle.saved_file.specs.Resumable.{CanBeResumed}
 use Rattle.saved_file.specs.Answer.{answer, SavedIsReadBack}
 use Rattle.boot_run.specs.Loading.{system_of}
 use Rattle.boot_run.specs.SavedFiles.{SavedBootsAreOfRuns, wanted_of}
-use Rattle.boot_run.proofs.Booting.{within_bound}
-use Rattle.boot_run.proofs.Looping.{machines}
 use Rattle.boot_run.proofs.Premises.{are_pages}
-use Rattle.machine_save.specs.SavedBoots.{AreDisk, AreTakenUp, BootsGoOn, CanBoot}
+use Rattle.machine_save.specs.SavedBoots.{AreDisk, AreTakenUp, CanBoot}
 
 pub are_disk : (count : ℕ) (told : Option (List (List ℕ))) → IfSome told (λ ss. length ss ≡ count) → IfSome told (All IsSector) → AreDisk count told
 are_disk count told sized sectors = λ old is. record {
   size = subst (λ (o : Option (List (List ℕ))). IfSome o (λ ss. length ss ≡ count)) is sized;
   each = are_pages old (subst (λ (o : Option (List (List ℕ))). IfSome o (All IsSector)) is sectors);
 }
-
-pub go_on : ((u : CUnit) → MachinesRun (IsTypedState u)) → (b : Booted) (rows : Rows) (count : ℕ) → CanBoot b rows count → BootsGoOn b rows count
-go_on law b rows count boots = λ old disk room.
-    within_bound (outside_of rows count) (system_of b rows) old
-    (machines law b rows count (system_of b rows) (loaded (system_of b rows) old) 1 (user_sectors (system_of b rows)) old (boots room old disk)).goes_on
 
 pub are_taken_up : SavedBootsAreOfRuns → SavedIsReadBack answer → (b : Booted) (rows : Rows) (count : ℕ) → CanBoot b rows count → AreTakenUp b rows count
 are_taken_up of_runs read b rows count boots = λ old left few spent turns words shown room disk at some enough bits limit.

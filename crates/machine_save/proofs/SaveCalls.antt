@@ -1,13 +1,13 @@
 -- The script of a save, by that of its run and by the put of its file.
 use Rattle.std.proofs.Common.{◌≡◌, ◌≢◌, ℕ, ◌*◌, ◌+◌, ◌≤◌, ◌<◌, ◌^◌, true, List, [], ◌++◌, length, append-nil, refl, sym, ap, ◌∙◌, subst, arith, Some, None, Ok, Err}
-use Rattle.std.specs.Prelude.{Option, Result, OnOk, OnErr, IsErrOf, IsSome, slice_index}
+use Rattle.std.specs.Prelude.{Option, Result, OnOk, OnErr, IsErrOf, IsSome, slice_index, slice_set}
+use Rattle.std.specs.Option.{option_map}
 use Rattle.std.specs.List.{flat_map}
 use Rattle.cvm_words.specs.Bytes.{word}
 use Rattle.cvm_outside.specs.Causes.{ShelfCounts}
-use Rattle.cvm_outside.specs.Numbering.{Tally}
-use Rattle.cvm_outside.specs.Told.{IsCutOff, retold}
-use Rattle.cvm_outside.specs.Outside.{Outside, Files, Output, Drive, files, drive}
-use Rattle.cvm_outside.specs.Script.{Call, Stored, Who, TheDisk, Performs, CallDone, CallFailed, ShelfCalled}
+use Rattle.cvm_outside.specs.Told.{IsCutOff, retold, with_sector}
+use Rattle.cvm_outside.specs.Outside.{Outside, Files, Output, Drive, files, drive, no_files, output}
+use Rattle.cvm_outside.specs.Script.{Call, Printed, Read, Wrote, Got, Stored, Who, TheDisk, Performs, done, breaks, goes_on, CallDone, CallFailed, ShelfCalled}
 use Rattle.cvm_outside.specs.declared.shelf.Shelf as shelf_of
 use Rattle.cvm_outside.specs.declared.sink.Sink as sink_of
 use Rattle.cvm_outside.specs.declared.sectors.Sectors as sectors_of
@@ -43,11 +43,11 @@ use Rattle.boot_run.specs.LoadEnds.{Kept, pages_needed}
 use Rattle.boot_run.specs.Loading.{system_of}
 use Rattle.boot_run.specs.RunCalls.{run_at, loads, of_end}
 use Rattle.boot_run.specs.RunScript.{saved_words}
-use Rattle.boot_run.specs.SaveCalls.{SaveScript, stop_script, due_stop}
+use Rattle.boot_run.specs.SaveCalls.{SaveScript, stop_script, due_stop, of_stop}
 use Rattle.boot_run.specs.SavedFiles.{wanted_of}
 use Rattle.boot_run.specs.SavedRuns.{SavedAt, IsDisk}
-use Rattle.boot_run.specs.Saving.{saved_run, WholeSaveEnds}
-use Rattle.machine_save.specs.Room.{most_words}
+use Rattle.boot_run.specs.Saving.{saved_run, WholeStops}
+use Rattle.boot_run.specs.SaveRoom.{most_words}
 use Rattle.machine_save.specs.SaveCalls.{put_script, leave_script, of_put, saved_by, PutCalls, SomeLeft, SavedScript}
 use Rattle.machine_save.specs.SaveRun.{ShowsSaved}
 use Rattle.machine_save.specs.SavedBoots.{AreDisk, AreTakenUp, CanBoot}
@@ -190,20 +190,55 @@ module _ {S O D : Type 0} (shelf : shelf_of.Ghosts S) (text : sink_of.Ghosts O) 
         none = λ h. absurd (let q = h in cc);
       }
 
+-- SECTORS STAY TOLD in every call
+some_mapped : {A B : Type 0} (f : A → B) (o : Option A) → IsSome o → IsSome (option_map f o)
+some_mapped f None h = absurd (cc)
+some_mapped f (Some v) h = refl
+
+as_some : (a b : Option (List (List ℕ))) → b ≡ a → IsSome a → IsSome b
+as_some a b e h = subst (λ (o : Option (List (List ℕ))). IsSome o) (sym e) h
+
+done_told : (c : Call) (old new : Outside) → CallDone c old new → IsSome old.disk.sectors → IsSome new.disk.sectors
+done_told (Printed t) old new d h = as_some old.disk.sectors new.disk.sectors (ap (λ (o : Outside). o.disk.sectors) d.1) h
+done_told (Read q) old new d h = as_some old.disk.sectors new.disk.sectors (ap (λ (o : Outside). o.disk.sectors) d.0) h
+done_told (Wrote q ws) old new d h =
+    as_some (with_sector old.disk.sectors q ws) new.disk.sectors (ap (λ (o : Outside). o.disk.sectors) d.0) (some_mapped (λ ss. slice_set ss q ws) old.disk.sectors h)
+done_told (Got n) old new d h = as_some old.disk.sectors new.disk.sectors (ap (λ (o : Outside). o.disk.sectors) d.3) h
+done_told (Stored n bs) old new d h = as_some old.disk.sectors new.disk.sectors (ap (λ (o : Outside). o.disk.sectors) d.3) h
+
+failed_told : (c : Call) (old new : Outside) → CallFailed c old new → IsSome old.disk.sectors → IsSome new.disk.sectors
+failed_told (Printed t) old new f h = as_some old.disk.sectors new.disk.sectors (ap (λ (o : Outside). o.disk.sectors) f.2) h
+failed_told (Read q) old new f h = as_some old.disk.sectors new.disk.sectors (ap (λ (o : Outside). o.disk.sectors) f.1) h
+failed_told (Wrote q ws) old new f h =
+    as_some (with_sector old.disk.sectors q f.1.0) new.disk.sectors (ap (λ (o : Outside). o.disk.sectors) f.1.1) (some_mapped (λ ss. slice_set ss q f.1.0) old.disk.sectors h)
+failed_told (Got n) old new f h = as_some old.disk.sectors new.disk.sectors (ap (λ (o : Outside). o.disk.sectors) f.2) h
+failed_told (Stored n bs) old new f h = as_some old.disk.sectors new.disk.sectors (ap (λ (o : Outside). o.disk.sectors) f.3) h
+
+stays_told : (script : List Call) (old new : Outside) (blamed : Option Who) → Performs script old new blamed → IsSome old.disk.sectors → IsSome new.disk.sectors
+stays_told script old new blamed (done _) h = h
+stays_told script old new blamed (breaks c rest _ _ f) h = failed_told c old new f h
+stays_told script old new blamed (goes_on c rest _ mid _ _ d p) h = stays_told rest mid new blamed p (done_told c old mid d h)
+
+pub save_told : {L O D : Type 0} (text : sink_of.Ghosts O) (told : sectors_of.Ghosts D) (y : System) (rows : Rows) (start : List (List ℕ) → State) (turns steps : ℕ) (script : List Call) (o o1 : O) (d d1 : D) (r : Kept L) (end : SaveEnd) →
+    SaveScript {L = L} text told y rows start turns steps script (o, d) (o1, d1) (Ok (r, end)) → IsSome (told.sectors d) → IsSome (told.sectors d1)
+save_told text told y rows start turns steps script o o1 d d1 r end calls h =
+    let more = calls.some refl in
+    stays_told (script ++ more.0) (beside (output text o) (drive told d) no_files) (beside (output text o1) (drive told d1) no_files) (of_stop end) (more.2 no_files) h
+
 -- what is known of the words of one that stopped, over told sectors
 some_of : {A : Type 0} (o : Option A) → IsSome o → (x : A) × (o ≡ Some x)
 some_of None h = absurd (cc)
 some_of (Some x) h = (x, refl)
 
-pub stopped_words : {L : Type 0} (b : Booted) (rows : Rows) (count turns steps room : ℕ) (told left : Option (List (List ℕ))) (made remade : Tally) (before mid : Option (List ℕ)) (r : Kept L) (end : SaveEnd) → end ≡ Stopped
-    → WholeSaveEnds b rows count turns steps told left made remade before mid (Ok (r, end)) → (IsSome told → IsSome left) → AreTakenUp b rows count → pages_needed b ≤ count → AreDisk count told → 1 ≤ turns → turns < 2 ^ 32 → steps < 2 ^ 64
+pub stopped_words : {L : Type 0} (b : Booted) (rows : Rows) (count turns steps room : ℕ) (told left : Option (List (List ℕ))) (r : Kept L) (end : SaveEnd) → end ≡ Stopped
+    → WholeStops b rows count turns steps told left (Ok (r, end)) → (IsSome told → IsSome left) → AreTakenUp b rows count → pages_needed b ≤ count → AreDisk count told → 1 ≤ turns → turns < 2 ^ 32 → steps < 2 ^ 64
     → room ≡ most_words (memory_frames (map_of (boot_of b))) → CanBoot b rows count → ((u : CUnit) → MachinesRun (IsTypedState u)) → TurnLaws → (sectors : List (List ℕ)) (p : Past) → told ≡ Some sectors
     → IsPast (run_at (outside_of rows count) (system_of b rows) (loaded (system_of b rows) sectors) Boot turns steps) p
     → (length (saved_run r) ≤ room) × (r.turns < 2 ^ 32) × (saved_run r ≡ saved_words (run_at (outside_of rows count) (system_of b rows) (loaded (system_of b rows) sectors) Boot turns steps) p)
-stopped_words b rows count turns steps room told left made remade before mid r end is_end ends keeps up enough disk one bits limit same can machines counts sectors p is past =
+stopped_words b rows count turns steps room told left r end is_end ends keeps up enough disk one bits limit same can machines counts sectors p is past =
     let some = some_of left (keeps (subst (λ (o : Option (List (List ℕ))). IsSome o) (sym is) refl)) in
-    let w = subst (λ (q : SaveEnd). WholeSaveEnds b rows count turns steps told left made remade before mid (Ok (r, q))) is_end ends sectors some.0 is some.1 in
-    let fits = has_room b rows count sectors some.0 turns steps room r w.0 up enough (disk sectors is) one bits limit same w.2 in
+    let w = subst (λ (q : SaveEnd). WholeStops b rows count turns steps told left (Ok (r, q))) is_end ends sectors some.0 is some.1 in
+    let fits = has_room b rows count sectors some.0 turns steps room r w.0 up enough (disk sectors is) one bits limit same w.1 in
     let boot = can enough sectors (disk sectors is) in
     let m = machines (unit_view b.unit) (outside_of rows count) (system_of b rows) (loaded (system_of b rows) sectors) 1 (user_sectors (system_of b rows)) boot.starts in
-    (fits.0, fits.1, same_words counts (outside_of rows count) (system_of b rows) (loaded (system_of b rows) sectors) 1 (user_sectors (system_of b rows)) m turns steps p past (saved_run r) some.0 w.0 w.2)
+    (fits.0, fits.1, same_words counts (outside_of rows count) (system_of b rows) (loaded (system_of b rows) sectors) 1 (user_sectors (system_of b rows)) m turns steps p past (saved_run r) some.0 w.0 w.1)

@@ -1,5 +1,6 @@
 -- The room for a saved machine.
-use Rattle.std.specs.Prelude.{◌≡◌, ℕ, ◌+◌, ◌*◌, ◌<◌, ◌≤◌, List, [], Result, Ok, Err}
+use Rattle.std.specs.Prelude.{◌≡◌, ℕ, ◌*◌, ◌<◌, ◌≤◌, List, [], Result, Ok, Err}
+use Rattle.boot_run.specs.SaveRoom.{most_words, FILE_ROOM}
 use Rattle.saved_file.specs.declared.fault.SaveFault.{SaveFault}
 use Rattle.saved_file.specs.declared.fault.SaveFault.TheVariants.{SaveTooLarge, Memory}
 
@@ -7,14 +8,6 @@ use Rattle.saved_file.specs.declared.fault.SaveFault.TheVariants.{SaveTooLarge, 
 pub record Filled : Type 0 where
   pub words : ℕ
   pub file : List ℕ
-
--- the words of a saved machine of so many frames whose log is full, of 4,096 words
-abbrev pub most_words : ℕ → ℕ
-most_words frames = 5176 + 1024 * frames
-
--- the bytes that a file may have
-abbrev pub FILE_ROOM : ℕ
-FILE_ROOM = 67108864
 
 -- what is answered where room for a machine of so many frames is asked for: the file may have as many bytes, and nothing is filled in; or it may not
 abbrev pub IsRoom : (frames : ℕ) → Result Filled SaveFault → Type 0

@@ -6,7 +6,6 @@ use Rattle.schedule_file.specs.Rows.{Rows}
 use Rattle.mips_machine.specs.Steps.{outside_of}
 use Rattle.layer_contract.specs.declared.boot.Boot.{Boot as Booted}
 use Rattle.layer_contract.specs.Follows.{loaded}
-use Rattle.boot_turns.specs.GoesOn.{GoesOn}
 use Rattle.saved_file.specs.Resumable.{CanBeResumed}
 use Rattle.saved_file.specs.Answer.{answer}
 use Rattle.boot_run.specs.Loading.{system_of}
@@ -18,10 +17,6 @@ use Rattle.boot_run.specs.SavedFiles.{wanted_of}
 -- it can be booted over each that has the sectors which it needs
 abbrev pub CanBoot : Booted → Rows → (count : ℕ) → Type 0
 CanBoot b rows count = pages_needed b ≤ count → AreBoots b rows count
-
--- each boot over such a disk comes to the end of every turn of the abstract run, within its bound
-abbrev pub BootsGoOn : Booted → Rows → (count : ℕ) → Type 0
-BootsGoOn b rows count = (old : List (List ℕ)) → IsDisk count old → pages_needed b ≤ count → GoesOn (outside_of rows count) (system_of b rows) old
 
 -- sectors that are told are a disk's
 abbrev pub AreDisk : (count : ℕ) → (told : Option (List (List ℕ))) → Type 0

@@ -2,8 +2,7 @@
 
 ghost use Rattle.std.specs.Prelude.{All, ◌<◌, ◌^◌};
 ghost use Rattle.layer_contract.specs.Boots.{BootFollows};
-ghost use Rattle.boot_run.specs.Whole.{WholeGoesOn};
-ghost use Rattle.machine_save.specs.SavedBoots.{AreDisk, AreTakenUp, BootsGoOn, CanBoot};
+ghost use Rattle.machine_save.specs.SavedBoots.{AreDisk, AreTakenUp, CanBoot};
 
 use boot_run::saved_boots_are_of_runs;
 use boot_turns::machines_run;
@@ -24,8 +23,6 @@ pub fn boots_hold<L: Layer, D: Sectors>(layer: &L, boot: &Boot, schedule: &Sched
     requires { BootFollows (L.image layer.now) (L.sizes layer.now) (L.map layer.now) boot.now }
     ensures boots { CanBoot boot.now schedule.now (D.size disk.now) }
     ensures disk { AreDisk (D.size disk.now) (D.sectors disk.now) }
-    ensures go_on { BootsGoOn boot.now schedule.now (D.size disk.now) }
-    ensures goes_on { WholeGoesOn boot.now schedule.now (D.size disk.now) (D.sectors disk.now) }
     ensures taken_up { AreTakenUp boot.now schedule.now (D.size disk.now) }
 {
     the_loaded_machine_starts();

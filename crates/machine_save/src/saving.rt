@@ -1,22 +1,19 @@
 // A boot that is to be saved: its state is put to a file where it stops, and else it ends as a boot does.
 
-ghost use Rattle.std.specs.Prelude.{◌≡◌, ◌≢◌, ℕ, ◌≤◌, List};
-ghost use Rattle.cvm_outside.specs.Causes.{Rose};
-ghost use Rattle.cvm_outside.specs.Numbering.{tally};
+ghost use Rattle.std.specs.Prelude.{◌≡◌, ◌≤◌};
 ghost use Rattle.layer_map.specs.Map.{memory_frames};
 ghost use Rattle.cvm_model.specs.Cvm.{map_of};
 ghost use Rattle.layer_contract.specs.Boots.{BootFollows, boot_of};
 ghost use Rattle.boot_turns.specs.declared.answers.View.TheVariants.{Boot as OfBoot};
-ghost use Rattle.boot_report.specs.Blames.{Blames};
 ghost use Rattle.layer_contract.specs.Follows.{loaded};
 ghost use Rattle.boot_run.specs.LoadEnds.{LoadsRun, pages_needed};
 ghost use Rattle.boot_run.specs.LoadScript.{load_script};
 ghost use Rattle.boot_run.specs.LoadedPages.{user_pages};
 ghost use Rattle.boot_run.specs.Loading.{system_of};
-ghost use Rattle.boot_run.specs.Whole.{WholeGoesOn, WholeStopped};
-ghost use Rattle.machine_save.specs.Room.{most_words};
+ghost use Rattle.boot_run.specs.Whole.{WholeStopped};
+ghost use Rattle.boot_run.specs.SaveRoom.{most_words};
 ghost use Rattle.machine_save.specs.SaveCalls.{PutCalls, RowCalls, SavedScript};
-ghost use Rattle.machine_save.specs.SaveRun.{IfUnput, IsSavedDiskFault, IsSavedShelfFault, IsSavedSinkFault, PutsState, SavesRun, ShowsSaved};
+ghost use Rattle.machine_save.specs.SaveRun.{IfUnput, ShowsSaved};
 
 use crate::laws::boots_hold;
 use crate::space::Room;
@@ -64,17 +61,10 @@ pub fn save_run<L: Layer + Drop, S: Shelf, D: Sectors, O: Sink>(
     requires follows { BootFollows (L.image layer) (L.sizes layer) (L.map layer) boot }
     requires some { 1 ≤ turns }
     requires room { room.words ≡ most_words (memory_frames (map_of (boot_of boot))) }
-    ensures ends { SavesRun S.file D.size D.sectors (tally D.faults D.calls) O.text boot schedule turns steps name.now
-        shelf.old disk.old out.old shelf.new disk.new out.new result }
-    ensures goes_on { WholeGoesOn boot schedule (D.size disk.old) (D.sectors disk.old) }
-    ensures others { (n : List ℕ) → n ≢ name.now → S.file shelf.new n ≡ S.file shelf.old n }
     ensures unput { IfUnput result (shelf.new ≡ shelf.old) }
     ensures taken { S.taken shelf.new ≡ S.taken shelf.old }
     ensures loads { LoadsRun D.size D.sectors D.faults D.calls boot OfBoot (pages_needed boot) (WholeStopped boot schedule)
         disk.old out.old disk.new out.new result }
-    ensures blame { Blames (IsSavedDiskFault result) (IsSavedSinkFault result) D.faults disk.old disk.new O.faults out.old out.new }
-    ensures shelf { IsSavedShelfFault result → Rose (S.faults shelf.old) (S.faults shelf.new) }
-    ensures shelf_same { (IsSavedShelfFault result → ⊥) → S.faults shelf.new ≡ S.faults shelf.old }
     ensures script { SavedScript S.Shelf O.Sink D.Sectors (system_of boot schedule) schedule (loaded (system_of boot schedule)) turns steps
         (load_script (user_pages (system_of boot schedule)) (pages_needed boot)) name.now (shelf.old, out.old, disk.old) (shelf.new, out.new, disk.new) result }
 {
@@ -96,14 +86,8 @@ fn put_state<L: Layer + Drop, S: Shelf, O: Sink>(
     shelf: &mut S,
     out: &mut O,
 ) -> SavedEnd
-    ensures holds { PutsState S.file run.now room.words name.now shelf.old shelf.new result }
     ensures shows { ShowsSaved (O.text out.old) (O.text out.new) result }
-    ensures others { (n : List ℕ) → n ≢ name.now → S.file shelf.new n ≡ S.file shelf.old n }
     ensures taken { S.taken shelf.new ≡ S.taken shelf.old }
-    ensures shelf { result ≡ SavedEnd.ShelfFault → Rose (S.faults shelf.old) (S.faults shelf.new) }
-    ensures shelf_same { result ≢ SavedEnd.ShelfFault → S.faults shelf.new ≡ S.faults shelf.old }
-    ensures sink { result ≡ SavedEnd.RowFault → Rose (O.faults out.old) (O.faults out.new) }
-    ensures sink_same { result ≢ SavedEnd.RowFault → O.faults out.new ≡ O.faults out.old }
     ensures script { PutCalls S.Shelf O.Sink run.now room.words name.now (shelf.old, out.old) (shelf.new, out.new) result }
 {
     room.fill(run);
@@ -116,9 +100,6 @@ fn put_state<L: Layer + Drop, S: Shelf, O: Sink>(
 // Prints the row `saved`.
 fn put_row<O: Sink>(out: &mut O) -> SavedEnd
     ensures shows { ShowsSaved (O.text out.old) (O.text out.new) result }
-    ensures put { result ≢ SavedEnd.ShelfFault }
-    ensures sink { result ≡ SavedEnd.RowFault → Rose (O.faults out.old) (O.faults out.new) }
-    ensures sink_same { result ≢ SavedEnd.RowFault → O.faults out.new ≡ O.faults out.old }
     ensures script { RowCalls O.Sink out.old out.new result }
 {
     match out.put(b"saved\n") {

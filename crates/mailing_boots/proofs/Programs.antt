@@ -5,10 +5,10 @@ use Rattle.schedule_file.specs.Rows.{Rows}
 use Rattle.mips_table.specs.Flat.{Flat}
 use Rattle.boot_turns.specs.declared.answers.View.TheVariants.{Boot}
 use Rattle.kernel_linker.specs.Accept.{ImageSystem}
-use Rattle.cvm_shell.specs.declared.exit_status.Status.TheVariants.{Memory}
-use Rattle.cvm_shell.specs.declared.boot.Session.{Session}
+use Rattle.run_scripts.specs.declared.exit_status.Status.TheVariants.{Memory}
+use Rattle.run_scripts.specs.declared.session.Session.{Session}
 use Rattle.cvm_outside.specs.Outside.{Outside}
-use Rattle.cvm_shell.specs.CommandEnds.{Headlines}
+use Rattle.run_scripts.specs.CommandEnds.{Headlines}
 use Rattle.kernel_boots.specs.Systems.{AsksSystem}
 use Rattle.kernel_boots.proofs.Systems.{fewer_turns}
 use Rattle.mailing.specs.Text.{text as kernel_text}
@@ -19,8 +19,8 @@ use Rattle.c0_tree.specs.Tree.{CUnit}
 use Rattle.cvm_model.specs.Cvm.{System, first_flat}
 use Rattle.cvm_model.specs.Text.{rows_text}
 use Rattle.run_bounds.specs.Steps.{steps_for}
-use Rattle.cvm_shell.specs.declared.exit_status.Status.{Status}
-use Rattle.cvm_shell.specs.Boot.{booted, around, first_state, steps_before, IsHonest}
+use Rattle.run_scripts.specs.declared.exit_status.Status.{Status}
+use Rattle.run_scripts.specs.Boot.{booted, around, first_state, steps_before, IsHonest}
 use Rattle.user_c0.specs.Image.{image_words}
 use Rattle.user_c0.specs.Program.{steps_of as most_steps}
 use Rattle.mailing.specs.Users.{Leg, CallsInTurn, ended, steps_of}
@@ -151,7 +151,7 @@ module _ (x : Environment) (y : System) (s : State) (late raised turns steps : �
 
 -- of two programs that come through, each with so many steps at most
 abbrev Shows : (one two : CUnit) (ns : List ℕ) (p q : ℕ) → Type 0
-Shows one two ns p q = (words : List (List ℕ)) (status : Status) (old new : Outside) → Headlines (λ (o : Outside). o) words status old new
+Shows one two ns p q = (words : List (List ℕ)) (status : Status) (old new : Outside) → Headlines words status old new
     → (session : Session) (s : ImageSystem) (rows : Rows) (before : List (List ℕ)) → (h : IsHonest words session s rows before old new)
     → status ≢ Memory → session.view ≡ Boot → AsksSystem kernel_text (image_words one ∷ image_words two ∷ []) h.asked
     → (text : List ℕ) × (new.sink.text ≡ append_known old.sink.text text)

@@ -13,12 +13,12 @@ use Rattle.cvm_model.specs.Text.{rows_text, globals_text, log_text, users_text}
 use Rattle.cvm_model.specs.Invariant.{HasUsers, dispatches_of}
 use Rattle.run_bounds.specs.Steps.{steps_for}
 use Rattle.kernel_linker.specs.Accept.{ImageSystem}
-use Rattle.cvm_shell.specs.declared.exit_status.Status.{Status}
-use Rattle.cvm_shell.specs.declared.exit_status.Status.TheVariants.{Done, KernelFault, Memory}
-use Rattle.cvm_shell.specs.declared.boot.Session.{Session}
+use Rattle.run_scripts.specs.declared.exit_status.Status.{Status}
+use Rattle.run_scripts.specs.declared.exit_status.Status.TheVariants.{Done, KernelFault, Memory}
+use Rattle.run_scripts.specs.declared.session.Session.{Session}
 use Rattle.cvm_outside.specs.Outside.{Outside}
-use Rattle.cvm_shell.specs.Boot.{booted, around, first_state, steps_before, IsHonest}
-use Rattle.cvm_shell.specs.CommandEnds.{Headlines}
+use Rattle.run_scripts.specs.Boot.{booted, around, first_state, steps_before, IsHonest}
+use Rattle.run_scripts.specs.CommandEnds.{Headlines}
 use Rattle.kernel_boots.specs.Boots.{turns_made}
 use Rattle.kernel_boots.specs.Systems.{AsksSystem, SystemShown}
 use Rattle.mailing.specs.Text.{text as kernel_text}
@@ -46,7 +46,7 @@ pub record MailShown (x : Environment) (y : System) (s : State) (late raised tur
 abbrev pub AnyUsersMail : Type 0
 AnyUsersMail = (sender receiver : List ℕ) (ms : List Message) (one two : ℕ) → CallsInTurn (first_flat sender) (sends ms) one → CallsInTurn (first_flat receiver) (receives ms) two
     → AreSmall ms → length ms ≤ LOG_ROOM
-    → (words : List (List ℕ)) (status : Status) (old new : Outside) → Headlines (λ (o : Outside). o) words status old new
+    → (words : List (List ℕ)) (status : Status) (old new : Outside) → Headlines words status old new
     → (session : Session) (s : ImageSystem) (rows : Rows) (before : List (List ℕ)) → (h : IsHonest words session s rows before old new)
     → status ≢ Memory → session.view ≡ Boot → AsksSystem kernel_text (sender ∷ receiver ∷ []) h.asked
     → (text : List ℕ) × (new.sink.text ≡ append_known old.sink.text text)

@@ -15,12 +15,12 @@ use Rattle.run_bounds.specs.Steps.{steps_for}
 use Rattle.kernel_linker.specs.Accept.{ImageSystem}
 use Rattle.user_c0.specs.Image.{image_words}
 use Rattle.user_c0.specs.Program.{steps_of as most_steps}
-use Rattle.cvm_shell.specs.declared.exit_status.Status.{Status}
-use Rattle.cvm_shell.specs.declared.exit_status.Status.TheVariants.{Done, KernelFault, Memory}
-use Rattle.cvm_shell.specs.declared.boot.Session.{Session}
+use Rattle.run_scripts.specs.declared.exit_status.Status.{Status}
+use Rattle.run_scripts.specs.declared.exit_status.Status.TheVariants.{Done, KernelFault, Memory}
+use Rattle.run_scripts.specs.declared.session.Session.{Session}
 use Rattle.cvm_outside.specs.Outside.{Outside}
-use Rattle.cvm_shell.specs.Boot.{booted, around, first_state, steps_before, IsHonest}
-use Rattle.cvm_shell.specs.CommandEnds.{Headlines}
+use Rattle.run_scripts.specs.Boot.{booted, around, first_state, steps_before, IsHonest}
+use Rattle.run_scripts.specs.CommandEnds.{Headlines}
 use Rattle.kernel_boots.specs.Boots.{AsksSource}
 use Rattle.kernel_boots.specs.Systems.{AsksSystem}
 use Rattle.kernel_boots.specs.Linked.{IsLinkedOf}
@@ -57,7 +57,7 @@ pub record ProgramMailShown (x : Environment) (y : System) (s : State) (late rai
 -- EACH BOOT of an image with the kernel's text and the images of two such programs shows this, under every schedule, by the steps of their units
 abbrev pub AnyProgramsMail : Type 0
 AnyProgramsMail = (one two : CUnit) (n k : ℕ) (ns : List ℕ) → AreMailers one two n k ns
-    → (words : List (List ℕ)) (status : Status) (old new : Outside) → Headlines (λ (o : Outside). o) words status old new
+    → (words : List (List ℕ)) (status : Status) (old new : Outside) → Headlines words status old new
     → (session : Session) (s : ImageSystem) (rows : Rows) (before : List (List ℕ)) → (h : IsHonest words session s rows before old new)
     → status ≢ Memory → session.view ≡ Boot → AsksSystem kernel_text (image_words one ∷ image_words two ∷ []) h.asked
     → (text : List ℕ) × (new.sink.text ≡ append_known old.sink.text text)
@@ -68,7 +68,7 @@ AnyProgramsMail = (one two : CUnit) (n k : ℕ) (ns : List ℕ) → AreMailers o
 abbrev pub AnyCountedProgramsMail : Type 0
 AnyCountedProgramsMail = (one two : CUnit) (n k : ℕ) (ns : List ℕ) (sending receiving : ℕ) → AreMailers one two n k ns
     → IsCountedThrough (first_flat (image_words one)) (zeros ns) sending → IsCountedThrough (first_flat (image_words two)) (told_for ns) receiving
-    → (words : List (List ℕ)) (status : Status) (old new : Outside) → Headlines (λ (o : Outside). o) words status old new
+    → (words : List (List ℕ)) (status : Status) (old new : Outside) → Headlines words status old new
     → (session : Session) (s : ImageSystem) (rows : Rows) (before : List (List ℕ)) → (h : IsHonest words session s rows before old new)
     → status ≢ Memory → session.view ≡ Boot → AsksSystem kernel_text (image_words one ∷ image_words two ∷ []) h.asked
     → (text : List ℕ) × (new.sink.text ≡ append_known old.sink.text text)
@@ -81,23 +81,23 @@ mail_lines =
     codes "halted\nglobal box 0\nglobal waits 0\nglobal over 3\ncon 00000001\ncon 00000002\ncon 00000003\ncon 00000004\ncon 00000005\ncon 00000006\ncon 00000007\ncon 00000008\ncon 00000009\ncon 0000000a\n"
 
 -- THE NAMED SYSTEM: whatever the programs' trees are, with their places in the text, what was sent was printed, once and in order, but for three messages at most;
--- the status is no kernel's fault; and under a schedule of L `line` rows, with 351 turns and L more, and the steps of the machine for them, it is done, has
+-- the status is no kernel's fault; and under a schedule of L `line` rows, with 347 turns and L more, and the steps of the machine for them, it is done, has
 -- halted, and its text is at most 33 + L rows and then the report: the numbers from 1 to 10 on the console, and each user's machine behind its end
 pub record NamedMailShown (x : Environment) (y : System) (s : State) (late raised turns steps : ℕ) (status : Status) (text : List ℕ) : Type 0 where
   pub one : CUnit
   pub two : CUnit
   pub one_is : IsUnitAs User sender_text one
   pub two_is : IsUnitAs User receiver_text two
-  pub shows : ProgramMailShown x y s late raised turns steps one two 144 174 one_to_ten status text
+  pub shows : ProgramMailShown x y s late raised turns steps one two 142 172 one_to_ten status text
   pub no_fault : status ≢ KernelFault
-  pub halted : 351 + raised ≤ turns → steps_for y (351 + raised) (33 + raised) 200 0 + late ≤ steps
+  pub halted : 347 + raised ≤ turns → steps_for y (347 + raised) (33 + raised) 200 0 + late ≤ steps
       → (status ≡ Done) × (length shows.shows.shown.stands.state.rows ≤ 33 + raised)
       × (text ≡ rows_text shows.shows.shown.stands.state.rows ++ (mail_lines
       ++ users_text 1 (ended (first_flat (image_words one)) (sends shows.messages) shows.sender_last ∷ ended (first_flat (image_words two)) (receives shows.messages) shows.receiver_last ∷ [])))
 
 -- EACH BOOT of an image with the kernel's text whose users are compiled of the two texts, under every schedule
 abbrev pub CompiledMailBoots : Type 0
-CompiledMailBoots = (words : List (List ℕ)) (status : Status) (old new : Outside) → Headlines (λ (o : Outside). o) words status old new
+CompiledMailBoots = (words : List (List ℕ)) (status : Status) (old new : Outside) → Headlines words status old new
     → (session : Session) (s : ImageSystem) (rows : Rows) (before : List (List ℕ)) → (h : IsHonest words session s rows before old new)
     → status ≢ Memory → session.view ≡ Boot → AsksSource kernel_text h.asked → (layer : Map → List ℕ → List ℕ) → IsLinkedOf layer sender_text receiver_text s
     → (text : List ℕ) × (new.sink.text ≡ append_known old.sink.text text)
@@ -106,4 +106,4 @@ CompiledMailBoots = (words : List (List ℕ)) (status : Status) (old new : Outsi
 -- THE STEPS in numbers: with 32 pages for each user, 48 frames and no busy times, so many for L `line` rows, before those of a ROM
 abbrev pub MailStepsAreFew : Type 0
 MailStepsAreFew = (s : ImageSystem) (rows : Rows) (raised : ℕ) → s.params.pages ≡ 32 → s.params.frames ≡ 48 → length s.users ≡ 2 → longest rows ≡ 0
-    → steps_for (booted s rows) (351 + raised) (33 + raised) 200 0 ≡ 145891215 + 526097 * raised
+    → steps_for (booted s rows) (347 + raised) (33 + raised) 200 0 ≡ 144274827 + 526097 * raised

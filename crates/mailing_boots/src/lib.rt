@@ -76,7 +76,7 @@ pub fn mailers_call()
     ensures { MailersCall }
 {}
 
-/// A law: their images make 144 and 174 untrapped steps.
+/// A law: their images make 142 and 172 untrapped steps.
 pub fn mailers_are_counted()
     ensures { MailersAreCounted }
 {
@@ -89,7 +89,7 @@ pub fn texts_are_mailers()
 {}
 
 /// A law: so it is of each boot of an image that was linked of what `compile program` put of the two texts: the numbers from 1 to 10 are printed in order,
-/// and it halts with 351 turns more than the schedule has `line` rows, which are those that it takes without them.
+/// and it halts with 347 turns more than the schedule has `line` rows, which are those that it takes without them.
 pub fn compiled_mail_boots()
     ensures { CompiledMailBoots }
 {
@@ -103,7 +103,7 @@ pub fn compiled_mail_boots()
     any_counted_programs_mail();
 }
 
-/// A law: with 32 pages for each user, 48 frames and no busy times the steps that `compiled_mail_boots` asks for are 145,891,215, and 526,097 more for each
+/// A law: with 32 pages for each user, 48 frames and no busy times the steps that `compiled_mail_boots` asks for are 144,274,827, and 526,097 more for each
 /// `line` row.
 pub fn steps_are_few()
     ensures { MailStepsAreFew }

@@ -34,15 +34,16 @@ use Rattle.sample_maker.specs.Sample.{sample_of, user_count, base_of}
 use Rattle.sample_maker.specs.Source.{pattern, filled, filled_byte}
 use Rattle.saved_file.specs.declared.fault.SaveFault.{SaveFault}
 use Rattle.saved_file.specs.declared.fault.SaveFault.TheVariants.{SaveTooLarge as FileTooLarge}
-use Rattle.cvm_shell.specs.Refusal.{Refusal, bad_save}
+use Rattle.run_scripts.specs.Refusal.{Refusal, bad_save}
 use Rattle.system_files.specs.declared.fault.FileFault.{FileFault}
 use Rattle.layer_map.specs.declared.params.Params.{Params}
-use Rattle.cvm_shell.specs.declared.boot.Session.{Session}
-use Rattle.cvm_shell.specs.Command.{Boot, Command, IsCommand, boot, trace, save, resume, sample_session}
-use Rattle.cvm_shell.specs.Check.{Told}
-use Rattle.cvm_shell.specs.Plan.{Plan, bad_words, refuses, puts, boots, saves, resumes, prints as tells, Got, long, whole, GotAll, AfterFiles, Answered, BootPlan, accepted_plan, saved_plan, taken_plan, taken_up, most_bytes, AfterText, no_words, assembles, AfterCode, unread, mistyped, compiles, AfterParts, unfit, answered, AfterUsers, AfterParams, AfterSystem, no_object, has_object, linked_plan, renewed_plan, AfterLinking, AfterSource, PartsPlan, told_plan, PlanComesTo, no_command, boot_plan, trace_plan, save_plan, resume_plan, user_plan, kernel_plan, image_plan, link_plan, migrate_plan, sample_plan, check_plan, AllTold}
-use Rattle.machine_save.specs.Room.{FILE_ROOM}
-use Rattle.cvm_shell.specs.Ends.{IsByte, AreBytes, files_of}
+use Rattle.run_scripts.specs.declared.session.Session.{Session}
+use Rattle.run_scripts.specs.Command.{Boot, Command, IsCommand, boot, trace, save, resume, sample_session}
+use Rattle.run_scripts.specs.Check.{Told}
+use Rattle.run_scripts.specs.Plan.{Plan, bad_words, refuses, puts, boots, saves, resumes, prints as tells, Got, long, whole, GotAll, AfterFiles, Answered, BootPlan, accepted_plan, saved_plan, taken_plan, taken_up, most_bytes, AfterText, no_words, assembles, AfterCode, unread, mistyped, compiles, AfterParts, unfit, answered, AfterUsers, AfterParams, AfterSystem, no_object, has_object, linked_plan, renewed_plan, AfterLinking, AfterSource, PartsPlan, told_plan, PlanComesTo, no_command, boot_plan, trace_plan, save_plan, resume_plan, user_plan, kernel_plan, image_plan, link_plan, migrate_plan, sample_plan, check_plan, AllTold}
+use Rattle.boot_run.specs.SaveRoom.{FILE_ROOM}
+use Rattle.run_scripts.specs.Ends.{IsByte, AreBytes}
+use Rattle.run_scripts.specs.Served.{files_of}
 use Rattle.run_scripts.specs.Headline.{IsOf, booted_so, saved_so, resumed_so}
 
 -- the system and the schedule that a plan runs

@@ -6,7 +6,6 @@ use Rattle.std.proofs.Common.{◌≡◌, ℕ, ◌≤◌, Bool, true, false, List
 use Rattle.std.proofs.lemmas.Bool.Decides.{nat_tests}
 use Rattle.cvm_outside.specs.Told.{Tells}
 use Rattle.schedule_file.specs.Rows.{Rows}
-use Rattle.schedule_file.specs.declared.fault.ScheduleFault.{ScheduleFault}
 use Rattle.saved_file.specs.declared.fault.SaveFault.TheVariants.{SaveTooLarge as FileTooLarge}
 use Rattle.boot_image.specs.Parts.{ImageParts as Image}
 use Rattle.boot_image.specs.Format.{spelling as image_bytes}
@@ -16,18 +15,17 @@ use Rattle.sample_maker.specs.Sample.{sample_of}
 use Rattle.real_layer.specs.Image.{layer_image}
 use Rattle.kernel_linker.specs.Accept.{ImageSystem}
 use Rattle.kernel_linker.specs.declared.fault.LinkFault.{LinkFault}
-use Rattle.machine_save.specs.Room.{FILE_ROOM}
-use Rattle.cvm_shell.specs.declared.boot.Session.{Session}
-use Rattle.cvm_shell.specs.Command.{Boot, Save, Command, IsCommand, boot, trace, save, resume, sample, boot_session, save_session}
-use Rattle.cvm_shell.specs.Refusal.{bad_save}
-use Rattle.cvm_shell.specs.Plan.{Plan, refuses, boots, saves, resumes, whole, boot_plan, trace_plan, save_plan, resume_plan, sample_plan, accepted_plan, scheduled_plan, saved_plan, taken_plan, most_bytes, Accepts, AfterLinking, BootPlan, PartsPlan, PlanComesTo, GetsTold, AllTold}
-use Rattle.cvm_shell.specs.Boot.{AreFilesOf, ArePartsOf, AskFor, by_boot, by_trace, by_sample}
+use Rattle.boot_run.specs.SaveRoom.{FILE_ROOM}
+use Rattle.run_scripts.specs.declared.session.Session.{Session}
+use Rattle.run_scripts.specs.Command.{Boot, Save, Command, IsCommand, boot, trace, save, resume, sample, save_session}
+use Rattle.run_scripts.specs.Refusal.{bad_save}
+use Rattle.run_scripts.specs.Plan.{Plan, refuses, boots, saves, resumes, whole, boot_plan, trace_plan, save_plan, resume_plan, sample_plan, scheduled_plan, saved_plan, taken_plan, most_bytes, Accepts, AfterLinking, BootPlan, PartsPlan, PlanComesTo, GetsTold, AllTold}
+use Rattle.run_scripts.specs.Boot.{AreFilesOf, ArePartsOf, AskFor, by_boot, by_trace, by_sample}
 use Rattle.cvm_outside.specs.Outside.{Outside}
-use Rattle.cvm_shell.specs.Saves.{IsHonestSave}
-use Rattle.cvm_shell.specs.Resumes.{IsHonestResume}
+use Rattle.run_scripts.specs.Saves.{IsHonestSave}
+use Rattle.run_scripts.specs.Resumes.{IsHonestResume}
 use Rattle.boot_turns.specs.Runs.{lines_met, turns_at, steps_made, cvm_at}
-use Rattle.cvm_shell.specs.SessionRuns.{run_of}
-use Rattle.run_scripts.specs.Headline.{FilesAsk}
+use Rattle.run_scripts.specs.SessionRuns.{run_of}
 use Rattle.run_scripts.specs.Checks.{StackOutIsNotMet}
 use Rattle.run_scripts.proofs.OneCommand.{one_command}
 
@@ -36,13 +34,6 @@ tells o bytes e = subst (λ (x : Option (List ℕ)). Tells x bytes) (sym e) refl
 
 is_told : (o : Option (List ℕ)) (bytes : List ℕ) → o ≡ Some bytes → IsSome o
 is_told o bytes e = subst (λ (x : Option (List ℕ)). IsSome x) (sym e) refl
-
-pub files_ask : FilesAsk
-files_ask words file b image schedule s rows is told short then_ small accepted valid =
-    boot_plan b (boots (boot_session b) s rows) is
-    (whole image (boots (boot_session b) s rows) (tells (file b.image) image told) short
-    (whole schedule (boots (boot_session b) s rows) (tells (file b.schedule) schedule then_) small
-    (Ok s, accepted, subst (λ (v : Result Rows ScheduleFault). boots (boot_session b) s rows ≡ accepted_plan (boot_session b) v (Ok s)) (sym valid) refl)))
 
 -- THE PLAN of an image and a schedule, in any session
 comes_to_run : (file : List ℕ → Option (List ℕ)) (b : Boot) (session : Session) (s : ImageSystem) (rows : Rows) → AreFilesOf file b s rows → BootPlan layer_image file b session (boots session s rows)

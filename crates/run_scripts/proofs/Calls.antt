@@ -4,22 +4,23 @@ use Rattle.std.proofs.Common.{◌≡◌, ◌≢◌, ℕ, Bool, true, false, List
 use Rattle.cvm_model.specs.Cvm.{Status as CvmStatus, Running, Halted, Faulted}
 use Rattle.kernel_linker.specs.Accept.{ImageSystem}
 use Rattle.schedule_file.specs.Rows.{Rows}
-use Rattle.cvm_shell.specs.declared.exit_status.Status.{Status}
-use Rattle.cvm_shell.specs.declared.boot.Session.{Session}
-use Rattle.cvm_shell.specs.Command.{Command, IsCommand, save, resume, save_session}
-use Rattle.cvm_shell.specs.Plan.{Plan}
+use Rattle.run_scripts.specs.declared.exit_status.Status.{Status}
+use Rattle.run_scripts.specs.declared.session.Session.{Session}
+use Rattle.run_scripts.specs.Command.{Command, IsCommand, save, resume, save_session}
+use Rattle.run_scripts.specs.Plan.{Plan}
 use Rattle.cvm_outside.specs.Outside.{Outside}
 use Rattle.cvm_outside.specs.Script.{Call, Printed, Read, Wrote, Got, Stored, Who, Performs, done, breaks, goes_on, disk_calls}
 use Rattle.boot_turns.specs.Runs.{Run, Past, steps_made, has_ended, cvm_at}
-use Rattle.cvm_shell.specs.Boot.{booted, sectors_needed}
+use Rattle.run_scripts.specs.Boot.{booted, sectors_needed}
 use Rattle.boot_turns.specs.StepScript.{steps_script}
-use Rattle.cvm_shell.specs.Saves.{saved_row}
-use Rattle.cvm_shell.specs.SessionRuns.{run_of, pages_loaded}
+use Rattle.run_scripts.specs.Saves.{saved_row}
+use Rattle.run_scripts.specs.SessionRuns.{run_of, pages_loaded}
 use Rattle.boot_turns.specs.LoopScripts.{AreOfRun}
 use Rattle.boot_run.specs.RunScript.{AreReads, untold_steps}
-use Rattle.cvm_shell.specs.RunStatus.{leaving_script, save_script, saved_bytes}
-use Rattle.cvm_shell.specs.Ends.{PlanAsks, SessionAsks, no_user, small, over_told, over_untold, SomeRunAsks, SomeSaveAsks, as_boot, is_saved, load_of}
-use Rattle.run_scripts.specs.Shapes.{Loads, file_put, gets_in, puts_in, NamedBy}
+use Rattle.run_scripts.specs.RunStatus.{leaving_script, save_script, saved_bytes}
+use Rattle.run_scripts.specs.Ends.{PlanAsks, SessionAsks, no_user, small, over_told, over_untold, SomeRunAsks, SomeSaveAsks, as_boot, is_saved, load_of}
+use Rattle.run_scripts.specs.Shapes.{Loads, gets_in, puts_in, NamedBy}
+use Rattle.run_scripts.specs.Served.{file_put}
 use Rattle.run_scripts.proofs.MadeOf.{Closed, of_load, of_report, of_run, of_steps, of_untold}
 use Rattle.run_scripts.proofs.OneCommand.{one_command}
 use Rattle.run_scripts.proofs.Outcomes.{Outcome, is_none, is_refused, is_booted, is_saved as saved_so, is_resumed, is_put, is_told}

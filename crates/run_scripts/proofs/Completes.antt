@@ -2,12 +2,12 @@
 use Rattle.std.proofs.Common.{◌≡◌, ◌⊎◌, inl, inr, ℕ, ◌≤◌, Bool, true, refl, ap, ◌∙◌, arith}
 use Rattle.mips_table.specs.Turns.{TurnLaws, IsTurnEnd, is_end}
 use Rattle.cvm_model.specs.Cvm.{Status as CvmStatus, Running, Halted, Faulted}
-use Rattle.cvm_shell.specs.declared.exit_status.Status.{Status}
-use Rattle.cvm_shell.specs.declared.exit_status.Status.TheVariants.{Done, KernelFault}
+use Rattle.run_scripts.specs.declared.exit_status.Status.{Status}
+use Rattle.run_scripts.specs.declared.exit_status.Status.TheVariants.{Done, KernelFault}
 use Rattle.boot_turns.specs.Runs.{Run, Past, has_ended, steps_made, cvm_at}
-use Rattle.cvm_shell.specs.SessionRuns.{run_of}
-use Rattle.cvm_shell.specs.RunStatus.{run_status, status_of}
-use Rattle.run_scripts.specs.Headline.{Headlines, ItGoesOn, RunsComplete}
+use Rattle.run_scripts.specs.SessionRuns.{run_of}
+use Rattle.run_scripts.specs.RunStatus.{run_status, status_of}
+use Rattle.run_scripts.proofs.ByRuns.{Headlines, ItGoesOn, RunsComplete}
 use Rattle.run_scripts.proofs.Keys.{RunLaws}
 
 pub it_goes_on : RunLaws → ItGoesOn

@@ -14,18 +14,19 @@ use Rattle.schedule_file.specs.Rows.{Rows}
 use Rattle.layer_contract.specs.Starts.{Beyond}
 use Rattle.boot_turns.specs.Torn.{Torn}
 use Rattle.cvm_model.specs.Cvm.{Status as CvmStatus, Running, Halted, Faulted}
-use Rattle.cvm_shell.specs.declared.exit_status.Status.{Status}
-use Rattle.cvm_shell.specs.declared.exit_status.Status.TheVariants.{Done, KernelFault, StepLimit, Disk, Shelf, Sink, Memory}
-use Rattle.cvm_shell.specs.declared.boot.Session.{Session}
-use Rattle.cvm_shell.specs.Command.{Command, IsSave, Save, save, save_session}
-use Rattle.cvm_shell.specs.Plan.{Plan, boots, saves}
+use Rattle.run_scripts.specs.declared.exit_status.Status.{Status}
+use Rattle.run_scripts.specs.declared.exit_status.Status.TheVariants.{Done, KernelFault, StepLimit, Disk, Shelf, Sink, Memory}
+use Rattle.run_scripts.specs.declared.session.Session.{Session}
+use Rattle.run_scripts.specs.Command.{Command, IsSave, Save, save, save_session}
+use Rattle.run_scripts.specs.Plan.{Plan, boots, saves}
 use Rattle.boot_turns.specs.Runs.{Run, Past, IsPast, state_at, steps_made, has_ended, cvm_at}
-use Rattle.cvm_shell.specs.Boot.{booted, sectors_needed}
-use Rattle.cvm_shell.specs.Saves.{saved_row}
-use Rattle.cvm_shell.specs.SessionRuns.{run_of, pages_loaded}
+use Rattle.run_scripts.specs.Boot.{booted, sectors_needed}
+use Rattle.run_scripts.specs.Saves.{saved_row}
+use Rattle.run_scripts.specs.SessionRuns.{run_of, pages_loaded}
 use Rattle.boot_run.specs.RunScript.{run_script}
-use Rattle.cvm_shell.specs.RunStatus.{run_status, status_of, save_script, saved_bytes}
-use Rattle.cvm_shell.specs.Ends.{Does, done, no_file, no_memory, IsNotGot, RunAsks, SaveAsks, SomeRunAsks, SomeSaveAsks, load_of, answered, files_of}
+use Rattle.run_scripts.specs.RunStatus.{run_status, status_of, save_script, saved_bytes}
+use Rattle.run_scripts.specs.Ends.{Does, done, no_file, no_memory, IsNotGot, RunAsks, SaveAsks, SomeRunAsks, SomeSaveAsks, load_of, answered}
+use Rattle.run_scripts.specs.Served.{files_of}
 use Rattle.run_scripts.specs.Headline.{Asked, ended_text, text_at, whole_text}
 use Rattle.run_scripts.specs.Faults.{PrintedWithin, Stand, CalledBy, AfterSink, AfterBy, After, FaultsLeave, IsLeft, IsReported, UnsavedBy, SaveFaultsLeave}
 use Rattle.run_scripts.proofs.Behind.{load_calls_disk, stand_behind, sink_behind, disk_behind}
@@ -45,23 +46,23 @@ use Rattle.run_scripts.proofs.StoredRuns.{run_leaves}
 use Rattle.run_scripts.proofs.Tells.{Tells, quiet_load}
 
 -- the statuses of a boot, and those of a save
-abbrev Three : Status → Type 0
+abbrev pub Three : Status → Type 0
 Three st = (st ≡ StepLimit) ⊎ ((st ≡ Disk) ⊎ (st ≡ Sink))
 
-abbrev Four : Status → Type 0
+abbrev pub Four : Status → Type 0
 Four st = (st ≡ StepLimit) ⊎ ((st ≡ Disk) ⊎ ((st ≡ Shelf) ⊎ (st ≡ Sink)))
 
-of_three : (st : Status) → Three st → Four st
+pub of_three : (st : Status) → Three st → Four st
 of_three st (inl e) = inl e
 of_three st (inr (inl e)) = inr (inl e)
 of_three st (inr (inr e)) = inr (inr (inr e))
 
-not_shelf : Three Shelf → ⊥
+pub not_shelf : Three Shelf → ⊥
 not_shelf (inl e) = cc
 not_shelf (inr (inl e)) = cc
 not_shelf (inr (inr e)) = cc
 
-not_memory : Four Memory → ⊥
+pub not_memory : Four Memory → ⊥
 not_memory (inl e) = cc
 not_memory (inr (inl e)) = cc
 not_memory (inr (inr (inl e))) = cc
@@ -80,7 +81,7 @@ not_faulted (inr (inr (inl e))) = cc
 not_faulted (inr (inr (inr e))) = cc
 
 -- where no call failed the steps were spent
-spent : (b : Bool) (st : CvmStatus) (status : Status) → status ≡ status_of b st → Four status → (b ≡ false) × (status ≡ StepLimit)
+pub spent : (b : Bool) (st : CvmStatus) (status : Status) → status ≡ status_of b st → Four status → (b ≡ false) × (status ≡ StepLimit)
 spent true Running status e w = absurd (not_done (subst Four e w))
 spent true Halted status e w = absurd (not_done (subst Four e w))
 spent true (Faulted f) status e w = absurd (not_faulted (subst Four e w))

@@ -6,23 +6,23 @@ use Rattle.cvm_model.specs.Cvm.{Status as CvmStatus, Running, Halted, Faulted}
 use Rattle.cvm_model.specs.Text.{rows_text, closing_text, report_text}
 use Rattle.kernel_linker.specs.Accept.{ImageSystem}
 use Rattle.schedule_file.specs.Rows.{Rows}
-use Rattle.cvm_shell.specs.Command.{Save, IsSave, save, save_session}
-use Rattle.cvm_shell.specs.Plan.{saves}
-use Rattle.cvm_shell.specs.Boot.{booted, sectors_needed}
-use Rattle.cvm_shell.specs.Saves.{saved_row}
+use Rattle.run_scripts.specs.Command.{Save, IsSave, save, save_session}
+use Rattle.run_scripts.specs.Plan.{saves}
+use Rattle.run_scripts.specs.Boot.{booted, sectors_needed}
+use Rattle.run_scripts.specs.Saves.{saved_row}
 use Rattle.cvm_outside.specs.Told.{retold}
 use Rattle.cvm_outside.specs.Outside.{Outside}
 use Rattle.cvm_outside.specs.Script.{Call, Printed, Stored, Who, Performs, sectors_after}
 use Rattle.boot_turns.specs.Runs.{Run, Past, IsPast, state_at, steps_made, has_ended, cvm_at}
 use Rattle.boot_turns.specs.StepScript.{steps_script}
 use Rattle.boot_run.specs.Closing.{opening_script, closing_script}
-use Rattle.cvm_shell.specs.SessionRuns.{run_of, pages_loaded}
+use Rattle.run_scripts.specs.SessionRuns.{run_of, pages_loaded}
 use Rattle.boot_run.specs.RunScript.{run_script}
-use Rattle.cvm_shell.specs.RunStatus.{save_script, leaving_script, saved_bytes}
-use Rattle.cvm_shell.specs.Ends.{done, no_file, no_memory, SaveAsks, SomeSaveAsks, load_of}
+use Rattle.run_scripts.specs.RunStatus.{save_script, leaving_script, saved_bytes}
+use Rattle.run_scripts.specs.Ends.{done, no_file, no_memory, SaveAsks, SomeSaveAsks, load_of}
 use Rattle.run_scripts.specs.Headline.{Asked, text_at, ended_text, whole_text}
 use Rattle.run_scripts.specs.Faults.{IsLeft}
-use Rattle.run_scripts.specs.Saving.{IsSaved, IsUnsaved, SavesHold}
+use Rattle.run_scripts.proofs.ByRuns.{IsSaved, IsUnsaved, SavesHold}
 use Rattle.run_scripts.proofs.Broken.{both_done}
 use Rattle.run_scripts.proofs.Calls.{Plain, plain, plain_both, plain_write, plain_load, plain_stays}
 use Rattle.run_scripts.proofs.Causes.{mid_disk}

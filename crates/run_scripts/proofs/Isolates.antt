@@ -15,8 +15,8 @@ use Rattle.boot_turns.specs.declared.answers.View.{View}
 use Rattle.boot_turns.specs.Runs.{Run, IsShown, lines_met, steps_made, turns_at}
 use Rattle.boot_turns.specs.TurnEnds.{first_of}
 use Rattle.boot_run.specs.RunEnds.{SeesUser}
-use Rattle.cvm_shell.specs.SessionRuns.{run_of}
-use Rattle.run_scripts.specs.Headline.{TracesIsolate}
+use Rattle.run_scripts.specs.SessionRuns.{run_of}
+use Rattle.run_scripts.proofs.ByRuns.{TracesIsolate}
 use Rattle.run_scripts.proofs.Keys.{RunLaws, known}
 use Rattle.boot_run.proofs.AbstractRuns.{not_ended}
 use Rattle.run_scripts.proofs.Pasts.{Known}

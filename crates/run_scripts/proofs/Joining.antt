@@ -14,7 +14,7 @@ use Rattle.boot_turns.specs.TurnScript.{StepsJoin}
 use Rattle.boot_turns.proofs.ShownRows.{scripts-same}
 use Rattle.boot_run.specs.Closing.{opening_script, closing_script}
 use Rattle.boot_run.specs.RunScript.{rest_script, run_script}
-use Rattle.cvm_shell.specs.RunStatus.{save_script, leaving_script}
+use Rattle.run_scripts.specs.RunStatus.{save_script, leaving_script}
 use Rattle.run_scripts.specs.Saving.{AreJoined, ScriptsJoin}
 use Rattle.run_scripts.proofs.Keys.{pasts_agree}
 use Rattle.boot_run.proofs.AbstractRuns.{turns_up_to}

@@ -2,16 +2,16 @@
 use Rattle.std.proofs.Common.{◌≡◌, ◌≤◌, ℕ, List, [], ◌∷◌, ◌++◌, Option, Some, None, refl, ◌∙◌, sym, subst}
 use Rattle.kernel_linker.specs.Accept.{ImageSystem}
 use Rattle.schedule_file.specs.Rows.{Rows}
-use Rattle.cvm_shell.specs.declared.exit_status.Status.{Status}
-use Rattle.cvm_shell.specs.Command.{Save, IsResume, save_session, resume}
-use Rattle.cvm_shell.specs.Plan.{Plan, resumes}
+use Rattle.run_scripts.specs.declared.exit_status.Status.{Status}
+use Rattle.run_scripts.specs.Command.{Save, IsResume, save_session, resume}
+use Rattle.run_scripts.specs.Plan.{Plan, resumes}
 use Rattle.cvm_outside.specs.Script.{Call, Performs}
 use Rattle.cvm_outside.specs.Outside.{Outside, Drive}
-use Rattle.cvm_shell.specs.Boot.{sectors_needed}
+use Rattle.run_scripts.specs.Boot.{sectors_needed}
 use Rattle.boot_turns.specs.Runs.{Run, Past}
 use Rattle.boot_run.specs.RunScript.{rest_script}
-use Rattle.cvm_shell.specs.RunStatus.{run_status}
-use Rattle.cvm_shell.specs.Ends.{GetsFor, all, up_to, Does, SavedRun, Joins, answered, done, no_file, no_memory}
+use Rattle.run_scripts.specs.RunStatus.{run_status}
+use Rattle.run_scripts.specs.Ends.{GetsFor, all, up_to, Does, SavedRun, Joins, answered, done, no_file, no_memory}
 use Rattle.run_scripts.specs.Headline.{Asked, Untouched}
 use Rattle.run_scripts.specs.Saving.{ResumesJoin}
 use Rattle.run_scripts.proofs.Keeps.{gets_keep}

@@ -1,19 +1,20 @@
 -- What gets keep.
 use Rattle.std.proofs.Common.{◌≡◌, ◌⊎◌, inl, inr, ℕ, zero, suc, List, [], ◌∷◌, Option, Some, None, Bool, true, false, refl, ap, ◌∙◌}
-use Rattle.cvm_shell.specs.declared.exit_status.Status.{Status}
-use Rattle.cvm_shell.specs.declared.exit_status.Status.TheVariants.{Done, KernelFault, StepLimit, Memory}
+use Rattle.run_scripts.specs.declared.exit_status.Status.{Status}
+use Rattle.run_scripts.specs.declared.exit_status.Status.TheVariants.{Done, KernelFault, StepLimit, Memory}
 use Rattle.cvm_outside.specs.Script.{Call, Who, TheSink, TheDisk, TheShelf, done as all_done, goes_on, Performs}
 use Rattle.cvm_outside.specs.Outside.{Outside}
 use Rattle.cvm_model.specs.Cvm.{Status as CvmStatus, Running, Halted, Faulted}
-use Rattle.cvm_shell.specs.Plan.{Plan, bad_words, refuses, puts, boots, saves, resumes, prints as tells}
+use Rattle.run_scripts.specs.Plan.{Plan, bad_words, refuses, puts, boots, saves, resumes, prints as tells}
 use Rattle.kernel_linker.specs.Accept.{ImageSystem}
 use Rattle.schedule_file.specs.Rows.{Rows}
-use Rattle.cvm_shell.specs.declared.boot.Session.{Session}
-use Rattle.cvm_shell.specs.Refusal.{Refusal, refusal_status, small_disk, too_long, bad_text, bad_source, bad_program, bad_object, bad_file, unlinked, unaccepted, bad_schedule, bad_save, no_such_user}
+use Rattle.run_scripts.specs.declared.session.Session.{Session}
+use Rattle.run_scripts.specs.Refusal.{Refusal, refusal_status, small_disk, too_long, bad_text, bad_source, bad_program, bad_object, bad_file, unlinked, unaccepted, bad_schedule, bad_save, no_such_user}
 use Rattle.boot_turns.specs.Runs.{Run, Past, state_at, has_ended, cvm_at, steps_made}
-use Rattle.cvm_shell.specs.SessionRuns.{run_of}
-use Rattle.cvm_shell.specs.RunStatus.{run_status, status_of, power_status}
-use Rattle.cvm_shell.specs.Ends.{Wants, gets, PlanAsks, load_of, SessionAsks, SomeRunAsks, SomeSaveAsks, no_user, small, over_told, over_untold, as_boot, is_saved, answered, done, no_memory, behind, within, wants}
+use Rattle.run_scripts.specs.SessionRuns.{run_of}
+use Rattle.run_scripts.specs.RunStatus.{run_status, status_of, power_status}
+use Rattle.run_scripts.specs.Ends.{Wants, PlanAsks, load_of, SessionAsks, SomeRunAsks, SomeSaveAsks, no_user, small, over_told, over_untold, as_boot, is_saved, answered, done, no_memory, behind, within, wants}
+use Rattle.run_scripts.specs.Served.{gets}
 use Rattle.run_scripts.specs.Headline.{Untouched, MemoryKeeps}
 
 -- gets that were made leave all but the shelf's count of bytes

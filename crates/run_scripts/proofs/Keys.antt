@@ -1,7 +1,6 @@
 -- The keys, of each run that words ask for.
 use Rattle.std.specs.Prelude.{Some}
-use Rattle.std.proofs.Common.{ℕ, List, [], length, take, sym, ap, ◌∙◌, arith}
-use Rattle.std.proofs.Math.Seq.{take-append_seam}
+use Rattle.std.proofs.Common.{ℕ, List, [], sym, ap, ◌∙◌, arith}
 use Rattle.schedule_file.specs.Rows.{Rows}
 use Rattle.mips_table.specs.Turns.{TurnLaws}
 use Rattle.c0_tree.specs.Tree.{CUnit}
@@ -11,18 +10,19 @@ use Rattle.boot_turns.specs.Entries.{TracesGrow}
 use Rattle.boot_turns.specs.JournalText.{RowsFollow}
 use Rattle.boot_turns.specs.RunMachines.{MachinesRun}
 use Rattle.kernel_linker.specs.Accept.{ImageSystem}
-use Rattle.cvm_shell.specs.declared.boot.Session.{Session}
-use Rattle.cvm_shell.specs.Plan.{Plan}
+use Rattle.run_scripts.specs.declared.session.Session.{Session}
+use Rattle.run_scripts.specs.Plan.{Plan}
 use Rattle.cvm_outside.specs.Outside.{Outside}
 use Rattle.boot_turns.specs.Runs.{Run, steps_made, turns_at, cvm_at, lines_met}
-use Rattle.cvm_shell.specs.Boot.{booted, sectors_needed}
-use Rattle.cvm_shell.specs.SessionRuns.{pages_loaded, run_of}
-use Rattle.cvm_shell.specs.Ends.{load_of}
-use Rattle.run_scripts.specs.Headline.{Asked, text_at}
-use Rattle.run_scripts.specs.Keys.{RunsStart, PastsExist, PastsAgree, TextsGrow, ScriptsTellTheText, ScriptsStoreTheSectors, LoadsStoreTheStart, SectorsBehindStay, EndsAreOver}
-use Rattle.boot_run.proofs.AbstractRuns.{past_of, turns_up_to}
-use Rattle.run_scripts.proofs.Pasts.{Known, founded}
-use Rattle.run_scripts.proofs.Tells.{quiet_load, step_tells}
+use Rattle.run_scripts.specs.Boot.{booted, sectors_needed}
+use Rattle.run_scripts.specs.SessionRuns.{pages_loaded, run_of}
+use Rattle.run_scripts.specs.Ends.{load_of}
+use Rattle.run_scripts.specs.Headline.{Asked}
+use Rattle.run_scripts.specs.Keys.{RunsStart, EndsAreOver}
+use Rattle.run_scripts.proofs.ByRuns.{PastsAgree, ScriptsTellTheText, ScriptsStoreTheSectors, LoadsStoreTheStart, SectorsBehindStay}
+use Rattle.boot_run.proofs.AbstractRuns.{turns_up_to}
+use Rattle.run_scripts.proofs.Pasts.{Known}
+use Rattle.run_scripts.proofs.Tells.{quiet_load}
 use Rattle.run_scripts.proofs.Reports.{run_tells}
 use Rattle.run_scripts.proofs.StartSectors.{load_makes}
 use Rattle.run_scripts.proofs.StoredRuns.{run_leaves}
@@ -56,9 +56,6 @@ module _ (law : RunLaws) where
         rows = law.rows;
       }
 
-  pub pasts_exist : PastsExist
-  pasts_exist words plan session s rows before old a = past_of (run_of session s rows old.disk.size before) (founded _ (known words plan session s rows before old a))
-
   pub ends_are_over : EndsAreOver
   ends_are_over words plan session s rows before old a p is e =
       let r : Run = run_of session s rows old.disk.size before in
@@ -69,12 +66,6 @@ module _ (law : RunLaws) where
       let w = law.start words plan session s rows before old a in
       let m = law.machines s.unit _ _ _ w.late _ w.starts in
       λ q few. m.beyond t q few ∙ w.beyond q few
-
-  pub texts_grow : TextsGrow
-  texts_grow words plan session s rows before old a p is t lt =
-      let r : Run = run_of session s rows old.disk.size before in
-      let h = step_tells r (known words plan session s rows before old a) p is t lt in
-      ap (take (length (text_at r p t))) h.is ∙ take-append_seam (text_at r p t) h.text
 
   pub scripts_tell_the_text : ScriptsTellTheText
   scripts_tell_the_text words plan session s rows before old a p is =

@@ -1,6 +1,6 @@
 -- The linked words of a system are words of 32 bits.
 use Rattle.std.specs.Prelude.{All, map, replicate}
-use Rattle.std.proofs.Common.{◌≡◌, ℕ, ◌-◌, ◌*◌, true, List, [], ◌∷◌, ◌++◌, length, refl, arith}
+use Rattle.std.proofs.Common.{◌≡◌, ℕ, ◌+◌, ◌-◌, ◌*◌, true, List, [], ◌∷◌, ◌++◌, length, refl, arith}
 use Rattle.std.proofs.lemmas.List.Elements.{All-nil, All-head, All-tail, All-append, All-replicate, All-cons, All-from_recursion}
 use Rattle.mips_table.specs.Encoding.{encoding, InRange}
 use Rattle.mips_table.specs.Fits.{IsWord}
@@ -20,7 +20,8 @@ variable_words m r =
     let stack = r.params.stack in
     let first : IsWord (4 * heap_at m) = omega (arith, code, globals) in
     let second : IsWord (4 * stack_at m) = omega (arith, code, globals, heap) in
-    All-from_recursion IsWord (variables m) (omega arith, (omega arith, (omega arith, (omega (arith, heap), (first, (second, (omega (arith, stack), tt)))))))
+    let third : IsWord (4 * (stack_at m + m.params.stack)) = omega (arith, code, globals, heap, stack) in
+    All-from_recursion IsWord (variables m) (omega arith, (omega arith, (omega arith, (omega (arith, heap), (first, (second, (third, tt)))))))
 
 block_fits : (pages : ℕ) → IsWord pages → All IsWord (block_words pages)
 block_fits pages h =

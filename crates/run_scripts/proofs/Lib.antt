@@ -1,4 +1,3 @@
-mod EqualTraces
 pub mod Keeps
 pub mod Joins
 pub mod Whole
@@ -43,3 +42,5 @@ mod Taken
 mod Rejoining
 pub mod Promised
 pub mod PromisedSaves
+mod ResumeFaults
+pub mod ByRuns

@@ -22,13 +22,14 @@ use Rattle.saved_file.specs.declared.fault.SaveFault.{SaveFault}
 use Rattle.saved_file.specs.declared.fault.SaveFault.TheVariants.{SaveTooLarge as FileTooLarge}
 use Rattle.saved_file.specs.Answer.{answer as machine_of}
 use Rattle.system_files.specs.declared.fault.FileFault.{FileFault}
-use Rattle.machine_save.specs.Room.{FILE_ROOM}
-use Rattle.cvm_shell.specs.declared.boot.Session.{Session}
-use Rattle.cvm_shell.specs.Check.{Told, TellsObject, no_object as check_no_object, has_object as check_has_object, TellsOpened}
-use Rattle.cvm_shell.specs.Command.{Boot, Save, Command, boot, trace, save, resume, compile_user, compile_kernel, compile_program, link, migrate, sample, check, IsCommand, IsNoCommand, IsSave, IsResume, boot_session, trace_session, save_session, sample_session}
-use Rattle.cvm_shell.specs.Refusal.{Refusal, bad_text, bad_source, bad_program, bad_object, bad_file, unlinked, unaccepted, bad_schedule, bad_save, small_disk, no_such_user, too_long}
-use Rattle.cvm_shell.specs.Plan.{Plan, bad_words, refuses, puts, boots, saves, resumes, prints as tells, Got, long, whole, GotAll, AfterFiles, BootPlan, accepted_plan, saved_plan, wanted_by, taken_plan, taken_up, most_bytes, AfterText, no_words, assembles, AfterCode, unread, mistyped, compiles, AfterParts, unfit, answered, AfterUsers, AfterParams, AfterSystem, no_object, has_object, linked_plan, renewed_plan, AfterLinking, AfterSource, PartsPlan, told_plan, PlanComesTo, no_command, boot_plan, trace_plan, save_plan, resume_plan, user_plan, kernel_plan, image_plan, link_plan, migrate_plan, sample_plan, check_plan}
-use Rattle.run_scripts.specs.Shapes.{Loads, file_put}
+use Rattle.boot_run.specs.SaveRoom.{FILE_ROOM}
+use Rattle.run_scripts.specs.declared.session.Session.{Session}
+use Rattle.run_scripts.specs.Check.{Told, TellsObject, no_object as check_no_object, has_object as check_has_object, TellsOpened}
+use Rattle.run_scripts.specs.Command.{Boot, Save, Command, boot, trace, save, resume, compile_user, compile_kernel, compile_program, link, migrate, sample, check, IsCommand, IsNoCommand, IsSave, IsResume, boot_session, trace_session, save_session, sample_session}
+use Rattle.run_scripts.specs.Refusal.{Refusal, bad_text, bad_source, bad_program, bad_object, bad_file, unlinked, unaccepted, bad_schedule, bad_save, small_disk, no_such_user, too_long}
+use Rattle.run_scripts.specs.Plan.{Plan, bad_words, refuses, puts, boots, saves, resumes, prints as tells, Got, long, whole, GotAll, AfterFiles, BootPlan, accepted_plan, saved_plan, wanted_by, taken_plan, taken_up, most_bytes, AfterText, no_words, assembles, AfterCode, unread, mistyped, compiles, AfterParts, unfit, answered, AfterUsers, AfterParams, AfterSystem, no_object, has_object, linked_plan, renewed_plan, AfterLinking, AfterSource, PartsPlan, told_plan, PlanComesTo, no_command, boot_plan, trace_plan, save_plan, resume_plan, user_plan, kernel_plan, image_plan, link_plan, migrate_plan, sample_plan, check_plan}
+use Rattle.run_scripts.specs.Shapes.{Loads}
+use Rattle.run_scripts.specs.Served.{file_put}
 
 -- a refusal of a file: it is none of a disk or a user
 abbrev pub IsOfFile : Refusal → Type 0

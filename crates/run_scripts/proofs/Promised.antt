@@ -1,15 +1,14 @@
 -- The promises of a run, from the laws: its premises ask for the run, and no call failed.
 use Rattle.std.specs.Prelude.{Option, Some, IfSome, if◌then◌else◌}
 use Rattle.std.specs.Option.{option_map}
-use Rattle.std.proofs.Common.{◌≡◌, ◌≢◌, ◌⊎◌, inl, inr, ℕ, Bool, true, false, List, refl, sym, ap, ◌∙◌, subst, arith}
-use Rattle.cvm_outside.specs.Causes.{Rose}
+use Rattle.std.proofs.Common.{◌≡◌, ◌≢◌, ◌⊎◌, inl, inr, ℕ, Bool, true, false, List, [], ◌∷◌, refl, sym, ap, ◌∙◌, subst, arith}
 use Rattle.cvm_outside.specs.Outside.{Outside}
-use Rattle.cvm_outside.specs.ScriptLaws.{ScriptsBlame}
+use Rattle.cvm_outside.specs.ScriptLaws.{ScriptsBlame, GetsGiven}
 use Rattle.schedule_file.specs.Rows.{Rows}
 use Rattle.mips_table.specs.Flat.{Flat}
 use Rattle.cvm_model.specs.Cvm.{Cvm, Status as CvmStatus, Running, Halted, Faulted}
 use Rattle.cvm_model.specs.Kernel.{JournalEntry}
-use Rattle.cvm_model.specs.Journal.{replay}
+use Rattle.cvm_model.specs.Journal.{replay, Isolated as ReplaysUsers}
 use Rattle.cvm_model.specs.Primitives.{user_of}
 use Rattle.cvm_model.specs.Text.{trace_text}
 use Rattle.boot_turns.specs.Headline.{OutOfSteps, ending_of, ending, TextAt, RanFrom}
@@ -20,27 +19,33 @@ use Rattle.boot_turns.specs.declared.answers.View.{View}
 use Rattle.boot_turns.specs.declared.answers.View.TheVariants.{Boot, Trace}
 use Rattle.boot_run.specs.SavedRuns.{IsDisk}
 use Rattle.kernel_linker.specs.Accept.{ImageSystem}
-use Rattle.cvm_shell.specs.declared.exit_status.Status.{Status}
-use Rattle.cvm_shell.specs.declared.exit_status.Status.TheVariants.{Done, KernelFault, StepLimit, Memory}
-use Rattle.cvm_shell.specs.declared.boot.Session.{Session}
-use Rattle.cvm_shell.specs.Boot.{sectors_needed, ended_as, IsHonest, Headline as Told, SessionGoesOn}
-use Rattle.cvm_shell.specs.Isolation.{replayed_text, IsolatedTrace}
-use Rattle.cvm_shell.specs.Ends.{Ends, Does, Finds, done, no_file, no_memory}
-use Rattle.cvm_shell.specs.Plan.{Plan, boots, PlanComesTo, AllTold}
-use Rattle.cvm_shell.specs.RunStatus.{run_status, status_of}
-use Rattle.cvm_shell.specs.SessionRuns.{run_of}
-use Rattle.run_scripts.specs.Headline.{Asked, booted_so, NoneFailed, Headline, Headlines, ItGoesOn, RunsComplete, TracesIsolate, Isolated, IsOver, text_by, ended_text, whole_text, Sectors}
+use Rattle.run_scripts.specs.declared.exit_status.Status.{Status}
+use Rattle.run_scripts.specs.declared.exit_status.Status.TheVariants.{Done, KernelFault, StepLimit, Memory}
+use Rattle.run_scripts.specs.declared.session.Session.{Session}
+use Rattle.run_scripts.specs.Boot.{sectors_needed, ended_as, IsHonest, Headline as Told, SessionGoesOn, AskFor, by_boot, by_trace, by_sample, files_needed}
+use Rattle.run_scripts.specs.Isolation.{replayed_text, IsolatedTrace}
+use Rattle.run_scripts.specs.Ends.{Ends, Does, Finds, done, no_file, no_memory}
+use Rattle.run_scripts.specs.Plan.{Plan, boots, PlanComesTo, AllTold}
+use Rattle.run_scripts.specs.RunStatus.{run_status, status_of}
+use Rattle.run_scripts.specs.SessionRuns.{run_of}
+use Rattle.run_scripts.specs.Headline.{Asked, booted_so, IsOver, text_by, ended_text, whole_text}
+use Rattle.run_scripts.proofs.ByRuns.{Headline, Isolated, Sectors}
+use Rattle.run_scripts.specs.Served.{NoneFailed, ShelfServes, AreGiven, gets}
 use Rattle.run_scripts.specs.Promises.{HeadlinesHold, RunsAreComplete, TracesAreIsolated}
 use Rattle.run_scripts.proofs.Asking.{asked_plan}
 use Rattle.run_scripts.proofs.Refusals.{no_file_failed}
+use Rattle.cvm_model.specs.KernelMeaning.{UnitsReplay}
+use Rattle.run_scripts.proofs.Completes.{it_goes_on, runs_complete}
+use Rattle.run_scripts.proofs.Isolates.{traces_isolate}
+use Rattle.run_scripts.proofs.Performed.{ScriptLaws}
+use Rattle.run_scripts.proofs.Whole.{headlines}
+use Rattle.cvm_outside.specs.Causes.{Rose}
+use Rattle.run_scripts.specs.Command.{Command, IsCommand, boot, trace, sample}
+use Rattle.run_scripts.proofs.OneCommand.{one_command}
 
 -- THE PREMISES
 pub told_disk : (told : Option (List (List ℕ))) (size : ℕ) (before : List (List ℕ)) → IfSome told (IsDisk size) → told ≡ Some before → IsDisk size before
 told_disk told size before h e = subst (λ (o : Option (List (List ℕ))). IfSome o (IsDisk size)) e h
-
-pub none_failed : (words : List (List ℕ)) (old new : Outside) → (Rose old.shelf.faults new.shelf.faults → ⊥) → (Rose old.disk.faults new.disk.faults → ⊥) →
-    (Rose old.sink.faults new.sink.faults → ⊥) → NoneFailed words old new
-none_failed words old new shelf disk sink = record { shelf = λ c is. inr shelf; sink = sink; disk = disk }
 
 -- the command was done
 pub was_done : ScriptsBlame → (words : List (List ℕ)) (old new : Outside) (status : Status) → Ends words old new status → NoneFailed words old new → status ≢ Memory → Does words old new status
@@ -140,21 +145,39 @@ headline_told session s rows before old new status h goes =
       goes_on = goes;
     }
 
-no_call_failed : (words : List (List ℕ)) (session : Session) (s : ImageSystem) (rows : Rows) (before : List (List ℕ)) (old new : Outside) → IsHonest words session s rows before old new → NoneFailed words old new
-no_call_failed words session s rows before old new h = none_failed words old new h.shelf_done h.disk_done h.sink_done
+-- NO CALL of its command fails
+pub given_gets : (gives : List ℕ → Bool) (names : List (List ℕ)) → AreGiven gives names → GetsGiven gives (gets names)
+given_gets gives [] h = tt
+given_gets gives (name ∷ names) h = (h.0, given_gets gives names h.1)
 
-pub headlines_hold : ScriptsBlame → Headlines → ItGoesOn → HeadlinesHold
-headlines_hold blame heads goes words old new status ends session s rows before honest memory =
+serves : (words : List (List ℕ)) (old new : Outside) (session : Session) (s : ImageSystem) (rows : Rows) (a : AskFor words old.shelf.file session s rows) →
+    AreGiven old.shelf.gives (files_needed a) ⊎ (Rose old.shelf.faults new.shelf.faults → ⊥) → (c : Command) → IsCommand words c → ShelfServes c old new
+serves words old new session s rows a (inr none) c also = inr none
+serves words old new session s rows (by_boot b is same files) (inl given) c also =
+    subst (λ (x : Command). ShelfServes x old new) (one_command words (boot b) c is also) (inl (given_gets old.shelf.gives (b.image ∷ b.schedule ∷ []) given, refl))
+serves words old new session s rows (by_trace t is same files) (inl given) c also =
+    subst (λ (x : Command). ShelfServes x old new) (one_command words (trace t) c is also) (inl (given_gets old.shelf.gives (t.boot.image ∷ t.boot.schedule ∷ []) given, refl))
+serves words old new session s rows (by_sample x is same parts) (inl given) c also =
+    subst (λ (y : Command). ShelfServes y old new) (one_command words (sample x) c is also) (inl (given_gets old.shelf.gives ([]) given, refl))
+
+no_call_failed : (words : List (List ℕ)) (session : Session) (s : ImageSystem) (rows : Rows) (before : List (List ℕ)) (old new : Outside) → IsHonest words session s rows before old new → NoneFailed words old new
+no_call_failed words session s rows before old new h =
+    record { shelf = serves words old new session s rows h.asked h.served.shelf; sink = h.served.sink; disk = h.served.disk }
+
+pub headlines_hold : ScriptLaws → HeadlinesHold
+headlines_hold law words old new status ends session s rows before honest memory =
     let f = no_call_failed words session s rows before old new honest in
-    let a = asked_of words session s rows before old new status (was_done blame words old new status ends f memory) honest in
-    headline_told session s rows before old new status (heads words session s rows before old new status a f ends memory) (goes words _ session s rows before old a)
+    let a = asked_of words session s rows before old new status (was_done law.blame words old new status ends f memory) honest in
+    headline_told session s rows before old new status (headlines law words session s rows before old new status a f ends memory)
+    (it_goes_on law.runs words _ session s rows before old a)
 
 -- ENOUGH STEPS
-pub runs_are_complete : ScriptsBlame → RunsComplete → RunsAreComplete
-runs_are_complete blame complete words old new status ends session s rows before honest memory has =
+pub runs_are_complete : ScriptLaws → RunsAreComplete
+runs_are_complete law words old new status ends session s rows before honest memory has =
     let f = no_call_failed words session s rows before old new honest in
-    let a = asked_of words session s rows before old new status (was_done blame words old new status ends f memory) honest in
-    complete words session s rows before old new status a f ends memory (record { last = has.last; defined = has.defined; enough = has.enough })
+    let a = asked_of words session s rows before old new status (was_done law.blame words old new status ends f memory) honest in
+    runs_complete (headlines law) (it_goes_on law.runs) law.runs.count words session s rows before old new status a f ends memory
+    (record { last = has.last; defined = has.defined; enough = has.enough })
 
 -- ISOLATION
 not_for_memory : (status : Status) → (status ≡ Done) ⊎ (status ≡ KernelFault) → status ≢ Memory
@@ -196,12 +219,12 @@ isolated_trace session u s rows before old new status h v e i =
       printed = h.text;
     }
 
-pub traces_are_isolated : ScriptsBlame → Headlines → TracesIsolate → TracesAreIsolated
-traces_are_isolated blame heads isolate words old new status ends session u s rows before honest v over =
+pub traces_are_isolated : ScriptLaws → ReplaysUsers → UnitsReplay → TracesAreIsolated
+traces_are_isolated law isolated units words old new status ends session u s rows before honest v over =
     let r : Run = run_of session s rows old.disk.size before in
     let f = no_call_failed words session s rows before old new honest in
     let m = not_for_memory status over in
-    let a = asked_of words session s rows before old new status (was_done blame words old new status ends f m) honest in
-    let h = heads words session s rows before old new status a f ends m in
+    let a = asked_of words session s rows before old new status (was_done law.blame words old new status ends f m) honest in
+    let h = headlines law words session s rows before old new status a f ends m in
     let e : has_ended r ≡ true = came_to_end (has_ended r) (cvm_at r h.past (steps_made r)).status (by_status status (run_status r h.past) h.status_is over) in
-    isolated_trace session u s rows before old new status h v e (isolate words session s rows before old u h.past a v h.is_past e)
+    isolated_trace session u s rows before old new status h v e (traces_isolate law.runs isolated units words session s rows before old u h.past a v h.is_past e)

@@ -1,57 +1,63 @@
 -- The promises of a save and of a resume, from the laws.
-use Rattle.std.specs.Prelude.{Option, Some, None, Ok, codes, slice_index, if◌then◌else◌}
+use Rattle.std.specs.Prelude.{Option, Some, None, Ok, codes, slice_index, if◌then◌else◌, ◌≢◌}
 use Rattle.std.specs.List.{flat_map}
 use Rattle.std.proofs.Common.{◌≡◌, ◌⊎◌, inl, inr, ℕ, zero, suc, ◌+◌, ◌*◌, ◌-◌, ◌≤◌, Bool, true, false, List, [], ◌∷◌, ◌++◌, length, refl, sym, ap, ap₂, ◌∙◌, subst, arith}
 use Rattle.std.proofs.lemmas.List.{length-append}
 use Rattle.cvm_outside.specs.Outside.{Outside}
 use Rattle.cvm_outside.specs.Script.{Who, Performs, sectors_after}
-use Rattle.cvm_outside.specs.ScriptLaws.{ScriptsBlame}
 use Rattle.cvm_words.specs.Bytes.{word}
 use Rattle.schedule_file.specs.Rows.{Rows}
 use Rattle.mips_table.specs.Machine.{State}
-use Rattle.mips_table.specs.Turns.{IsTurnEnd, SumLaws, complete, end_within, is_end}
-use Rattle.mips_machine.specs.Saved.{saved}
-use Rattle.cvm_model.specs.Cvm.{Cvm, Status as CvmStatus, Running, Halted, Faulted, IsCvm, first_cvm}
+use Rattle.mips_table.specs.Turns.{IsTurnEnd, SumLaws, end_within, is_end}
+use Rattle.mips_machine.specs.Saved.{saved, SavedOnce}
+use Rattle.cvm_model.specs.Cvm.{Cvm, Status as CvmStatus, Running, Halted, Faulted, IsCvm, first_cvm, System}
 use Rattle.cvm_model.specs.Text.{rows_text}
 use Rattle.layer_contract.specs.Layer.{Rests}
 use Rattle.saved_file.specs.Answer.{answer as machine_of, AnswersAreResumable}
 use Rattle.saved_file.specs.Resumable.{CanBeResumed}
 use Rattle.boot_turns.specs.Headline.{Ending, Done as IsDone, OutOfSteps, ending_of, ending, RanFrom}
 use Rattle.boot_turns.specs.Runs.{Run, Past, IsPast, state_at, turns_at, steps_made, has_ended, lines_met, cvm_at}
-use Rattle.boot_turns.specs.TurnEnds.{RestsAfter, Stood}
+use Rattle.boot_turns.specs.TurnEnds.{RestsAfter, TurnIsOver}
 use Rattle.boot_run.specs.SavedRuns.{SavedAt}
 use Rattle.boot_run.specs.RunScript.{rest_script, saved_words}
 use Rattle.boot_run.proofs.AbstractRuns.{past_of, turns_up_to}
 use Rattle.kernel_linker.specs.Accept.{ImageSystem}
-use Rattle.machine_save.specs.Room.{FILE_ROOM}
-use Rattle.cvm_shell.specs.declared.exit_status.Status.{Status}
-use Rattle.cvm_shell.specs.declared.exit_status.Status.TheVariants.{Done, KernelFault}
-use Rattle.cvm_shell.specs.Boot.{sectors_needed, SessionGoesOn}
-use Rattle.cvm_shell.specs.CommandEnds.{HasSteps}
-use Rattle.cvm_shell.specs.Command.{Save, IsSave, IsResume, save_session}
-use Rattle.cvm_shell.specs.Ends.{Does, SavedRun, answered}
-use Rattle.cvm_shell.specs.Plan.{saves, resumes, wanted_by, frames_of}
-use Rattle.cvm_shell.specs.Resumes.{IsHonestResume, IsSavedRun, IsBootBehind}
-use Rattle.cvm_shell.specs.RunStatus.{run_status, saved_bytes, status_of}
-use Rattle.cvm_shell.specs.Saves.{SaveHolds, as_boot, is_saved, IsHonestSave}
-use Rattle.cvm_shell.specs.SessionRuns.{run_of}
-use Rattle.run_scripts.specs.Headline.{Asked, saved_so, resumed_so, NoneFailed, ItGoesOn, IsOver, text_at, whole_text}
+use Rattle.boot_run.specs.SaveRoom.{FILE_ROOM}
+use Rattle.run_scripts.specs.declared.exit_status.Status.{Status}
+use Rattle.run_scripts.specs.declared.exit_status.Status.TheVariants.{Done, KernelFault}
+use Rattle.run_scripts.specs.Boot.{sectors_needed, SessionGoesOn}
+use Rattle.run_scripts.specs.CommandEnds.{HasSteps}
+use Rattle.run_scripts.specs.Command.{Save, IsSave, IsResume, save_session, Command, resume}
+use Rattle.run_scripts.specs.Ends.{Does, SavedRun, answered}
+use Rattle.run_scripts.specs.Plan.{saves, resumes, wanted_by, frames_of}
+use Rattle.run_scripts.specs.Resumes.{IsHonestResume, IsSavedRun, IsBootBehind}
+use Rattle.run_scripts.specs.RunStatus.{run_status, saved_bytes, status_of}
+use Rattle.run_scripts.specs.Saves.{SaveHolds, as_boot, is_saved, IsHonestSave, IsSavedAt}
+use Rattle.run_scripts.specs.SessionRuns.{run_of}
+use Rattle.run_scripts.specs.Headline.{Asked, saved_so, resumed_so, IsOver, text_at, whole_text}
+use Rattle.run_scripts.proofs.ByRuns.{ItGoesOn, IsSaved, IsUnsaved, SavedSo}
+use Rattle.run_scripts.specs.Served.{NoneFailed, ShelfServes, AreGiven}
 use Rattle.run_scripts.specs.Promises.{SavesAreHeld, SavesAreComplete, ResumesAreHeld, ResumesAreComplete}
-use Rattle.run_scripts.specs.Saving.{IsSaved, IsUnsaved, SavedSo, SavesHold, SavesComplete, ResumesGoOn}
 use Rattle.run_scripts.proofs.Asking.{asked_save, asked_resume}
 use Rattle.run_scripts.proofs.Causes.{mid_disk}
-use Rattle.run_scripts.proofs.Completes.{run_done}
+use Rattle.run_scripts.proofs.Completes.{run_done, it_goes_on}
 use Rattle.run_scripts.proofs.Joins.{saved_joins}
 use Rattle.run_scripts.proofs.Keys.{RunLaws, known, ends_are_over, sectors_behind_stay}
 use Rattle.run_scripts.proofs.Pasts.{Known, founded}
 use Rattle.run_scripts.proofs.Performed.{ScriptLaws, Says, says_text, leaves_sectors}
-use Rattle.run_scripts.proofs.Promised.{told_disk, none_failed, was_done, plan_finds, status_as, ran, headline_told}
+use Rattle.run_scripts.proofs.Promised.{told_disk, was_done, plan_finds, status_as, ran, headline_told, given_gets}
 use Rattle.run_scripts.proofs.Refusals.{none_blamed}
 use Rattle.run_scripts.proofs.Rejoining.{with_disk, other_disk}
 use Rattle.run_scripts.proofs.Reports.{rest_tells}
-use Rattle.run_scripts.proofs.SavedMachines.{saved_at}
+use Rattle.run_scripts.proofs.SavedMachines.{saved_at, FileLaws}
 use Rattle.run_scripts.proofs.Skips.{no_later}
 use Rattle.run_scripts.proofs.StoredRuns.{rest_leaves}
+use Rattle.run_scripts.proofs.Holding.{saves_hold}
+use Rattle.run_scripts.proofs.Resuming.{resumes_go_on}
+use Rattle.run_scripts.proofs.Saves.{saves_complete}
+use Rattle.cvm_outside.specs.Causes.{Rose}
+use Rattle.run_scripts.proofs.OneCommand.{one_command}
+use Rattle.mips_table.specs.Device.{Environment}
 
 -- THE PREMISES
 asked_save_of : (words : List (List ℕ)) (c : Save) (s : ImageSystem) (rows : Rows) (before : List (List ℕ)) (old new : Outside) (status : Status) → Does words old new status
@@ -122,6 +128,20 @@ length_words (w ∷ words) = omega (arith, length-append (word w) (flat_map word
 short_file : (words : List ℕ) (log frames : ℕ) → length words ≡ 1080 + log + 1024 * frames → log ≤ 4096 → 4 * (5176 + 1024 * frames) ≤ FILE_ROOM → length (flat_map word words) ≤ FILE_ROOM
 short_file words log frames whole few room = let four = length_words words in omega (arith, four, whole, few, room)
 
+-- what is saved of a run, without how its machine rests
+of_saved : (x : Environment) (y : System) (s : State) (turns steps : ℕ) (words : List ℕ) (left : List (List ℕ)) (shown : List ℕ) → SavedAt x y s turns steps words left shown → IsSavedAt x y s turns steps words left shown
+of_saved x y s turns steps words left shown a = record {
+  at = a.at;
+  past = a.past;
+  end = a.end;
+  within = a.within;
+  on = a.on;
+  cvm = a.stood.cvm;
+  words_are = a.words_are;
+  left_is = a.left_is;
+  shown_is = a.shown_is;
+}
+
 -- THE THEOREM OF SAVE
 module _ (law : RunLaws) (sums : SumLaws) (read : AnswersAreResumable machine_of) (words : List (List ℕ)) (c : Save) (s : ImageSystem) (rows : Rows) (before : List (List ℕ)) (old new : Outside) (status : Status)
     (a : Asked words (saves (save_session c) s rows c.file) (save_session c) s rows before old) (asked : IsSave words c) (room : 4 * (5176 + 1024 * frames_of s) ≤ FILE_ROOM)
@@ -155,9 +175,9 @@ module _ (law : RunLaws) (sums : SumLaws) (read : AnswersAreResumable machine_of
     some : r.turns ≡ suc (r.turns - 1)
     some = let least = asked.some_turns in omega (arith, least)
 
-    its_file : SavedAt r.around r.system r.first r.turns r.steps (saved_words r h.past) (state_at r made).device.sectors (text_at r h.past made)
-    its_file = subst (λ (k : ℕ). SavedAt r.around r.system r.first k r.steps (saved_words r h.past) (state_at r made).device.sectors (text_at r h.past made)) (sym some)
-        (saved_at sums r (known law words (saves (save_session c) s rows c.file) (save_session c) s rows before old a) h.past h.is_past w.left (r.turns - 1) some)
+    its_file : IsSavedAt r.around r.system r.first r.turns r.steps (saved_words r h.past) (state_at r made).device.sectors (text_at r h.past made)
+    its_file = subst (λ (k : ℕ). IsSavedAt r.around r.system r.first k r.steps (saved_words r h.past) (state_at r made).device.sectors (text_at r h.past made)) (sym some)
+        (of_saved r.around r.system r.first (suc (r.turns - 1)) r.steps (saved_words r h.past) (state_at r made).device.sectors (text_at r h.past made) (saved_at sums r (known law words (saves (save_session c) s rows c.file) (save_session c) s rows before old a) h.past h.is_past w.left (r.turns - 1) some))
 
     can : CanBeResumed (wanted_by s rows c.boot.turns) (saved_words r h.past)
     can = read (wanted_by s rows c.boot.turns) (saved_bytes r h.past) (saved_words r h.past) (w.fits c.boot.turns (omega arith) asked.turns_fit)
@@ -185,21 +205,22 @@ module _ (law : RunLaws) (sums : SumLaws) (read : AnswersAreResumable machine_of
       by (inl w) = was_left w
       by (inr u) = as_its_boot u
 
+-- NO CALL of its command failed
 no_save_failed : (words : List (List ℕ)) (c : Save) (s : ImageSystem) (rows : Rows) (before : List (List ℕ)) (old new : Outside) → IsHonestSave words c s rows before old new → NoneFailed words old new
-no_save_failed words c s rows before old new h = none_failed words old new h.shelf_done h.disk_done h.sink_done
+no_save_failed words c s rows before old new h = record { shelf = λ d also. inr h.unfailed.shelf; sink = h.unfailed.sink; disk = h.unfailed.disk }
 
-pub saves_are_held : ScriptsBlame → RunLaws → SumLaws → AnswersAreResumable machine_of → ItGoesOn → SavesHold → SavesAreHeld
-saves_are_held blame law sums read goes hold words old new status ends c s rows before honest memory =
+pub saves_are_held : ScriptLaws → FileLaws → AnswersAreResumable machine_of → SavesAreHeld
+saves_are_held law files read words old new status ends c s rows before honest memory =
     let f = no_save_failed words c s rows before old new honest in
-    let a = asked_save_of words c s rows before old new status (was_done blame words old new status ends f memory) honest in
-    holds law sums read words c s rows before old new status a honest.asked honest.short (goes words _ (save_session c) s rows before old a)
-    (hold words c s rows before old new status honest.asked a f ends memory)
+    let a = asked_save_of words c s rows before old new status (was_done law.blame words old new status ends f memory) honest in
+    holds law.runs files.machines.sums read words c s rows before old new status a honest.asked honest.short
+    (it_goes_on law.runs words _ (save_session c) s rows before old a) (saves_hold law files words c s rows before old new status honest.asked a f ends memory)
 
-pub saves_are_complete : ScriptsBlame → SavesComplete → SavesAreComplete
-saves_are_complete blame complete words old new status ends c s rows before honest memory has =
+pub saves_are_complete : ScriptLaws → SavesAreComplete
+saves_are_complete law words old new status ends c s rows before honest memory has =
     let f = no_save_failed words c s rows before old new honest in
-    let a = asked_save_of words c s rows before old new status (was_done blame words old new status ends f memory) honest in
-    complete words c s rows before old new status honest.asked a f ends memory (record { last = has.last; defined = has.defined; enough = has.enough })
+    let a = asked_save_of words c s rows before old new status (was_done law.blame words old new status ends f memory) honest in
+    saves_complete law.blame law.runs words c s rows before old new status honest.asked a f ends memory (record { last = has.last; defined = has.defined; enough = has.enough })
 
 -- THE THEOREM OF RESUME
 -- a machine that is on rests in a running state
@@ -238,18 +259,37 @@ module _ (law : ScriptLaws) (read : AnswersAreResumable machine_of) (goes : ItGo
       (no_later law.runs.count whole.around whole.first w.turns c.boot.turns w.steps c.boot.steps few w.fewer
       (subst (λ (k : ℕ). is_end whole.around whole.first w.turns k ≡ true) (sym there) w.saved_at.end.here))
 
-  all_turns : turns_at whole at ≡ w.turns
-  all_turns = w.saved_at.stood.all
+  -- there the abstract run goes on, as its machine does, and so all these turns are complete
+  here : (c : Cvm) × IsCvm whole.system (lines_met whole) (turns_at whole at) c
+  here = its.machines.defined at
 
-  stood_runs : (k : ℕ) → Stood whole.around whole.system whole.first k at w.saved_at.past → w.saved_at.past.status ≡ Running
-  stood_runs zero h = sym (ap (λ (x : Cvm). x.status) (same_cvm (first_cvm whole.system) w.saved_at.past h.cvm.is))
-  stood_runs (suc k) h = on_runs (state_at whole at) w.saved_at.past.status w.saved_at.on h.rests.0
+  over : TurnIsOver whole.around whole.system whole.first w.turns at here.0
+  over =
+      subst (λ (n : ℕ). IsCvm whole.system (lines_met whole) (turns_at whole n) here.0 → is_end whole.around whole.first w.turns n ≡ true → TurnIsOver whole.around whole.system whole.first w.turns n here.0) there
+      (its.machines.ends w.turns w.steps here.0) here.1 w.saved_at.end.here
+
+  rests_running : (k : ℕ) → RestsAfter whole.around whole.system whole.first k at here.0 → IsCvm whole.system (lines_met whole) k here.0 → here.0.status ≡ Running
+  rests_running zero h c = sym (ap (λ (x : Cvm). x.status) (same_cvm (first_cvm whole.system) here.0 c.is))
+  rests_running (suc k) h c = on_runs (state_at whole at) here.0.status w.saved_at.on h.0
+
+  running : here.0.status ≡ Running
+  running = rests_running (turns_at whole at) over.rests here.1
+
+  all_turns : turns_at whole at ≡ w.turns
+  all_turns = by over.over
+    where
+      by : (turns_at whole at ≡ w.turns) ⊎ (here.0.status ≢ Running) → turns_at whole at ≡ w.turns
+      by (inl e) = e
+      by (inr n) = absurd (n running)
+
+  past_is : here.0 ≡ w.saved_at.past
+  past_is = its.machines.same (turns_at whole at) here.0 w.saved_at.past here.1 (subst (λ (k : ℕ). IsCvm whole.system (lines_met whole) k w.saved_at.past) (sym all_turns) w.saved_at.cvm)
 
   module _ (p : Past) (past : IsPast whole p) where
     same : cvm_at whole p at ≡ w.saved_at.past
     same = its.machines.same (turns_at whole at) (cvm_at whole p at) w.saved_at.past
         (past.turns (turns_at whole at) (turns_up_to law.runs.count whole at (steps_made whole) none_later))
-        (subst (λ (k : ℕ). IsCvm whole.system (lines_met whole) k w.saved_at.past) (sym all_turns) w.saved_at.stood.cvm)
+        (subst (λ (k : ℕ). IsCvm whole.system (lines_met whole) k w.saved_at.past) (sym all_turns) w.saved_at.cvm)
 
     saved_run : SavedRun (save_session c) s rows machine old.disk.size left whole p at
     saved_run =
@@ -263,7 +303,7 @@ module _ (law : ScriptLaws) (read : AnswersAreResumable machine_of) (goes : ItGo
           pages = w.disk.each;
           first = subst (λ (k : ℕ). IsTurnEnd whole.around whole.first k at) (sym all_turns) w.saved_at.end;
           few = omega (arith, within, less);
-          on = ap (λ (x : Cvm). x.status) same ∙ stood_runs w.turns w.saved_at.stood;
+          on = ap (λ (x : Cvm). x.status) (same ∙ sym past_is) ∙ running;
           words_are = w.saved_at.words_are ∙ ap₂ (λ (k : ℕ) (x : Cvm). saved rows.inputs (state_at whole at) k x.core.current) (sym all_turns) (sym same);
           left_is = w.saved_at.left_is;
         }
@@ -313,26 +353,34 @@ module _ (law : ScriptLaws) (read : AnswersAreResumable machine_of) (goes : ItGo
 
 no_resume_failed : (words : List (List ℕ)) (c : Save) (s : ImageSystem) (rows : Rows) (machine : List ℕ) (left : List (List ℕ)) (old new : Outside)
     → IsHonestResume words c s rows machine left old new → NoneFailed words old new
-no_resume_failed words c s rows machine left old new h = none_failed words old new h.shelf_done h.disk_done h.sink_done
+no_resume_failed words c s rows machine left old new h = record {
+  shelf = λ d also. subst (λ (x : Command). ShelfServes x old new) (one_command words (resume c) d h.asked also) (by h.served.shelf);
+  sink = h.served.sink;
+  disk = h.served.disk;
+}
+  where
+    by : AreGiven old.shelf.gives (c.boot.image ∷ c.boot.schedule ∷ c.file ∷ []) ⊎ (Rose old.shelf.faults new.shelf.faults → ⊥) → ShelfServes (resume c) old new
+    by (inl given) = inl (given_gets old.shelf.gives (c.boot.image ∷ c.boot.schedule ∷ c.file ∷ []) given, refl)
+    by (inr none) = inr none
 
-pub resumes_are_held : ScriptLaws → AnswersAreResumable machine_of → ItGoesOn → ResumesGoOn → ResumesAreHeld
-resumes_are_held law read goes on words old new status ends c s rows machine left honest memory =
+pub resumes_are_held : ScriptLaws → AnswersAreResumable machine_of → SavedOnce → ResumesAreHeld
+resumes_are_held law read once words old new status ends c s rows machine left honest memory =
     let f = no_resume_failed words c s rows machine left old new honest in
     let h = was_done law.blame words old new status ends f memory in
     let a = asked_resume_of words c s rows machine left old new status h honest in
     record {
-      went = on words c s rows machine left old new status honest.asked a f ends memory;
+      went = resumes_go_on law.blame law.store law.runs.count once words c s rows machine left old new status honest.asked a f ends memory;
       joins = λ before shown w.
-          let p = its_past law read goes words c s rows machine left before shown old honest.asked a honest.bytes honest.fits w in
-          behind law read goes words c s rows machine left before shown old honest.asked a honest.bytes honest.fits w p.0 p.1 new status f h;
+          let p = its_past law read (it_goes_on law.runs) words c s rows machine left before shown old honest.asked a honest.bytes honest.fits w in
+          behind law read (it_goes_on law.runs) words c s rows machine left before shown old honest.asked a honest.bytes honest.fits w p.0 p.1 new status f h;
     }
 
-pub resumes_are_complete : ScriptLaws → AnswersAreResumable machine_of → ItGoesOn → ResumesAreComplete
-resumes_are_complete law read goes words old new status ends c s rows machine left before shown honest memory w has =
+pub resumes_are_complete : ScriptLaws → AnswersAreResumable machine_of → ResumesAreComplete
+resumes_are_complete law read words old new status ends c s rows machine left before shown honest memory w has =
     let f = no_resume_failed words c s rows machine left old new honest in
     let h = was_done law.blame words old new status ends f memory in
     let a = asked_resume_of words c s rows machine left old new status h honest in
-    let p = its_past law read goes words c s rows machine left before shown old honest.asked a honest.bytes honest.fits w in (
-      enough law read goes words c s rows machine left before shown old honest.asked a honest.bytes honest.fits w p.0 p.1 new status f h has,
-      behind law read goes words c s rows machine left before shown old honest.asked a honest.bytes honest.fits w p.0 p.1 new status f h,
+    let p = its_past law read (it_goes_on law.runs) words c s rows machine left before shown old honest.asked a honest.bytes honest.fits w in (
+      enough law read (it_goes_on law.runs) words c s rows machine left before shown old honest.asked a honest.bytes honest.fits w p.0 p.1 new status f h has,
+      behind law read (it_goes_on law.runs) words c s rows machine left before shown old honest.asked a honest.bytes honest.fits w p.0 p.1 new status f h,
     )

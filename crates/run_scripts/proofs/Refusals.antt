@@ -3,21 +3,22 @@ use Rattle.std.specs.Prelude.{Option, Some, None, Bool, codes}
 use Rattle.std.specs.Io.KnownBytes.{append_known}
 use Rattle.std.proofs.Common.{◌≡◌, ◌≢◌, ◌⊎◌, inl, inr, ℕ, ◌<◌, List, [], ◌∷◌, ◌++◌, length, refl, sym, ap, ◌∙◌, subst, arith}
 use Rattle.boot_turns.specs.declared.answers.View.TheVariants.{Trace}
-use Rattle.cvm_shell.specs.declared.exit_status.Status.{Status}
-use Rattle.cvm_shell.specs.declared.exit_status.Status.TheVariants.{Done, Refused, KernelFault, StepLimit, Disk, Shelf, Memory}
-use Rattle.cvm_shell.specs.Command.{Command, IsCommand, save, resume}
-use Rattle.cvm_shell.specs.Refusal.{Refusal, small_disk, no_such_user, too_long, refusal_status, refusal_text}
-use Rattle.cvm_shell.specs.Plan.{Plan, bad_words, refuses, puts, boots, saves, resumes, prints as tells, PlanComesTo, AllTold}
+use Rattle.run_scripts.specs.declared.exit_status.Status.{Status}
+use Rattle.run_scripts.specs.declared.exit_status.Status.TheVariants.{Done, Refused, KernelFault, StepLimit, Disk, Shelf, Memory}
+use Rattle.run_scripts.specs.Command.{Command, IsCommand, save, resume}
+use Rattle.run_scripts.specs.Refusal.{Refusal, small_disk, no_such_user, too_long, refusal_status, refusal_text}
+use Rattle.run_scripts.specs.Plan.{Plan, bad_words, refuses, puts, boots, saves, resumes, prints as tells, PlanComesTo, AllTold}
 use Rattle.cvm_outside.specs.Causes.{Rose}
 use Rattle.cvm_outside.specs.Told.{AppendsPart}
 use Rattle.cvm_outside.specs.ScriptLaws.{ScriptsBlame, PrintedBy, GetsGiven}
 use Rattle.cvm_outside.specs.Outside.{Outside, Drive, Output}
 use Rattle.cvm_outside.specs.Script.{Call, Printed, Read, Wrote, Got, Stored, Who, TheSink, TheDisk, TheShelf, Performs, faults_of}
 use Rattle.cvm_outside.proofs.Follow.{given}
-use Rattle.cvm_shell.specs.Boot.{sectors_needed}
+use Rattle.run_scripts.specs.Boot.{sectors_needed}
 use Rattle.boot_run.specs.Closing.{says}
-use Rattle.cvm_shell.specs.Ends.{Does, done, no_file, no_memory, GetsFor, all, up_to, IsNotGot, behind, within, wants, PlanAsks, SessionAsks, no_user, small, over_told, over_untold, files_of, gets, answered}
-use Rattle.run_scripts.specs.Headline.{NoneFailed, ShelfServes, IsOf, booted_so, saved_so, resumed_so}
+use Rattle.run_scripts.specs.Ends.{Does, done, no_file, no_memory, GetsFor, all, up_to, IsNotGot, behind, within, wants, PlanAsks, SessionAsks, no_user, small, over_told, over_untold, answered}
+use Rattle.run_scripts.specs.Served.{files_of, gets, NoneFailed, ShelfServes}
+use Rattle.run_scripts.specs.Headline.{IsOf, booted_so, saved_so, resumed_so}
 use Rattle.run_scripts.specs.Shapes.{gets_in, puts_in, NamedBy}
 use Rattle.run_scripts.specs.Causes.{FilesAreRefused, HasNoUser, MissingUsersAreRefused, SmallDisksAreRefused, LongFilesAreRefused, RefusedAsLong, WorkCompletes, IsWork}
 use Rattle.run_scripts.proofs.Calls.{shape_of}

@@ -7,16 +7,16 @@ use Rattle.mips_machine.specs.Saved.{SavedOnce}
 use Rattle.mips_machine.specs.Steps.{script_of_step}
 use Rattle.kernel_linker.specs.Accept.{ImageSystem}
 use Rattle.schedule_file.specs.Rows.{Rows}
-use Rattle.cvm_shell.specs.declared.boot.Session.{Session}
-use Rattle.cvm_shell.specs.Command.{resume, save_session}
-use Rattle.cvm_shell.specs.Plan.{resumes}
+use Rattle.run_scripts.specs.declared.session.Session.{Session}
+use Rattle.run_scripts.specs.Command.{resume, save_session}
+use Rattle.run_scripts.specs.Plan.{resumes}
 use Rattle.cvm_outside.specs.Script.{Call, Printed, Read, Wrote, Got, Stored, Who, Performs, WritesNoSector, sectors_after}
 use Rattle.cvm_outside.specs.ScriptLaws.{ScriptsBlame, ScriptsStore}
 use Rattle.boot_turns.specs.Runs.{Run, state_at, steps_made, has_ended}
-use Rattle.cvm_shell.specs.SessionRuns.{run_of}
+use Rattle.run_scripts.specs.SessionRuns.{run_of}
 use Rattle.boot_run.specs.RunScript.{AreReads, untold_steps}
-use Rattle.cvm_shell.specs.Ends.{GoesOn, ResumeAsks, SomeRunAsks, done, no_file, no_memory}
-use Rattle.run_scripts.specs.Saving.{ResumesGoOn}
+use Rattle.run_scripts.specs.Ends.{GoesOn, ResumeAsks, SomeRunAsks, done, no_file, no_memory}
+use Rattle.run_scripts.proofs.ByRuns.{ResumesGoOn}
 use Rattle.run_scripts.proofs.Causes.{mid_disk}
 use Rattle.boot_run.proofs.AbstractRuns.{on_before}
 use Rattle.run_scripts.proofs.Performed.{leaves_sectors}

@@ -95,7 +95,7 @@ disk_transfer (Reading (suc n) q) buffer = tt
 disk_transfer (Writing zero q) buffer = (refl, tt)
 disk_transfer (Writing (suc n) q) buffer = tt
 
-disk_due : (x : Environment) (s : State) → AllOf TheDisk (script_of_step x s)
+pub disk_due : (x : Environment) (s : State) → AllOf TheDisk (script_of_step x s)
 unfolding script_of_step
 disk_due x s = by s.off
   where

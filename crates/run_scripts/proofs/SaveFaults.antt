@@ -10,9 +10,9 @@ use Rattle.boot_turns.specs.declared.answers.View.{View}
 use Rattle.boot_turns.specs.declared.answers.View.TheVariants.{Boot}
 use Rattle.boot_turns.specs.Runs.{Run, Past, IsPast, state_at, steps_made, has_ended, cvm_at}
 use Rattle.boot_turns.specs.StepScript.{steps_script}
-use Rattle.cvm_shell.specs.Saves.{saved_row}
+use Rattle.run_scripts.specs.Saves.{saved_row}
 use Rattle.boot_run.specs.Closing.{opening_script, closing_script}
-use Rattle.cvm_shell.specs.RunStatus.{saved_bytes, leaving_script, save_script}
+use Rattle.run_scripts.specs.RunStatus.{saved_bytes, leaving_script, save_script}
 use Rattle.run_scripts.specs.Headline.{text_at}
 use Rattle.run_scripts.specs.Shapes.{gets_in, puts_in}
 use Rattle.run_scripts.specs.Faults.{HasPrinted, PrintedWithin, Stand, AfterDisk, AfterSink, CalledBy, up_to_step, IsLeft, IsReported}

@@ -22,10 +22,10 @@ use Rattle.saved_file.specs.Answer.{answer, SavedIsReadBack}
 use Rattle.boot_run.specs.SavedRuns.{SavedAt}
 use Rattle.boot_run.proofs.SavedFiles.{MachineLaws, of_system}
 use Rattle.kernel_linker.specs.Accept.{ImageSystem}
-use Rattle.cvm_shell.specs.Boot.{booted}
-use Rattle.cvm_shell.specs.Plan.{wanted_by}
+use Rattle.run_scripts.specs.Boot.{booted}
+use Rattle.run_scripts.specs.Plan.{wanted_by}
 use Rattle.boot_run.specs.RunScript.{saved_words}
-use Rattle.cvm_shell.specs.RunStatus.{saved_bytes}
+use Rattle.run_scripts.specs.RunStatus.{saved_bytes}
 use Rattle.run_scripts.specs.Faults.{IsLeft}
 use Rattle.run_scripts.proofs.Pasts.{Known}
 use Rattle.run_scripts.proofs.Skips.{steps_within}

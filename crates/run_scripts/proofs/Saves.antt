@@ -3,20 +3,20 @@ use Rattle.std.specs.Prelude.{Some, None}
 use Rattle.std.proofs.Common.{◌≡◌, ◌⊎◌, inl, inr, ℕ, ◌<◌, List, refl, sym, ap, ◌∙◌, subst, arith}
 use Rattle.kernel_linker.specs.Accept.{ImageSystem}
 use Rattle.schedule_file.specs.Rows.{Rows}
-use Rattle.cvm_shell.specs.declared.exit_status.Status.{Status}
-use Rattle.cvm_shell.specs.declared.exit_status.Status.TheVariants.{Done, KernelFault}
-use Rattle.cvm_shell.specs.declared.boot.Session.{Session}
-use Rattle.cvm_shell.specs.Command.{save_session}
-use Rattle.cvm_shell.specs.Plan.{Plan, saves}
+use Rattle.run_scripts.specs.declared.exit_status.Status.{Status}
+use Rattle.run_scripts.specs.declared.exit_status.Status.TheVariants.{Done, KernelFault}
+use Rattle.run_scripts.specs.declared.session.Session.{Session}
+use Rattle.run_scripts.specs.Command.{save_session}
+use Rattle.run_scripts.specs.Plan.{Plan, saves}
 use Rattle.cvm_outside.specs.ScriptLaws.{ScriptsBlame}
 use Rattle.cvm_outside.specs.Outside.{Outside, Drive}
 use Rattle.cvm_outside.specs.Script.{Call}
 use Rattle.boot_turns.specs.Runs.{Run}
-use Rattle.cvm_shell.specs.Boot.{sectors_needed}
-use Rattle.cvm_shell.specs.SessionRuns.{run_of}
-use Rattle.cvm_shell.specs.Ends.{done, no_file, no_memory, SessionAsks, no_user, small, over_told, over_untold, SaveAsks, SomeSaveAsks, load_of}
+use Rattle.run_scripts.specs.Boot.{sectors_needed}
+use Rattle.run_scripts.specs.SessionRuns.{run_of}
+use Rattle.run_scripts.specs.Ends.{done, no_file, no_memory, SessionAsks, no_user, small, over_told, over_untold, SaveAsks, SomeSaveAsks, load_of}
 use Rattle.run_scripts.specs.Headline.{Asked}
-use Rattle.run_scripts.specs.Saving.{SavesComplete}
+use Rattle.run_scripts.proofs.ByRuns.{SavesComplete}
 use Rattle.run_scripts.proofs.Causes.{mid_disk}
 use Rattle.run_scripts.proofs.Completes.{run_done}
 use Rattle.run_scripts.proofs.Keys.{RunLaws}

@@ -2,16 +2,17 @@
 use Rattle.std.specs.Prelude.{Option, None}
 use Rattle.std.proofs.Common.{◌≡◌, ◌≢◌, ◌⊎◌, inl, inr, ℕ, ◌+◌, suc, List, [], ◌∷◌, ◌++◌, length, refl, ap, ◌∙◌, subst, arith, append_assoc, append-nil}
 use Rattle.cvm_outside.specs.Told.{TOO_LONG}
-use Rattle.cvm_shell.specs.Command.{Command, IsCommand, save, resume}
-use Rattle.cvm_shell.specs.Refusal.{too_long}
-use Rattle.cvm_shell.specs.Plan.{Plan, bad_words, refuses}
+use Rattle.run_scripts.specs.Command.{Command, IsCommand, save, resume}
+use Rattle.run_scripts.specs.Refusal.{too_long}
+use Rattle.run_scripts.specs.Plan.{Plan, bad_words, refuses}
 use Rattle.cvm_outside.specs.Numbering.{called}
 use Rattle.cvm_outside.specs.Outside.{Outside, shelf_counts}
 use Rattle.cvm_outside.specs.Script.{Call, Printed, Read, Wrote, Got, Stored, Who, Performs, done as all_done, breaks, goes_on, disk_calls, shelf_calls}
 use Rattle.cvm_outside.specs.ScriptLaws.{MadeBy, ScriptsCountFiles}
 use Rattle.cvm_outside.proofs.Follow.{both}
-use Rattle.cvm_shell.specs.Ends.{done, no_file, no_memory, GetsFor, all, up_to, IsNotGot, Wants, files_of, gets}
-use Rattle.run_scripts.specs.Shapes.{PlansHaveShape, OthersStay, NothingIsLoaded, GetsComeFirst, ShelfIsCalled, EndsLong, were_got, ungot, wanting, file_put, gets_in, puts_in}
+use Rattle.run_scripts.specs.Ends.{done, no_file, no_memory, GetsFor, all, up_to, IsNotGot, Wants}
+use Rattle.run_scripts.specs.Served.{files_of, gets, file_put}
+use Rattle.run_scripts.specs.Shapes.{PlansHaveShape, OthersStay, NothingIsLoaded, GetsComeFirst, ShelfIsCalled, EndsLong, were_got, ungot, wanting, gets_in, puts_in}
 use Rattle.run_scripts.proofs.Calls.{shape_of, files_stay, disk_stays, quiet_plan}
 use Rattle.run_scripts.proofs.Joins.{got_keeps}
 use Rattle.run_scripts.proofs.Keeps.{wanted}

@@ -14,13 +14,13 @@ use Rattle.boot_run.specs.Loading.{words_of_page, with_page, written}
 use Rattle.boot_run.specs.LoadedPages.{disk_pages, first_pages, rom_pages, user_pages}
 use Rattle.boot_run.proofs.PageLemmas.{page_or, written_is}
 use Rattle.boot_run.proofs.UserPages.{dead_past}
-use Rattle.cvm_shell.specs.declared.boot.StartPoint.{StartPoint}
-use Rattle.cvm_shell.specs.declared.boot.StartPoint.TheVariants.{Loaded, Rom}
+use Rattle.run_scripts.specs.declared.session.StartPoint.{StartPoint}
+use Rattle.run_scripts.specs.declared.session.StartPoint.TheVariants.{Loaded, Rom}
 use Rattle.cvm_outside.specs.Script.{Call, Wrote, scripts, sectors_after}
 use Rattle.cvm_outside.proofs.Putting.{scripts-none, scripts-suc}
-use Rattle.cvm_shell.specs.Boot.{held_of, start_of}
+use Rattle.run_scripts.specs.Boot.{held_of, start_of}
 use Rattle.boot_run.specs.LoadScript.{load_script, page_script}
-use Rattle.cvm_shell.specs.SessionRuns.{pages_loaded}
+use Rattle.run_scripts.specs.SessionRuns.{pages_loaded}
 use Rattle.run_scripts.proofs.Stores.{stored-append}
 
 page_stores : (p : Pages) (q : ℕ) (ss : List (List ℕ)) → sectors_after (page_script p q) ss ≡ with_page p ss q

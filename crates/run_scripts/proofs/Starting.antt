@@ -30,12 +30,12 @@ use Rattle.kernel_linker.specs.Laws.{ImageFits, SpelledImagesFit}
 use Rattle.kernel_linker.specs.Sources.{IsOfImage, AcceptedAreOfImages}
 use Rattle.kernel_linker.specs.declared.fault.AcceptFault.{AcceptFault}
 use Rattle.boot_run.proofs.Premises.{RowsFit}
-use Rattle.cvm_shell.specs.declared.boot.Session.{Session}
-use Rattle.cvm_shell.specs.declared.boot.StartPoint.{StartPoint}
-use Rattle.cvm_shell.specs.declared.boot.StartPoint.TheVariants.{Loaded, Rom}
-use Rattle.cvm_shell.specs.Boot.{booted, held_of, sectors_needed, steps_before}
+use Rattle.run_scripts.specs.declared.session.Session.{Session}
+use Rattle.run_scripts.specs.declared.session.StartPoint.{StartPoint}
+use Rattle.run_scripts.specs.declared.session.StartPoint.TheVariants.{Loaded, Rom}
+use Rattle.run_scripts.specs.Boot.{booted, held_of, sectors_needed, steps_before}
 use Rattle.boot_run.specs.SavedRuns.{IsDisk}
-use Rattle.cvm_shell.specs.SessionRuns.{run_of}
+use Rattle.run_scripts.specs.SessionRuns.{run_of}
 use Rattle.run_scripts.specs.Keys.{IsStarted}
 use Rattle.run_scripts.proofs.FirstCores.{its_map}
 use Rattle.run_scripts.proofs.Following.{UnitLaws, IsWhole, range, same_map, site_laws, follows, words_are, long}

@@ -10,10 +10,10 @@ use Rattle.saved_file.specs.declared.fault.SaveFault.{SaveFault}
 use Rattle.schedule_file.specs.Rows.{Rows}
 use Rattle.schedule_file.specs.Schedule.{schedule_of}
 use Rattle.schedule_file.specs.declared.fault.ScheduleFault.{ScheduleFault}
-use Rattle.cvm_shell.specs.declared.boot.Session.{Session}
-use Rattle.cvm_shell.specs.Command.{Save, Command, IsResume, boot, trace, save, resume, compile_user, compile_kernel, compile_program, link, migrate, sample, check, save_session}
-use Rattle.cvm_shell.specs.Plan.{Plan, refuses, resumes, wanted_by, Got, long, whole, AfterFiles, AfterThree, ResumePlan, accepted_plan, taken_plan, taken_up, PlanComesTo, no_command, boot_plan, trace_plan, save_plan, resume_plan, user_plan, kernel_plan, image_plan, link_plan, migrate_plan, sample_plan, check_plan}
-use Rattle.cvm_shell.specs.Refusal.{too_long}
+use Rattle.run_scripts.specs.declared.session.Session.{Session}
+use Rattle.run_scripts.specs.Command.{Save, Command, IsResume, boot, trace, save, resume, compile_user, compile_kernel, compile_program, link, migrate, sample, check, save_session}
+use Rattle.run_scripts.specs.Plan.{Plan, refuses, resumes, wanted_by, Got, long, whole, AfterFiles, AfterThree, ResumePlan, accepted_plan, taken_plan, taken_up, PlanComesTo, no_command, boot_plan, trace_plan, save_plan, resume_plan, user_plan, kernel_plan, image_plan, link_plan, migrate_plan, sample_plan, check_plan}
+use Rattle.run_scripts.specs.Refusal.{too_long}
 use Rattle.run_scripts.proofs.OneCommand.{one_command}
 
 -- THE PLAN is that of a resume

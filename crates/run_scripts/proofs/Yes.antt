@@ -30,17 +30,17 @@ use Rattle.kernel_linker.specs.Open.{open_answer}
 use Rattle.kernel_linker.specs.Laws.{OpenedUnitsAreTheirSources}
 use Rattle.kernel_linker.specs.declared.fault.AcceptFault.{AcceptFault}
 use Rattle.kernel_linker.specs.declared.fault.LinkFault.{LinkFault}
-use Rattle.cvm_shell.specs.declared.exit_status.Status.{Status}
-use Rattle.cvm_shell.specs.Check.{Check, IsCheck, Told, TellsUnit, has_longest, has_loop, TellsOpened, TellsObject, no_object, has_object}
-use Rattle.cvm_shell.specs.Command.{Command, IsCommand, boot, trace, save, resume, compile_user, compile_kernel, compile_program, link, migrate, sample, check}
-use Rattle.cvm_shell.specs.Refusal as refusal
-use Rattle.cvm_shell.specs.Refusal.{Refusal, refusal_text}
-use Rattle.cvm_shell.specs.Plan.{Plan, Got, long, whole, told_plan, AfterChecked, CheckPlan, PlanComesTo, no_command, boot_plan, trace_plan, save_plan, resume_plan, user_plan, kernel_plan, image_plan, link_plan, migrate_plan, sample_plan, check_plan}
-use Rattle.cvm_shell.specs.Boot.{booted}
-use Rattle.cvm_shell.specs.Suffices.{HasStack}
+use Rattle.run_scripts.specs.declared.exit_status.Status.{Status}
+use Rattle.run_scripts.specs.Check.{Check, IsCheck, Told, TellsUnit, has_longest, has_loop, TellsOpened, TellsObject, no_object, has_object}
+use Rattle.run_scripts.specs.Command.{Command, IsCommand, boot, trace, save, resume, compile_user, compile_kernel, compile_program, link, migrate, sample, check}
+use Rattle.run_scripts.specs.Refusal as refusal
+use Rattle.run_scripts.specs.Refusal.{Refusal, refusal_text}
+use Rattle.run_scripts.specs.Plan.{Plan, Got, long, whole, told_plan, AfterChecked, CheckPlan, PlanComesTo, no_command, boot_plan, trace_plan, save_plan, resume_plan, user_plan, kernel_plan, image_plan, link_plan, migrate_plan, sample_plan, check_plan}
+use Rattle.run_scripts.specs.Boot.{booted}
+use Rattle.run_scripts.specs.Suffices.{HasStack, SaysYes, NeverOut}
 use Rattle.boot_run.specs.Closing.{says}
-use Rattle.cvm_shell.specs.Ends.{PlanAsks, done, no_file, no_memory, files_of, gets}
-use Rattle.cvm_shell.specs.Suffices.{SaysYes, NeverOut}
+use Rattle.run_scripts.specs.Ends.{PlanAsks, done, no_file, no_memory}
+use Rattle.run_scripts.specs.Served.{files_of, gets}
 use Rattle.run_scripts.specs.Promises.{YesIsEnough}
 use Rattle.run_scripts.proofs.Broken.{nothing_moves}
 use Rattle.run_scripts.proofs.Causes.{mid_disk}

@@ -4,20 +4,21 @@ use Rattle.cvm_outside.specs.Told.{TOO_LONG}
 use Rattle.schedule_file.specs.Rows.{Rows}
 use Rattle.boot_turns.specs.declared.answers.View.TheVariants.{Trace}
 use Rattle.kernel_linker.specs.Accept.{ImageSystem}
-use Rattle.cvm_shell.specs.declared.boot.Session.{Session}
-use Rattle.cvm_shell.specs.declared.exit_status.Status.{Status}
-use Rattle.cvm_shell.specs.declared.exit_status.Status.TheVariants.{Done, Words, Refused, Disk, Shelf, Sink, Memory}
-use Rattle.cvm_shell.specs.Command.{Command, IsCommand, IsNoCommand}
-use Rattle.cvm_shell.specs.Refusal.{Refusal, small_disk, no_such_user, too_long, refusal_status, refusal_text}
-use Rattle.cvm_shell.specs.Plan.{Plan, refuses, puts, boots, saves, resumes, prints as tells, PlanComesTo, AllTold, IsPlan}
+use Rattle.run_scripts.specs.declared.session.Session.{Session}
+use Rattle.run_scripts.specs.declared.exit_status.Status.{Status}
+use Rattle.run_scripts.specs.declared.exit_status.Status.TheVariants.{Done, Words, Refused, Disk, Shelf, Sink, Memory}
+use Rattle.run_scripts.specs.Command.{Command, IsCommand, IsNoCommand}
+use Rattle.run_scripts.specs.Refusal.{Refusal, small_disk, no_such_user, too_long, refusal_status, refusal_text}
+use Rattle.run_scripts.specs.Plan.{Plan, refuses, puts, boots, saves, resumes, prints as tells, PlanComesTo, AllTold, IsPlan}
 use Rattle.cvm_outside.specs.Script.{Who, TheSink, TheDisk, TheShelf}
 use Rattle.cvm_outside.specs.Outside.{Outside}
 use Rattle.cvm_outside.specs.ScriptLaws.{Blamed, PrintedBy}
 use Rattle.boot_turns.specs.Runs.{Run, steps_made, has_ended}
-use Rattle.cvm_shell.specs.Boot.{sectors_needed}
+use Rattle.run_scripts.specs.Boot.{sectors_needed}
 use Rattle.boot_run.specs.RunEnds.{SeesUser}
-use Rattle.cvm_shell.specs.Ends.{Ends, files_of}
-use Rattle.run_scripts.specs.Headline.{NoneFailed, IsOf}
+use Rattle.run_scripts.specs.Ends.{Ends}
+use Rattle.run_scripts.specs.Served.{files_of, NoneFailed}
+use Rattle.run_scripts.specs.Headline.{IsOf}
 
 -- the count of this object rose, or of none where it is none; and the counts of all others are as before
 abbrev pub Counts : Option Who → (old new : Outside) → Type 0

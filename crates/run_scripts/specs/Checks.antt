@@ -4,10 +4,10 @@ use Rattle.schedule_file.specs.Rows.{Rows}
 use Rattle.cvm_model.specs.declared.kernel_fault.KernelFault.TheVariants.{StackOut}
 use Rattle.cvm_model.specs.Cvm.{Faulted}
 use Rattle.kernel_linker.specs.Accept.{ImageSystem}
-use Rattle.cvm_shell.specs.declared.boot.Session.{Session}
-use Rattle.cvm_shell.specs.Suffices.{NeverOut}
+use Rattle.run_scripts.specs.declared.session.Session.{Session}
+use Rattle.run_scripts.specs.Suffices.{NeverOut}
 use Rattle.boot_turns.specs.Runs.{Past, IsPast, steps_made, cvm_at}
-use Rattle.cvm_shell.specs.SessionRuns.{run_of}
+use Rattle.run_scripts.specs.SessionRuns.{run_of}
 
 -- where the stack of a system is enough, no run of it by any command meets want of stack
 abbrev pub StackOutIsNotMet : Type 0

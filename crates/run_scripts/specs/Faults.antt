@@ -1,5 +1,6 @@
--- AFTER A FAULT: what is printed and which sectors stand before the statuses 4, 5 and 7 of boot, rom, trace and sample, and 4 to 7 of a save, as laws.
-use Rattle.std.specs.Prelude.{◌≡◌, ◌≢◌, ◌⊎◌, ℕ, suc, ◌+◌, ◌<◌, ⊤, true, false, List, [], ◌∷◌, ◌++◌, length, take, Some}
+-- AFTER A FAULT: what is printed and which sectors stand before the statuses 4, 5 and 7 of boot, rom, trace and sample, 4 to 7 of a save, and 4, 5 and 7 of
+-- a resume of a saved run, as laws.
+use Rattle.std.specs.Prelude.{◌≡◌, ◌≢◌, ◌⊎◌, ℕ, suc, ◌+◌, ◌<◌, ◌≤◌, ⊤, true, false, List, [], ◌∷◌, ◌++◌, length, take, Some}
 use Rattle.std.specs.Io.KnownBytes.{append_known}
 use Rattle.cvm_outside.specs.Told.{retold, IsCutOff}
 use Rattle.cvm_outside.specs.Numbering.{called}
@@ -12,22 +13,22 @@ use Rattle.layer_contract.specs.Starts.{Beyond}
 use Rattle.boot_turns.specs.declared.answers.View.{View}
 use Rattle.boot_turns.specs.declared.answers.View.TheVariants.{Boot, Trace}
 use Rattle.kernel_linker.specs.Accept.{ImageSystem}
-use Rattle.cvm_shell.specs.declared.exit_status.Status.{Status}
-use Rattle.cvm_shell.specs.declared.exit_status.Status.TheVariants.{StepLimit, Disk, Shelf, Sink}
-use Rattle.cvm_shell.specs.declared.boot.Session.{Session}
-use Rattle.cvm_shell.specs.Command.{Save, IsSave, save_session}
-use Rattle.cvm_shell.specs.Plan.{boots, saves}
-use Rattle.cvm_outside.specs.Script.{Call, TheDisk, Performs, disk_calls, scripts}
+use Rattle.run_scripts.specs.declared.exit_status.Status.{Status}
+use Rattle.run_scripts.specs.declared.exit_status.Status.TheVariants.{StepLimit, Disk, Shelf, Sink}
+use Rattle.run_scripts.specs.declared.session.Session.{Session}
+use Rattle.run_scripts.specs.Command.{Save, IsSave, IsResume, save_session}
+use Rattle.run_scripts.specs.Plan.{boots, saves, resumes}
+use Rattle.cvm_outside.specs.Script.{Call, Who, TheSink, TheDisk, Performs, disk_calls, scripts}
 use Rattle.cvm_outside.specs.Outside.{Outside, counts}
 use Rattle.boot_turns.specs.Runs.{Run, Past, IsPast, state_at, turns_at, steps_made, has_ended, cvm_at}
-use Rattle.boot_turns.specs.StepScript.{entry_script, steps_script}
+use Rattle.boot_turns.specs.StepScript.{entry_script, step_script, steps_script}
 use Rattle.boot_turns.specs.TurnEnds.{first_of}
-use Rattle.cvm_shell.specs.Boot.{sectors_needed}
-use Rattle.cvm_shell.specs.Saves.{saved_row}
+use Rattle.run_scripts.specs.Boot.{sectors_needed}
+use Rattle.run_scripts.specs.Saves.{saved_row}
 use Rattle.boot_run.specs.Closing.{opening_script, closing_script}
-use Rattle.cvm_shell.specs.SessionRuns.{run_of}
-use Rattle.cvm_shell.specs.RunStatus.{saved_bytes}
-use Rattle.cvm_shell.specs.Ends.{Ends, IsNotGot, load_of}
+use Rattle.run_scripts.specs.SessionRuns.{run_of}
+use Rattle.run_scripts.specs.RunStatus.{saved_bytes}
+use Rattle.run_scripts.specs.Ends.{Ends, IsNotGot, SavedRun, load_of}
 use Rattle.run_scripts.specs.Headline.{text_at, whole_text, Asked}
 
 -- what was printed is this text; or the first of a whole one, with at least this part of it
@@ -142,3 +143,39 @@ SaveFaultsLeave = (words : List (List ℕ)) (c : Save) (s : ImageSystem) (rows :
     let r : Run = run_of (save_session c) s rows old.disk.size before in
     ((status ≡ Shelf) × IsNotGot (c.boot.image ∷ c.boot.schedule ∷ []) old new)
     ⊎ After r (sectors_needed (save_session c) s rows) before new (λ p. UnsavedBy status c r (load_of (save_session c) s rows) p old new)
+
+-- this text stands, of which the first part did before: what was printed here is what stands behind it; or the first of that
+pub record PrintedBehind (old new : Outside) (shown text : List ℕ) : Type 0 where
+  pub more : List ℕ
+  pub whole : text ≡ shown ++ more
+  pub printed : HasPrinted old new more
+
+pub record BeginsBehind (old new : Outside) (shown text : List ℕ) : Type 0 where
+  pub more : List ℕ
+  pub whole : text ≡ shown ++ more
+  pub count : ℕ
+  pub printed : HasPrinted old new (take count more)
+
+-- A CALL FAILED of a resume of a run that was saved after so many steps: of step t, whose transfer is done where it is the sink's, with exactly the text
+-- behind what was shown up to that step; or of the report, where there is one
+pub data AfterRest (whom : Who) (r : Run) (p : Past) (made : ℕ) (old new : Outside) : Type 0 where
+  in_step : (t : ℕ) (mid : Outside) → made ≤ t → t < steps_made r → Stand r t mid → PrintedBehind old mid (text_at r p made) (text_at r p t) →
+      Performs (step_script r p t) mid new (Some whom) → (whom ≡ TheSink → Stand r (suc t) new) → AfterRest whom r p made old new
+  in_report : (mid : Outside) → has_ended r ≡ true → Stand r (steps_made r) mid →
+      PrintedBehind old mid (text_at r p made) (text_at r p (steps_made r)) → Performs (closing_script r p) mid new (Some whom) →
+      Stand r (steps_made r) new → AfterRest whom r p made old new
+
+abbrev pub AfterResume : Status → Run → Past → (made : ℕ) → (old new : Outside) → Type 0
+AfterResume StepLimit r p made old new =
+    (has_ended r ≡ false) × PrintedBehind old new (text_at r p made) (text_at r p (steps_made r)) × Stand r (steps_made r) new
+AfterResume Disk r p made old new = AfterRest TheDisk r p made old new
+AfterResume Sink r p made old new = AfterRest TheSink r p made old new
+AfterResume other r p made old new = ⊤
+
+-- and the text goes on from what was shown, as the whole boot's does
+abbrev pub ResumeFaultsLeave : Type 0
+ResumeFaultsLeave = (words : List (List ℕ)) (d : Save) (s : ImageSystem) (rows : Rows) (machine : List ℕ) (left : List (List ℕ)) (old new : Outside)
+    (status : Status) (r : Run) (p : Past) (made : ℕ) → IsResume words d →
+    Asked words (resumes (save_session d) s rows machine) (save_session d) s rows left old →
+    SavedRun (save_session d) s rows machine old.disk.size left r p made → (status ≡ StepLimit) ⊎ ((status ≡ Disk) ⊎ (status ≡ Sink)) →
+    Ends words old new status → AfterResume status r p made old new × BeginsBehind old new (text_at r p made) (whole_text r p)

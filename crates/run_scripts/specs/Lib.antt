@@ -1,3 +1,18 @@
+pub mod ExitStatus
+pub mod Refusal
+pub mod Check
+pub mod CompileProgram
+pub mod Command
+pub mod Plan
+pub mod Boot
+pub mod Saves
+pub mod Resumes
+pub mod Isolation
+pub mod CommandEnds
+pub mod Suffices
+pub mod SessionRuns
+pub mod RunStatus
+pub mod Ends
 pub mod Headline
 pub mod Keys
 pub mod Causes
@@ -6,3 +21,4 @@ pub mod Saving
 pub mod Checks
 pub mod Faults
 pub mod Promises
+pub mod Served

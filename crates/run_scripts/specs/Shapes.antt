@@ -2,25 +2,16 @@
 -- disk where it loads nothing.
 use Rattle.std.specs.Prelude.{◌≡◌, ◌≢◌, ◌⊎◌, ℕ, ◌+◌, ⊤, List, [], ◌∷◌, ◌++◌, length, Option, Some, None}
 use Rattle.cvm_outside.specs.Told.{TOO_LONG}
-use Rattle.cvm_shell.specs.declared.exit_status.Status.{Status}
-use Rattle.cvm_shell.specs.declared.exit_status.Status.TheVariants.{Shelf, Memory}
-use Rattle.cvm_shell.specs.Command.{Command, IsCommand, boot, trace, save, resume, compile_user, compile_kernel, compile_program, link, migrate, sample}
-use Rattle.cvm_shell.specs.Refusal.{too_long}
-use Rattle.cvm_shell.specs.Plan.{Plan, refuses, PlanComesTo}
+use Rattle.run_scripts.specs.declared.exit_status.Status.{Status}
+use Rattle.run_scripts.specs.declared.exit_status.Status.TheVariants.{Shelf, Memory}
+use Rattle.run_scripts.specs.Command.{Command, IsCommand, boot, trace, save, resume, sample}
+use Rattle.run_scripts.specs.Refusal.{too_long}
+use Rattle.run_scripts.specs.Plan.{Plan, refuses, PlanComesTo}
 use Rattle.cvm_outside.specs.Script.{Call, Got, Stored, Who, Performs}
 use Rattle.cvm_outside.specs.Outside.{Outside, shelf_counts}
 use Rattle.cvm_outside.specs.Numbering.{called}
-use Rattle.cvm_shell.specs.Ends.{Ends, Does, PlanAsks, IsNotGot, Wants, AreShort, MayBeLong, answered, files_of, gets}
-
--- the file that a command may put
-abbrev pub file_put : Command → Option (List ℕ)
-file_put (save c) = Some c.file
-file_put (compile_user c) = Some c.image
-file_put (compile_kernel c) = Some c.object
-file_put (compile_program c) = Some c.image
-file_put (link l) = Some l.image
-file_put (migrate m) = Some m.image
-file_put other = None
+use Rattle.run_scripts.specs.Ends.{Ends, Does, PlanAsks, IsNotGot, Wants, AreShort, MayBeLong, answered}
+use Rattle.run_scripts.specs.Served.{files_of, gets, file_put}
 
 -- a command that loads a machine
 abbrev pub Loads : Command → Type 0

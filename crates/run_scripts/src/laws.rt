@@ -1,11 +1,11 @@
 // Laws of how commands end, each the contract of a function that does nothing.
-ghost use Rattle.run_scripts.specs.Headline.{Headlines, FilesAsk, ItGoesOn, MemoryKeeps, RunsComplete, TracesIsolate, EqualJournalsTellTheSame};
-ghost use Rattle.run_scripts.specs.Keys.{RunsStart, PastsExist, PastsAgree, TextsGrow, ScriptsTellTheText, ScriptsStoreTheSectors, LoadsStoreTheStart, SectorsBehindStay, EndsAreOver};
+ghost use Rattle.run_scripts.specs.Headline.{MemoryKeeps};
+ghost use Rattle.run_scripts.specs.Keys.{RunsStart, EndsAreOver};
 ghost use Rattle.run_scripts.specs.Causes.{StatusesAreCaused, WordsAreRefused, FilesAreRefused, MissingUsersAreRefused, SmallDisksAreRefused, LongFilesAreRefused, StepsAreSpent, WorkCompletes};
 ghost use Rattle.run_scripts.specs.Shapes.{PlansHaveShape, OthersStay, NothingIsLoaded, GetsComeFirst, ShelfIsCalled};
-ghost use Rattle.run_scripts.specs.Saving.{SavesHold, SavesComplete, ScriptsJoin, ResumesJoin, SavedAndResumedAreBooted, ResumesGoOn};
+ghost use Rattle.run_scripts.specs.Saving.{ScriptsJoin, ResumesJoin};
 ghost use Rattle.run_scripts.specs.Checks.{StackOutIsNotMet};
-ghost use Rattle.run_scripts.specs.Faults.{FaultsLeave, SaveFaultsLeave};
+ghost use Rattle.run_scripts.specs.Faults.{FaultsLeave, SaveFaultsLeave, ResumeFaultsLeave};
 ghost use Rattle.run_scripts.specs.Promises.{HeadlinesHold, RunsAreComplete, TracesAreIsolated, YesIsEnough, SavesAreHeld, SavesAreComplete, ResumesAreHeld, ResumesAreComplete};
 
 use boot_image::images_are_their_spellings;
@@ -38,65 +38,9 @@ use saved_file::{resumable_words_are_answered, saved_machines_are_read_back};
 use schedule_file::busy_times_are_within_the_longest;
 use unit_runs::laws::{units_calls_follow, units_run_over_layers};
 
-/// A law: what a command that asks for a run leaves, with no failed call, is what the abstract run says.
-pub fn headlines()
-    ensures { Headlines }
-{
-    scripts_blame();
-    scripts_tell();
-    scripts_store();
-    scripts_tell_the_text();
-    scripts_store_the_sectors();
-    sectors_behind_stay();
-    ends_are_over();
-}
-
-/// A law: an accepted image and a valid schedule ask for their run.
-pub fn files_ask()
-    ensures { FilesAsk }
-{}
-
-/// A law: the machine comes to the end of every turn of the abstract run.
-pub fn it_goes_on()
-    ensures { ItGoesOn }
-{
-    runs_start();
-    machines_run();
-    traces_grow();
-    turns_are_counted();
-    journal_rows_follow();
-}
-
 /// A law: where memory was wanted nothing was printed and nothing changed.
 pub fn memory_keeps()
     ensures { MemoryKeeps }
-{}
-
-/// A law: with enough steps a run is done, or its kernel faulted.
-pub fn runs_complete()
-    ensures { RunsComplete }
-{
-    headlines();
-    it_goes_on();
-    turns_are_counted();
-}
-
-/// A law: what a trace that came to its end shows of a user is its journal, which its machine replays.
-pub fn traces_isolate()
-    ensures { TracesIsolate }
-{
-    runs_start();
-    machines_run();
-    traces_grow();
-    turns_are_counted();
-    journal_rows_follow();
-    users_are_isolated();
-    units_replay();
-}
-
-/// A law: two traces of a user that starts alike and has the same journal print the same.
-pub fn equal_journals_tell_the_same()
-    ensures { EqualJournalsTellTheSame }
 {}
 
 /// A law: each run that words ask for is one from a start, over a layer that meets its laws.
@@ -121,80 +65,6 @@ pub fn runs_start()
     busy_times_are_within_the_longest();
     the_loaded_machine_starts();
     the_rom_starts();
-}
-
-/// A law: the abstract machine has a state for every turn that the machine completes.
-pub fn pasts_exist()
-    ensures { PastsExist }
-{
-    runs_start();
-    machines_run();
-    traces_grow();
-    turns_are_counted();
-    journal_rows_follow();
-}
-
-/// A law: and one only.
-pub fn pasts_agree()
-    ensures { PastsAgree }
-{
-    units_dont_matter();
-    turns_are_counted();
-}
-
-/// A law: the text of a run grows step by step.
-pub fn texts_grow()
-    ensures { TextsGrow }
-{
-    runs_start();
-    machines_run();
-    traces_grow();
-    turns_are_counted();
-    journal_rows_follow();
-}
-
-/// A law: a run's script tells its whole text.
-pub fn scripts_tell_the_text()
-    ensures { ScriptsTellTheText }
-{
-    runs_start();
-    machines_run();
-    traces_grow();
-    turns_are_counted();
-    journal_rows_follow();
-}
-
-/// A law: a run's script stores the sectors of its machine.
-pub fn scripts_store_the_sectors()
-    ensures { ScriptsStoreTheSectors }
-{
-    runs_start();
-    machines_run();
-    traces_grow();
-    turns_are_counted();
-    journal_rows_follow();
-}
-
-/// A law: a load stores the sectors of the start.
-pub fn loads_store_the_start()
-    ensures { LoadsStoreTheStart }
-{
-    runs_start();
-    machines_run();
-    traces_grow();
-    turns_are_counted();
-    journal_rows_follow();
-}
-
-/// A law: the sectors behind the run's are as before.
-pub fn sectors_behind_stay()
-    ensures { SectorsBehindStay }
-{
-    runs_start();
-    machines_run();
-    traces_grow();
-    turns_are_counted();
-    journal_rows_follow();
 }
 
 /// A law: where a run came to its end its turns are complete or the abstract run is over.
@@ -292,38 +162,6 @@ pub fn shelf_is_called()
     scripts_count_files();
 }
 
-/// A law: with enough steps a save is done, or its kernel faulted.
-pub fn saves_complete()
-    ensures { SavesComplete }
-{
-    runs_start();
-    machines_run();
-    traces_grow();
-    turns_are_counted();
-    journal_rows_follow();
-    scripts_blame();
-}
-
-/// A law: what a save leaves is what its boot leaves, but for the file, and for the row `saved` in place of `stopped` and all behind it.
-pub fn saves_hold()
-    ensures { SavesHold }
-{
-    scripts_blame();
-    scripts_tell();
-    scripts_store();
-    runs_start();
-    machines_run();
-    traces_grow();
-    turns_are_counted();
-    journal_rows_follow();
-    runs_are_taken_up();
-    a_new_machine_is_steady();
-    machines_stay_steady();
-    parts_are_in_order();
-    memory_is_whole();
-    saved_machines_are_read_back();
-}
-
 /// A law: what a save does before it puts its file, and what a resume of it does, are what the boot does.
 pub fn scripts_join()
     ensures { ScriptsJoin }
@@ -337,30 +175,6 @@ pub fn scripts_join()
 pub fn resumes_join()
     ensures { ResumesJoin }
 {}
-
-/// A law: a save and a resume over what it left come to the boot as a whole.
-pub fn saved_and_resumed_are_booted()
-    ensures { SavedAndResumedAreBooted }
-{
-    scripts_blame();
-    scripts_tell();
-    scripts_store();
-    runs_start();
-    machines_run();
-    traces_grow();
-    turns_are_counted();
-    journal_rows_follow();
-}
-
-/// A law: a resume of any file that is taken up is the run of the one machine which the file names.
-pub fn resumes_go_on()
-    ensures { ResumesGoOn }
-{
-    scripts_blame();
-    scripts_store();
-    turns_are_counted();
-    saved_machines_differ();
-}
 
 /// A law: no run of a system whose stack is enough stops for want of it.
 pub fn stack_out_is_not_met()
@@ -397,13 +211,33 @@ pub fn save_faults_leave()
     scripts_count();
 }
 
+/// A law: and what a resume of a saved run leaves, behind what was shown before.
+pub fn resume_faults_leave()
+    ensures { ResumeFaultsLeave }
+{
+    scripts_blame();
+    scripts_tell();
+    scripts_store();
+    runs_start();
+    machines_run();
+    traces_grow();
+    turns_are_counted();
+    journal_rows_follow();
+    resumable_words_are_answered();
+}
+
 /// A law: the headline of each boot, rom, trace and sample with no failed call.
 pub fn headlines_hold()
     ensures { HeadlinesHold }
 {
     scripts_blame();
-    headlines();
-    it_goes_on();
+    scripts_tell();
+    scripts_store();
+    runs_start();
+    machines_run();
+    traces_grow();
+    turns_are_counted();
+    journal_rows_follow();
 }
 
 /// A law: with enough steps such a command is done, or its kernel faulted.
@@ -411,7 +245,13 @@ pub fn runs_are_complete()
     ensures { RunsAreComplete }
 {
     scripts_blame();
-    runs_complete();
+    scripts_tell();
+    scripts_store();
+    runs_start();
+    machines_run();
+    traces_grow();
+    turns_are_counted();
+    journal_rows_follow();
 }
 
 /// A law: what a trace that is done, or whose kernel faulted, prints of its user is the text of the user's journal.
@@ -419,8 +259,15 @@ pub fn traces_are_isolated()
     ensures { TracesAreIsolated }
 {
     scripts_blame();
-    headlines();
-    traces_isolate();
+    scripts_tell();
+    scripts_store();
+    runs_start();
+    machines_run();
+    traces_grow();
+    turns_are_counted();
+    journal_rows_follow();
+    users_are_isolated();
+    units_replay();
 }
 
 /// A law: where a check printed `yes`, no run of a system of the object's source with so much stack stops for want of it.
@@ -439,15 +286,20 @@ pub fn saves_are_held()
     ensures { SavesAreHeld }
 {
     scripts_blame();
+    scripts_tell();
+    scripts_store();
     runs_start();
     machines_run();
     traces_grow();
     turns_are_counted();
     journal_rows_follow();
     runs_are_taken_up();
+    a_new_machine_is_steady();
+    machines_stay_steady();
+    parts_are_in_order();
+    memory_is_whole();
+    saved_machines_are_read_back();
     resumable_words_are_answered();
-    it_goes_on();
-    saves_hold();
 }
 
 /// A law: with enough steps a save is done, or its kernel faulted.
@@ -455,7 +307,13 @@ pub fn saves_are_complete()
     ensures { SavesAreComplete }
 {
     scripts_blame();
-    saves_complete();
+    scripts_tell();
+    scripts_store();
+    runs_start();
+    machines_run();
+    traces_grow();
+    turns_are_counted();
+    journal_rows_follow();
 }
 
 /// A law: a resume with no failed call goes on as the machine that its file names, and of a saved run as its boot.
@@ -471,8 +329,7 @@ pub fn resumes_are_held()
     turns_are_counted();
     journal_rows_follow();
     resumable_words_are_answered();
-    it_goes_on();
-    resumes_go_on();
+    saved_machines_differ();
 }
 
 /// A law: with enough steps for the whole run a resume of a saved run is done, or its kernel faulted; and it is the boot as a whole.
@@ -488,5 +345,4 @@ pub fn resumes_are_complete()
     turns_are_counted();
     journal_rows_follow();
     resumable_words_are_answered();
-    it_goes_on();
 }

@@ -3,8 +3,8 @@ use Rattle.std.proofs.Common.{◌≡◌, ◌≢◌, inl, inr, List, ℕ, refl, s
 use Rattle.cvm_outside.specs.Causes.{Rose}
 use Rattle.cvm_outside.specs.Outside.{Outside}
 use Rattle.cvm_outside.specs.Script.{TheSink, TheDisk, TheShelf}
-use Rattle.cvm_shell.specs.declared.exit_status.Status.{Status}
-use Rattle.cvm_shell.specs.declared.exit_status.Status.TheVariants.{Disk, Shelf, Sink}
+use Rattle.run_scripts.specs.declared.exit_status.Status.{Status}
+use Rattle.run_scripts.specs.declared.exit_status.Status.TheVariants.{Disk, Shelf, Sink}
 use Rattle.run_scripts.specs.Causes.{CausedBy, IsTooLong, IsTooSmall}
 
 pub no_rise : Rose 0 0 → ⊥

@@ -1,8 +1,8 @@
 -- Why a command has the status of the shelf or of the disk where none of their calls fails.
 use Rattle.std.specs.Prelude.{◌≡◌, ℕ, List, None}
 use Rattle.cvm_outside.specs.Told.{TOO_LONG}
-use Rattle.cvm_shell.specs.Refusal.{too_long}
-use Rattle.cvm_shell.specs.Plan.{Plan, refuses, PlanComesTo}
+use Rattle.run_scripts.specs.Refusal.{too_long}
+use Rattle.run_scripts.specs.Plan.{Plan, refuses, PlanComesTo}
 use Rattle.run_scripts.specs.Causes.{NeedsMore}
 
 -- these words come to the refusal of a file that is too long, of which the last `get` took 67,108,865 bytes

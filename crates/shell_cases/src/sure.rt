@@ -1,7 +1,7 @@
 // A command over an outside in memory where no call fails.
 ghost use Rattle.std.specs.Prelude.{◌≡◌, ◌≢◌, length, IfOk, []};
 ghost use Rattle.cvm_outside.specs.Shelves.{inside, taken_of};
-ghost use Rattle.cvm_shell.specs.Command.{texts};
+ghost use Rattle.run_scripts.specs.Command.{texts};
 ghost use Rattle.shell_cases.specs.Sure.{IsTooLong, IsTooSmall};
 
 use cvm_outside::{MemSectors, MemShelf, MemSink, Shelf, SureSectors, SureShelf, SureSink};

@@ -4,8 +4,9 @@ use Rattle.real_layer.specs.Image.{layer_image}
 use Rattle.cvm_shell.specs.declared.boot.Stop.{Stop}
 use Rattle.cvm_shell.specs.declared.boot.Stop.TheVariants as Stops
 use Rattle.cvm_shell.specs.declared.refusal.Refusal.{Refusal}
-use Rattle.cvm_shell.specs.Command.{command_of}
-use Rattle.cvm_shell.specs.Ends.{AreBytes, files_of}
+use Rattle.run_scripts.specs.Command.{command_of}
+use Rattle.run_scripts.specs.Ends.{AreBytes}
+use Rattle.run_scripts.specs.Served.{files_of}
 use Rattle.cvm_shell.specs.Does.{AreGot, StopGets}
 use Rattle.cvm_shell.specs.Stages.{IsBootPlan, ready_for}
 use Rattle.cvm_shell.specs.Views.{boot_view, IfRefused}

@@ -4,7 +4,7 @@ use Rattle.cvm_shell.specs.declared.boot.Stop.{Stop}
 use Rattle.cvm_shell.specs.declared.boot.Stop.TheVariants as Stops
 use Rattle.cvm_shell.specs.declared.refusal.Refusal.{Refusal}
 use Rattle.cvm_outside.specs.Outside.{drive}
-use Rattle.cvm_shell.specs.Command.{sample, sample_session}
+use Rattle.run_scripts.specs.Command.{sample, sample_session}
 use Rattle.cvm_shell.specs.Stages.{IsSamplePlan, ready_for}
 use Rattle.cvm_shell.specs.Views.{IfRefused}
 use Rattle.cvm_shell.proofs.Doing.{sample_done, sample_refused as refused_sample, nothing_wanted}

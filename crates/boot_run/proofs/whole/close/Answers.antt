@@ -1,42 +1,16 @@
-use Rattle.std.proofs.Common.{◌≡◌, Option, Some, None, Err, false, sym, ap, ◌∙◌, subst}
+use Rattle.std.proofs.Common.{◌≡◌, Option, Some, None, Err, false, sym, ap, ◌∙◌}
 use Rattle.boot_turns.specs.declared.answers.RunFault.{RunFault}
 use Rattle.boot_turns.specs.declared.answers.RunFault.TheVariants.{StepLimit}
-use Rattle.mips_machine.specs.Machine.{Held}
-use Rattle.boot_run.specs.TurnCalls.{around}
-use Rattle.boot_run.specs.declared.whole.RunEnd.{RunEnd}
 use Rattle.boot_run.specs.Shown.{has_faulted}
-use Rattle.boot_run.specs.Pieces.{CloseRuns}
 use Rattle.boot_run.specs.AnyRun.{is_faulted}
 use Rattle.boot_run.proofs.AnyEnding.{fault_is}
-use Rattle.boot_run.proofs.Ending.{closes_done, closes_failed}
 use Rattle.boot_run.proofs.EndScripts.{closed_none, closed_done, closed_fails}
 use Rattle.boot_run.proofs.whole.close.Goals as goal
-
-pub returns-in-Ok-clause-ends : goal.returns-in-Ok-clause-ends
-returns-in-Ok-clause-ends g c = λ budget.
-    let other : has_faulted c.args.run.now.ended ≡ false = ap has_faulted (sym c.ended.ensures) ∙ sym c.has_faulted.ensures ∙ c.if-has_faulted.false in
-    closes_done (g.D.Sectors.size c.args.disk.now) c.args.run.now (g.D.Sectors.sectors c.args.disk.now) budget (g.O.Sink.text c.args.out.now)
-    c.report.new.self (g.D.Sectors.sectors c.report.new.disk) (g.O.Sink.text c.report.new.out) other (c.in-Ok.ensures.ends c.requires.can.fine)
-
-pub returns-in-Err-clause-ends : goal.returns-in-Err-clause-ends
-returns-in-Err-clause-ends g c = λ budget.
-    let other : has_faulted c.args.run.now.ended ≡ false = ap has_faulted (sym c.ended.ensures) ∙ sym c.has_faulted.ensures ∙ c.if-has_faulted.false in
-    subst (λ (e : RunEnd). CloseRuns (g.D.Sectors.size c.args.disk.now) c.args.run.now (around c.args.run.now (g.D.Sectors.sectors c.args.disk.now) budget (g.O.Sink.text c.args.out.now))
-    (around c.report.new.self (g.D.Sectors.sectors c.report.new.disk) budget (g.O.Sink.text c.report.new.out)) e) (sym c.end_at.ensures)
-    (closes_failed (g.D.Sectors.size c.args.disk.now) c.args.run.now (g.D.Sectors.sectors c.args.disk.now) budget (g.O.Sink.text c.args.out.now)
-    c.report.new.self (g.D.Sectors.sectors c.report.new.disk) (g.O.Sink.text c.report.new.out) other c.in-Err.fault (c.in-Err.ensures.ends c.requires.can.fine))
 
 pub returns-in-Err-clause-faulted : goal.returns-in-Err-clause-faulted
 returns-in-Err-clause-faulted g c =
     let other : has_faulted c.args.run.now.ended ≡ false = ap has_faulted (sym c.ended.ensures) ∙ sym c.has_faulted.ensures ∙ c.if-has_faulted.false in
     other ∙ sym (ap is_faulted c.end_at.ensures ∙ fault_is c.in-Err.fault)
-
--- a report makes no step
-pub returns-in-Ok-clause-time : goal.returns-in-Ok-clause-time
-returns-in-Ok-clause-time g c = ap (λ (h : Held). h.time) c.report.ensures.rest.view.same
-
-pub returns-in-Err-clause-time : goal.returns-in-Err-clause-time
-returns-in-Err-clause-time g c = ap (λ (h : Held). h.time) c.report.ensures.rest.view.same
 
 -- the calls
 pub returns-then-has_faulted-clause-script : goal.returns-then-has_faulted-clause-script

@@ -1,18 +1,16 @@
 use Rattle.std.proofs.Common.{ℕ, ◌≡◌, ◌-◌, ◌≤◌, ◌++◌, [], None, Ok, Err, inl, inr, refl, sym, ◌∙◌, subst, arith}
 use Rattle.std.specs.Prelude.{IsSome}
 use Rattle.std.proofs.lemmas.Result.{err_from_is_err_and}
-use Rattle.cvm_outside.specs.Numbering.{tally}
 use Rattle.cvm_outside.specs.Script.{done}
 use Rattle.cvm_outside.proofs.Follow.{both}
 use Rattle.boot_turns.specs.declared.answers.Turn.{Turn}
 use Rattle.boot_turns.specs.LoopScripts.{SomeMake}
-use Rattle.boot_turns.proofs.CallCounts.{steps_stay}
 use Rattle.boot_turns.proofs.SomeCalls.{of_both}
 use Rattle.boot_run.specs.AnyScripts.{TurnsUntold}
 use Rattle.boot_run.specs.TurnCalls.{Around, around}
 use Rattle.boot_run.proofs.AnyCalls.{any_first, any_next, any_failed, any_over, any_went}
 use Rattle.boot_run.proofs.GoScripts.{KeepsMade, made_first, made_next, go_broke, go_came}
-use Rattle.boot_run.proofs.Looping.{calls_on, keeps_first, keeps_next, go_failed, went_over, went, not_over, not_failed, was_over}
+use Rattle.boot_run.proofs.Looping.{keeps_first, keeps_next, go_failed, went_over, went, not_over, not_failed, was_over}
 use Rattle.boot_run.proofs.UntoldTurns.{untold_first, untold_next, untold_came, untold_failed}
 use Rattle.boot_run.proofs.whole.go.Goals as goal
 
@@ -22,10 +20,7 @@ loop-left-init g c = record {
   fault = c.requires.can.fine;
   size = refl;
   time = refl;
-  disk = refl;
-  sink = refl;
   few = omega arith;
-  calls = steps_stay c.args.run.now.machine c.args.run.now.tracer (tally g.D.Sectors.faults g.D.Sectors.calls c.args.disk.now);
   going = keeps_first (g.D.Sectors.size c.args.disk.now) c.args.run.now (around c.args.run.now (g.D.Sectors.sectors c.args.disk.now) c.args.budget.now (g.O.Sink.text c.args.out.now)) _ (omega arith);
   anyhow = any_first (g.D.Sectors.size c.args.disk.now) c.args.run.now (around c.args.run.now (g.D.Sectors.sectors c.args.disk.now) c.args.budget.now (g.O.Sink.text c.args.out.now)) _ (omega arith);
   still = λ _. (refl, refl);
@@ -81,11 +76,7 @@ loop-left-preserved g c =
       fault = c.in_ok-made.ensures.says.leaves.fine;
       size = c.in_ok-made.ensures.says.leaves.same_size ∙ c.loop-left.invariant.size;
       time = c.in_ok-made.ensures.says.leaves.spent ∙ c.loop-left.invariant.time;
-      disk = c.in_ok-made.ensures.says.leaves.disk_same (λ v. absurd (cc)) ∙ c.loop-left.invariant.disk;
-      sink = c.in_ok-made.ensures.says.leaves.sink_same (λ v. absurd (cc)) ∙ c.loop-left.invariant.sink;
       few = omega (arith, few);
-      calls = calls_on c.args.run.now c.loop-left.run c.turns.new.self (tally g.D.Sectors.faults g.D.Sectors.calls c.args.disk.now) (tally g.D.Sectors.faults g.D.Sectors.calls c.loop-left.disk) (tally g.D.Sectors.faults g.D.Sectors.calls c.turns.new.disk)
-          c.loop-left.invariant.disk c.loop-left.invariant.calls c.in_ok-made.ensures.says.calls;
       going = keeps_next (g.D.Sectors.size c.args.disk.now) (g.D.Sectors.size c.loop-left.disk) c.args.run.now c.loop-left.run _ _ _ (c.args.turns - c.loop-left.left) _ c.loop-left.left c.in_ok-made.made c.in_ok-made.field-0-1
           c.loop-left.invariant.kept c.loop-left.invariant.size on (c.in_ok-made.ensures.says.ends c.loop-left.invariant.fault on) (omega (arith, few, most)) c.loop-left.invariant.going;
       anyhow = any_next (g.D.Sectors.size c.args.disk.now) (g.D.Sectors.size c.loop-left.disk) c.args.run.now c.loop-left.run c.loop-left.invariant.kept c.loop-left.invariant.size _ _ _ (c.args.turns - c.loop-left.left) c.loop-left.left on
@@ -139,18 +130,7 @@ returns-clause-any g c =
     let none = c.loop-left-test.false in
     any_went (g.D.Sectors.size c.args.disk.now) c.args.run.now c.args.turns _ _ (c.args.turns - c.loop-left.left) (omega (arith, none)) c.loop-left.invariant.anyhow
 
--- each exit's calls
-pub returns-in_err-made-clause-calls : goal.returns-in_err-made-clause-calls
-returns-in_err-made-clause-calls g c =
-    calls_on c.args.run.now c.loop-left.run c.turns.new.self (tally g.D.Sectors.faults g.D.Sectors.calls c.args.disk.now) (tally g.D.Sectors.faults g.D.Sectors.calls c.loop-left.disk) (tally g.D.Sectors.faults g.D.Sectors.calls c.turns.new.disk)
-    c.loop-left.invariant.disk c.loop-left.invariant.calls c.in_err-made.ensures.says.calls
-
-pub returns-then-made-eq0-clause-calls : goal.returns-then-made-eq0-clause-calls
-returns-then-made-eq0-clause-calls g c =
-    calls_on c.args.run.now c.loop-left.run c.turns.new.self (tally g.D.Sectors.faults g.D.Sectors.calls c.args.disk.now) (tally g.D.Sectors.faults g.D.Sectors.calls c.loop-left.disk) (tally g.D.Sectors.faults g.D.Sectors.calls c.turns.new.disk)
-    c.loop-left.invariant.disk c.loop-left.invariant.calls c.in_ok-made.ensures.says.calls
-
--- and their script
+-- each exit's script
 pub returns-in_err-made-clause-script : goal.returns-in_err-made-clause-script
 returns-in_err-made-clause-script g c =
     let w = err_from_is_err_and c.from_residual.result c.from_residual.ensures.1 in

@@ -1,8 +1,7 @@
 use Rattle.std.proofs.Common.{◌≡◌, ◌+◌, ◌-◌, ◌≤◌, None, Ok}
-use Rattle.cvm_outside.specs.Numbering.{tally}
 use Rattle.boot_turns.specs.LoopScripts.{SomeMake}
 use Rattle.boot_run.specs.AnyScripts.{TurnsUntold}
-use Rattle.boot_run.specs.TurnCalls.{around, IsCalled, KeepsLoad}
+use Rattle.boot_run.specs.TurnCalls.{around, KeepsLoad}
 use Rattle.boot_run.proofs.AnyCalls.{AnyGoing}
 use Rattle.boot_run.proofs.GoScripts.{KeepsMade}
 use Rattle.boot_run.proofs.Looping.{KeepsGoing}
@@ -14,10 +13,7 @@ invariant-loop-left g l = record {
   fault : l.run.fault ≡ None;
   size : g.D.Sectors.size l.disk ≡ g.D.Sectors.size l.fn.disk;
   time : l.run.machine.time + l.budget ≡ l.fn.run.machine.time + l.fn.budget;
-  disk : g.D.Sectors.faults l.disk ≡ g.D.Sectors.faults l.fn.disk;
-  sink : g.O.Sink.faults l.out ≡ g.O.Sink.faults l.fn.out;
   few : l.left ≤ l.fn.turns;
-  calls : IsCalled l.fn.run l.run (tally g.D.Sectors.faults g.D.Sectors.calls l.fn.disk) (tally g.D.Sectors.faults g.D.Sectors.calls l.disk);
   going : KeepsGoing (g.D.Sectors.size l.fn.disk) l.fn.run (around l.fn.run (g.D.Sectors.sectors l.fn.disk) l.fn.budget (g.O.Sink.text l.fn.out)) (l.fn.turns - l.left)
       (around l.run (g.D.Sectors.sectors l.disk) l.budget (g.O.Sink.text l.out));
   anyhow : AnyGoing (g.D.Sectors.size l.fn.disk) l.fn.run (around l.fn.run (g.D.Sectors.sectors l.fn.disk) l.fn.budget (g.O.Sink.text l.fn.out)) (l.fn.turns - l.left)

@@ -1,5 +1,5 @@
 use Rattle.std.proofs.Common.{◌≡◌, take}
-use Rattle.cvm_shell.specs.Plan.{bytes_of}
+use Rattle.run_scripts.specs.Plan.{bytes_of}
 use Rattle.cvm_shell.proofs.assembly.little_endian.Given as goal
 
 abbrev pub invariant-loop-word : goal.invariant-loop-word

@@ -1,6 +1,6 @@
 use Rattle.std.proofs.Common.{subst}
 use Rattle.std.specs.Prelude.{All}
-use Rattle.cvm_shell.specs.Ends.{IsByte}
+use Rattle.run_scripts.specs.Ends.{IsByte}
 use Rattle.cvm_shell.proofs.boot.are_bytes.Goals as goal
 
 pub returns : goal.returns

@@ -4,8 +4,8 @@ use Rattle.std.specs.Option.{IsSome}
 use Rattle.std.proofs.lemmas.Result.{err_from_is_err_and}
 use Rattle.cvm_outside.specs.Told.{TOO_LONG, Tells}
 use Rattle.cvm_outside.specs.declared.shelf.ShelfFault.{ShelfFault}
-use Rattle.cvm_shell.specs.Ends.{AreBytes}
-use Rattle.cvm_shell.specs.Plan.{AfterFiles}
+use Rattle.run_scripts.specs.Ends.{AreBytes}
+use Rattle.run_scripts.specs.Plan.{AfterFiles}
 use Rattle.cvm_shell.specs.Stages.{ready_for}
 use Rattle.cvm_shell.specs.Views.{boot_view}
 use Rattle.real_layer.specs.Image.{layer_image}

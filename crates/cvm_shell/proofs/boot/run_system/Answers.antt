@@ -5,9 +5,9 @@ use Rattle.boot_run.specs.declared.load.LoadFault.TheVariants as load
 use Rattle.boot_run.specs.Closing.{says}
 use Rattle.kernel_linker.specs.Accept.{system_of}
 use Rattle.cvm_outside.specs.Outside.{Outside, output, drive, no_files}
-use Rattle.cvm_shell.specs.declared.exit_status.Status.TheVariants.{Refused, Disk}
+use Rattle.run_scripts.specs.declared.exit_status.Status.TheVariants.{Refused, Disk}
 use Rattle.cvm_shell.specs.Does.{Acts, DoesPlan, SessionCalls}
-use Rattle.cvm_shell.specs.Refusal.{small_disk, no_such_user, refusal_text}
+use Rattle.run_scripts.specs.Refusal.{small_disk, no_such_user, refusal_text}
 use Rattle.cvm_shell.specs.Stages.{needs, ready_for}
 use Rattle.cvm_shell.proofs.StartAnswers.{same_sight, small_named, user_named, same_count}
 use Rattle.cvm_shell.proofs.GotCalls.{beside}

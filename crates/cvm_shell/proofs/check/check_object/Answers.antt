@@ -2,12 +2,12 @@ use Rattle.std.proofs.Common.{ℕ, List, refl, sym, subst}
 use Rattle.cvm_shell.specs.declared.boot.Stop.{Stop}
 use Rattle.cvm_shell.specs.declared.boot.Stop.TheVariants as Stops
 use Rattle.cvm_shell.specs.declared.refusal.Refusal.{Refusal}
-use Rattle.cvm_shell.specs.Command.{check}
-use Rattle.cvm_shell.specs.Plan.{prints}
+use Rattle.run_scripts.specs.Command.{check}
+use Rattle.run_scripts.specs.Plan.{prints}
 use Rattle.cvm_shell.specs.Stages.{IsCheckPlan}
 use Rattle.cvm_shell.specs.Views.{check_view, IfRefused}
 use Rattle.cvm_outside.specs.Outside.{files as told_files, output}
-use Rattle.cvm_shell.specs.Ends.{files_of}
+use Rattle.run_scripts.specs.Served.{files_of}
 use Rattle.cvm_shell.specs.Does.{StopGets}
 use Rattle.cvm_shell.proofs.GotCalls.{beside}
 use Rattle.cvm_shell.proofs.Doing.{refused_done, shelf_done, memory_done, told_done}

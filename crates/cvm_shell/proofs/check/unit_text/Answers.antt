@@ -2,7 +2,7 @@ use Rattle.std.proofs.Common.{◌≡◌, ℕ, Vec, Global, ap, ◌∙◌}
 use Rattle.c0_tree.specs.declared.tree.Unit.{Unit as Source}
 use Rattle.c0_tree.specs.View.{unit_view}
 use Rattle.bound_check.specs.Text.{answer_text}
-use Rattle.cvm_shell.specs.Check.{TellsUnit}
+use Rattle.run_scripts.specs.Check.{TellsUnit}
 use Rattle.cvm_shell.proofs.AcceptedAs.{if_ok}
 use Rattle.cvm_shell.proofs.CheckPlans.{told_of}
 use Rattle.cvm_shell.proofs.check.unit_text.Goals as goal

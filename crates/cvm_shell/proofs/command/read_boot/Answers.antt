@@ -1,5 +1,5 @@
 use Rattle.std.proofs.Common.{ap, arith, Some}
-use Rattle.cvm_shell.specs.Command.{Boot}
+use Rattle.run_scripts.specs.Command.{Boot}
 use Rattle.cvm_shell.proofs.ListsOfFive.{five_texts}
 use Rattle.cvm_shell.proofs.Spellings.{words_of_boot, words_of_one, none_for_start, none_for_turns, none_for_steps}
 use Rattle.cvm_shell.proofs.command.read_boot.Goals as goal

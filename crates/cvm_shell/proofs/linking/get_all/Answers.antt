@@ -6,7 +6,7 @@ use Rattle.std.proofs.lemmas.Result.{err_from_is_err_and}
 use Rattle.cvm_outside.specs.Outside.{files}
 use Rattle.cvm_outside.specs.Told.{TOO_LONG, Tells}
 use Rattle.cvm_outside.specs.declared.shelf.ShelfFault.{ShelfFault}
-use Rattle.cvm_shell.specs.Command.{texts}
+use Rattle.run_scripts.specs.Command.{texts}
 use Rattle.cvm_shell.proofs.GotFiles.{names_at, names_up_to, not_fetched, got_more}
 use Rattle.cvm_shell.specs.Does.{AreGot}
 use Rattle.cvm_shell.proofs.GotCalls.{beside, none_got, one_got, one_stopped, are_both, stopped_then, wants_more}

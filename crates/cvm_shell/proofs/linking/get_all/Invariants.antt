@@ -1,7 +1,7 @@
 use Rattle.std.proofs.Common.{◌≡◌, ◌≢◌, ℕ, List, map, take}
 use Rattle.cvm_outside.specs.Outside.{Output, Drive, files as told_files}
 use Rattle.cvm_outside.specs.Told.{TOO_LONG}
-use Rattle.cvm_shell.specs.Command.{texts}
+use Rattle.run_scripts.specs.Command.{texts}
 use Rattle.cvm_shell.specs.Does.{AreGot}
 use Rattle.cvm_shell.specs.Stages.{Fetched}
 use Rattle.cvm_shell.proofs.GotCalls.{beside}

@@ -6,7 +6,7 @@ use Rattle.cvm_outside.specs.Outside.{files}
 use Rattle.cvm_outside.specs.Told.{TOO_LONG, Tells}
 use Rattle.cvm_outside.specs.declared.shelf.ShelfFault.{ShelfFault}
 use Rattle.cvm_shell.specs.Linked.{AreAcceptedAs, LinkIsAccepted}
-use Rattle.cvm_shell.specs.Plan.{GotAll, AreTold, AfterSystem}
+use Rattle.run_scripts.specs.Plan.{GotAll, AreTold, AfterSystem}
 use Rattle.cvm_shell.specs.Stages.{linked_to}
 use Rattle.cvm_shell.specs.Views.{link_view}
 use Rattle.cvm_shell.proofs.Plans.{got_fault}

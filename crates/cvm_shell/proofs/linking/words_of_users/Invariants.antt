@@ -1,5 +1,5 @@
 use Rattle.std.proofs.Common.{◌≡◌, ◌+◌, map, drop}
-use Rattle.cvm_shell.specs.Plan.{words_from}
+use Rattle.run_scripts.specs.Plan.{words_from}
 use Rattle.cvm_shell.proofs.UserWords.{behind}
 use Rattle.cvm_shell.proofs.linking.words_of_users.Given as goal
 

@@ -2,7 +2,7 @@
 use Rattle.std.proofs.Common.{ap}
 use Rattle.std.proofs.lemmas.Result.{err_from_is_err_and}
 use Rattle.c0_tree.specs.declared.primitive.Program.TheVariants.{Kernel}
-use Rattle.cvm_shell.specs.Plan.{object_plan, puts}
+use Rattle.run_scripts.specs.Plan.{object_plan, puts}
 use Rattle.cvm_shell.proofs.CodePlans.{few_for_unit, one_fault, source_fault, plan_compiles}
 use Rattle.cvm_shell.proofs.object.compiled_object.Goals as goal
 

@@ -1,7 +1,7 @@
 use Rattle.std.proofs.Common.{[], ap, Err, length, ◌<◌, rules}
 use Rattle.cvm_outside.specs.Told.{TOO_LONG}
 use Rattle.c0_tree.specs.declared.primitive.Program.TheVariants.{Kernel}
-use Rattle.cvm_shell.specs.Plan.{object_plan}
+use Rattle.run_scripts.specs.Plan.{object_plan}
 use Rattle.cvm_shell.specs.Stages.{linkable}
 use Rattle.cvm_shell.specs.Views.{kernel_view}
 use Rattle.std.proofs.lemmas.Result.{err_from_is_err_and}

@@ -2,7 +2,7 @@
 use Rattle.std.proofs.Common.{ap, ◌∙◌}
 use Rattle.std.proofs.lemmas.Result.{err_from_is_err_and}
 use Rattle.c0_tree.specs.declared.primitive.Program.TheVariants.{User}
-use Rattle.cvm_shell.specs.Plan.{program_plan, bytes_of}
+use Rattle.run_scripts.specs.Plan.{program_plan, bytes_of}
 use Rattle.cvm_shell.proofs.CodePlans.{few_for_unit, one_fault, source_fault}
 use Rattle.cvm_shell.proofs.ProgramPlans.{refused_plan, put_plan}
 use Rattle.cvm_shell.proofs.program.compiled_program.Goals as goal

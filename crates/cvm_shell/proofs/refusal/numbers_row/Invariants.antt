@@ -1,5 +1,5 @@
 use Rattle.std.proofs.Common.{◌≡◌, ◌≤◌, ◌+◌, ◌*◌, ◌++◌, drop, length}
-use Rattle.cvm_shell.specs.Refusal.{numbers_text}
+use Rattle.run_scripts.specs.Refusal.{numbers_text}
 use Rattle.cvm_shell.proofs.refusal.numbers_row.Given as goal
 
 abbrev pub invariant-loop-field : goal.invariant-loop-field

@@ -6,8 +6,8 @@ use Rattle.cvm_outside.specs.Told.{TOO_LONG, Tells}
 use Rattle.cvm_outside.specs.declared.shelf.ShelfFault.{ShelfFault}
 use Rattle.kernel_linker.specs.Accept.{system_of}
 use Rattle.real_layer.specs.Image.{layer_image}
-use Rattle.cvm_shell.specs.Command.{save_session}
-use Rattle.cvm_shell.specs.Plan.{boots, AfterThree}
+use Rattle.run_scripts.specs.Command.{save_session}
+use Rattle.run_scripts.specs.Plan.{boots, AfterThree}
 use Rattle.cvm_shell.specs.Views.{save_view}
 use Rattle.cvm_shell.proofs.Plans.{got_fault}
 use Rattle.cvm_shell.proofs.SavePlans.{three_come, second_stopped, third_stopped, all_got, all_stopped}

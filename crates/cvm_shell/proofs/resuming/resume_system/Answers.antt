@@ -6,9 +6,9 @@ use Rattle.machine_save.specs.ResumeCalls.{ResumeScript}
 use Rattle.machine_save.specs.ResumeRun.{ResumeAnswers}
 use Rattle.machine_save.specs.declared.resuming.ResumeFault.{ResumeFault}
 use Rattle.machine_save.specs.declared.resuming.ResumeFault.TheVariants as fault
-use Rattle.cvm_shell.specs.declared.exit_status.Status.TheVariants.{Refused, Disk}
+use Rattle.run_scripts.specs.declared.exit_status.Status.TheVariants.{Refused, Disk}
 use Rattle.cvm_shell.specs.Does.{Acts, DoesPlan}
-use Rattle.cvm_shell.specs.Refusal.{bad_save, small_disk, refusal_text}
+use Rattle.run_scripts.specs.Refusal.{bad_save, small_disk, refusal_text}
 use Rattle.cvm_shell.specs.Stages.{resumable_for}
 use Rattle.cvm_shell.specs.Views.{save_view}
 use Rattle.cvm_shell.proofs.GotCalls.{beside}

@@ -3,10 +3,10 @@ use Rattle.real_layer.specs.Image.{layer_image}
 use Rattle.cvm_shell.specs.declared.boot.Stop.{Stop}
 use Rattle.cvm_shell.specs.declared.boot.Stop.TheVariants as Stops
 use Rattle.cvm_shell.specs.declared.refusal.Refusal.{Refusal}
-use Rattle.cvm_shell.specs.Command.{resume}
+use Rattle.run_scripts.specs.Command.{resume}
 use Rattle.cvm_outside.specs.Outside.{files as told_files, output, drive}
 use Rattle.cvm_shell.specs.Does.{StopGets}
-use Rattle.cvm_shell.specs.Ends.{files_of}
+use Rattle.run_scripts.specs.Served.{files_of}
 use Rattle.cvm_shell.specs.Stages.{IsResumePlan, resumable_for}
 use Rattle.cvm_shell.specs.Views.{save_view, IfRefused}
 use Rattle.cvm_shell.proofs.GotCalls.{beside}

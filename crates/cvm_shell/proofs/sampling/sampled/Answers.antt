@@ -3,8 +3,8 @@ use Rattle.std.specs.Prelude.{⊤}
 use Rattle.std.proofs.lemmas.Result.{err_from_is_err_and}
 use Rattle.real_layer.specs.Image.{layer_image}
 use Rattle.sample_maker.specs.Parts.{SampleParts as Sampled}
-use Rattle.cvm_shell.specs.Command.{sample_session}
-use Rattle.cvm_shell.specs.Plan.{PartsPlan, IsPlan}
+use Rattle.run_scripts.specs.Command.{sample_session}
+use Rattle.run_scripts.specs.Plan.{PartsPlan, IsPlan}
 use Rattle.cvm_shell.specs.Stages.{ready_for}
 use Rattle.cvm_shell.specs.Views.{IfPlan, IfRefused}
 use Rattle.cvm_shell.proofs.SamplePlans.{parts_booted}

@@ -1,7 +1,7 @@
 use Rattle.std.proofs.lemmas.Result.{err_from_is_err_and}
 use Rattle.kernel_linker.specs.Accept.{system_of}
 use Rattle.real_layer.specs.Image.{layer_image}
-use Rattle.cvm_shell.specs.Command.{save_session}
+use Rattle.run_scripts.specs.Command.{save_session}
 use Rattle.cvm_shell.specs.Views.{save_view}
 use Rattle.cvm_shell.proofs.SavePlans.{save_stopped, save_no_room, save_short, no_room_stops}
 use Rattle.cvm_shell.proofs.GotCalls.{stop_behind}

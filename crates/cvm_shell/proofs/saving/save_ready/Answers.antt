@@ -1,5 +1,5 @@
 use Rattle.std.proofs.Common.{refl}
-use Rattle.cvm_shell.specs.Command.{save_session}
+use Rattle.run_scripts.specs.Command.{save_session}
 use Rattle.cvm_shell.specs.Views.{save_view}
 use Rattle.cvm_shell.proofs.StartAnswers.{unput_err}
 use Rattle.cvm_shell.proofs.SystemCalls.{loaded_pasts}

@@ -3,17 +3,17 @@ use Rattle.boot_turns.specs.declared.answers.View.TheVariants as view
 use Rattle.boot_run.specs.LoadEnds.{LoadFails, pages_needed}
 use Rattle.boot_run.specs.declared.load.LoadFault.{LoadFault}
 use Rattle.boot_run.specs.declared.load.LoadFault.TheVariants as load
-use Rattle.cvm_shell.specs.Refusal.{small_disk, refusal_text}
+use Rattle.run_scripts.specs.Refusal.{small_disk, refusal_text}
 use Rattle.cvm_shell.specs.Stages.{saveable_for}
 use Rattle.cvm_shell.specs.Views.{save_view}
 use Rattle.cvm_shell.proofs.StartAnswers.{small_named, no_trace, same_need}
 use Rattle.cvm_outside.specs.Outside.{Outside, files as told_files, drive}
 use Rattle.boot_run.specs.Closing.{says}
 use Rattle.kernel_linker.specs.Accept.{system_of}
-use Rattle.cvm_shell.specs.declared.exit_status.Status.TheVariants.{Disk}
-use Rattle.cvm_shell.specs.Command.{save_session}
+use Rattle.run_scripts.specs.declared.exit_status.Status.TheVariants.{Disk}
+use Rattle.run_scripts.specs.Command.{save_session}
 use Rattle.cvm_shell.specs.Does.{Acts, DoesPlan, SavedCalls}
-use Rattle.cvm_shell.specs.Ends.{seen as told_by}
+use Rattle.run_scripts.specs.Ends.{seen as told_by}
 use Rattle.cvm_shell.proofs.SavedCalls.{saved_does}
 use Rattle.cvm_shell.proofs.SystemCalls.{small_save}
 use Rattle.cvm_shell.proofs.saving.save_system.Goals as goal

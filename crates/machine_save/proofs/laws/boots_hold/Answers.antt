@@ -1,7 +1,7 @@
 use Rattle.std.proofs.Common.{◌<◌, ◌^◌, subst}
 use Rattle.std.specs.Prelude.{All}
 use Rattle.boot_run.proofs.Premises.{bootable}
-use Rattle.machine_save.proofs.Premises.{are_disk, are_taken_up, go_on}
+use Rattle.machine_save.proofs.Premises.{are_disk, are_taken_up}
 use Rattle.machine_save.proofs.laws.boots_hold.Goals as goal
 
 pub returns-clause-boots : goal.returns-clause-boots
@@ -20,12 +20,6 @@ returns-clause-boots g c = λ room old disk.
 
 pub returns-clause-disk : goal.returns-clause-disk
 returns-clause-disk g c = are_disk (g.D.Sectors.size c.args.disk.now) (g.D.Sectors.sectors c.args.disk.now) (g.met.D.Sectors.sized c.args.disk.now) c.are_sectors.ensures
-
-pub returns-clause-go_on : goal.returns-clause-go_on
-returns-clause-go_on g c = go_on c.machines_run.ensures c.args.boot.now c.args.schedule.now (g.D.Sectors.size c.args.disk.now) (returns-clause-boots g c)
-
-pub returns-clause-goes_on : goal.returns-clause-goes_on
-returns-clause-goes_on g c = λ old is room. returns-clause-go_on g c old (returns-clause-disk g c old is) room
 
 pub returns-clause-taken_up : goal.returns-clause-taken_up
 returns-clause-taken_up g c =

@@ -13,4 +13,4 @@ returns c = resumes_are_complete (record {
     count = c.turns_are_counted.ensures;
     rows = c.journal_rows_follow.ensures;
   };
-}) c.resumable_words_are_answered.ensures.resumable c.it_goes_on.ensures
+}) c.resumable_words_are_answered.ensures.resumable

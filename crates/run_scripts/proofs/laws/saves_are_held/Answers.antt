@@ -2,10 +2,24 @@ use Rattle.run_scripts.proofs.PromisedSaves.{saves_are_held}
 use Rattle.run_scripts.proofs.laws.saves_are_held.Goals as goal
 
 pub returns : goal.returns
-returns c = saves_are_held c.scripts_blame.ensures (record {
-  start = c.runs_start.ensures;
-  machines = c.machines_run.ensures;
-  traces = c.traces_grow.ensures;
-  count = c.turns_are_counted.ensures;
-  rows = c.journal_rows_follow.ensures;
-}) c.runs_are_taken_up.ensures c.resumable_words_are_answered.ensures.resumable c.it_goes_on.ensures c.saves_hold.ensures
+returns c = saves_are_held (record {
+  blame = c.scripts_blame.ensures;
+  tell = c.scripts_tell.ensures;
+  store = c.scripts_store.ensures;
+  runs = record {
+    start = c.runs_start.ensures;
+    machines = c.machines_run.ensures;
+    traces = c.traces_grow.ensures;
+    count = c.turns_are_counted.ensures;
+    rows = c.journal_rows_follow.ensures;
+  };
+}) (record {
+  machines = record {
+    begins = c.a_new_machine_is_steady.ensures;
+    stays = c.machines_stay_steady.ensures;
+    sums = c.runs_are_taken_up.ensures;
+    order = c.parts_are_in_order.ensures;
+    whole = c.memory_is_whole.ensures;
+  };
+  read = c.saved_machines_are_read_back.ensures;
+}) c.resumable_words_are_answered.ensures.resumable

@@ -1,0 +1,94 @@
+-- The claim of a save: the run of its boot, which is left where the boot prints `stopped`, with the file of the machine there.
+use Rattle.std.specs.Prelude.{◌≡◌, ◌≢◌, ℕ, ◌<◌, ◌≤◌, ◌^◌, List, ◌++◌, length, codes, Some, None, Ok}
+use Rattle.std.specs.List.{flat_map}
+use Rattle.std.specs.Io.KnownBytes.{append_known}
+use Rattle.cvm_outside.specs.Told.{retold}
+use Rattle.cvm_words.specs.Bytes.{word}
+use Rattle.schedule_file.specs.Rows.{Rows}
+use Rattle.mips_table.specs.Device.{Environment}
+use Rattle.mips_table.specs.Machine.{State, run}
+use Rattle.mips_table.specs.Turns.{lines_of_turn, end_within, IsTurnEnd}
+use Rattle.mips_machine.specs.Saved.{saved}
+use Rattle.cvm_model.specs.Cvm.{System, Cvm, IsCvm}
+use Rattle.cvm_model.specs.Text.{rows_text}
+use Rattle.saved_file.specs.Answer.{answer as machine_of}
+use Rattle.boot_turns.specs.Headline.{Done as IsDone}
+use Rattle.boot_run.specs.SavedRuns.{IsDisk}
+use Rattle.kernel_linker.specs.Accept.{ImageSystem}
+use Rattle.boot_run.specs.SaveRoom.{FILE_ROOM}
+use Rattle.run_scripts.specs.declared.exit_status.Status.{Status}
+use Rattle.run_scripts.specs.declared.exit_status.Status.TheVariants.{Done, Memory}
+use Rattle.run_scripts.specs.declared.session.Session.{Session}
+use Rattle.run_scripts.specs.Command.{Save, IsSave, save_session}
+use Rattle.cvm_outside.specs.Outside.{Outside}
+use Rattle.run_scripts.specs.Plan.{most_bytes, wanted_by}
+use Rattle.run_scripts.specs.Boot.{around, booted, first_state, sectors_needed, SessionGoesOn, SessionRan, Headline, AreFilesOf}
+use Rattle.run_scripts.specs.Served.{Unfailed}
+
+-- the row that is printed in place of all from `stopped` on
+abbrev pub saved_row : List ℕ
+saved_row = codes "saved\n"
+
+-- the machine is off, by a kernel that halted
+abbrev pub SessionHalted : Session → ImageSystem → Rows → (before : List (List ℕ)) → Outside → Type 0
+SessionHalted session s rows before old =
+    (run (around rows old) (first_state session s rows before) (end_within (around rows old) (first_state session s rows before) session.turns session.steps)).off ≡ Some 0
+
+-- THE SAVED RUN of so many turns, from `s`: the first step at which they are complete comes within the steps; the machine is on there, and the abstract
+-- run has come to `past`; the words are those of the machine, with these turns and its current user; `left` are its sectors, and `shown` is the run's text
+pub record IsSavedAt (x : Environment) (y : System) (s : State) (turns steps : ℕ) (words : List ℕ) (left : List (List ℕ)) (shown : List ℕ) : Type 0 where
+  pub at : ℕ
+  pub past : Cvm
+  pub end : IsTurnEnd x s turns at
+  pub within : at ≤ steps
+  pub on : (run x s at).off ≡ None
+  pub cvm : IsCvm y (lines_of_turn x s) turns past
+  pub words_are : words ≡ saved y.input (run x s at) turns past.core.current
+  pub left_is : left ≡ (run x s at).device.sectors
+  pub shown_is : shown ≡ rows_text past.rows
+
+-- A RUN THAT WAS LEFT TO BE SAVED, over a disk with these sectors: the boot prints `shown`, and `stopped` and more behind it; these words are those of
+-- its machine there, with its complete turns and its current user, and the sectors are that machine's; and this comes to the end of every turn. The file of
+-- the words isn't too long for a file, and is taken up for as many turns or more.
+pub record Stopped (session : Session) (s : ImageSystem) (rows : Rows) (before : List (List ℕ)) (old new : Outside)
+    (Left : (shown bytes : List ℕ) → Type 0) : Type 0 where
+  pub after : List (List ℕ)
+  pub words : List ℕ
+  pub shown : List ℕ
+  pub rest : List ℕ
+  pub disk : IsDisk old.disk.size before
+  pub sectors : new.disk.sectors ≡ Some after
+  pub saved_at : IsSavedAt (around rows old) (booted s rows) (first_state session s rows before) session.turns session.steps words after shown
+  pub ran : SessionRan session s rows old before after IsDone (shown ++ (codes "stopped\n" ++ rest))
+  pub goes_on : SessionGoesOn session old s rows before
+  pub short : length (flat_map word words) ≤ FILE_ROOM
+  pub fits : (turns : ℕ) → session.turns ≤ turns → turns < 2 ^ 32 → machine_of (wanted_by s rows turns) (flat_map word words) ≡ Ok words
+  pub left : Left shown (flat_map word words)
+
+-- its bytes are those of the file, where that is told, and the row is printed
+abbrev pub IsSavedIn : (name : List ℕ) → (old new : Outside) → (shown bytes : List ℕ) → Type 0
+IsSavedIn name old new shown bytes = (new.shelf.file name ≡ retold (old.shelf.file name) bytes)
+    × (new.sink.text ≡ append_known old.sink.text (shown ++ saved_row))
+
+-- THE PREMISES of the theorem: the words of a save, and files that are an accepted image and a valid schedule, whose machine's file isn't too long; an
+-- honest disk with sectors enough; and no failed call
+pub record IsHonestSave (words : List (List ℕ)) (c : Save) (s : ImageSystem) (rows : Rows) (before : List (List ℕ)) (old new : Outside) : Type 0 where
+  pub asked : IsSave words c
+  pub files : AreFilesOf old.shelf.file c.boot s rows
+  pub short : most_bytes s ≤ FILE_ROOM
+  pub sectors : old.disk.sectors ≡ Some before
+  pub enough : sectors_needed (save_session c) s rows ≤ old.disk.size
+  pub unfailed : Unfailed old new
+
+-- THE THEOREM OF SAVE: sectors, status and text are those of the boot, whose kernel halted where it is done, and no file changes; or, exactly where the
+-- boot prints `stopped`, and so its machine is on, the row `saved` is printed in place of all from there on, and the file's bytes are the saved words of
+-- that machine
+pub data SaveHolds (c : Save) (s : ImageSystem) (rows : Rows) (before : List (List ℕ)) (old new : Outside) (status : Status) : Type 0 where
+  as_boot : (h : Headline (save_session c) s rows before old new status) → (h.ending ≡ IsDone → SessionHalted (save_session c) s rows before old)
+      → ((n : List ℕ) → new.shelf.file n ≡ old.shelf.file n) → SaveHolds c s rows before old new status
+  is_saved : status ≡ Done → ((n : List ℕ) → n ≢ c.file → new.shelf.file n ≡ old.shelf.file n)
+      → Stopped (save_session c) s rows before old new (IsSavedIn c.file old new) → SaveHolds c s rows before old new status
+
+abbrev pub Saves : List (List ℕ) → Status → (old new : Outside) → Type 0
+Saves words status old new = (c : Save) (s : ImageSystem) (rows : Rows) (before : List (List ℕ)) →
+    IsHonestSave words c s rows before old new → status ≢ Memory → SaveHolds c s rows before old new status

@@ -1,0 +1,61 @@
+-- WHERE NO CALL FAILS: a file that the shelf surely gives is got. And the files that a command gets, with the one that it may put.
+use Rattle.std.specs.Prelude.{◌≡◌, ◌⊎◌, ℕ, ⊤, Bool, true, List, [], ◌∷◌, map, Option, Some, None}
+use Rattle.run_scripts.specs.Command.{Command, boot, trace, save, resume, compile_user, compile_kernel, compile_program, link, migrate, sample, check, IsCommand}
+use Rattle.cvm_outside.specs.Script.{Call, Got}
+use Rattle.cvm_outside.specs.Causes.{Rose}
+use Rattle.cvm_outside.specs.Outside.{Outside}
+use Rattle.cvm_outside.specs.ScriptLaws.{GetsGiven}
+
+-- THE FILES that a command gets, in order
+abbrev pub files_of : Command → List (List ℕ)
+files_of (boot b) = b.image ∷ b.schedule ∷ []
+files_of (trace t) = t.boot.image ∷ t.boot.schedule ∷ []
+files_of (save c) = c.boot.image ∷ c.boot.schedule ∷ []
+files_of (resume c) = c.boot.image ∷ c.boot.schedule ∷ c.file ∷ []
+files_of (compile_user c) = c.text ∷ []
+files_of (compile_kernel c) = c.source ∷ []
+files_of (compile_program c) = c.source ∷ []
+files_of (link l) = l.object ∷ l.params ∷ l.users
+files_of (migrate m) = m.old ∷ []
+files_of (sample x) = []
+files_of (check c) = c.object ∷ []
+
+abbrev pub gets : List (List ℕ) → List Call
+gets names = map Got names
+
+-- the file that a command may put
+abbrev pub file_put : Command → Option (List ℕ)
+file_put (save c) = Some c.file
+file_put (compile_user c) = Some c.image
+file_put (compile_kernel c) = Some c.object
+file_put (compile_program c) = Some c.image
+file_put (link l) = Some l.image
+file_put (migrate m) = Some m.image
+file_put other = None
+
+-- the shelf surely gives these files
+abbrev pub AreGiven : (gives : List ℕ → Bool) → List (List ℕ) → Type 0
+AreGiven gives [] = ⊤
+AreGiven gives (name ∷ rest) = (gives name ≡ true) × AreGiven gives rest
+
+-- NO CALL FAILED: neither shelf nor sink nor disk counted a fault
+pub record Unfailed (old new : Outside) : Type 0 where
+  pub shelf : Rose old.shelf.faults new.shelf.faults → ⊥
+  pub sink : Rose old.sink.faults new.sink.faults → ⊥
+  pub disk : Rose old.disk.faults new.disk.faults → ⊥
+
+-- NO CALL FAILS of a command that gets these files and puts none: the shelf surely gives them, or it counted no fault; and neither sink nor disk counted one
+pub record IsServed (names : List (List ℕ)) (old new : Outside) : Type 0 where
+  pub shelf : AreGiven old.shelf.gives names ⊎ (Rose old.shelf.faults new.shelf.faults → ⊥)
+  pub sink : Rose old.sink.faults new.sink.faults → ⊥
+  pub disk : Rose old.disk.faults new.disk.faults → ⊥
+
+-- the shelf surely gives the files that a command gets, which puts none; or it counted no fault
+abbrev pub ShelfServes : Command → (old new : Outside) → Type 0
+ShelfServes c old new = (GetsGiven old.shelf.gives (gets (files_of c)) × (file_put c ≡ None)) ⊎ (Rose old.shelf.faults new.shelf.faults → ⊥)
+
+-- so it is of the command that the words are: the shelf serves it, and neither sink nor disk counted a fault
+pub record NoneFailed (words : List (List ℕ)) (old new : Outside) : Type 0 where
+  pub shelf : (c : Command) → IsCommand words c → ShelfServes c old new
+  pub sink : Rose old.sink.faults new.sink.faults → ⊥
+  pub disk : Rose old.disk.faults new.disk.faults → ⊥
