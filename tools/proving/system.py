@@ -217,12 +217,12 @@ use Rattle.cvm_model.specs.Cvm.{{System}}
 use Rattle.cvm_model.specs.Invariant.{{{fit}}}
 use Rattle.run_bounds.specs.Steps.{{steps_for}}
 use Rattle.kernel_linker.specs.Accept.{{ImageSystem}}
-use Rattle.cvm_shell.specs.declared.exit_status.Status.{{Status}}
-use Rattle.cvm_shell.specs.declared.exit_status.Status.TheVariants.{{KernelFault, Memory}}
-use Rattle.cvm_shell.specs.declared.boot.Session.{{Session}}
+use Rattle.run_scripts.specs.declared.exit_status.Status.{{Status}}
+use Rattle.run_scripts.specs.declared.exit_status.Status.TheVariants.{{KernelFault, Memory}}
+use Rattle.run_scripts.specs.declared.session.Session.{{Session}}
 use Rattle.cvm_outside.specs.Outside.{{Outside}}
-use Rattle.cvm_shell.specs.Boot.{{booted, around, first_state, steps_before, IsHonest}}
-use Rattle.cvm_shell.specs.CommandEnds.{{Headlines}}
+use Rattle.run_scripts.specs.Boot.{{booted, around, first_state, steps_before, IsHonest}}
+use Rattle.run_scripts.specs.CommandEnds.{{Headlines}}
 use Rattle.kernel_boots.specs.Systems.{{AsksSystem, SystemShown, HasHalted}}
 use Rattle.{name}.specs.Text.{{text as kernel_text}}
 {user_uses}use Rattle.{name}.specs.Property.{{Always}}
@@ -244,7 +244,7 @@ pub record Shown (x : Environment) (y : System) (s : State) (late raised turns s
 
 -- EACH BOOT of an image with the kernel's text and these users shows this, under every schedule
 abbrev pub SystemBoots : Type 0
-SystemBoots = {params_of}{premises}(words : List (List ℕ)) (status : Status) (old new : Outside) → Headlines (λ (o : Outside). o) words status old new
+SystemBoots = {params_of}{premises}(words : List (List ℕ)) (status : Status) (old new : Outside) → Headlines words status old new
     → (session : Session) (s : ImageSystem) (rows : Rows) (before : List (List ℕ)) → (h : IsHonest words session s rows before old new)
     → status ≢ Memory → session.view ≡ Boot → AsksSystem kernel_text ({users}) h.asked
     → (text : List ℕ) × (new.sink.text ≡ append_known old.sink.text text)
@@ -259,7 +259,7 @@ use Rattle.cvm_model.specs.Invariant.{{{fit}, RunsAreLawful}}
 use Rattle.run_bounds.specs.Lines.{{LinesTakenAreFew, RaisedLinesAreFew}}
 use Rattle.run_bounds.specs.Steps.{{BoundsAreSmall}}
 use Rattle.kernel_linker.specs.Sources.{{AcceptedAreOfImages}}
-use Rattle.cvm_shell.specs.Boot.{{booted, around, first_state, steps_before}}
+use Rattle.run_scripts.specs.Boot.{{booted, around, first_state, steps_before}}
 use Rattle.kernel_theorems.specs.Text.{{Means{means_program}}}
 use Rattle.kernel_boots.specs.Systems.{{SystemEndsWithin}}
 use Rattle.kernel_boots.proofs.Systems.{{asks_source, asked_users, systems_boot}}
@@ -327,10 +327,10 @@ is_text_{number} = record {{ short = omega arith; reads = refl; faultless = refl
 """
 
 DEPENDENCIES = ('cvm_words cvm_text cvm_outside schedule_file mips_table mips_machine layer_map c0_tokens c0_tree c0_parser c0_meaning c0_asm_text c0_types page_model cvm_model '
-                'layer_contract real_layer boot_turns boot_run sample_maker boot_image kernel_linker cvm_shell run_bounds kernel_theorems worked_rows kernel_boots')
-PROGRAM_DEPENDENCIES = ('cvm_words cvm_text cvm_outside schedule_file object_file mips_table mips_machine layer_map masm c0_tokens c0_tree c0_parser c0_meaning c0_struct_sizes c0_asm_text '
+                'layer_contract real_layer boot_turns boot_run sample_maker boot_image kernel_linker run_scripts run_bounds kernel_theorems worked_rows kernel_boots')
+PROGRAM_DEPENDENCIES = ('cvm_words cvm_text cvm_outside schedule_file object_file mips_table mips_machine layer_map masm c0_tokens c0_tree c0_parser c0_meaning c0_asm_text '
                         'c0_types page_model cvm_model run_bounds worked_rows layer_contract boot_rom real_layer c0_runtime c0_asm_body c0_expr_code c0_stmt_code c0_runs c0_unit unit_runs '
-                        'user_c0 boot_report boot_turns boot_run system_files sample_maker boot_image kernel_linker cvm_shell kernel_theorems kernel_boots')
+                        'user_c0 boot_report boot_turns boot_run system_files sample_maker boot_image kernel_linker run_scripts cvm_shell kernel_theorems kernel_boots')
 
 
 class User:

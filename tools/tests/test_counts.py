@@ -108,9 +108,9 @@ class Believed(unittest.TestCase):
         headline, boots, everything = [found for _, found in self.believed.totals(specs)]
         self.assertTrue(set(headline) < set(boots) < set(everything))
         self.assertEqual(set(everything), set(came).union(*[more for _, more in beside]))
-        self.assertTrue(set(came) < set(boots))
-        # how a run ends is one word of the first, and what it says is counted of the others
-        ends = specs.file('cvm_shell.specs.Ends')
+        self.assertTrue(set(headline) < set(came) < set(everything))
+        # how a run ends is no word of the first, and is counted of the others
+        ends = specs.file('run_scripts.specs.Ends')
         for name in ('Ends', 'Does', 'PlanAsks'):
             self.assertNotIn((ends.path, ends.own[name]), headline)
             self.assertIn((ends.path, ends.own[name]), boots)

@@ -176,11 +176,11 @@ class Listings(unittest.TestCase):
         made_listing = listing.Listing(rows.append)
         made_listing.code('kernel.c0', source, words, 'the code of a kernel')
         self.assertEqual(([' '.join(row.split()) for row in rows[-9:]], made_listing.unfit), ([
-            '000100a8 0800080d j 2061 -> fault StackOut', 'kernel.c0:2 x = x + 1;', '000100ac 8f880000 lw r8, 0(r28)', '000100b0 25080001 addiu r8, r8, 1',
-            '000100b4 af880000 sw r8, 0(r28)', 'kernel.c0:2 int dispatch(int cause, int data, int user) { x = x + 1; return 0; } (return)',
-            '000100b8 34020000 ori r2, r0, 0', 'kernel.c0:2 int dispatch(int cause, int data, int user) { x = x + 1; return 0; } (end of dispatch)',
-            '000100bc 03e00008 jr r31'], []))
-        self.assertIn('0c004027  jal 16423                   -> dispatch', rows[8])
+            '000100a0 0800080d j 2061 -> fault StackOut', 'kernel.c0:2 x = x + 1;', '000100a4 8f880000 lw r8, 0(r28)', '000100a8 25080001 addiu r8, r8, 1',
+            '000100ac af880000 sw r8, 0(r28)', 'kernel.c0:2 int dispatch(int cause, int data, int user) { x = x + 1; return 0; } (return)',
+            '000100b0 34020000 ori r2, r0, 0', 'kernel.c0:2 int dispatch(int cause, int data, int user) { x = x + 1; return 0; } (end of dispatch)',
+            '000100b4 03e00008 jr r31'], []))
+        self.assertIn('0c004025  jal 16421                   -> dispatch', rows[6])
 
     def test_words_that_do_not_fit_are_told(self):
         rows, source = [], pages.page('COMPILER.md').split('```')[1].strip('\n')
