@@ -34,7 +34,7 @@ class Options:
 
     @property
     def steps(self):
-        """How many steps are run at most. The program as `rt try` builds it, with its checks, makes some 300,000 in a second; the proved one 200,000,000."""
+        """How many steps are run at most. The program as `rt try` builds it, with its checks, makes a thousandth of what the proved one makes in a second, which is some 200,000,000."""
         if self.given_steps is not None:
             return self.given_steps
         # the steps beside turns are told by a program with checks, too
