@@ -1,10 +1,10 @@
 -- Numbers in lists, values set at many places, and ways through a graph.
-use Rattle.std.proofs.Common.{◌≡◌, ◌≢◌, ◌⊎◌, inl, inr, ℕ, zero, suc, ◌+◌, ◌-◌, ◌<◌, ◌≤◌, List, [], ◌∷◌, ◌++◌, length, drop, take, get_or, refl, sym, ap, ◌∙◌, subst, arith}
+use Rattle.std.proofs.Common.{◌≡◌, ◌≢◌, ◌⊎◌, inl, inr, ℕ, zero, suc, ◌+◌, ◌-◌, ◌<◌, ◌≤◌, Bool, List, [], ◌∷◌, ◌++◌, length, drop, take, replicate, get_or, refl, sym, ap, ◌∙◌, subst, arith}
 use Rattle.std.proofs.Math.ListN.{set, length-set}
 use Rattle.std.proofs.Math.Seq.{take-length}
 use Rattle.std.proofs.lemmas.Bool.{cases_lt}
-use Rattle.std.proofs.lemmas.List.{take_more, get_or-set_same, get_or-set_other}
-use Rattle.c0_struct_sizes.specs.Graph.{IsIn, Leads, by_edge, by_way, Reaches}
+use Rattle.std.proofs.lemmas.List.{take_more, get_or-set_same, get_or-set_other, get_or-replicate, get_or_past, length-replicate}
+use Rattle.c0_struct_sizes.specs.Graph.{IsIn, Leads, by_edge, by_way, Reaches, edges_in, AreInside, IsOrder, IsOrderOf}
 use Rattle.c0_struct_sizes.specs.Walk.{set_all}
 
 pub equal : (m n : ℕ) → ((m ≡ n) ⊎ (m ≢ n))
@@ -61,6 +61,12 @@ in_drop [] (suc s) i le h = absurd (omega arith)
 in_drop (x ∷ xs) (suc s) zero le h = absurd (omega arith)
 in_drop (x ∷ xs) (suc s) (suc i) le h = in_drop xs s i (omega arith) (omega arith)
 
+-- each of many the same is the same
+pub replicate_at : {A : Type 0} (x : A) (n v : ℕ) → get_or (replicate n x) v x ≡ x
+replicate_at x n v =
+    let len : length (replicate n x) ≡ n = length-replicate n x in
+    elim (cases_lt v n) [ inl below ↦ get_or-replicate n v x x below | inr above ↦ get_or_past (replicate n x) v x (omega arith) ]
+
 -- a list that isn't empty is all but its last element, and that
 pub last_split : (xs : List ℕ) → 0 < length xs → xs ≡ take (length xs - 1) xs ++ get_or xs (length xs - 1) 0 ∷ []
 last_split xs h =
@@ -99,3 +105,12 @@ module _ (edges : ℕ → List ℕ) where
 
   pub leads_edge : (a b c : ℕ) → Leads edges a b → IsIn (edges b) c → Leads edges a c
   leads_edge a b c k h = leads_on k (by_edge h)
+
+-- what is known of listed edges is known of a graph that they are
+module _ (edges : ℕ → List ℕ) (count : ℕ) (lists : List (List ℕ)) (same : (v : ℕ) → edges_in lists v ≡ edges v) (long : length lists ≡ count) where
+  pub listed_inside : ((v w : ℕ) → IsIn (edges v) w → w < count) → AreInside lists
+  listed_inside inside v w h = let lt : w < count = inside v w (subst (λ (ns : List ℕ). IsIn ns w) (same v) h) in omega arith
+
+  pub listed_order : (nodes : List ℕ) (turning : List Bool) → IsOrderOf lists nodes turning → IsOrder edges count nodes turning
+  listed_order nodes turning order =
+      subst (λ (n : ℕ). IsOrder edges n nodes turning) long (subst (λ (e : ℕ → List ℕ). IsOrder e (length lists) nodes turning) (λ j v. same v j) order)

@@ -4,3 +4,4 @@ pub mod Finishing
 pub mod Telling
 pub mod Moves
 pub mod Ends
+pub mod Told

@@ -1,5 +1,5 @@
 -- What holds wherever a walk stands holds after each of its steps.
-use Rattle.std.proofs.Common.{◌≡◌, ◌≢◌, inl, inr, ℕ, suc, ◌+◌, ◌-◌, ◌<◌, ◌≤◌, Bool, true, false, List, [], ◌∷◌, ◌++◌, length, drop, take, sym, ap, ◌∙◌, subst, arith}
+use Rattle.std.proofs.Common.{◌≡◌, ◌≢◌, inl, inr, ℕ, zero, suc, ◌+◌, ◌-◌, ◌<◌, ◌≤◌, Bool, List, [], ◌∷◌, ◌++◌, length, drop, take, sym, ap, ◌∙◌, subst, arith}
 use Rattle.std.proofs.Math.ListN.{set, length-set, get_or-append}
 use Rattle.std.proofs.Math.Seq.{drop-append_seam, get_or-append_seam}
 use Rattle.std.proofs.lemmas.Bool.{cases_lt}
@@ -8,34 +8,58 @@ use Rattle.c0_struct_sizes.specs.declared.walk.Mark.{Mark}
 use Rattle.c0_struct_sizes.specs.declared.walk.Mark.TheVariants.{Unseen, Open, Done}
 use Rattle.c0_struct_sizes.specs.declared.walk.Group.{Group}
 use Rattle.c0_struct_sizes.specs.Graph.{IsIn, Leads, by_edge, Reaches}
-use Rattle.c0_struct_sizes.specs.Walk.{WalkState, mark_of, node_at, group_at, IsFollowed, is_done, is_open, is_left, IsGroup, IsBefore, LeadsBack, AreDone, IsWalk, met, last_of, without_target, joined, target_of}
+use Rattle.c0_struct_sizes.specs.Walk.{WalkState, mark_of, node_at, group_at, IsFollowed, is_done, is_open, is_left, IsGroup, IsBefore, LeadsBack, AreDone, IsWalk, mark_work, unseen_work, set_all, met, last_of, without_target, joined, target_of}
 use Rattle.c0_struct_sizes.proofs.GraphLemmas.{equal, in_left, in_right, in_parts, last_split, reaches_leads, leads_reaches, leads_edge}
 
 -- an edge stays followed where what is done or open stays so, and what is left stays left or is followed
 pub followed_on : (old new : List Mark) (start : ℕ) (before after : List ℕ) (w : ℕ)
-    → ((b : Bool) → mark_of old w ≡ Done b → IsFollowed new start after w)
+    → (mark_of old w ≡ Done → IsFollowed new start after w)
     → ((q : ℕ) → mark_of old w ≡ Open q → start ≤ q → IsFollowed new start after w)
     → (IsIn before w → IsFollowed new start after w)
     → IsFollowed old start before w → IsFollowed new start after w
-followed_on old new start before after w f g h (is_done b e) = f b e
+followed_on old new start before after w f g h (is_done e) = f e
 followed_on old new start before after w f g h (is_open q e le) = g q e le
 followed_on old new start before after w f g h (is_left i) = h i
 
 -- what is told of the numbers that are done, where the same are done
-done_same : (edges : ℕ → List ℕ) (right : ℕ → ℕ → Type 0) (old new : List Mark) (words : List ℕ)
-    → ((v : ℕ) (b : Bool) → mark_of old v ≡ Done b → mark_of new v ≡ Done b)
-    → ((v : ℕ) (b : Bool) → mark_of new v ≡ Done b → mark_of old v ≡ Done b)
-    → AreDone edges right old words → AreDone edges right new words
-done_same edges right old new words kept was d = record {
-  closed = λ v w b e h. let c = d.closed v w b (was v b e) h in (c.0, kept w c.0 c.1);
-  cyclic = λ v e. d.cyclic v (was v true e);
-  loose = λ v e. d.loose v (was v false e);
-  sized = λ v b e. d.sized v b (was v b e);
+done_same : (edges : ℕ → List ℕ) (old new : List Mark) (turning : List Bool) (listed : List ℕ)
+    → ((v : ℕ) → mark_of old v ≡ Done → mark_of new v ≡ Done)
+    → ((v : ℕ) → mark_of new v ≡ Done → mark_of old v ≡ Done)
+    → AreDone edges old turning listed → AreDone edges new turning listed
+done_same edges old new turning listed kept was d = record {
+  closed = λ v w e h. kept w (d.closed v w (was v e) h);
+  turns = λ v e. d.turns v (was v e);
+  all = λ v. ((λ e. (d.all v).0 (was v e)), (λ i. kept v ((d.all v).1 i)));
+  first = d.first;
 }
 
-module _ (edges : ℕ → List ℕ) (count : ℕ) (right : ℕ → ℕ → Type 0) where
+-- the work of a number that is met
+pub met_work : (weight : ℕ → ℕ) (marks : List Mark) (k v u q : ℕ) → u ≡ k + v → mark_of marks v ≡ Unseen → v < length marks → unseen_work weight k (set marks v (Open q)) + weight u ≡ unseen_work weight k marks
+met_work weight [] k v u q at unseen lt = absurd (omega arith)
+met_work weight (m ∷ ms) k zero u q at unseen lt =
+    let same : u ≡ k = omega arith in
+    let mark : mark_work m (weight k) ≡ weight k = ap (λ (x : Mark). mark_work x (weight k)) unseen in
+    let one : weight u ≡ weight k = ap weight same in
+    omega arith
+met_work weight (m ∷ ms) k (suc v) u q at unseen lt =
+    let h : unseen_work weight (suc k) (set ms v (Open q)) + weight u ≡ unseen_work weight (suc k) ms = met_work weight ms (suc k) v u q (omega arith) unseen (omega arith) in
+    omega arith
+
+one_done : (weight : ℕ → ℕ) (marks : List Mark) (k v : ℕ) → unseen_work weight k (set marks v Done) ≤ unseen_work weight k marks
+one_done weight [] k v = omega arith
+one_done weight (m ∷ ms) k zero = omega arith
+one_done weight (m ∷ ms) k (suc v) = let h : unseen_work weight (suc k) (set ms v Done) ≤ unseen_work weight (suc k) ms = one_done weight ms (suc k) v in omega arith
+
+pub all_done : (weight : ℕ → ℕ) (marks : List Mark) (nodes : List ℕ) → unseen_work weight 0 (set_all marks nodes Done) ≤ unseen_work weight 0 marks
+all_done weight marks [] = omega arith
+all_done weight marks (v ∷ rest) =
+    let h : unseen_work weight 0 (set_all (set marks v Done) rest Done) ≤ unseen_work weight 0 (set marks v Done) = all_done weight (set marks v Done) rest in
+    let one : unseen_work weight 0 (set marks v Done) ≤ unseen_work weight 0 marks = one_done weight marks 0 v in
+    omega arith
+
+module _ (edges : ℕ → List ℕ) (count : ℕ) where
   -- each number of the path reaches the start of the last group
-  pub reach_last : (s : WalkState) → IsWalk edges count right s → (last : ℕ) → length s.groups ≡ suc last → (i : ℕ) → i < length s.path → Reaches edges (node_at s.path i) (node_at s.path (group_at s.groups last).path_start)
+  pub reach_last : (s : WalkState) → IsWalk edges count s → (last : ℕ) → length s.groups ≡ suc last → (i : ℕ) → i < length s.path → Reaches edges (node_at s.path i) (node_at s.path (group_at s.groups last).path_start)
   reach_last s w last len i h =
       let b = w.back i h in
       elim (cases_lt b.group last) [
@@ -51,16 +75,16 @@ module _ (edges : ℕ → List ℕ) (count : ℕ) (right : ℕ → ℕ → Type 
       ]
 
   -- each number of the path leads to what is left of the last group
-  pub target_held : (s : WalkState) → IsWalk edges count right s → (last : ℕ) → length s.groups ≡ suc last → (x : ℕ) → IsIn (drop (group_at s.groups last).todo_start s.todo) x → (i : ℕ) → i < length s.path → Leads edges (node_at s.path i) x
+  pub target_held : (s : WalkState) → IsWalk edges count s → (last : ℕ) → length s.groups ≡ suc last → (x : ℕ) → IsIn (drop (group_at s.groups last).todo_start s.todo) x → (i : ℕ) → i < length s.path → Leads edges (node_at s.path i) x
   target_held s w last len x h i lt =
       reaches_leads edges (node_at s.path i) (node_at s.path (group_at s.groups last).path_start) x (reach_last s w last len i lt) ((w.groups last (omega arith)).held x h)
 
   -- an edge taken off that is followed for each group
-  pub target_dropped : (s : WalkState) → IsWalk edges count right s → 0 < length s.todo
+  pub target_dropped : (s : WalkState) → IsWalk edges count s → 0 < length s.todo
       → ((k : ℕ) → k < length s.groups → (group_at s.groups k).todo_start < length s.todo)
       → ((k : ℕ) → k < length s.groups → IsFollowed s.marks (group_at s.groups k).path_start [] (target_of s))
       → (mark_of s.marks (target_of s) ≡ Unseen → ⊥)
-      → IsWalk edges count right (without_target s)
+      → IsWalk edges count (without_target s)
   target_dropped s w some above followed seen =
       let rest : List ℕ = take (length s.todo - 1) s.todo in
       let x : ℕ = target_of s in
@@ -72,7 +96,8 @@ module _ (edges : ℕ → List ℕ) (count : ℕ) (right : ℕ → ℕ → Type 
       let into : (v : ℕ) → IsIn rest v → IsIn s.todo v = λ v h. subst (λ (l : List ℕ). IsIn l v) (sym split) (in_left rest (x ∷ []) v h) in
       record {
         marks = w.marks;
-        words = w.words;
+        flags = w.flags;
+        few = w.few;
         path = w.path;
         done = w.done;
         groups = λ k h.
@@ -109,9 +134,9 @@ module _ (edges : ℕ → List ℕ) (count : ℕ) (right : ℕ → ℕ → Type 
       }
 
   -- the last group made a part of the one before it, where the path leads from its start to a number that stands before it
-  pub groups_joined : (s : WalkState) → IsWalk edges count right s → (m : ℕ) → length s.groups ≡ suc (suc m) → (p : ℕ) → p < (group_at s.groups (suc m)).path_start
+  pub groups_joined : (s : WalkState) → IsWalk edges count s → (m : ℕ) → length s.groups ≡ suc (suc m) → (p : ℕ) → p < (group_at s.groups (suc m)).path_start
       → Leads edges (node_at s.path (group_at s.groups (suc m)).path_start) (node_at s.path p)
-      → IsWalk edges count right (joined s)
+      → IsWalk edges count (joined s)
   groups_joined s w m len p before leads =
       let last : ℕ = last_of s in
       let at : last ≡ suc m = omega arith in
@@ -119,7 +144,8 @@ module _ (edges : ℕ → List ℕ) (count : ℕ) (right : ℕ → ℕ → Type 
       let same : (k : ℕ) → k < last → group_at (take last s.groups) k ≡ group_at s.groups k = λ k h. get_or-take last s.groups k _ h in
       record {
         marks = w.marks;
-        words = w.words;
+        flags = w.flags;
+        few = w.few;
         path = w.path;
         done = w.done;
         groups = λ k h. subst (λ (g : Group). IsGroup edges s.marks s.path s.todo g) (sym (same k (omega arith))) (w.groups k (omega arith));
@@ -162,10 +188,10 @@ module _ (edges : ℕ → List ℕ) (count : ℕ) (right : ℕ → ℕ → Type 
       }
 
   -- a number met that was unseen, where each number of the path leads to it
-  pub number_met : (s : WalkState) → IsWalk edges count right s → (v : ℕ) → v < count → mark_of s.marks v ≡ Unseen
+  pub number_met : (s : WalkState) → IsWalk edges count s → (v : ℕ) → v < count → mark_of s.marks v ≡ Unseen
       → ((i : ℕ) → i < length s.path → Leads edges (node_at s.path i) v)
       → ((u : ℕ) → IsIn (edges v) u → u < count)
-      → IsWalk edges count right (met edges v s)
+      → IsWalk edges count (met edges v s)
   number_met s w v lt unseen held low =
       let n : ℕ = length s.path in
       let t : ℕ = length s.todo in
@@ -185,8 +211,8 @@ module _ (edges : ℕ → List ℕ) (count : ℕ) (right : ℕ → ℕ → Type 
       let node_new : node_at path n ≡ v = get_or-append_seam s.path v [] 0 in
       let group_old : (k : ℕ) → k < m → group_at groups k ≡ group_at s.groups k = λ k h. get_or-append s.groups (new ∷ []) _ k h in
       let group_new : group_at groups m ≡ new = get_or-append_seam s.groups new [] _ in
-      let kept_done : (u : ℕ) (b : Bool) → mark_of s.marks u ≡ Done b → mark_of marks u ≡ Done b
-      = λ u b e. mark_other u (λ same. let f : mark_of s.marks v ≡ Done b = subst (λ (x : ℕ). mark_of s.marks x ≡ Done b) same e in cc) ∙ e in
+      let kept_done : (u : ℕ) → mark_of s.marks u ≡ Done → mark_of marks u ≡ Done
+      = λ u e. mark_other u (λ same. let f : mark_of s.marks v ≡ Done = subst (λ (x : ℕ). mark_of s.marks x ≡ Done) same e in cc) ∙ e in
       let kept_open : (u q : ℕ) → mark_of s.marks u ≡ Open q → mark_of marks u ≡ Open q
       = λ u q e. mark_other u (λ same. let f : mark_of s.marks v ≡ Open q = subst (λ (x : ℕ). mark_of s.marks x ≡ Open q) same e in cc) ∙ e in
       let was : (u : ℕ) (k : Mark) → (k ≡ Open n → ⊥) → mark_of marks u ≡ k → mark_of s.marks u ≡ k
@@ -194,14 +220,17 @@ module _ (edges : ℕ → List ℕ) (count : ℕ) (right : ℕ → ℕ → Type 
         | inl same ↦ absurd (other (sym e ∙ subst (λ (x : ℕ). mark_of marks x ≡ Open n) (sym same) mark_same))
         | inr ne ↦ sym (mark_other u ne) ∙ e
       ] in
-      let was_done : (u : ℕ) (b : Bool) → mark_of marks u ≡ Done b → mark_of s.marks u ≡ Done b = λ u b e. was u (Done b) (λ f. cc) e in
+      let was_done : (u : ℕ) → mark_of marks u ≡ Done → mark_of s.marks u ≡ Done = λ u e. was u Done (λ f. cc) e in
+      let met_one : unseen_work (λ x. 1) 0 marks + 1 ≡ unseen_work (λ x. 1) 0 s.marks = met_work (λ x. 1) s.marks 0 v v n (omega arith) unseen (omega arith) in
+      let few : length s.listed + length s.path + unseen_work (λ x. 1) 0 s.marks ≤ count = w.few in
       let new_node : (i : ℕ) → n ≤ i → i < length path → node_at path i ≡ v
       = λ i le h. let same : i ≡ n = omega arith in subst (λ (k : ℕ). node_at path k ≡ v) (sym same) node_new in
       let from_new : (u : ℕ) → IsIn (edges v) u → (start : ℕ) → start ≤ t → IsIn (drop start todo) u
       = λ u e start le. subst (λ (l : List ℕ). IsIn l u) (sym (drop-append-le start s.todo (edges v) le)) (in_right (drop start s.todo) (edges v) u e) in
       record {
         marks = length-set s.marks v (Open n) ∙ w.marks;
-        words = w.words;
+        flags = w.flags;
+        few = omega arith;
         path = record {
           opened = λ i h. elim (cases_lt i n) [
             | inl below ↦
@@ -229,7 +258,7 @@ module _ (edges : ℕ → List ℕ) (count : ℕ) (right : ℕ → ℕ → Type 
                 | inr above ↦ subst (λ (y : ℕ). Leads edges (node_at s.path i) y) (sym (new_node j above h)) (held i (omega arith))
               ]);
         };
-        done = done_same edges right s.marks marks s.words kept_done was_done w.done;
+        done = done_same edges s.marks marks s.turning s.listed kept_done was_done w.done;
         groups = λ k h. elim (cases_lt k m) [
           | inl below ↦
               let g = w.groups k below in
@@ -243,7 +272,7 @@ module _ (edges : ℕ → List ℕ) (count : ℕ) (right : ℕ → ℕ → Type 
                 followed = λ i u le lim e. elim (cases_lt i n) [
                   | inl older ↦
                       followed_on s.marks marks start (drop from s.todo) (drop from todo) u
-                      (λ b f. is_done b (kept_done u b f))
+                      (λ f. is_done (kept_done u f))
                       (λ q f le2. is_open q (kept_open u q f) le2)
                       (λ inside. is_left (subst (λ (l : List ℕ). IsIn l u) (sym (drop-append-le from s.todo (edges v) in_todo)) (in_left (drop from s.todo) (edges v) u inside)))
                       (g.followed i u le older (subst (λ (x : ℕ). IsIn (edges x) u) (node_old i older) e))

@@ -4,8 +4,9 @@ use Rattle.std.proofs.Common.{◌≡◌, inl, inr, ℕ, zero, suc, ◌+◌, ◌*
 use Rattle.std.specs.Option.{option_to_list, option_map}
 use Rattle.std.specs.Str.{bytes_eq}
 use Rattle.std.proofs.lemmas.Bool.{or_cases, or_left, or_right, cases_Bool, cond-true, cond-false, false≢true}
-use Rattle.std.proofs.lemmas.Bool.Decides.{Decides-eqb}
 use Rattle.std.proofs.lemmas.Slice.Eq.{bytes_eq-Decides}
+use Rattle.c0_tree.specs.declared.tree.StructDef.{StructDef}
+use Rattle.c0_tree.specs.View.{decl_view, struct_view}
 use Rattle.c0_tree.specs.Tree.{CTy, int, bool, pointer, named, array, CDecl, CStruct}
 use Rattle.c0_meaning.specs.Ty as ty
 use Rattle.c0_meaning.specs.Ty.{ty_of}
@@ -15,9 +16,21 @@ use Rattle.c0_meaning.proofs.Capped.{capped_product}
 use Rattle.c0_name_check.specs.Names.{number_named}
 use Rattle.c0_meaning.specs.Sizes.{WORDS_CAP}
 use Rattle.c0_name_check.specs.Structs.{listed_words, capped_words}
-use Rattle.c0_struct_sizes.specs.Graph.{IsIn, Leads, by_edge, by_way}
-use Rattle.c0_struct_sizes.specs.Parts.{struct_number, parts, is_number, has_part, all_capped, fields_at, edges, AreWordsOf, TellsFirst}
+use Rattle.c0_struct_sizes.specs.Graph.{IsIn, Leads, by_edge, by_way, edges_in}
+use Rattle.c0_struct_sizes.specs.Parts.{struct_number, parts, all_capped, fields_at, edges, AreWordsOf, TellsFirst}
 use Rattle.c0_struct_sizes.proofs.GraphLemmas.{in_left, in_right, in_parts}
+
+-- the fields of a struct at its place
+pub fields_there : (items : List StructDef) (v : ℕ) (d : StructDef) → v < length items → fields_at (map struct_view items) v ≡ map decl_view (get_or items v d).fields.items
+fields_there [] v d h = absurd (omega arith)
+fields_there (s ∷ rest) zero d h = refl
+fields_there (s ∷ rest) (suc v) d h = fields_there rest v d (omega arith)
+
+-- the parts of a struct by the list of those of all
+pub parts_there : (number : List ℕ → Option ℕ) (structs : List CStruct) (v : ℕ) → edges_in (map (λ s. parts number s.fields) structs) v ≡ edges number structs v
+parts_there number [] v = refl
+parts_there number (s ∷ rest) zero = refl
+parts_there number (s ∷ rest) (suc v) = parts_there number rest v
 
 -- the name of the struct of a number
 abbrev pub text_at : List CStruct → ℕ → List ℕ
@@ -97,31 +110,6 @@ parts_name number (d ∷ rest) j h =
       | inr later ↦
           let p = parts_name number rest j later in
           (p.0, (or_right (is_made_of p.0 (ty_of d.ty)) (have_field (map typed_of rest) p.0) p.1.0, p.1.1))
-    ]
-
-is_number_true : (o : Option ℕ) (n : ℕ) → is_number o n ≡ true → o ≡ Some n
-is_number_true None n h = absurd (false≢true h)
-is_number_true (Some m) n h = ap (λ (x : ℕ). Some x) ((Decides-eqb m n).0 h)
-
--- the test for a part is right
-pub has_part_in : (number : List ℕ → Option ℕ) (ds : List CDecl) (n : ℕ) → has_part number ds n ≡ true → IsIn (parts number ds) n
-has_part_in number [] n h = absurd (false≢true h)
-has_part_in number (d ∷ rest) n h =
-    elim (or_cases (is_number (struct_number number d.ty) n) (has_part number rest n) h) [
-      | inl here ↦
-          in_left (option_to_list (struct_number number d.ty)) (parts number rest) n
-          (subst (λ (o : Option ℕ). IsIn (option_to_list o) n) (sym (is_number_true (struct_number number d.ty) n here)) (inl refl))
-      | inr later ↦ in_right (option_to_list (struct_number number d.ty)) (parts number rest) n (has_part_in number rest n later)
-    ]
-
-pub in_has_part : (number : List ℕ → Option ℕ) (ds : List CDecl) (n : ℕ) → IsIn (parts number ds) n → has_part number ds n ≡ true
-in_has_part number [] n h = absurd h
-in_has_part number (d ∷ rest) n h =
-    elim (in_parts (option_to_list (struct_number number d.ty)) (parts number rest) n h) [
-      | inl here ↦
-          or_left (is_number (struct_number number d.ty) n) (has_part number rest n)
-          (subst (λ (o : Option ℕ). is_number o n ≡ true) (sym (in_option (struct_number number d.ty) n here)) ((Decides-eqb n n).1 refl))
-      | inr later ↦ or_right (is_number (struct_number number d.ty) n) (has_part number rest n) (in_has_part number rest n later)
     ]
 
 -- what has no fields holds nothing

@@ -1,47 +1,58 @@
--- At the end of the walk what is told of each struct is right.
-use Rattle.std.proofs.Common.{◌≡◌, ◌∙◌, ℕ, List, map, get_or, min, Result, Ok, Err, sym, subst}
-use Rattle.std.specs.Prelude.{IfOk}
+-- At the end what is told of each struct is right.
+use Rattle.std.proofs.Common.{◌≡◌, ◌∙◌, ℕ, Bool, List, map, get_or, min, sym, ap, subst}
+use Rattle.std.proofs.lemmas.Result.{IfOk-weaker}
 use Rattle.c0_tree.specs.View.{struct_view}
 use Rattle.c0_meaning.specs.Env.{shape_of}
 use Rattle.c0_meaning.specs.Ty as ty
-use Rattle.c0_meaning.specs.Words.{holds, words}
+use Rattle.c0_meaning.specs.Words.{words}
 use Rattle.c0_name_check.specs.Names.{look}
-use Rattle.c0_meaning.specs.Sizes.{WORDS_CAP}
-use Rattle.c0_name_check.specs.Structs.{KnowsStructs, listed_words}
-use Rattle.c0_struct_sizes.specs.Walk.{state_of, listed_cyclic}
-use Rattle.c0_meaning.specs.Sizes.{struct_sizes}
-use Rattle.c0_struct_sizes.proofs.Ends.{words_told, table_told, all_held_told}
+use Rattle.c0_meaning.specs.Sizes.{WORDS_CAP, struct_sizes}
+use Rattle.c0_name_check.specs.Structs.{KnowsStructs}
+use Rattle.c0_struct_sizes.specs.Parts.{AreWordsAmong, IsOrderOver, holding_themselves, turning_listed, words_listed}
+use Rattle.c0_struct_sizes.proofs.Told.{words_told, table_told, all_held_told}
 use Rattle.c0_struct_sizes.proofs.sizes.struct_sizes.Goals as goal
 
-if_ok : {T E : Type 0} (r : Result T E) (P Q : T → Type 0) → ((x : T) → P x → Q x) → IfOk r P → IfOk r Q
-if_ok (Ok x) P Q f h = f x h
-if_ok (Err e) P Q f h = h
+pub words_in_order-requires-clause-order : goal.words_in_order-requires-clause-order
+words_in_order-requires-clause-order c =
+    subst (λ (ns : List ℕ). IsOrderOver (look c.args.names.now) (map struct_view c.args.structs.now) ns c.deref-2.result.now) (sym c.deref.ensures.value)
+    (subst (λ (bs : List Bool). IsOrderOver (look c.args.names.now) (map struct_view c.args.structs.now) c.in_ok-order.order.nodes.items bs) (sym c.deref-2.ensures.value) c.in_ok-order.ensures)
 
 pub returns-clause-words : goal.returns-clause-words
 returns-clause-words c =
-    if_ok c.sizes_of.result
-    (λ s. s.words.items ≡ map (λ x. listed_words c.in_ok-walk.walk.words.items (look c.args.names.now x.name.text)) (map struct_view c.args.structs.now))
+    let right : AreWordsAmong (look c.args.names.now) (map struct_view c.args.structs.now) c.in_ok-order.order.nodes.items c.in_ok-words.words.items
+    = subst (λ (ns : List ℕ). AreWordsAmong (look c.args.names.now) (map struct_view c.args.structs.now) ns c.in_ok-words.words.items) c.deref.ensures.value c.in_ok-words.ensures in
+    IfOk-weaker c.sizes_of.result
+    (λ s. s.words.items ≡ words_listed c.deref-3.result.now (look c.args.names.now) (map struct_view c.args.structs.now))
     (λ s. KnowsStructs c.args.names.now s.words.items (map shape_of (map struct_view c.args.structs.now)))
     (λ s e. record {
       numbers = c.requires.told;
       words = λ text n h.
-          subst (λ (l : List ℕ). get_or l n 0 ≡ min (words (map shape_of (map struct_view c.args.structs.now)) (ty.named text)) WORDS_CAP) (sym e)
-          (words_told (look c.args.names.now) (map struct_view c.args.structs.now) c.requires.told (state_of c.in_ok-walk.walk) c.in_ok-walk.ensures.walk c.in_ok-walk.ensures.over text n h);
+          subst (λ (l : List ℕ). get_or l n 0 ≡ min (words (map shape_of (map struct_view c.args.structs.now)) (ty.named text)) WORDS_CAP)
+          (sym (e ∙ ap (λ (l : List ℕ). words_listed l (look c.args.names.now) (map struct_view c.args.structs.now)) c.deref-3.ensures.value))
+          (words_told (look c.args.names.now) (map struct_view c.args.structs.now) c.requires.told c.in_ok-order.order.nodes.items c.in_ok-order.order.turning.items c.in_ok-order.ensures c.in_ok-words.words.items right text n h);
     })
     c.sizes_of.ensures.words
 
 pub returns-clause-held : goal.returns-clause-held
 returns-clause-held c =
-    if_ok c.sizes_of.result
-    (λ s. s.holds_itself.items ≡ map (λ x. listed_cyclic c.in_ok-walk.walk.marks.items (look c.args.names.now x.name.text)) (map struct_view c.args.structs.now))
-    (λ s. s.holds_itself.items ≡ map (λ x. holds (map shape_of (map struct_view c.args.structs.now)) x.name.text x.name.text) (map struct_view c.args.structs.now))
-    (λ s e. e ∙ all_held_told (look c.args.names.now) (map struct_view c.args.structs.now) c.requires.told (state_of c.in_ok-walk.walk) c.in_ok-walk.ensures.walk c.in_ok-walk.ensures.over c.holding_is_as_tested.ensures)
+    IfOk-weaker c.sizes_of.result
+    (λ s. s.holds_itself.items ≡ turning_listed c.deref-4.result.now (look c.args.names.now) (map struct_view c.args.structs.now))
+    (λ s. s.holds_itself.items ≡ holding_themselves (map struct_view c.args.structs.now))
+    (λ s e.
+    e
+    ∙ ap (λ (l : List Bool). turning_listed l (look c.args.names.now) (map struct_view c.args.structs.now)) c.deref-4.ensures.value
+    ∙ all_held_told (look c.args.names.now) (map struct_view c.args.structs.now) c.requires.told c.in_ok-order.order.nodes.items c.in_ok-order.order.turning.items c.in_ok-order.ensures c.holding_is_as_tested.ensures)
     c.sizes_of.ensures.held
 
 pub returns-clause-table : goal.returns-clause-table
 returns-clause-table c =
-    if_ok c.sizes_of.result
-    (λ s. s.words.items ≡ map (λ x. listed_words c.in_ok-walk.walk.words.items (look c.args.names.now x.name.text)) (map struct_view c.args.structs.now))
+    let right : AreWordsAmong (look c.args.names.now) (map struct_view c.args.structs.now) c.in_ok-order.order.nodes.items c.in_ok-words.words.items
+    = subst (λ (ns : List ℕ). AreWordsAmong (look c.args.names.now) (map struct_view c.args.structs.now) ns c.in_ok-words.words.items) c.deref.ensures.value c.in_ok-words.ensures in
+    IfOk-weaker c.sizes_of.result
+    (λ s. s.words.items ≡ words_listed c.deref-3.result.now (look c.args.names.now) (map struct_view c.args.structs.now))
     (λ s. s.words.items ≡ struct_sizes (map shape_of (map struct_view c.args.structs.now)))
-    (λ s e. e ∙ table_told (look c.args.names.now) (map struct_view c.args.structs.now) c.requires.told (state_of c.in_ok-walk.walk) c.in_ok-walk.ensures.walk c.in_ok-walk.ensures.over c.words_are_those_of_the_parts.ensures)
+    (λ s e.
+    e
+    ∙ ap (λ (l : List ℕ). words_listed l (look c.args.names.now) (map struct_view c.args.structs.now)) c.deref-3.ensures.value
+    ∙ table_told (look c.args.names.now) (map struct_view c.args.structs.now) c.requires.told c.in_ok-order.order.nodes.items c.in_ok-order.order.turning.items c.in_ok-order.ensures c.in_ok-words.words.items right c.words_are_those_of_the_parts.ensures)
     c.sizes_of.ensures.words
