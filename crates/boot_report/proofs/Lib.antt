@@ -2,8 +2,6 @@ pub mod Texts
 pub mod MemoryLemmas
 pub mod UserLemmas
 pub mod Spoken
-pub mod Leaves
-pub mod Performed
 pub mod Telling
 pub mod GlobalRows
 pub mod GlobalNumbers

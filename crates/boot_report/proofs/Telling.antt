@@ -1,4 +1,4 @@
--- The rows of the users, and of the log, are those of the abstract machine.
+-- What the machine shows of the users, and the rows of the log, are those of the abstract machine.
 use Rattle.std.proofs.Common.{◌≡◌, ◌≢◌, ℕ, zero, suc, ◌+◌, ◌-◌, ◌*◌, ◌/◌, ◌%◌, ◌<◌, ◌≤◌, Bool, true, false, ◌&&◌, List, [], ◌∷◌, ◌++◌, length, get_or, drop, Some, codes, refl, sym, ap, ap₂, ◌∙◌, subst, ⊎_elim, arith, get_or-drop, length-drop, ne_eqb, eq-eqb, lt-ltb}
 use Rattle.std.specs.Prelude.{◌==◌, nat_lt, slice_index}
 use Rattle.std.proofs.lemmas.Bool.{cases_eq, cases_Bool}
@@ -7,21 +7,22 @@ use Rattle.std.proofs.lemmas.Nat.{div-mul-add}
 use Rattle.mips_table.specs.Device.{Environment}
 use Rattle.mips_table.specs.Processor.{Cpu}
 use Rattle.mips_table.specs.Flat.{Flat}
-use Rattle.mips_table.specs.Machine.{State}
 use Rattle.mips_machine.specs.Machine.{Held, state_of}
-use Rattle.layer_map.specs.Map.{MapInRange, block_at}
+use Rattle.layer_map.specs.Map.{Map, block_at}
 use Rattle.page_model.specs.Paging.{Paged, IsFrame, shown_word}
 use Rattle.page_model.specs.Places.{page_layout}
 use Rattle.cvm_model.specs.Kernel.{Core}
 use Rattle.cvm_model.specs.Primitives.{user_of, pages_of, no_flat}
 use Rattle.cvm_model.specs.Cvm.{Status}
 use Rattle.cvm_model.specs.Paged.{paged_of, pages_by}
-use Rattle.cvm_model.specs.Stands.{Site, RunningRelation, UserFits, runs_user}
+use Rattle.cvm_model.specs.Stands.{Site, RunningRelation, IsUser, UserFits, runs_user}
 use Rattle.cvm_model.specs.Text.{hex_row, nonzero_row, regs_text, memory_text, user_text, users_text, log_text}
-use Rattle.boot_report.specs.Texts.{texts, register_row, memory_row, register_rows, processor_rows, pages_rows, rows_of_one, rows_of_user, users_rows, user_head, log_rows, cpu_of, pages_in, EntriesFit}
-use Rattle.boot_report.proofs.Spoken.{shown_is, user_spoken, users_spoken}
+use Rattle.boot_report.specs.Texts.{texts, register_row, memory_row, register_rows, processor_rows, user_head, log_rows, cpu_of, pages_in, EntriesFit}
+use Rattle.boot_report.proofs.Spoken.{pages_rows, speaks_scripts, shown_is, user_spoken}
 use Rattle.boot_report.specs.Resident.{page_of_word}
-use Rattle.boot_report.specs.Told.{IsRunning, RowsTell, UserRowsTell, WordsAreTold, WordsTell}
+use Rattle.boot_report.specs.Scripts.{user_script}
+use Rattle.cvm_outside.specs.Script.{spoken}
+use Rattle.boot_report.specs.Told.{IsRunning, RowsTell, UserIsTold, UserTells, WordsTell}
 use Rattle.boot_report.specs.Speaks.{UsersSpeak, UserSpeaks, WordsShow}
 use Rattle.boot_report.proofs.Texts.{texts-none, texts-suc, texts-add, texts-same}
 
@@ -48,7 +49,7 @@ by_pages f (suc n) =
 log_told : (log : List ℕ) → log_rows log ≡ log_text log
 log_told log = sym (from_front 0 (λ k xs. log_text xs) (λ k w. hex_row (codes "con") w) (λ k. refl) (λ k w rest. refl) 0 log)
 
-registers_told : (regs : List ℕ) (cpu : Cpu) → cpu.regs ≡ regs → length regs ≡ 32 → register_rows cpu 31 ≡ regs_text 1 (drop 1 regs)
+pub registers_told : (regs : List ℕ) (cpu : Cpu) → cpu.regs ≡ regs → length regs ≡ 32 → register_rows cpu 31 ≡ regs_text 1 (drop 1 regs)
 registers_told regs cpu e long =
     let few : length (drop 1 regs) ≡ 31 = omega (arith, length-drop 1 regs, long) in
     sym (from_front 0 regs_text register_row (λ k. refl) (λ k w rest. refl) 1 (drop 1 regs)
@@ -64,121 +65,92 @@ memory_told words a q n long h =
 false_true : (b : Bool) → b ≡ false → b ≡ true → ⊥
 false_true b e f = cc
 
-module _ (x : Environment) (y : Site) (held : Held) (ss : List (List ℕ)) (status : Status) (c : Core) (running : ℕ) (range : MapInRange y.map) (st : RunningRelation x y (state_of held ss) status c) (run : IsRunning held ss c running) where
-  abbrev s : State
-  s = state_of held ss
+-- a user
+module _ (x : Environment) (y : Site) (held : Held) (ss : List (List ℕ)) (status : Status) (c : Core) (running u : ℕ) (st : RunningRelation x y (state_of held ss) status c) (run : IsRunning held ss c running) (is : IsUser c u) where
+  behind : u - 1 + 1 ≡ u
+  behind = let low : 1 ≤ u = is.0 in omega (arith, low)
 
-  abbrev a : Paged
-  a = paged_of y.map s
+  before : u - 1 < length c.users
+  before = let low : 1 ≤ u = is.0 in let high : u ≤ length c.users = is.1 in omega (arith, low, high)
 
-  -- the user of an index
-  module _ (i : ℕ) (lt : i < length c.users) where
-    abbrev f : Flat
-    f = get_or c.users i no_flat
+  fits : UserFits y.map.params.pages (user_of c.users u)
+  fits = st.whole.each (u - 1) no_flat before
 
-    its_flat : user_of c.users (i + 1) ≡ get_or c.users i no_flat
-    its_flat = let e : i + 1 - 1 ≡ i = omega arith in ap (λ n. get_or c.users n no_flat) e
+  pages_told : pages_in y.map held.hardware.memory u ≡ pages_of (user_of c.users u)
+  pages_told =
+      let e : slice_index held.hardware.memory (block_at u + 32) ≡ pages_of (user_of c.users u) = st.users.sizes u is in
+      let le : pages_of (user_of c.users u) ≤ y.map.params.pages = fits.pages in
+      omega (arith, e, le)
 
-    fits : UserFits y.map.params.pages (get_or c.users i no_flat)
-    fits = st.whole.each i no_flat lt
+  in_block : u ≢ running → (runs_user (state_of held ss) && u == c.current) ≡ false
+  in_block ne = by (runs_user (state_of held ss)) refl
+    where
+      by : (b : Bool) → runs_user (state_of held ss) ≡ b → (b && u == c.current) ≡ false
+      by true e = let one = run.one e in ne_eqb u c.current (λ h. ne (h ∙ sym one))
+      by false e = refl
 
-    pages_told : pages_in y.map held.hardware.memory (i + 1) ≡ pages_of (get_or c.users i no_flat)
-    pages_told =
-        let e : slice_index held.hardware.memory (block_at (i + 1) + 32) ≡ pages_of (get_or c.users i no_flat) = st.users.sizes (i + 1) (omega arith, omega arith) ∙ ap pages_of its_flat in
-        let le : pages_of (get_or c.users i no_flat) ≤ y.map.params.pages = fits.pages in
-        omega (arith, e, le)
+  it_runs : u ≡ running → runs_user (state_of held ss) ≡ true
+  it_runs h = ⊎_elim (λ (e : runs_user (state_of held ss) ≡ true). e) (λ (e : runs_user (state_of held ss) ≡ false). absurd (let z = run.none e in let low : 1 ≤ u = is.0 in omega (arith, h, z, low))) (cases_Bool (runs_user (state_of held ss)))
 
-    in_block : i + 1 ≢ running → (runs_user (state_of held ss) && i + 1 == c.current) ≡ false
-    in_block ne = by (runs_user (state_of held ss)) refl
-      where
-        by : (b : Bool) → runs_user (state_of held ss) ≡ b → (b && i + 1 == c.current) ≡ false
-        by true e = let one = run.one e in ne_eqb (i + 1) c.current (λ h. ne (h ∙ sym one))
-        by false e = refl
+  cpu_told : cpu_of held (u == running) u ≡ (user_of c.users u).cpu
+  cpu_told = ⊎_elim
+      (λ (h : u ≡ running).
+      let r = st.users.runs (it_runs h) in
+      let same : c.current ≡ u = sym (h ∙ run.one (it_runs h)) in
+      ap (λ b. cpu_of held b u) (eq-eqb u running h) ∙ r.cpu ∙ ap (λ n. (user_of c.users n).cpu) same)
+      (λ (ne : u ≢ running). ap (λ b. cpu_of held b u) (ne_eqb u running ne) ∙ st.users.blocks u is (in_block ne))
+      (cases_eq u running)
 
-    it_runs : i + 1 ≡ running → runs_user (state_of held ss) ≡ true
-    it_runs h = ⊎_elim (λ (e : runs_user (state_of held ss) ≡ true). e) (λ (e : runs_user (state_of held ss) ≡ false). absurd (let z = run.none e in omega (arith, h, z))) (cases_Bool (runs_user (state_of held ss)))
-
-    cpu_told : cpu_of held (i + 1 == running) (i + 1) ≡ (get_or c.users i no_flat).cpu
-    cpu_told = ⊎_elim
-        (λ (h : i + 1 ≡ running).
-        let r = st.users.runs (it_runs h) in
-        let same : c.current ≡ i + 1 = sym (h ∙ run.one (it_runs h)) in
-        ap (λ b. cpu_of held b (i + 1)) (eq-eqb (i + 1) running h) ∙ r.cpu ∙ ap (λ n. (user_of c.users n).cpu) same ∙ ap (λ (g : Flat). g.cpu) its_flat)
-        (λ (ne : i + 1 ≢ running). ap (λ b. cpu_of held b (i + 1)) (ne_eqb (i + 1) running ne) ∙ st.users.blocks (i + 1) (omega arith, omega arith) (in_block ne) ∙ ap (λ (g : Flat). g.cpu) its_flat)
-        (cases_eq (i + 1) running)
-
-    page_told : (p j : ℕ) → p < pages_of (get_or c.users i no_flat) → j < 1024 → shown_word (paged_of y.map (state_of held ss)) (i * y.map.params.pages + p) j ≡ get_or (get_or c.users i no_flat).words (1024 * p + j) 0
-    page_told p j small l =
-        let le : pages_of (get_or c.users i no_flat) ≤ y.map.params.pages = fits.pages in
-        let under : p < y.map.params.pages = omega (arith, small, le) in
-        let quotient : (i * y.map.params.pages + p) / y.map.params.pages ≡ i = div-mul-add i y.map.params.pages p under in
-        let rest : (i * y.map.params.pages + p) % y.map.params.pages ≡ p = mul-add-mod_self_right i y.map.params.pages p ∙ mod-eq_of_lt under in
-        let user : user_of c.users ((i * y.map.params.pages + p) / y.map.params.pages + 1) ≡ get_or c.users i no_flat = ap (λ n. user_of c.users (n + 1)) quotient ∙ its_flat in
-        let rows = mul-le-mul_right {m = suc i} {n = length c.users} y.map.params.pages lt in
-        let count : length c.users ≡ y.map.users = st.whole.users in
-        let inside : i * y.map.params.pages + p < y.map.users * y.map.params.pages = subst (λ n. i * y.map.params.pages + p < n * y.map.params.pages) count (omega (arith, rows, under)) in
-        let live : (pages_by y.map.params.pages c.users).live (i * y.map.params.pages + p) ≡ true = ap₂ (λ n (g : Flat). nat_lt n (pages_of g)) rest user ∙ lt-ltb p (pages_of (get_or c.users i no_flat)) small in
-        st.pages.pages (i * y.map.params.pages + p) inside live j l ∙ ap₂ (λ n (g : Flat). get_or g.words (1024 * n + j) 0) rest user
-
-    pages_are_told : pages_rows (paged_of y.map (state_of held ss)) ((i + 1 - 1) * y.map.params.pages) (pages_of (get_or c.users i no_flat)) ≡ memory_text 0 (get_or c.users i no_flat).words
-    pages_are_told =
-        let e : i + 1 - 1 ≡ i = omega arith in
-        ap (λ n. pages_rows (paged_of y.map (state_of held ss)) (n * y.map.params.pages) (pages_of (get_or c.users i no_flat))) e
-        ∙ memory_told (get_or c.users i no_flat).words (paged_of y.map (state_of held ss)) (i * y.map.params.pages) (pages_of (get_or c.users i no_flat)) fits.whole page_told
-
-    user_told : rows_of_one y.map held (paged_of y.map (state_of held ss)) (i + 1 == running) (i + 1) ≡ user_text (1 + i) (get_or c.users i no_flat)
-    user_told =
-        let e : i + 1 ≡ 1 + i = omega arith in
-        ap₂ (λ n cpu. processor_rows (i + 1) n cpu ++ pages_rows (paged_of y.map (state_of held ss)) ((i + 1 - 1) * y.map.params.pages) n) pages_told cpu_told
-        ∙ ap₂ (λ r m. user_head (i + 1) (pages_of (get_or c.users i no_flat)) (get_or c.users i no_flat).cpu.pc ++ r ++ nonzero_row (codes "hi") (get_or c.users i no_flat).cpu.hi ++ nonzero_row (codes "lo") (get_or c.users i no_flat).cpu.lo ++ m)
-        (registers_told (get_or c.users i no_flat).cpu.regs (get_or c.users i no_flat).cpu refl fits.cpu.regs.size) pages_are_told
-        ∙ ap (λ n. user_text n (get_or c.users i no_flat)) e
-
-  users_told : users_rows y.map held (paged_of y.map (state_of held ss)) running y.map.users ≡ users_text 1 c.users
-  users_told =
+  page_told : (p j : ℕ) → p < pages_of (user_of c.users u) → j < 1024 → shown_word (paged_of y.map (state_of held ss)) ((u - 1) * y.map.params.pages + p) j ≡ get_or (user_of c.users u).words (1024 * p + j) 0
+  page_told p j small l =
+      let le : pages_of (user_of c.users u) ≤ y.map.params.pages = fits.pages in
+      let under : p < y.map.params.pages = omega (arith, small, le) in
+      let quotient : ((u - 1) * y.map.params.pages + p) / y.map.params.pages ≡ u - 1 = div-mul-add (u - 1) y.map.params.pages p under in
+      let rest : ((u - 1) * y.map.params.pages + p) % y.map.params.pages ≡ p = mul-add-mod_self_right (u - 1) y.map.params.pages p ∙ mod-eq_of_lt under in
+      let user : user_of c.users (((u - 1) * y.map.params.pages + p) / y.map.params.pages + 1) ≡ user_of c.users u = ap (λ n. user_of c.users (n + 1)) quotient ∙ ap (user_of c.users) behind in
+      let rows = mul-le-mul_right {m = suc (u - 1)} {n = length c.users} y.map.params.pages before in
       let count : length c.users ≡ y.map.users = st.whole.users in
-      ap (users_rows y.map held (paged_of y.map (state_of held ss)) running) (sym count)
-      ∙ texts-same _ _ (length c.users) (λ i l. user_told i l)
-      ∙ sym (from_front no_flat users_text user_text (λ k. refl) (λ k g rest. refl) 1 c.users)
+      let inside : (u - 1) * y.map.params.pages + p < y.map.users * y.map.params.pages = subst (λ n. (u - 1) * y.map.params.pages + p < n * y.map.params.pages) count (omega (arith, rows, under)) in
+      let live : (pages_by y.map.params.pages c.users).live ((u - 1) * y.map.params.pages + p) ≡ true = ap₂ (λ n (g : Flat). nat_lt n (pages_of g)) rest user ∙ lt-ltb p (pages_of (user_of c.users u)) small in
+      st.pages.pages ((u - 1) * y.map.params.pages + p) inside live j l ∙ ap₂ (λ n (g : Flat). get_or g.words (1024 * n + j) 0) rest user
 
-  entries_told : EntriesFit y.map (state_of held ss)
-  entries_told q lt valid =
-      let n : IsFrame (page_layout y.map) ((paged_of y.map (state_of held ss)).entry q / 4096) = st.pages.named q ((paged_of y.map (state_of held ss)).entry q / 4096) lt (omega (arith, valid)) in
-      let most = n.1 in
-      omega (arith, most)
+  told : UserIsTold y.map held ss c running u
+  told = record { cpu = cpu_told; registers = fits.cpu.regs.size; pages = pages_told; most = fits.pages; whole = fits.whole; word = page_told }
+
+pub user_tells : UserTells
+user_tells = told
+
+entries_told : (x : Environment) (y : Site) (held : Held) (ss : List (List ℕ)) (status : Status) (c : Core) → RunningRelation x y (state_of held ss) status c → EntriesFit y.map (state_of held ss)
+entries_told x y held ss status c st q lt valid =
+    let n : IsFrame (page_layout y.map) ((paged_of y.map (state_of held ss)).entry q / 4096) = st.pages.named q ((paged_of y.map (state_of held ss)).entry q / 4096) lt (omega (arith, valid)) in
+    let most = n.1 in
+    omega (arith, most)
 
 pub rows_tell : RowsTell
-rows_tell x y held ss status c running range st run = record {
-  entries = entries_told x y held ss status c running range st run;
-  users = users_told x y held ss status c running range st run;
-  log = ap log_rows st.log ∙ log_told c.console.log;
-}
+rows_tell x y held ss status c st = record { entries = entries_told x y held ss status c st; log = ap log_rows st.log ∙ log_told c.console.log }
 
-pub user_rows_tell : UserRowsTell
-user_rows_tell x y held ss status c running u range st run is =
-    let low : 1 ≤ u = is.0 in
-    let high : u ≤ length c.users = is.1 in
-    let lt : u - 1 < length c.users = omega (arith, low, high) in
-    let after : u - 1 + 1 ≡ u = omega (arith, low) in
-    let before : 1 + (u - 1) ≡ u = omega (arith, low) in
-    record {
-      entries = entries_told x y held ss status c running range st run;
-      rows = ap (rows_of_user y.map held (paged_of y.map (state_of held ss)) running) (sym after)
-          ∙ user_told x y held ss status c running range st run (u - 1) lt
-          ∙ ap (λ n. user_text n (user_of c.users u)) before;
-    }
+-- the text of a user that is told
+text_told : (m : Map) (held : Held) (ss : List (List ℕ)) (c : Core) (running u : ℕ) → UserIsTold m held ss c running u → EntriesFit m (state_of held ss) → 1 ≤ u → u ≤ m.users → spoken (user_script m held (Some ss) (u == running) u) ≡ Some (user_text u (user_of c.users u))
+text_told m held ss c running u t fit some most =
+    user_spoken m held ss fit (u == running) u some most
+    ∙ ap₂ (λ n (cpu : Cpu). Some (processor_rows u n cpu ++ pages_rows (paged_of m (state_of held ss)) ((u - 1) * m.params.pages) n)) t.pages t.cpu
+    ∙ ap₂ (λ r w. Some (user_head u (pages_of (user_of c.users u)) (user_of c.users u).cpu.pc ++ r ++ nonzero_row (codes "hi") (user_of c.users u).cpu.hi ++ nonzero_row (codes "lo") (user_of c.users u).cpu.lo ++ w))
+    (registers_told (user_of c.users u).cpu.regs (user_of c.users u).cpu refl t.registers)
+    (memory_told (user_of c.users u).words (paged_of m (state_of held ss)) ((u - 1) * m.params.pages) (pages_of (user_of c.users u)) t.whole t.word)
 
--- so do the scripts that print them
-pub users_speak : UsersSpeak
-users_speak x y held ss status c running range st run =
-    users_spoken y.map held ss (entries_told x y held ss status c running range st run) running ∙ ap (λ l. Some l) (users_told x y held ss status c running range st run)
-
+-- the scripts of one user and of all print the text
 pub user_speaks : UserSpeaks
-user_speaks x y held ss status c running u range st run is =
-    let told = user_rows_tell x y held ss status c running u range st run is in
+user_speaks x y held ss status c running u st run is =
     let high : u ≤ length c.users = is.1 in
     let count : length c.users ≡ y.map.users = st.whole.users in
-    user_spoken y.map held ss told.entries (u == running) u is.0 (omega (arith, high, count)) ∙ ap (λ l. Some l) told.rows
+    text_told y.map held ss c running u (user_tells x y held ss status c running u st run is) (entries_told x y held ss status c st) is.0 (omega (arith, high, count))
+
+pub users_speak : UsersSpeak
+users_speak x y held ss status c running st run =
+    let count : length c.users ≡ y.map.users = st.whole.users in
+    speaks_scripts _ (λ i. user_text (1 + i) (get_or c.users i no_flat)) y.map.users (λ i l.
+    user_speaks x y held ss status c running (i + 1) st run (omega arith, omega (arith, l, count)) ∙ ap₂ (λ n (g : Flat). Some (user_text n g)) (let e : i + 1 ≡ 1 + i = omega arith in e) (let e : i + 1 - 1 ≡ i = omega arith in ap (λ n. get_or c.users n no_flat) e))
+    ∙ ap (λ n. Some (texts (λ i. user_text (1 + i) (get_or c.users i no_flat)) n)) (sym count) ∙ ap (λ l. Some l) (sym (from_front no_flat users_text user_text (λ k. refl) (λ k g rest. refl) 1 c.users))
 
 -- some user runs, or none
 runs_some : (held : Held) (ss : List (List ℕ)) (c : Core) → (running : ℕ) × IsRunning held ss c running
@@ -189,22 +161,16 @@ runs_some held ss c = by (runs_user (state_of held ss)) refl
     by false e = (0, record { one = λ f. absurd (false_true _ e f); none = λ _. refl })
 
 pub words_tell : WordsTell
-words_tell x y held ss status c u range st is = by (runs_some held ss c)
-  where
-    by : (r : (running : ℕ) × IsRunning held ss c running) → WordsAreTold y.map (state_of held ss) u (user_of c.users u).words
-    by r =
-        let low : 1 ≤ u = is.0 in
-        let high : u ≤ length c.users = is.1 in
-        let lt : u - 1 < length c.users = omega (arith, low, high) in
-        let fit : UserFits y.map.params.pages (get_or c.users (u - 1) no_flat) = fits x y held ss status c r.0 range st r.1 (u - 1) lt in
-        let whole = fit.whole in
-        let most = fit.pages in
-        record {
-          entries = entries_told x y held ss status c r.0 range st r.1;
-          room = omega (arith, whole, most);
-          word = λ k l. page_told x y held ss status c r.0 range st r.1 (u - 1) lt (k / 1024) (k % 1024) (omega (arith, whole, l)) (omega arith)
-              ∙ (let e : 1024 * (k / 1024) + k % 1024 ≡ k = omega arith in ap (λ n. get_or (user_of c.users u).words n 0) e);
-        }
+words_tell x y held ss status c u range st is =
+    let r = runs_some held ss c in
+    let t = user_tells x y held ss status c r.0 u st r.1 is in
+    let whole = t.whole in
+    let most = t.most in
+    record {
+      entries = entries_told x y held ss status c st;
+      room = omega (arith, whole, most);
+      word = λ k l. t.word (k / 1024) (k % 1024) (omega (arith, whole, l)) (omega arith) ∙ (let e : 1024 * (k / 1024) + k % 1024 ≡ k = omega arith in ap (λ n. get_or (user_of c.users u).words n 0) e);
+    }
 
 pub words_show : WordsShow
 words_show x y held ss status c u range st is =

@@ -1,4 +1,3 @@
-pub mod Prints
 pub mod Texts
 pub mod Resident
 pub mod Scripts
@@ -6,6 +5,4 @@ pub mod Told
 pub mod Speaks
 pub mod Globals
 pub mod Given
-pub mod Blames
-pub mod Leaves
 pub mod Stand

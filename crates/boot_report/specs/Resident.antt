@@ -33,10 +33,6 @@ page_of_word m u k = (u - 1) * m.params.pages + k / 1024
 abbrev pub word_reads : Map → State → (u k : ℕ) → List Call
 word_reads m s u k = page_reads m s (page_of_word m u k)
 
--- how many calls of the disk that takes: one, where its page is in no frame
-abbrev pub word_calls : Map → State → (u k : ℕ) → ℕ
-word_calls m s u k = if is_resident m s (page_of_word m u k) then 0 else 1
-
 -- and what it is, if it is told
 abbrev pub word_told : Map → State → (told : Option (List (List ℕ))) → (u k : ℕ) → Option ℕ
 word_told m s told u k = option_map (λ word. word (k % 1024)) (shown m s told (page_of_word m u k))

@@ -17,13 +17,13 @@ use Rattle.boot_report.specs.Told.{IsRunning}
 -- of every machine that stands for a state the rows of all users
 abbrev pub UsersSpeak : Type 0
 UsersSpeak = (x : Environment) (y : Site) (held : Held) (ss : List (List ℕ)) (status : Status) (c : Core) (running : ℕ) →
-    MapInRange y.map → RunningRelation x y (state_of held ss) status c → IsRunning held ss c running →
+    RunningRelation x y (state_of held ss) status c → IsRunning held ss c running →
     spoken (users_script y.map held (Some ss) running y.map.users) ≡ Some (users_text 1 c.users)
 
 -- of every machine that stands for a state the rows of user u alone
 abbrev pub UserSpeaks : Type 0
 UserSpeaks = (x : Environment) (y : Site) (held : Held) (ss : List (List ℕ)) (status : Status) (c : Core) (running u : ℕ) →
-    MapInRange y.map → RunningRelation x y (state_of held ss) status c → IsRunning held ss c running → IsUser c u →
+    RunningRelation x y (state_of held ss) status c → IsRunning held ss c running → IsUser c u →
     spoken (user_script y.map held (Some ss) (u == running) u) ≡ Some (user_text u (user_of c.users u))
 
 -- the words of user u

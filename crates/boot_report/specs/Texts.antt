@@ -1,5 +1,5 @@
 -- The parts of a report, as they are printed one after another.
-use Rattle.std.specs.Prelude.{◌≡◌, ℕ, zero, suc, ◌+◌, ◌-◌, ◌*◌, ◌/◌, ◌%◌, ◌<◌, ◌==◌, min, Bool, if◌then◌else◌, Option, Some, None, IfSome}
+use Rattle.std.specs.Prelude.{◌≡◌, ℕ, zero, suc, ◌+◌, ◌*◌, ◌/◌, ◌%◌, ◌<◌, min, Bool, if◌then◌else◌, Option, Some, None, IfSome}
 use Rattle.std.specs.Prelude.{List, [], ◌∷◌, ◌++◌, codes, decimal, slice_index, length}
 use Rattle.cvm_text.specs.Hex.{hex8}
 use Rattle.mips_table.specs.Processor.{Cpu}
@@ -10,7 +10,6 @@ use Rattle.layer_map.specs.declared.places.TheConstants.{BLOCK_SIZE}
 use Rattle.cvm_model.specs.Paged.{paged_of}
 use Rattle.cvm_model.specs.Stands.{block_cpu}
 use Rattle.mips_machine.specs.Machine.{Held}
-use Rattle.page_model.specs.Paging.{Paged, shown_word}
 use Rattle.cvm_model.specs.declared.kernel_fault.KernelFault.{KernelFault}
 use Rattle.cvm_model.specs.Text.{fault_name, hex_row, nonzero_row}
 
@@ -72,31 +71,6 @@ processor_rows u pages cpu =
 abbrev pub log_rows : List ℕ → List ℕ
 log_rows log = texts (λ i. hex_row (codes "con") (slice_index log i)) (length log)
 
--- a machine that is the same but for the words of the sector that was viewed
-abbrev pub SameButViewed : Held → Held → Type 0
-SameButViewed old new = new ≡ record old { hardware = record old.hardware { viewed = new.hardware.viewed } }
-
 -- entries of page tables that are valid name frames of the memory
 abbrev pub EntriesFit : Map → State → Type 0
 EntriesFit m s = (q : ℕ) → q < m.users * m.params.pages → (paged_of m s).entry q / IS_VALID % 2 ≡ 1 → (paged_of m s).entry q / 4096 < memory_frames m
-
--- the rows of page p of a user, which has number q of all pages, as the machine shows it
-abbrev pub page_rows : Paged → ℕ → ℕ → List ℕ
-page_rows a q p = page_text p (shown_word a q)
-
--- the rows of so many pages of a user, the first of which has number q of all pages
-abbrev pub pages_rows : Paged → ℕ → ℕ → List ℕ
-pages_rows a q pages = texts (λ p. page_rows a (q + p) p) pages
-
--- the rows of user u as a machine has it, where it runs or not
-abbrev pub rows_of_one : Map → Held → Paged → (runs : Bool) → (u : ℕ) → List ℕ
-rows_of_one m held a runs u =
-    processor_rows u (pages_in m held.hardware.memory u) (cpu_of held runs u) ++ pages_rows a ((u - 1) * m.params.pages) (pages_in m held.hardware.memory u)
-
--- and where one of all users may run
-abbrev pub rows_of_user : Map → Held → Paged → (running u : ℕ) → List ℕ
-rows_of_user m held a running u = rows_of_one m held a (u == running) u
-
--- and those of users 1 to n
-abbrev pub users_rows : Map → Held → Paged → (running : ℕ) → ℕ → List ℕ
-users_rows m held a running n = texts (λ i. rows_of_user m held a running (i + 1)) n

@@ -1,51 +1,51 @@
--- What is printed of the users is what the abstract machine's text says of them, where the machine stands for its state.
-use Rattle.std.specs.Prelude.{◌≡◌, ℕ, ◌+◌, ◌-◌, ◌*◌, ◌/◌, ◌%◌, ◌<◌, ◌≤◌, true, false, Option, Some, List, length, slice_index}
+-- What the machine shows of the users is what the abstract machine has of them, where it stands for its state.
+use Rattle.std.specs.Prelude.{◌≡◌, ℕ, ◌+◌, ◌-◌, ◌*◌, ◌/◌, ◌%◌, ◌<◌, ◌≤◌, ◌==◌, true, false, Option, Some, List, length, slice_index}
 use Rattle.mips_table.specs.Device.{Environment}
 use Rattle.mips_machine.specs.Machine.{Held, state_of}
 use Rattle.mips_table.specs.Machine.{State}
 use Rattle.layer_map.specs.Map.{Map, MapInRange}
 use Rattle.page_model.specs.Paging.{Paged, shown_word}
 use Rattle.cvm_model.specs.Kernel.{Core}
-use Rattle.cvm_model.specs.Primitives.{user_of}
+use Rattle.cvm_model.specs.Primitives.{user_of, pages_of}
 use Rattle.cvm_model.specs.Cvm.{Status}
 use Rattle.cvm_model.specs.Paged.{paged_of}
 use Rattle.cvm_model.specs.Stands.{Site, RunningRelation, IsUser, runs_user}
-use Rattle.cvm_model.specs.Text.{user_text, users_text, log_text}
-use Rattle.boot_report.specs.Texts.{rows_of_user, users_rows, log_rows, EntriesFit}
+use Rattle.cvm_model.specs.Text.{log_text}
+use Rattle.boot_report.specs.Texts.{log_rows, cpu_of, pages_in, EntriesFit}
 
--- P of the sectors, where they are told and valid entries of page tables name frames of the memory
-abbrev pub WhereSectors : (told : Option (List (List ℕ))) → Held → Map → (List (List ℕ) → Type 0) → Type 0
-WhereSectors told held m P = (ss : List (List ℕ)) → told ≡ Some ss → EntriesFit m (state_of held ss) → P ss
-
--- P of the pages, where the sectors are told so
+-- P of the pages, where the sectors are told and valid entries of page tables name frames of the memory
 abbrev pub WherePaged : (told : Option (List (List ℕ))) → Held → Map → (Paged → Type 0) → Type 0
-WherePaged told held m P = WhereSectors told held m (λ ss. P (paged_of m (state_of held ss)))
+WherePaged told held m P = (ss : List (List ℕ)) → told ≡ Some ss → EntriesFit m (state_of held ss) → P (paged_of m (state_of held ss))
 
 -- the user whom the machine runs has this number, and where it runs none the number is 0
 pub record IsRunning (held : Held) (ss : List (List ℕ)) (c : Core) (running : ℕ) : Type 0 where
   pub one : runs_user (state_of held ss) ≡ true → running ≡ c.current
   pub none : runs_user (state_of held ss) ≡ false → running ≡ 0
 
--- the rows of the users, and of the log
-pub record RowsAreTold (x : Environment) (y : Site) (held : Held) (ss : List (List ℕ)) (c : Core) (running : ℕ) : Type 0 where
-  pub entries : EntriesFit y.map (state_of held ss)
-  pub users : users_rows y.map held (paged_of y.map (state_of held ss)) running y.map.users ≡ users_text 1 c.users
+-- the rows of the log, and the entries of the page tables
+pub record RowsAreTold (m : Map) (held : Held) (ss : List (List ℕ)) (c : Core) : Type 0 where
+  pub entries : EntriesFit m (state_of held ss)
   pub log : log_rows held.hardware.console.log ≡ log_text c.console.log
 
 -- of every machine that stands for a state
 abbrev pub RowsTell : Type 0
-RowsTell = (x : Environment) (y : Site) (held : Held) (ss : List (List ℕ)) (status : Status) (c : Core) (running : ℕ) →
-    MapInRange y.map → RunningRelation x y (state_of held ss) status c → IsRunning held ss c running → RowsAreTold x y held ss c running
+RowsTell = (x : Environment) (y : Site) (held : Held) (ss : List (List ℕ)) (status : Status) (c : Core) →
+    RunningRelation x y (state_of held ss) status c → RowsAreTold y.map held ss c
 
--- the rows of user u alone
+-- the processor of user u, where one of all may run, its size in pages, and the words of these
 pub record UserIsTold (m : Map) (held : Held) (ss : List (List ℕ)) (c : Core) (running u : ℕ) : Type 0 where
-  pub entries : EntriesFit m (state_of held ss)
-  pub rows : rows_of_user m held (paged_of m (state_of held ss)) running u ≡ user_text u (user_of c.users u)
+  pub cpu : cpu_of held (u == running) u ≡ (user_of c.users u).cpu
+  pub registers : length (user_of c.users u).cpu.regs ≡ 32
+  pub pages : pages_in m held.hardware.memory u ≡ pages_of (user_of c.users u)
+  pub most : pages_of (user_of c.users u) ≤ m.params.pages
+  pub whole : length (user_of c.users u).words ≡ 1024 * pages_of (user_of c.users u)
+  pub word : (p i : ℕ) → p < pages_of (user_of c.users u) → i < 1024 →
+      shown_word (paged_of m (state_of held ss)) ((u - 1) * m.params.pages + p) i ≡ slice_index (user_of c.users u).words (1024 * p + i)
 
 -- of every machine that stands for a state
-abbrev pub UserRowsTell : Type 0
-UserRowsTell = (x : Environment) (y : Site) (held : Held) (ss : List (List ℕ)) (status : Status) (c : Core) (running u : ℕ) →
-    MapInRange y.map → RunningRelation x y (state_of held ss) status c → IsRunning held ss c running → IsUser c u → UserIsTold y.map held ss c running u
+abbrev pub UserTells : Type 0
+UserTells = (x : Environment) (y : Site) (held : Held) (ss : List (List ℕ)) (status : Status) (c : Core) (running u : ℕ) →
+    RunningRelation x y (state_of held ss) status c → IsRunning held ss c running → IsUser c u → UserIsTold y.map held ss c running u
 
 -- word k of user u, as the machine shows it by pages
 abbrev pub user_word : Map → Paged → (u k : ℕ) → ℕ

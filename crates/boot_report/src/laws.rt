@@ -1,20 +1,21 @@
 // Laws, each the contract of a function that does nothing.
 ghost use Rattle.boot_report.specs.Globals.{GlobalsTell};
 ghost use Rattle.boot_report.specs.Given.{GlobalRowsTell};
-ghost use Rattle.boot_report.specs.Told.{RowsTell, UserRowsTell, WordsTell};
+ghost use Rattle.boot_report.specs.Told.{RowsTell, UserTells, WordsTell};
 ghost use Rattle.boot_report.specs.Speaks.{UsersSpeak, UserSpeaks, WordsShow};
 
 use c0_meaning::laws::words_are_those_of_the_parts;
 
-/// A law: where the machine stands for a state of the abstract machine, the rows of users and log are those of its text, and each valid
-/// entry of the page tables names a frame of the memory.
+/// A law: where the machine stands for a state of the abstract machine, the rows of the log are those of its text, and each valid entry
+/// of the page tables names a frame of the memory.
 pub fn the_rows_tell()
     ensures { RowsTell }
 {}
 
-/// A law: where the machine stands for a state of the abstract machine, the rows of each user are those of its text.
-pub fn the_user_rows_tell()
-    ensures { UserRowsTell }
+/// A law: where the machine stands for a state of the abstract machine, each user's processor, its size in pages and the words that its
+/// pages show are its.
+pub fn a_user_is_told()
+    ensures { UserTells }
 {}
 
 /// A law: where the machine stands for a state of the abstract machine, the words of each user are those that its pages show.

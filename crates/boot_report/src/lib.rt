@@ -14,9 +14,9 @@ mod users;
 pub use fault::ReportFault;
 pub use globals::{put_global, put_globals};
 pub use laws::{
-    a_global_tells, a_user_speaks, the_globals_tell, the_rows_tell, the_user_rows_tell,
+    a_global_tells, a_user_is_told, a_user_speaks, the_globals_tell, the_rows_tell,
     the_users_speak, the_words_show, the_words_tell,
 };
-pub use memory::{is_word_resident, read_user_word};
+pub use memory::read_user_word;
 pub use rows::put_end;
 pub use users::{put_log, put_user_rows, put_users};

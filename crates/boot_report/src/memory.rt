@@ -1,13 +1,13 @@
 // The rows of a user's memory.
 ghost use Rattle.std.specs.Prelude.{◌≡◌, ◌↔◌, ◌+◌, ◌*◌, ◌/◌, ◌<◌, ◌≤◌, ◌^◌};
-ghost use Rattle.std.specs.Prelude.{ℕ, [], ◌∷◌, length, slice_index, true, if◌then◌else◌, IfSome, IfOk};
+ghost use Rattle.std.specs.Prelude.{ℕ, [], length, slice_index, true, if◌then◌else◌, IfSome, IfOk};
 ghost use Rattle.mips_machine.specs.Machine.{state_of};
 ghost use Rattle.layer_map.specs.Map.{memory_frames};
 ghost use Rattle.boot_report.specs.Texts.{texts, memory_row, page_text, page_word, PageShows};
-ghost use Rattle.boot_report.specs.Resident.{is_resident, shown, page_reads, page_of_word, word_reads, word_told};
+ghost use Rattle.boot_report.specs.Resident.{is_resident, shown, page_reads, word_reads, word_told};
 ghost use Rattle.boot_report.specs.Scripts.{of_report, pages_script};
 ghost use Rattle.boot_report.specs.Stand.{CanReadPage, CanReadPages, CanReadWord};
-ghost use Rattle.cvm_outside.specs.Script.{Read, Prints, Asks, Makes};
+ghost use Rattle.cvm_outside.specs.Script.{Prints, Asks, Makes};
 
 use crate::fault::ReportFault;
 use crate::rows::put_word;
@@ -102,14 +102,6 @@ fn find_page<D: Sectors>(
     }
     read(q, into, disk)?;
     Ok(None)
-}
-
-/// Whether the page of a user's word with this number, from 0, is in a frame: where it isn't, its sector is read for it.
-pub fn is_word_resident(machine: &Machine, map: &Map, user: u32, k: u32) -> bool
-    requires { CanReadWord map.now user k (length machine.now.hardware.memory) (map.now.users * map.now.params.pages) }
-    ensures { word_reads map.now (state_of machine.now []) user k ≡ (if result then [] else Read (page_of_word map.now user k) ∷ []) }
-{
-    is_resident(machine, map, (user - 1) * map.params().pages + k / 1024)
 }
 
 /// The word of a user with this number, from 0, whose page may have to be read from its sector.

@@ -1,6 +1,6 @@
 -- What calls of a run come to on any run of the machine: turns, and the loop over them.
 use Rattle.std.proofs.Common.{◌≡◌, ◌≢◌, ℕ, suc, ◌+◌, ◌<◌, ◌≤◌, ◌==◌, Bool, true, false, Option, Some, None, List, Result, Ok, Err, refl, sym, ap, ◌∙◌, subst, ⊎_elim, arith}
-use Rattle.std.specs.Prelude.{IsSome, is_some, if◌then◌else◌, slice_index, MatchResult}
+use Rattle.std.specs.Prelude.{IsSome, if◌then◌else◌, slice_index, MatchResult}
 use Rattle.std.proofs.lemmas.Bool.{cases_lt}
 use Rattle.mips_table.specs.Device.{Environment}
 use Rattle.mips_table.specs.Machine.{State, run}
@@ -13,16 +13,14 @@ use Rattle.boot_turns.specs.Sooner.{NoSooner, ComesTo}
 use Rattle.boot_turns.specs.Completes.{state_seen}
 use Rattle.boot_turns.specs.declared.completion.Begun.{Begun}
 use Rattle.boot_turns.specs.declared.answers.Turn.{Turn}
-use Rattle.boot_turns.specs.declared.answers.View.{View}
-use Rattle.boot_turns.specs.declared.tracer.Tracer.{Tracer}
 use Rattle.boot_turns.specs.declared.answers.RunFault.{RunFault}
 use Rattle.boot_turns.specs.declared.answers.RunFault.TheVariants.{StepLimit, Disk, Sink}
-use Rattle.boot_run.specs.AnyRun.{is_traced, CameTo, WasCut, FromAnywhere, AnyTurnsRun, AnyGoRuns}
+use Rattle.boot_run.specs.AnyRun.{CameTo, WasCut, FromAnywhere, AnyTurnsRun, AnyGoRuns}
 use Rattle.boot_run.specs.AnyEnds.{ended_off}
-use Rattle.boot_run.specs.LoadEnds.{Kept, viewed}
+use Rattle.boot_run.specs.LoadEnds.{Kept}
 use Rattle.boot_run.specs.Shown.{next_shown, end_of_next, fault_of_power}
 use Rattle.boot_run.specs.TurnCalls.{Around, around, KeepsLoad}
-use Rattle.boot_run.specs.TurnParts.{Counted, Moved, Views}
+use Rattle.boot_run.specs.TurnParts.{Counted, Moved}
 use Rattle.boot_run.proofs.Turned.{seen_parts}
 
 -- fewer turns at an earlier step
@@ -61,21 +59,15 @@ pub is_off : (off : Option ℕ) → IsSome (ended_off off) → off ≢ None
 is_off None h e = cc
 is_off (Some power) h e = cc
 
--- a user is traced where a tracer is kept
-traced_by : (o : Option Tracer) → is_some o ≡ is_traced (viewed o)
-traced_by None = refl
-traced_by (Some kept) = refl
-
 -- A CALL OF `turns`, by what the machine did
-module _ {L : Type 0} (r new : Kept L) (views : Views r) (count most : ℕ) (told retold : Option (List (List ℕ))) (budget left : ℕ) (text mid late retext : Option (List ℕ)) where
+module _ {L : Type 0} (r new : Kept L) (count most : ℕ) (told retold : Option (List (List ℕ))) (budget left : ℕ) (text mid late retext : Option (List ℕ)) where
   -- the first row couldn't be printed
   pub any_cut_before : AnyTurnsRun count r most (around r told budget text) (around r told budget retext) (Err Sink)
-  any_cut_before = λ s k t c on is none. (t, omega arith, sooner_than (outside_of r.machine.rows count) s k (k + most) t (omega arith) c.sooner, is, refl)
+  any_cut_before = λ s k t c on is none. (t, omega arith, sooner_than (outside_of r.machine.rows count) s k (k + most) t (omega arith) c.sooner, refl)
 
   -- the turns were broken off
   pub any_broke_off : (f : RunFault) → Moved count r new most told retold mid late budget left (Err f) → AnyTurnsRun count r most (around r told budget text) (around new retold left retext) (Err f)
-  any_broke_off f w = λ s k t c on is none.
-      subst (λ b. BrokeOff (outside_of r.machine.rows count) s b (k + most) t (state_seen retold new.machine) budget left f) (traced_by r.tracer ∙ sym (ap is_traced views.view)) (w.anyhow s k t c on is)
+  any_broke_off f w = λ s k t c on is none. w.anyhow s k t c on is
 
   module _ (made skipped : ℕ) (b : Begun) (answer : Turn) (number : made ≡ skipped + 1) (w : Moved count r new most told retold mid late budget left (Ok (skipped, b))) (counted : Counted r new skipped b answer) where
     came : (s : State) (k t : ℕ) → ComesTo (outside_of r.machine.rows count) s k t → (run (outside_of r.machine.rows count) s t).off ≡ None → state_seen told r.machine ≡ Some (run (outside_of r.machine.rows count) s t) →
@@ -100,20 +92,20 @@ module _ {L : Type 0} (r new : Kept L) (views : Views r) (count most : ℕ) (tol
     pub any_cut_after : made ≤ most → AnyTurnsRun count r most (around r told budget text) (around new retold left retext) (Err Sink)
     any_cut_after few = λ s k t c on is none.
         let d = came s k t c on is in
-        (d.at, no_earlier (outside_of r.machine.rows count) s k t made d.at c d.comes, sooner_than (outside_of r.machine.rows count) s (k + made) (k + most) d.at (omega (arith, few)) d.comes.sooner, d.state, d.spent)
+        (d.at, no_earlier (outside_of r.machine.rows count) s k t made d.at c d.comes, sooner_than (outside_of r.machine.rows count) s (k + made) (k + most) d.at (omega (arith, few)) d.comes.sooner, d.spent)
 
 -- a fault that is passed on
 pub any_passed : {L : Type 0} (count : ℕ) (r : Kept L) (most : ℕ) (before after : Around) (f e : RunFault) (result : Result (ℕ × Turn) RunFault) → result ≡ Err e → f ≡ e → AnyTurnsRun count r most before after (Err f) → AnyTurnsRun count r most before after result
 any_passed count r most before after f e result is same w = subst (AnyTurnsRun count r most before after) (ap (λ g. Err g) same ∙ sym is) w
 
 -- what a broken call comes to doesn't hang on the kept fault
-cut_kept : (x : Environment) (s : State) (v : View) (k t : ℕ) (before after : Around) (f : RunFault) (kept : Option RunFault) → WasCut x s v k t before after f → WasCut x s v k t before (record after { fault = kept }) f
-cut_kept x s v k t before after StepLimit kept w = w
-cut_kept x s v k t before after Disk kept w = w
-cut_kept x s v k t before after Sink kept w = w
+cut_kept : (x : Environment) (s : State) (k t : ℕ) (before after : Around) (f : RunFault) (kept : Option RunFault) → WasCut x s k t before after f → WasCut x s k t before (record after { fault = kept }) f
+cut_kept x s k t before after StepLimit kept w = w
+cut_kept x s k t before after Disk kept w = w
+cut_kept x s k t before after Sink kept w = w
 
 any_faulted : {L : Type 0} (count : ℕ) (r : Kept L) (most : ℕ) (before after : Around) (f : RunFault) (kept : Option RunFault) → AnyTurnsRun count r most before after (Err f) → AnyTurnsRun count r most before (record after { fault = kept }) (Err f)
-any_faulted count r most before after f kept w = λ s k t c on is none. cut_kept (outside_of r.machine.rows count) s r.view (k + most) t before after f kept (w s k t c on is none)
+any_faulted count r most before after f kept w = λ s k t c on is none. cut_kept (outside_of r.machine.rows count) s (k + most) t before after f kept (w s k t c on is none)
 
 pub any_kept : {L : Type 0} (a b : Kept L) → a ≡ b → (count : ℕ) (r : Kept L) (most : ℕ) (before : Around) (told : Option (List (List ℕ))) (budget : ℕ) (text : Option (List ℕ)) (f : RunFault) →
     AnyTurnsRun count r most before (around b told budget text) (Err f) → AnyTurnsRun count r most before (record (around a told budget text) { fault = Some f }) (Err f)
@@ -131,12 +123,12 @@ joins x s k m t before mid after c d = record {
 }
 
 -- the budget that is spent is that of the first call
-cut_later : (x : Environment) (s : State) (traced : Bool) (k t u : ℕ) (now : Option State) (budget mid left : ℕ) → t ≤ u → mid + u ≡ budget + t → (f : RunFault) → BrokeOff x s traced k u now mid left f → BrokeOff x s traced k t now budget left f
-cut_later x s traced k t u now budget mid left le sum StepLimit (none, sooner, is) =
+cut_later : (x : Environment) (s : State) (k t u : ℕ) (now : Option State) (budget mid left : ℕ) → t ≤ u → mid + u ≡ budget + t → (f : RunFault) → BrokeOff x s k u now mid left f → BrokeOff x s k t now budget left f
+cut_later x s k t u now budget mid left le sum StepLimit (none, sooner, is) =
     let at : u + mid ≡ t + budget = omega (arith, sum) in
     (none, subst (λ i. NoSooner x s k (suc i)) at sooner, subst (λ i. now ≡ Some (run x s i)) at is)
-cut_later x s traced k t u now budget mid left le sum Disk (at, from, sooner, leaves, spent) = (at, omega (arith, le, from), sooner, leaves, omega (arith, spent, sum))
-cut_later x s traced k t u now budget mid left le sum Sink (at, from, sooner, is, spent) = (at, omega (arith, le, from), sooner, is, omega (arith, spent, sum))
+cut_later x s k t u now budget mid left le sum Disk (at, from, sooner, spent) = (at, omega (arith, le, from), sooner, omega (arith, spent, sum))
+cut_later x s k t u now budget mid left le sum Sink (at, from, sooner, spent) = (at, omega (arith, le, from), sooner, omega (arith, spent, sum))
 
 -- after i turns of a run that was found as r
 abbrev pub AnyGoing : {L : Type 0} → (count : ℕ) → Kept L → (before : Around) → ℕ → Around → Type 0
@@ -148,19 +140,18 @@ any_first count r before i none = λ s k t c on is ended.
     let same : k ≡ k + i = omega (arith, none) in
     record { at = t; comes = subst (λ n. ComesTo x s n t) same c; state = is; spent = refl; ended = ended ∙ sym (ap ended_off on) }
 
--- what a call of `turns` comes to, of these rows and this view
-abbrev TurnsAt : Rows → View → (count most : ℕ) → (before after : Around) → Result (ℕ × Turn) RunFault → Type 0
-TurnsAt rows v count most before after result =
+-- what a call of `turns` comes to, of these rows
+abbrev TurnsAt : Rows → (count most : ℕ) → (before after : Around) → Result (ℕ × Turn) RunFault → Type 0
+TurnsAt rows count most before after result =
     (s : State) (k t : ℕ) → ComesTo (outside_of rows count) s k t → (run (outside_of rows count) s t).off ≡ None →
     before.state ≡ Some (run (outside_of rows count) s t) → before.ended ≡ None →
-    MatchResult result (λ made. CameTo (outside_of rows count) s (k + made.0) t before after) (WasCut (outside_of rows count) s v (k + most) t before after)
+    MatchResult result (λ made. CameTo (outside_of rows count) s (k + made.0) t before after) (WasCut (outside_of rows count) s (k + most) t before after)
 
 module _ {L : Type 0} (count size : ℕ) (r now : Kept L) (kept : KeepsLoad r now) (same : size ≡ count) (before mid after : Around) (i most : ℕ) (on : mid.ended ≡ None) (so : AnyGoing count r before i mid) where
-  at_load : (result : Result (ℕ × Turn) RunFault) → AnyTurnsRun size now most mid after result → TurnsAt r.machine.rows r.view count most mid after result
+  at_load : (result : Result (ℕ × Turn) RunFault) → AnyTurnsRun size now most mid after result → TurnsAt r.machine.rows count most mid after result
   at_load result runs =
-      subst (λ (n : ℕ). TurnsAt r.machine.rows r.view n most mid after result) same
-      (subst (λ (v : View). TurnsAt r.machine.rows v size most mid after result) kept.view_is
-      (subst (λ (rows : Rows). TurnsAt rows now.view size most mid after result) kept.rows_are runs))
+      subst (λ (n : ℕ). TurnsAt r.machine.rows n most mid after result) same
+      (subst (λ (rows : Rows). TurnsAt rows size most mid after result) kept.rows_are runs)
 
   -- so many turns are made
   pub any_next : (next made : ℕ) (answer : Turn) → AnyTurnsRun size now most mid after (Ok (made, answer)) → i + made ≡ next → AnyGoing count r before next after
@@ -179,8 +170,8 @@ module _ {L : Type 0} (count size : ℕ) (r now : Kept L) (kept : KeepsLoad r no
       let g = so s k t c here at none in
       let there : k + i + most ≡ k + turns = omega (arith, all) in
       rw (so_is, sym fault)
-      (cut_later x s (is_traced r.view) (k + turns) t g.at after.state before.budget mid.budget after.budget (no_earlier x s k t i g.at c g.comes) g.spent f
-      (subst (λ n. BrokeOff x s (is_traced r.view) n g.at after.state mid.budget after.budget f) there
+      (cut_later x s (k + turns) t g.at after.state before.budget mid.budget after.budget (no_earlier x s k t i g.at c g.comes) g.spent f
+      (subst (λ n. BrokeOff x s n g.at after.state mid.budget after.budget f) there
       (at_load (Err f) runs s (k + i) g.at g.comes (is_on (run x s g.at).off (sym g.ended ∙ on)) g.state on)))
 
 -- the run has ended

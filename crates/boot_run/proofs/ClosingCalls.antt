@@ -10,7 +10,6 @@ use Rattle.c0_tree.specs.Tree.{CUnit}
 use Rattle.c0_tree.specs.declared.tree.Decl.{Decl}
 use Rattle.c0_meaning.specs.TypedState.{IsTypedState}
 use Rattle.c0_meaning.specs.Unit.{IsWellFormed}
-use Rattle.cvm_outside.specs.Outside.{Files}
 use Rattle.cvm_outside.specs.declared.sink.Sink as sink_of
 use Rattle.cvm_outside.specs.declared.sectors.Sectors as sectors_of
 use Rattle.cvm_outside.specs.Script.{Call, Printed, Read, Performs, done, Makes, blame, scripts}
@@ -26,12 +25,11 @@ use Rattle.cvm_model.specs.Kernel.{JournalEntry, parts_of}
 use Rattle.cvm_model.specs.Primitives.{user_of}
 use Rattle.cvm_model.specs.Text.{end_text, globals_text, log_text, journal_rows, open_journal_rows, steps_row}
 use Rattle.layer_contract.specs.Boots.{boot_of}
-use Rattle.layer_contract.specs.Follows.{site_of}
 use Rattle.boot_report.specs.Resident.{is_resident, page_reads, shown}
 use Rattle.boot_report.specs.Scripts as reported
 use Rattle.boot_report.specs.Scripts.{of_report}
 use Rattle.boot_report.specs.Texts.{page_text, pages_in, log_rows}
-use Rattle.boot_report.specs.Told.{RowsTell, UserRowsTell}
+use Rattle.boot_report.specs.Told.{RowsTell, UserTells}
 use Rattle.boot_report.specs.Given.{GlobalRowsTell}
 use Rattle.boot_report.specs.declared.fault.ReportFault.{ReportFault}
 use Rattle.boot_turns.specs.Entries.{TracesGrow, TraceGrows}
@@ -58,11 +56,9 @@ use Rattle.boot_run.specs.Shown.{has_faulted}
 use Rattle.boot_run.specs.Sink.{Base}
 use Rattle.boot_run.specs.TurnCalls.{ended_of, around, Ready, Traces}
 use Rattle.boot_run.proofs.TraceRoom.{user_there}
-use Rattle.boot_run.proofs.ReportScripts.{user_script_is, users_script_is}
-use Rattle.boot_run.proofs.Reporting.{its_told, its_map, stands, halting, running, told_rows, told_globals}
+use Rattle.boot_run.proofs.Reporting.{its_told, halting, told_rows, told_globals, user_called, users_called, users_are_those}
 use Rattle.boot_run.proofs.ReadingCalls.{reads_behind}
 use Rattle.boot_run.proofs.ScriptParts.{at}
-use Rattle.boot_run.proofs.TraceReporting.{is_user, told_user, users_are_those}
 
 -- which calls a report makes, where nothing is told
 of_if : (b : Bool) (q : ℕ) → AreReads (untold (if b then [] else Read q ∷ []))
@@ -132,53 +128,42 @@ module _ {L O D : Type 0} (text : sink_of.Ghosts O) (told : sectors_of.Ghosts D)
   its_cvm y s late held m v base k t c budget ready turns steps p tells =
       m.same (complete x s t) (cvm_at (run_at x y s v turns steps) p t) c (tells.turns t (omega arith) (omega arith)) (subst (λ n. IsCvm y (lines_of_turn x s) n c) (sym ready.stood.all) ready.stood.cvm)
 
+  -- these calls are those of the report that is viewed so
+  abbrev Is : View → List Call → Type 0
+  Is v calls = (budget : ℕ) (y : System) (s : State) (late held : ℕ) (base : Base) (k t : ℕ) (c : Cvm) → y.boot ≡ boot_of r.boot → StartsFrom (IsTypedState (unit_view r.boot.unit)) x y s late held →
+      Ready x y s v base (suc k) t c (around r (told.sectors d) budget (text.text o)) → (turns steps : ℕ) (p : Past) → TellsFrom (run_at x y s v turns steps) p t t → calls ≡ report_script v (run_at x y s v turns steps) p t c.status
+
+  -- they are made, and only read where nothing is told
+  performs : {T : Type 0} (calls : List Call) (result : Result T RunFault) → AreReads (untold calls) → Is r.view calls → Makes text told (o, d) (o1, d1) calls of_run result → ReportCalls text told r (o, d) (o1, d1) result
+  performs calls result reads is made = record {
+    exact = λ budget y s late held base k t c same lawful ready turns steps p tells shelf.
+        same_script calls (report_script r.view (run_at x y s r.view turns steps) p t c.status) (at text told shelf o d) (at text told shelf o1 d1) (blame of_run result) (is budget y s late held base k t c same lawful ready turns steps p tells) (made shelf);
+    some = λ none. (untold calls, reads, λ shelf. made_untold calls (at text told shelf o d) (at text told shelf o1 d1) (blame of_run result) (made shelf));
+  }
+
   -- of a boot
-  module _ (view : r.view ≡ Boot) (typed : (u : CUnit) → RunsStayTyped (IsTypedState u)) (rows : RowsTell) (globals : GlobalRowsTell) (formed : IsWellFormed kernel_primitives (unit_view r.boot.unit)) where
-    boot_is : (y : System) (s : State) (late held : ℕ) (base : Base) (k t : ℕ) (c : Cvm) (budget : ℕ) → y.boot ≡ boot_of r.boot → StartsFrom (IsTypedState (unit_view r.boot.unit)) x y s late held →
-        Ready x y s Boot base (suc k) t c (around r (told.sectors d) budget (text.text o)) → (turns steps : ℕ) (p : Past) → TellsFrom (run_at x y s Boot turns steps) p t t →
-        closing_calls (is_some r.ended) r.current r.machine (told.sectors d) places r.boot.unit.globals.items ≡ report_script Boot (run_at x y s Boot turns steps) p t c.status
-    boot_is y s late held base k t c budget same lawful ready turns steps p tells =
+  module _ (view : r.view ≡ Boot) (typed : (u : CUnit) → RunsStayTyped (IsTypedState u)) (rows : RowsTell) (users : UserTells) (globals : GlobalRowsTell) (formed : IsWellFormed kernel_primitives (unit_view r.boot.unit)) where
+    boot_is : Is Boot (closing_calls (is_some r.ended) r.current r.machine (told.sectors d) places r.boot.unit.globals.items)
+    boot_is budget y s late held base k t c same lawful ready turns steps p tells =
         let m = law (unit_view r.boot.unit) x y s late held lawful in
         let stays = typed (unit_view r.boot.unit) x y s late held lawful in
         let T = told.sectors d in
         let seen = its_told x y s Boot base k t budget c r T (text.text o) ready in
         let h = halting x y s Boot base k t budget c r T (text.text o) ready same places.map places.offsets.items placed fine in
-        let told_is = told_rows x y s Boot base k t budget c r T (text.text o) ready same places.map places.offsets.items placed fine late held m stays rows globals formed in
         let now = runs_now (is_some r.ended) r.current in
-        let users : reported.users_script places.map r.machine (Some seen.sectors) now places.map.users ≡ scripts (λ i. user_script (map_of y.boot) (run x s t) (i + 1) (user_of c.core.users (i + 1))) (length c.core.users) =
-        ap (λ (q : Map). reported.users_script q r.machine (Some seen.sectors) now q.users) (its_map x y s Boot base k t budget c r T (text.text o) ready same places.map places.offsets.items placed fine)
-        ∙ users_script_is x (site_of y.boot) r.machine seen.sectors c.status c.core now (stands x y s Boot base k t budget c r T (text.text o) ready same places.map places.offsets.items placed fine)
-        (running x y s Boot base k t budget c r T (text.text o) ready same places.map places.offsets.items placed fine) told_is.entries
-        ∙ ap (λ (z : State). scripts (λ i. user_script (map_of y.boot) z (i + 1) (user_of c.core.users (i + 1))) (length c.core.users)) seen.state in
         ap (λ (q : Option (List (List ℕ))). closing_calls (is_some r.ended) r.current r.machine q places r.boot.unit.globals.items) seen.are
-        ∙ ap₂ (λ (e g : List ℕ). Printed (Some (e ++ g ++ log_rows r.machine.hardware.console.log)) ∷ reported.users_script places.map r.machine (Some seen.sectors) now places.map.users) h.end
-        (told_globals x y s Boot base k t budget c r T (text.text o) ready same places.map places.offsets.items placed fine late held m stays rows globals formed)
-        ∙ ap₂ (λ (l : List ℕ) (us : List Call). Printed (Some (end_text c.status ++ globals_text y.boot.meaning.names (parts_of c.core.c0.global_values) ++ l)) ∷ us) told_is.log users
+        ∙ ap₂ (λ (e g : List ℕ). Printed (Some (e ++ g ++ log_rows r.machine.hardware.console.log)) ∷ reported.users_script places.map r.machine (Some seen.sectors) now places.map.users) h.0
+        (told_globals x y s Boot base k t budget c r T (text.text o) ready same places.map places.offsets.items placed fine stays globals formed)
+        ∙ ap₂ (λ (l : List ℕ) (us : List Call). Printed (Some (end_text c.status ++ globals_text y.boot.meaning.names (parts_of c.core.c0.global_values) ++ l)) ∷ us)
+        (told_rows x y s Boot base k t budget c r T (text.text o) ready same places.map places.offsets.items placed fine rows).log (users_called x y s Boot base k t budget c r T (text.text o) ready same places.map places.offsets.items placed fine rows users)
         ∙ sym (boot_script x y s turns steps p t c (its_cvm y s late held m Boot base k t c budget ready turns steps p tells) c.status refl (ap has_faulted (sym ready.ended) ∙ fine))
 
-    boot_performs : {R T : Type 0} (before : Result R ReportFault) (result : Result T RunFault) → blame of_report before ≡ blame of_run result →
-        Makes text told (o, d) (o1, d1) (closing_calls (is_some r.ended) r.current r.machine (told.sectors d) places r.boot.unit.globals.items) of_report before → ReportCalls text told r (o, d) (o1, d1) result
-    boot_performs before result same_blame made = record {
-      exact = λ budget y s late held base k t c same lawful ready turns steps p tells shelf. by r.view view budget y s late held base k t c same lawful ready turns steps p tells shelf;
-      some = λ none. (
-        untold (closing_calls (is_some r.ended) r.current r.machine (told.sectors d) places r.boot.unit.globals.items),
-        of_closing (is_some r.ended) r.current r.machine (told.sectors d) places r.boot.unit.globals.items,
-        λ shelf. made_untold (closing_calls (is_some r.ended) r.current r.machine (told.sectors d) places r.boot.unit.globals.items) (at text told shelf o d) (at text told shelf o1 d1) (blame of_run result)
-            (subst (Performs (closing_calls (is_some r.ended) r.current r.machine (told.sectors d) places r.boot.unit.globals.items) (at text told shelf o d) (at text told shelf o1 d1)) same_blame (made shelf)),
-      );
-    }
-      where
-        by : (v : View) → v ≡ Boot → (budget : ℕ) (y : System) (s : State) (late held : ℕ) (base : Base) (k t : ℕ) (c : Cvm) → y.boot ≡ boot_of r.boot → StartsFrom (IsTypedState (unit_view r.boot.unit)) x y s late held →
-            Ready x y s v base (suc k) t c (around r (told.sectors d) budget (text.text o)) → (turns steps : ℕ) (p : Past) → TellsFrom (run_at x y s v turns steps) p t t → (shelf : Files) →
-            Performs (report_script v (run_at x y s v turns steps) p t c.status) (at text told shelf o d) (at text told shelf o1 d1) (blame of_run result)
-        by Boot e budget y s late held base k t c same lawful ready turns steps p tells shelf =
-            same_script (closing_calls (is_some r.ended) r.current r.machine (told.sectors d) places r.boot.unit.globals.items) (report_script Boot (run_at x y s Boot turns steps) p t c.status) (at text told shelf o d) (at text told shelf o1 d1) (blame of_run result)
-            (boot_is y s late held base k t c budget same lawful ready turns steps p tells)
-            (subst (Performs (closing_calls (is_some r.ended) r.current r.machine (told.sectors d) places r.boot.unit.globals.items) (at text told shelf o d) (at text told shelf o1 d1)) same_blame (made shelf))
-        by (Trace u) e budget y s late held base k t c same lawful ready turns steps p tells shelf = absurd (cc)
+    boot_performs : {T : Type 0} (result : Result T RunFault) → Makes text told (o, d) (o1, d1) (closing_calls (is_some r.ended) r.current r.machine (told.sectors d) places r.boot.unit.globals.items) of_run result → ReportCalls text told r (o, d) (o1, d1) result
+    boot_performs result made = performs (closing_calls (is_some r.ended) r.current r.machine (told.sectors d) places r.boot.unit.globals.items) result (of_closing (is_some r.ended) r.current r.machine (told.sectors d) places r.boot.unit.globals.items)
+        (subst (λ (v : View). Is v (closing_calls (is_some r.ended) r.current r.machine (told.sectors d) places r.boot.unit.globals.items)) (sym view) boot_is) made
 
   -- of a trace
-  module _ (kept : Tracer) (tracer : r.tracer ≡ Some kept) (view : r.view ≡ Trace kept.user) (grow : (u : CUnit) → TracesGrow (IsTypedState u)) (follow : RowsFollow) (rows : UserRowsTell) (some : 1 ≤ kept.user) (most : kept.user ≤ places.map.users) where
+  module _ (kept : Tracer) (tracer : r.tracer ≡ Some kept) (view : r.view ≡ Trace kept.user) (grow : (u : CUnit) → TracesGrow (IsTypedState u)) (follow : RowsFollow) (rows : RowsTell) (users : UserTells) (some : 1 ≤ kept.user) (most : kept.user ≤ places.map.users) where
     -- what is kept tells the last steps of what is shown
     last_is : (y : System) (s : State) (t : ℕ) (p : Past) → TraceGrows x y s kept.user → Shown x s y kept.user t (p.shown t) → Traces x y s (Trace kept.user) t r.tracer → steps_row kept.steps ≡ last_steps (p.shown t)
     last_is y s t p g shown traces =
@@ -196,53 +181,24 @@ module _ {L O D : Type 0} (text : sink_of.Ghosts O) (told : sectors_of.Ghosts D)
         let b : length y.boot.users ≡ length (boot_of r.boot).users = ap (λ (q : CvmBoot). length q.users) same in
         omega (arith, a, b, most)
 
-    trace_is : (y : System) (s : State) (late held : ℕ) (base : Base) (k t : ℕ) (c : Cvm) (budget : ℕ) → y.boot ≡ boot_of r.boot → StartsFrom (IsTypedState (unit_view r.boot.unit)) x y s late held →
-        Ready x y s (Trace kept.user) base (suc k) t c (around r (told.sectors d) budget (text.text o)) → (turns steps : ℕ) (p : Past) → TellsFrom (run_at x y s (Trace kept.user) turns steps) p t t →
-        trace_calls (is_some r.ended) r.current r.machine (told.sectors d) places.map kept ≡ report_script (Trace kept.user) (run_at x y s (Trace kept.user) turns steps) p t c.status
-    trace_is y s late held base k t c budget same lawful ready turns steps p tells =
+    trace_is : Is (Trace kept.user) (trace_calls (is_some r.ended) r.current r.machine (told.sectors d) places.map kept)
+    trace_is budget y s late held base k t c same lawful ready turns steps p tells =
         let u = kept.user in
         let v = Trace kept.user in
         let m = law (unit_view r.boot.unit) x y s late held lawful in
         let T = told.sectors d in
         let seen = its_told x y s v base k t budget c r T (text.text o) ready in
         let h = halting x y s v base k t budget c r T (text.text o) ready same places.map places.offsets.items placed fine in
-        let told_is = told_user x y s v base k t budget c r T (text.text o) ready same places.map places.offsets.items placed fine rows u some most in
-        let lt = (is_user x y s v base k t budget c r T (text.text o) ready same places.map places.offsets.items placed fine rows u some most).1 in
         let now = runs_now (is_some r.ended) r.current in
-        let after : u - 1 + 1 ≡ u = omega (arith, some) in
-        let user : reported.user_script places.map r.machine (Some seen.sectors) (u == now) u ≡ user_script (map_of y.boot) (run x s t) u (user_of c.core.users u) =
-        ap (λ (q : Map). reported.user_script q r.machine (Some seen.sectors) (u == now) u) (its_map x y s v base k t budget c r T (text.text o) ready same places.map places.offsets.items placed fine)
-        ∙ subst (λ i. reported.user_script (site_of y.boot).map r.machine (Some seen.sectors) (i == now) i ≡ user_script (site_of y.boot).map (state_of r.machine seen.sectors) i (user_of c.core.users i)) after
-        (user_script_is x (site_of y.boot) r.machine seen.sectors c.status c.core now (stands x y s v base k t budget c r T (text.text o) ready same places.map places.offsets.items placed fine)
-        (running x y s v base k t budget c r T (text.text o) ready same places.map places.offsets.items placed fine) told_is.entries (u - 1) (omega (arith, some, lt)))
-        ∙ ap (λ (z : State). user_script (map_of y.boot) z u (user_of c.core.users u)) seen.state in
         ap (λ (q : Option (List (List ℕ))). trace_calls (is_some r.ended) r.current r.machine q places.map kept) seen.are
         ∙ ap₂ (λ (a e : List ℕ). Printed (Some (a ++ e)) ∷ reported.user_script places.map r.machine (Some seen.sectors) (u == now) u)
-        (last_is y s t p (grow (unit_view r.boot.unit) x y s late held u lawful some (few y same)) (tells.user t (omega arith) (omega arith)) ready.traces) h.end
-        ∙ ap (λ (us : List Call). Printed (Some (last_steps (p.shown t) ++ end_text c.status)) ∷ us) user
+        (last_is y s t p (grow (unit_view r.boot.unit) x y s late held u lawful some (few y same)) (tells.user t (omega arith) (omega arith)) ready.traces) h.0
+        ∙ ap (λ (us : List Call). Printed (Some (last_steps (p.shown t) ++ end_text c.status)) ∷ us) (user_called x y s v base k t budget c r T (text.text o) ready same places.map places.offsets.items placed fine rows users u some most)
         ∙ sym (trace_script x y s u turns steps p t c (its_cvm y s late held m v base k t c budget ready turns steps p tells) c.status refl (ap has_faulted (sym ready.ended) ∙ fine))
 
-    trace_performs : {R T : Type 0} (before : Result R ReportFault) (result : Result T RunFault) → blame of_report before ≡ blame of_run result →
-        Makes text told (o, d) (o1, d1) (trace_calls (is_some r.ended) r.current r.machine (told.sectors d) places.map kept) of_report before → ReportCalls text told r (o, d) (o1, d1) result
-    trace_performs before result same_blame made = record {
-      exact = λ budget y s late held base k t c same lawful ready turns steps p tells shelf. by r.view view budget y s late held base k t c same lawful ready turns steps p tells shelf;
-      some = λ none. (
-        untold (trace_calls (is_some r.ended) r.current r.machine (told.sectors d) places.map kept),
-        of_trace (is_some r.ended) r.current r.machine (told.sectors d) places.map kept,
-        λ shelf. made_untold (trace_calls (is_some r.ended) r.current r.machine (told.sectors d) places.map kept) (at text told shelf o d) (at text told shelf o1 d1) (blame of_run result)
-            (subst (Performs (trace_calls (is_some r.ended) r.current r.machine (told.sectors d) places.map kept) (at text told shelf o d) (at text told shelf o1 d1)) same_blame (made shelf)),
-      );
-    }
-      where
-        by : (v : View) → v ≡ Trace kept.user → (budget : ℕ) (y : System) (s : State) (late held : ℕ) (base : Base) (k t : ℕ) (c : Cvm) → y.boot ≡ boot_of r.boot → StartsFrom (IsTypedState (unit_view r.boot.unit)) x y s late held →
-            Ready x y s v base (suc k) t c (around r (told.sectors d) budget (text.text o)) → (turns steps : ℕ) (p : Past) → TellsFrom (run_at x y s v turns steps) p t t → (shelf : Files) →
-            Performs (report_script v (run_at x y s v turns steps) p t c.status) (at text told shelf o d) (at text told shelf o1 d1) (blame of_run result)
-        by v e budget y s late held base k t c same lawful ready turns steps p tells shelf =
-            subst (λ (w : View). Performs (report_script w (run_at x y s w turns steps) p t c.status) (at text told shelf o d) (at text told shelf o1 d1) (blame of_run result)) (sym e)
-            (same_script (trace_calls (is_some r.ended) r.current r.machine (told.sectors d) places.map kept) (report_script (Trace kept.user) (run_at x y s (Trace kept.user) turns steps) p t c.status) (at text told shelf o d) (at text told shelf o1 d1) (blame of_run result)
-            (trace_is y s late held base k t c budget same lawful (subst (λ (w : View). Ready x y s w base (suc k) t c (around r (told.sectors d) budget (text.text o))) e ready) turns steps p
-            (subst (λ (w : View). TellsFrom (run_at x y s w turns steps) p t t) e tells))
-            (subst (Performs (trace_calls (is_some r.ended) r.current r.machine (told.sectors d) places.map kept) (at text told shelf o d) (at text told shelf o1 d1)) same_blame (made shelf)))
+    trace_performs : {T : Type 0} (result : Result T RunFault) → Makes text told (o, d) (o1, d1) (trace_calls (is_some r.ended) r.current r.machine (told.sectors d) places.map kept) of_run result → ReportCalls text told r (o, d) (o1, d1) result
+    trace_performs result made = performs (trace_calls (is_some r.ended) r.current r.machine (told.sectors d) places.map kept) result (of_trace (is_some r.ended) r.current r.machine (told.sectors d) places.map kept)
+        (subst (λ (v : View). Is v (trace_calls (is_some r.ended) r.current r.machine (told.sectors d) places.map kept)) (sym view) trace_is) made
 
 -- THE SAME OF THE RUN AS THE CALL FOUND IT, by the code's own values
 module _ {L O D : Type 0} (text : sink_of.Ghosts O) (told : sectors_of.Ghosts D) (now r : Kept L) (same : r ≡ now) (o o1 : O) (d d1 : D) (fine : has_faulted now.ended ≡ false) (view : r.view ≡ viewed r.tracer) (places : Places)
@@ -250,14 +206,18 @@ module _ {L O D : Type 0} (text : sink_of.Ghosts O) (told : sectors_of.Ghosts D)
   its_end : has_faulted r.ended ≡ false
   its_end = ap (λ (q : Kept L). has_faulted q.ended) same ∙ fine
 
-  pub boot_report_calls : {R T : Type 0} (before : Result R ReportFault) (result : Result T RunFault) → blame of_report before ≡ blame of_run result → r.tracer ≡ None → (typed : (u : CUnit) → RunsStayTyped (IsTypedState u)) (rows : RowsTell) (globals : GlobalRowsTell)
+  as_run : (calls : List Call) {R T : Type 0} (before : Result R ReportFault) (result : Result T RunFault) → blame of_report before ≡ blame of_run result → Makes text told (o, d) (o1, d1) calls of_report before → Makes text told (o, d) (o1, d1) calls of_run result
+  as_run calls before result blames made = λ shelf. subst (Performs calls (at text told shelf o d) (at text told shelf o1 d1)) blames (made shelf)
+
+  pub boot_report_calls : {R T : Type 0} (before : Result R ReportFault) (result : Result T RunFault) → blame of_report before ≡ blame of_run result → r.tracer ≡ None → (typed : (u : CUnit) → RunsStayTyped (IsTypedState u)) (rows : RowsTell) (users : UserTells) (globals : GlobalRowsTell)
       (formed : IsWellFormed kernel_primitives (unit_view r.boot.unit)) (decls : List Decl) → decls ≡ r.boot.unit.globals.items → Makes text told (o, d) (o1, d1) (closing_calls halted r.current r.machine (told.sectors d) places decls) of_report before →
       ReportCalls text told now (o, d) (o1, d1) result
-  boot_report_calls {R} {T} before result blames tracer typed rows globals formed decls decls_are made =
+  boot_report_calls {R} {T} before result blames tracer typed rows users globals formed decls decls_are made =
       subst (λ (q : Kept L). ReportCalls text told q (o, d) (o1, d1) result) same
-      (boot_performs text told r o o1 d d1 its_end places placed law (view ∙ ap viewed tracer) typed rows globals formed {R = R} {T = T} before result blames
+      (boot_performs text told r o o1 d d1 its_end places placed law (view ∙ ap viewed tracer) typed rows users globals formed {T = T} result
+      (as_run (closing_calls (is_some r.ended) r.current r.machine (told.sectors d) places r.boot.unit.globals.items) {R = R} {T = T} before result blames
       (subst (λ (ds : List Decl). Makes text told (o, d) (o1, d1) (closing_calls (is_some r.ended) r.current r.machine (told.sectors d) places ds) of_report before) decls_are
-      (subst (λ (h : Bool). Makes text told (o, d) (o1, d1) (closing_calls h r.current r.machine (told.sectors d) places decls) of_report before) halted_is made)))
+      (subst (λ (h : Bool). Makes text told (o, d) (o1, d1) (closing_calls h r.current r.machine (told.sectors d) places decls) of_report before) halted_is made))))
 
   its_user : (kept : Tracer) → r.tracer ≡ Some kept → IsTrue (tracer_fits r.tracer (length r.boot.users.items) r.machine.time) → (1 ≤ kept.user) × (kept.user ≤ places.map.users)
   its_user kept tracer fits =
@@ -266,9 +226,10 @@ module _ {L O D : Type 0} (text : sink_of.Ghosts O) (told : sectors_of.Ghosts D)
       (there.0, (let most : kept.user ≤ length r.boot.users.items = there.1 in omega (arith, most, all, length-map r.boot.users.items (λ words. words.items))))
 
   pub trace_report_calls : {R T : Type 0} (before : Result R ReportFault) (result : Result T RunFault) → blame of_report before ≡ blame of_run result → (kept : Tracer) → r.tracer ≡ Some kept → (grow : (u : CUnit) → TracesGrow (IsTypedState u)) (follow : RowsFollow)
-      (rows : UserRowsTell) → IsTrue (tracer_fits r.tracer (length r.boot.users.items) r.machine.time) → Makes text told (o, d) (o1, d1) (trace_calls halted r.current r.machine (told.sectors d) places.map kept) of_report before → ReportCalls text told now (o, d) (o1, d1) result
-  trace_report_calls {R} {T} before result blames kept tracer grow follow rows fits made =
+      (rows : RowsTell) (users : UserTells) → IsTrue (tracer_fits r.tracer (length r.boot.users.items) r.machine.time) → Makes text told (o, d) (o1, d1) (trace_calls halted r.current r.machine (told.sectors d) places.map kept) of_report before → ReportCalls text told now (o, d) (o1, d1) result
+  trace_report_calls {R} {T} before result blames kept tracer grow follow rows users fits made =
       let user = its_user kept tracer fits in
       subst (λ (q : Kept L). ReportCalls text told q (o, d) (o1, d1) result) same
-      (trace_performs text told r o o1 d d1 its_end places placed law kept tracer (view ∙ ap viewed tracer) grow follow rows user.0 user.1 {R = R} {T = T} before result blames
-      (subst (λ (h : Bool). Makes text told (o, d) (o1, d1) (trace_calls h r.current r.machine (told.sectors d) places.map kept) of_report before) halted_is made))
+      (trace_performs text told r o o1 d d1 its_end places placed law kept tracer (view ∙ ap viewed tracer) grow follow rows users user.0 user.1 {T = T} result
+      (as_run (trace_calls (is_some r.ended) r.current r.machine (told.sectors d) places.map kept) {R = R} {T = T} before result blames
+      (subst (λ (h : Bool). Makes text told (o, d) (o1, d1) (trace_calls h r.current r.machine (told.sectors d) places.map kept) of_report before) halted_is made)))

@@ -35,8 +35,8 @@ use Rattle.boot_run.specs.LoadEnds.{Kept}
 use Rattle.boot_run.specs.Pieces.{Bootable, FirstAt, GoRuns}
 use Rattle.boot_run.specs.RunCalls.{run_at, begin_script, fault_script, turns_script, TellsFrom, TurnsCall, GoCalls}
 use Rattle.boot_run.specs.Sink.{Base}
-use Rattle.boot_run.specs.TurnCalls.{ended_of, Around, around, Ready, TurnsEnd, TurnsRun, KeepsLoad}
-use Rattle.boot_run.proofs.TurnToTurn.{Going, Goes, came_on, goes_on, goes_on_to, end_most, no_end}
+use Rattle.boot_run.specs.TurnCalls.{ended_of, Around, around, Ready, Broken, TurnsEnd, TurnsRun, KeepsLoad}
+use Rattle.boot_run.proofs.TurnToTurn.{Going, Goes, came_on, goes_on, goes_on_to, end_most, no_end, not_before}
 use Rattle.boot_run.proofs.Looping.{KeepsGoing, machines, turns_end}
 use Rattle.boot_run.proofs.ScriptParts.{at}
 use Rattle.boot_run.proofs.Scripting.{goes_none}
@@ -244,6 +244,15 @@ broken_on counts x y s v turns steps p k t n le old new whom made = ⊎_elim
 
 -- HOW FAR TURNS CAME THAT FAILED: to no later step than the headline's, and where they are out of steps just to that
 module _ (counts : TurnLaws) (x : device.Environment) (y : System) (s : State) (v : View) (base : Base) (turns steps i t : ℕ) (c : Cvm) (most : ℕ) (before after : Around) (room : i + most ≤ turns) (g : Going x y s v base steps i t c before) where
+  fail_within : Broken x s t (i + most) before after → after.steps ≤ end_within x s turns steps
+  fail_within w =
+      let spent = g.came.spent in
+      let within = w.most in
+      no_sooner counts x s turns steps after.steps (omega (arith, spent, within)) (λ j h. ⊎_elim
+      (λ (l : j < t). not_before x y s turns steps i t c before.budget (omega (arith, room)) g.came j l)
+      (λ (ge : t ≤ j). let e = w.fewer j ge h in no_end x s turns j (λ f. omega (arith, e, f, room)) (w.on j h))
+      (cases_lt j t))
+
   fail_end : (f : RunFault) → TurnsEnd x y s v base i t c most before after (Err f) → (of_run f ≡ None → after.steps ≡ end_within x s turns steps) × (after.steps ≤ end_within x s turns steps)
   fail_end StepLimit (n, lt, le, w, fails) =
       let spent = g.came.spent in
@@ -254,24 +263,8 @@ module _ (counts : TurnLaws) (x : device.Environment) (y : System) (s : State) (
       goes_on_to counts x y s v base turns steps (i + n) (t + n) w.after (record before { budget = before.budget - n }) after (omega (arith, room, lt)) came j (λ ge. fails.between j ge (omega (arith, h, here))) (fails.on j (omega (arith, h, here))) in
       let end : end_within x s turns steps ≡ steps = (counts.none x s turns steps (none (end_within x s turns steps) (let h = end_most x s turns steps in omega (arith, h)))).0 in
       (λ _. omega (arith, time, here, end), omega (arith, time, here, end))
-  fail_end Disk (n, lt, le, w, fails) =
-      let spent = g.came.spent in
-      let time : after.steps ≡ suc fails.at = fails.steps in
-      let budget : after.budget + suc fails.at ≡ before.budget - n + (t + n) = fails.budget in
-      let came = came_on x y s steps i t c before.budget g.came n le w in
-      let none : (j : ℕ) → j < suc fails.at → is_end x s turns j ≡ false = λ j h.
-      goes_on_to counts x y s v base turns steps (i + n) (t + n) w.after (record before { budget = before.budget - n }) after (omega (arith, room, lt)) came j (λ ge. fails.between j ge (omega (arith, h))) (fails.on j (omega (arith, h))) in
-      let end = no_sooner counts x s turns steps (suc fails.at) (omega (arith, spent, budget, le)) none in
-      (λ e. absurd (let h = e in cc), omega (arith, time, end))
-  fail_end Sink (n, lt, le, w, fails) =
-      let spent = g.came.spent in
-      let time : after.steps ≡ fails.at = fails.steps in
-      let budget : after.budget + fails.at ≡ before.budget - n + (t + n) = fails.budget in
-      let came = came_on x y s steps i t c before.budget g.came n le w in
-      let none : (j : ℕ) → j < fails.at → is_end x s turns j ≡ false = λ j h.
-      goes_on_to counts x y s v base turns steps (i + n) (t + n) w.after (record before { budget = before.budget - n }) after (omega (arith, room, lt)) came j (λ ge. fails.between j ge h) (fails.on j h) in
-      let end = no_sooner counts x s turns steps fails.at (omega (arith, spent, budget, le)) none in
-      (λ e. absurd (let h = e in cc), omega (arith, time, end))
+  fail_end Disk w = (λ e. absurd (let h = e in cc), fail_within w)
+  fail_end Sink w = (λ e. absurd (let h = e in cc), fail_within w)
 
 -- THE LOOP FAILED
 module _ {L O D : Type 0} (text : sink_of.Ghosts O) (told : sectors_of.Ghosts D) (r now new : Kept L) (o o1 o2 : O) (d d1 d2 : D) (budget middle left i turns : ℕ) (kept : KeepsLoad r now) (size : told.size d1 ≡ told.size d) (law : (u : CUnit) → MachinesRun (IsTypedState u)) (counts : TurnLaws)

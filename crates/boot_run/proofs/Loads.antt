@@ -11,6 +11,7 @@ use Rattle.schedule_file.specs.Rows.{Rows}
 use Rattle.layer_map.specs.Map.{memory_frames, memory_words}
 use Rattle.mips_table.specs.Device.{sector_of}
 use Rattle.mips_table.specs.Machine.{power_on}
+use Rattle.page_model.specs.Paging.{Pages}
 use Rattle.mips_machine.specs.Machine.{Held, started}
 use Rattle.cvm_model.specs.Cvm.{map_of}
 use Rattle.layer_contract.specs.declared.boot.Boot.{Boot as Booted}
@@ -137,16 +138,25 @@ torn_loaded b rows told retold made remade count some w sized le =
     (λ ss all. sectors_are b rows some ss all) (λ ss e. let many = told_many told ss count e sized in omega (arith, many, le)) w
 
 -- what the code counted, and wrote from its own lists, as the definitions say it
-module _ (b : Booted) (rows : Rows) (us : List (Vec ℕ Global)) (n : ℕ) (told retold : Option (List (List ℕ))) (made remade : Tally) (users : us ≡ b.users.items) (many : n ≡ length b.users.items) where
-  pub user_calls : remade.calls ≡ calls_made (pages_of_users b.params.pages us []).live (n * b.params.pages) made → remade.calls ≡ calls_made (user_pages (system_of b rows)).live (pages_needed b) made
-  user_calls w =
-      subst (λ (vs : List (Vec ℕ Global)). remade.calls ≡ calls_made (pages_of_users b.params.pages vs []).live (length b.users.items * b.params.pages) made) users
-      (subst (λ m. remade.calls ≡ calls_made (pages_of_users b.params.pages us []).live (m * b.params.pages) made) many w)
+module _ (b : Booted) (rows : Rows) (us : List (Vec ℕ Global)) (ws behind : List ℕ) (n need : ℕ) (told retold : Option (List (List ℕ))) (made remade : Tally) (users : us ≡ b.users.items) (words : ws ≡ behind) (many : n ≡ need) where
+  abbrev wanted : Pages
+  wanted = disk_pages b.params.pages (lists b rows) behind
+
+  pub written_so : retold ≡ option_map (written (pages_of_users b.params.pages us ws) n) told → retold ≡ option_map (written wanted need) told
+  written_so w =
+      subst (λ (vs : List (Vec ℕ Global)). retold ≡ option_map (written (pages_of_users b.params.pages vs behind) need) told) users
+      (subst (λ (vs : List ℕ). retold ≡ option_map (written (pages_of_users b.params.pages us vs) need) told) words
+      (subst (λ m. retold ≡ option_map (written (pages_of_users b.params.pages us ws) m) told) many w))
+
+  pub calls_so : remade.calls ≡ calls_made (pages_of_users b.params.pages us ws).live n made → remade.calls ≡ calls_made wanted.live need made
+  calls_so w =
+      subst (λ (vs : List (Vec ℕ Global)). remade.calls ≡ calls_made (pages_of_users b.params.pages vs behind).live need made) users
+      (subst (λ (vs : List ℕ). remade.calls ≡ calls_made (pages_of_users b.params.pages us vs).live need made) words
+      (subst (λ m. remade.calls ≡ calls_made (pages_of_users b.params.pages us ws).live m made) many w))
 
   -- the writing that was broken off
-  abbrev TornOf : List (Vec ℕ Global) → ℕ → Type 0
-  TornOf vs m = TornAmong (m * b.params.pages) (written (pages_of_users b.params.pages vs []) (m * b.params.pages)) told retold (pages_of_users b.params.pages vs []).live made remade
+  abbrev TornOf : List (Vec ℕ Global) → List ℕ → ℕ → Type 0
+  TornOf vs last m = TornAmong m (written (pages_of_users b.params.pages vs last) m) told retold (pages_of_users b.params.pages vs last).live made remade
 
-  pub user_torn : TornAmong (n * b.params.pages) (written (pages_of_users b.params.pages us []) (n * b.params.pages)) told retold (pages_of_users b.params.pages us []).live made remade →
-      TornAmong (length b.users.items * b.params.pages) (written (user_pages (system_of b rows)) (length b.users.items * b.params.pages)) told retold (user_pages (system_of b rows)).live made remade
-  user_torn w = subst (λ (vs : List (Vec ℕ Global)). TornOf vs (length b.users.items)) users (subst (λ m. TornOf us m) many w)
+  pub torn_so : TornOf us ws n → TornAmong need (written wanted need) told retold wanted.live made remade
+  torn_so w = subst (λ (vs : List (Vec ℕ Global)). TornOf vs behind need) users (subst (λ (vs : List ℕ). TornOf us vs need) words (subst (λ m. TornOf us ws m) many w))

@@ -2,7 +2,7 @@
 use Rattle.std.proofs.Common.{◌≡◌, ℕ, ◌-◌, ◌*◌, ◌≤◌, List, ◌++◌, length, drop, refl, sym, ap, ap₂, ◌∙◌, subst, arith, length-append, length-drop}
 use Rattle.std.proofs.lemmas.List.{length-map}
 use Rattle.std.proofs.lemmas.List.Elements.{All-weaker}
-use Rattle.std.specs.Prelude.{All}
+use Rattle.std.specs.Prelude.{All, IfSome, Option}
 use Rattle.cvm_outside.specs.Told.{IsSector}
 use Rattle.schedule_file.specs.Rows.{Rows, lines_at, busy_of, longest}
 use Rattle.mips_table.specs.Device.{HasEightLines, LinesEnd}
@@ -26,11 +26,19 @@ use Rattle.boot_run.specs.Loading.{system_of}
 use Rattle.boot_run.specs.LoadEnds.{pages_needed, rom_needed}
 use Rattle.boot_run.specs.Whole.{rom_start_of}
 use Rattle.boot_run.specs.Pieces.{Bootable, RomBootable}
+use Rattle.boot_run.specs.SavedRuns.{AreDisk}
 use Rattle.boot_run.proofs.RomLoads.{rom_needed_is}
 
 -- sectors of words are pages
 pub are_pages : (old : List (List ℕ)) → All IsSector old → All IsPage old
 are_pages old h = All-weaker IsSector IsPage (λ s p. record { size = p.size; each = p.each }) old h
+
+-- and those that a disk tells are its own
+pub are_disk : (count : ℕ) (told : Option (List (List ℕ))) → IfSome told (λ ss. length ss ≡ count) → IfSome told (All IsSector) → AreDisk count told
+are_disk count told sized sectors = λ old is. record {
+  size = subst (λ (o : Option (List (List ℕ))). IfSome o (λ ss. length ss ≡ count)) is sized;
+  each = are_pages old (subst (λ (o : Option (List (List ℕ))). IfSome o (All IsSector)) is sectors);
+}
 
 -- what a schedule's rows promise, over a disk of so many sectors
 pub record RowsFit (rows : Rows) (count : ℕ) : Type 0 where

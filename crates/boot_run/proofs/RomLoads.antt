@@ -1,5 +1,5 @@
 -- The machine that `load_rom` makes is the machine with the ROM, over the disk that it writes.
-use Rattle.std.proofs.Common.{◌≡◌, ℕ, suc, ◌+◌, ◌*◌, ◌/◌, ◌-◌, ◌<◌, ◌≤◌, Bool, false, not, ◌&&◌, cond, List, ◌∷◌, ◌++◌, map, take, drop, length, replicate, Option, None, Some, refl, sym, ap, ap₂, ◌∙◌, subst, arith, ⊎_elim, length-append, lt-ltb, le-ltb, Vec, Global}
+use Rattle.std.proofs.Common.{◌≡◌, ℕ, suc, ◌+◌, ◌*◌, ◌/◌, ◌-◌, ◌<◌, ◌≤◌, Bool, false, not, ◌&&◌, cond, List, ◌∷◌, ◌++◌, map, take, drop, length, replicate, Option, None, Some, refl, sym, ap, ap₂, ◌∙◌, subst, arith, ⊎_elim, length-append, lt-ltb, le-ltb}
 use Rattle.std.specs.Prelude.{nat_lt, IfSome}
 use Rattle.std.specs.Option.{option_map}
 use Rattle.std.specs.List.{range_with_len}
@@ -7,7 +7,7 @@ use Rattle.std.proofs.lemmas.Bool.{cases_lt, cond-true}
 use Rattle.std.proofs.lemmas.List.{drop-replicate, take-replicate, length-replicate}
 use Rattle.cvm_outside.specs.Numbering.{Tally}
 use Rattle.schedule_file.specs.Rows.{Rows}
-use Rattle.layer_map.specs.Map.{Map, memory_frames, memory_words}
+use Rattle.layer_map.specs.Map.{memory_frames, memory_words}
 use Rattle.mips_table.specs.Device.{sector_of}
 use Rattle.mips_table.specs.Encoding.{encoding}
 use Rattle.mips_table.specs.declared.inst.Inst.TheVariants.{J}
@@ -20,8 +20,8 @@ use Rattle.layer_contract.specs.Follows.{loaded_sector}
 use Rattle.boot_rom.specs.Boots.{rom_memory}
 use Rattle.boot_turns.specs.Completes.{state_seen}
 use Rattle.boot_turns.specs.Rom.{page_of, rom_loaded, rom_sector, rom_sectors}
-use Rattle.boot_run.specs.Loading.{system_of, pages_of_users, written, with_rom, TornAmong}
-use Rattle.boot_run.specs.LoadedPages.{calls_made, disk_pages, rom_pages}
+use Rattle.boot_run.specs.Loading.{system_of, written, with_rom, TornAmong}
+use Rattle.boot_run.specs.LoadedPages.{disk_pages, rom_pages}
 use Rattle.boot_run.specs.LoadEnds.{rom_needed}
 use Rattle.boot_run.proofs.PageLemmas.{written_is}
 use Rattle.boot_run.proofs.Loads.{lists, needed_is, page_if, page_below, page_behind, kept_behind, torn_becomes, told_many}
@@ -123,33 +123,3 @@ module _ (b : Booted) (rows : Rows) where
       let z = length-replicate {A = ℕ} (1024 - length rom) 0 in
       let whole : 1024 * memory_frames (map_of (boot_of b)) ≡ memory_words (map_of (boot_of b)) = omega arith in
       omega (arith, l, h, a, r, d, z, whole, some, few)
-
--- what the code counted, and wrote from its own lists, as the definitions say it
-pub need_is : (b : Booted) (users behind : ℕ) → users ≡ length b.users.items → behind ≡ (length b.words.items + 1023) / 1024 → users * b.params.pages + behind ≡ rom_needed b
-need_is b users behind e f = ap₂ (λ (n m : ℕ). n * b.params.pages + m) e f
-
-module _ (b : Booted) (rows : Rows) (us : List (Vec ℕ Global)) (ws : List ℕ) (n : ℕ) (told retold : Option (List (List ℕ))) (made remade : Tally) (users : us ≡ b.users.items) (words : ws ≡ b.words.items) (need : n ≡ rom_needed b) where
-  pub written_so : retold ≡ option_map (written (pages_of_users b.params.pages us ws) n) told → retold ≡ option_map (written (disk_pages b.params.pages (lists b rows) b.words.items) (rom_needed b)) told
-  written_so w =
-      subst (λ (vs : List (Vec ℕ Global)). retold ≡ option_map (written (pages_of_users b.params.pages vs b.words.items) (rom_needed b)) told) users
-      (subst (λ (vs : List ℕ). retold ≡ option_map (written (pages_of_users b.params.pages us vs) (rom_needed b)) told) words
-      (subst (λ m. retold ≡ option_map (written (pages_of_users b.params.pages us ws) m) told) need w))
-
-  pub calls_so : remade.calls ≡ calls_made (pages_of_users b.params.pages us ws).live n made → remade.calls ≡ calls_made (rom_pages (system_of b rows)).live (rom_needed b) made
-  calls_so w =
-      subst (λ (vs : List (Vec ℕ Global)). remade.calls ≡ calls_made (pages_of_users b.params.pages vs b.words.items).live (rom_needed b) made) users
-      (subst (λ (vs : List ℕ). remade.calls ≡ calls_made (pages_of_users b.params.pages us vs).live (rom_needed b) made) words
-      (subst (λ m. remade.calls ≡ calls_made (pages_of_users b.params.pages us ws).live m made) need w))
-
-  -- the writing that was broken off
-  abbrev TornOf : List (Vec ℕ Global) → List ℕ → ℕ → Type 0
-  TornOf vs behind m = TornAmong m (written (pages_of_users b.params.pages vs behind) m) told retold (pages_of_users b.params.pages vs behind).live made remade
-
-  pub torn_so : TornAmong n (written (pages_of_users b.params.pages us ws) n) told retold (pages_of_users b.params.pages us ws).live made remade →
-      TornAmong (rom_needed b) (written (rom_pages (system_of b rows)) (rom_needed b)) told retold (rom_pages (system_of b rows)).live made remade
-  torn_so w =
-      subst (λ (vs : List (Vec ℕ Global)). TornOf vs b.words.items (rom_needed b)) users (subst (λ (vs : List ℕ). TornOf us vs (rom_needed b)) words (subst (λ m. TornOf us ws m) need w))
-
--- the machine that the code made, of the map that it found
-pub made_so : (b : Booted) (rows : Rows) (m : Map) (rom ws : List ℕ) (held : Held) → m ≡ map_of (boot_of b) → ws ≡ rom → held ≡ with_rom (memory_frames m) ws rows → held ≡ with_rom (memory_frames (map_of (boot_of b))) rom rows
-made_so b rows m rom ws held e f h = h ∙ ap₂ (λ (q : Map) (vs : List ℕ). with_rom (memory_frames q) vs rows) e f

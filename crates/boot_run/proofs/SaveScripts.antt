@@ -27,15 +27,14 @@ use Rattle.boot_turns.specs.Runs.{Run, Past, IsPast, cvm_at}
 use Rattle.boot_turns.specs.RowScripts.{of_run}
 use Rattle.boot_turns.proofs.SomeCalls.{of_both}
 use Rattle.boot_run.specs.declared.load.LoadFault.{LoadFault}
-use Rattle.boot_run.specs.declared.saving.SaveEnd.{SaveEnd}
-use Rattle.boot_run.specs.declared.saving.SaveEnd.TheVariants.{Stopped, Ended}
 use Rattle.boot_run.specs.declared.whole.RunEnd.{RunEnd}
+use Rattle.boot_run.specs.declared.whole.RunEnd.TheVariants.{Stopped}
 use Rattle.boot_run.specs.Closing.{closing_script}
 use Rattle.boot_run.specs.LoadEnds.{Kept, IsFresh}
 use Rattle.boot_run.specs.Loading.{system_of}
 use Rattle.boot_run.specs.Pieces.{Bootable, FirstAt, GoRuns, end_of_fault}
-use Rattle.boot_run.specs.RunCalls.{run_at, begin_script, fault_script, report_script, TellsFrom, GoCalls, CloseCalls, of_load, loads, LoadCalls, end_by}
-use Rattle.boot_run.specs.SaveCalls.{unless_on, stop_script, of_stop, stop_by, due_stop, StopsBy, StopCalls, ToStopCalls, SaveScript}
+use Rattle.boot_run.specs.RunCalls.{run_at, begin_script, fault_script, report_script, TellsFrom, GoCalls, CloseCalls, of_load, loads, LoadCalls, of_end, end_by, EndsBy}
+use Rattle.boot_run.specs.SaveCalls.{unless_on, stop_script, stop_by, due_stop, StopCalls, ToStopCalls, SaveScript}
 use Rattle.boot_run.specs.Sink.{Base, behind}
 use Rattle.boot_run.specs.TurnCalls.{ended_of, around, Ready, StandsReady, KeepsLoad}
 use Rattle.boot_run.proofs.EndScripts.{blames_so, late_none, now_is, closing_is, rest_made, rest_broke}
@@ -53,7 +52,7 @@ over_is Running closing e = absurd (let h = e in cc)
 over_is Halted closing e = refl
 over_is (Faulted f) closing e = refl
 
-over_end : (st : Status) → is_some (ended_of st) ≡ true → Ended (end_by true st) ≡ stop_by true st
+over_end : (st : Status) → is_some (ended_of st) ≡ true → end_by true st ≡ stop_by true st
 over_end Running e = absurd (let h = e in cc)
 over_end Halted e = refl
 over_end (Faulted f) e = refl
@@ -62,15 +61,15 @@ on_is : (st : Status) (closing : List Call) → st ≡ Running → unless_on st 
 on_is st closing e = ap (λ (q : Status). unless_on q closing) e
 
 module _ {L O D : Type 0} (text : sink_of.Ghosts O) (told : sectors_of.Ghosts D) (r : Kept L) (o o1 : O) (d d1 : D) where
-  pub stop_closed : (end : RunEnd) → is_some r.ended ≡ true → CloseCalls text told r (o, d) (o1, d1) end → StopCalls text told r (o, d) (o1, d1) (Ended end)
+  pub stop_closed : (end : RunEnd) → is_some r.ended ≡ true → CloseCalls text told r (o, d) (o1, d1) end → StopCalls text told r (o, d) (o1, d1) end
   stop_closed end over calls = record {
     exact = λ budget y s late held base k t c same lawful ready turns steps p tells.
         let rep : List Call = report_script r.view (run_at (outside_of r.machine.rows (told.size d)) y s r.view turns steps) p t c.status in
         let w = calls.exact budget y s late held base k t c same lawful ready turns steps p tells in
         let on : is_some (ended_of c.status) ≡ true = ap is_some (sym ready.ended) ∙ over in
         record {
-          made = λ shelf. same_script rep (unless_on c.status rep) (at text told shelf o d) (at text told shelf o1 d1) (of_stop (Ended end)) (sym (over_is c.status rep on)) (w.made shelf);
-          is = λ none. ap (λ (e : RunEnd). Ended e) (w.is none) ∙ over_end c.status on;
+          made = λ shelf. same_script rep (unless_on c.status rep) (at text told shelf o d) (at text told shelf o1 d1) (of_end end) (sym (over_is c.status rep on)) (w.made shelf);
+          is = λ none. w.is none ∙ over_end c.status on;
         };
     some = (calls.some.0, of_run_too calls.some.0 calls.some.1, calls.some.2);
   }
@@ -95,7 +94,7 @@ stop_parts v r p t off (Faulted f) all report is = is
 
 -- THE LOOP FAILED
 pub stop_fails : {L O D T : Type 0} (text : sink_of.Ghosts O) (told : sectors_of.Ghosts D) (r new : Kept L) (o o1 : O) (d d1 : D) (turns budget left : ℕ) (law : (u : CUnit) → MachinesRun (IsTypedState u)) (counts : TurnLaws) (f : RunFault) →
-    GoRuns (told.size d) r turns (around r (told.sectors d) budget (text.text o)) (around new (told.sectors d1) left (text.text o1)) (Err f) → GoCalls {T = T} text told r turns budget (o, d) (o1, d1) (Err f) → ToStopCalls text told r turns budget (o, d) (o1, d1) (Ended (end_of_fault f))
+    GoRuns (told.size d) r turns (around r (told.sectors d) budget (text.text o)) (around new (told.sectors d1) left (text.text o1)) (Err f) → GoCalls {T = T} text told r turns budget (o, d) (o1, d1) (Err f) → ToStopCalls text told r turns budget (o, d) (o1, d1) (end_of_fault f)
 stop_fails text told r new o o1 d d1 turns budget left law counts f goes calls = record {
   exact = λ y s late held old base k t wanted steps c p starts some more sum ready running past is.
       let x = outside_of r.machine.rows (told.size d) in
@@ -116,20 +115,20 @@ stop_fails text told r new o o1 d d1 turns budget left law counts f goes calls =
   some = (calls.some.0, calls.some.1, λ shelf. subst (Performs calls.some.0 (at text told shelf o d) (at text told shelf o1 d1)) (sym (blames_so f)) (calls.some.2 shelf));
 }
   where
-    due : (f : RunFault) → of_run f ≡ None → (b : Bool) → b ≡ false → (st : Status) → Ended (end_of_fault f) ≡ stop_by b st
+    due : (f : RunFault) → of_run f ≡ None → (b : Bool) → b ≡ false → (st : Status) → end_of_fault f ≡ stop_by b st
     due StepLimit e b is st = ap (λ (q : Bool). stop_by q st) (sym is)
     due Disk e b is st = absurd (let h = e in cc)
     due Sink e b is st = absurd (let h = e in cc)
 
 -- what stops or closes a run, over these rows and this view and a disk of so many sectors
-abbrev StopsAt : {L O D : Type 0} → sink_of.Ghosts O → sectors_of.Ghosts D → Kept L → Booted → Rows → View → (size : ℕ) → O → D → O → D → SaveEnd → Type 0
+abbrev StopsAt : {L O D : Type 0} → sink_of.Ghosts O → sectors_of.Ghosts D → Kept L → Booted → Rows → View → (size : ℕ) → O → D → O → D → RunEnd → Type 0
 StopsAt text told r b rows v size o d o1 d1 end =
     (budget : ℕ) (y : System) (s : State) (late held : ℕ) (base : Base) (k t : ℕ) (c : Cvm) → y.boot ≡ boot_of b → StartsFrom (IsTypedState (unit_view b.unit)) (outside_of rows size) y s late held →
     Ready (outside_of rows size) y s v base (suc k) t c (around r (told.sectors d) budget (text.text o)) → (turns steps : ℕ) (p : Past) → TellsFrom (run_at (outside_of rows size) y s v turns steps) p t t →
-    StopsBy text told (o, d) (o1, d1) (unless_on c.status (report_script v (run_at (outside_of rows size) y s v turns steps) p t c.status)) (stop_by true c.status) end
+    EndsBy text told (o, d) (o1, d1) (unless_on c.status (report_script v (run_at (outside_of rows size) y s v turns steps) p t c.status)) (stop_by true c.status) end
 
 -- OR CAME TO ITS END, and the run stops or is closed
-pub stop_comes : {L O D : Type 0} (text : sink_of.Ghosts O) (told : sectors_of.Ghosts D) (r mid : Kept L) (o o1 o2 : O) (d d1 d2 : D) (turns budget left : ℕ) (law : (u : CUnit) → MachinesRun (IsTypedState u)) (counts : TurnLaws) (e : SaveEnd) → KeepsLoad r mid → told.size d1 ≡ told.size d →
+pub stop_comes : {L O D : Type 0} (text : sink_of.Ghosts O) (told : sectors_of.Ghosts D) (r mid : Kept L) (o o1 o2 : O) (d d1 d2 : D) (turns budget left : ℕ) (law : (u : CUnit) → MachinesRun (IsTypedState u)) (counts : TurnLaws) (e : RunEnd) → KeepsLoad r mid → told.size d1 ≡ told.size d →
     GoRuns (told.size d) r turns (around r (told.sectors d) budget (text.text o)) (around mid (told.sectors d1) left (text.text o1)) (Ok tt) → GoCalls {T = Unit {0}} text told r turns budget (o, d) (o1, d1) (Ok tt) → StopCalls text told mid (o1, d1) (o2, d2) e →
     ToStopCalls text told r turns budget (o, d) (o2, d2) e
 stop_comes text told r mid o o1 o2 d d1 d2 turns budget left law counts e kept size goes calls stops = record {
@@ -150,16 +149,16 @@ stop_comes text told r mid o o1 o2 d d1 d2 turns budget left law counts e kept s
       record {
         made = λ shelf. rest_made counts x y s late held m r.view wanted steps past is (unless_on st (closing_script rn past)) (unless_on st rep)
             (λ e. stop_parts r.view rn past (end_within x s wanted steps) (run x s (end_within x s wanted steps)).off st (closing_script rn past) rep (closing_is counts x y s late held m r.view wanted steps past is e))
-            k t low (at text told shelf o d) (at text told shelf o1 d1) (at text told shelf o2 d2) (of_stop e) ended
+            k t low (at text told shelf o d) (at text told shelf o1 d1) (at text told shelf o2 d2) (of_end e) ended
             (calls.exact y s late held old base k t wanted steps c p starts some more sum ready running past is shelf)
-            (same_script (unless_on g.past.status (report_script r.view rn past g.at g.past.status)) (unless_on st rep) (at text told shelf o1 d1) (at text told shelf o2 d2) (of_stop e)
+            (same_script (unless_on g.past.status (report_script r.view rn past g.at g.past.status)) (unless_on st rep) (at text told shelf o1 d1) (at text told shelf o2 d2) (of_end e)
             (ap₂ (λ q (z : Status). unless_on z (report_script r.view rn past q z)) (sym end) (ap (λ (q : Cvm). q.status) (sym now))) (w.made shelf));
         is = λ none. w.is none ∙ ap₂ (λ (b : Bool) (z : Status). stop_by b z) (sym ended) (ap (λ (q : Cvm). q.status) (sym now));
       };
   some = (
     calls.some.0 ++ stops.some.0,
     of_both calls.some.0 stops.some.0 calls.some.1 stops.some.1,
-    λ shelf. both calls.some.0 stops.some.0 (at text told shelf o d) (at text told shelf o1 d1) (at text told shelf o2 d2) (of_stop e) (calls.some.2 shelf) (stops.some.2 shelf),
+    λ shelf. both calls.some.0 stops.some.0 (at text told shelf o d) (at text told shelf o1 d1) (at text told shelf o2 d2) (of_end e) (calls.some.2 shelf) (stops.some.2 shelf),
   );
 }
   where
@@ -175,7 +174,7 @@ pub save_refused : {L O D T : Type 0} (text : sink_of.Ghosts O) (told : sectors_
     LoadCalls {T = T} told d d1 script (Err f) → SaveScript {L = L} text told y rows start turns steps script (o, d) (o, d1) (Err f)
 save_refused {L} {O} {D} {T} text told y rows start turns steps script o d d1 f calls = record {
   exact = λ begun sectors p is past. (
-    λ shelf. subst (Performs (script ++ stop_script (run_at (outside_of rows (told.size d)) y (start sectors) Boot turns steps) p 0) (at text told shelf o d) (at text told shelf o d1)) (sym (by_disk (Kept L × SaveEnd) f begun))
+    λ shelf. subst (Performs (script ++ stop_script (run_at (outside_of rows (told.size d)) y (start sectors) Boot turns steps) p 0) (at text told shelf o d) (at text told shelf o d1)) (sym (by_disk (Kept L × RunEnd) f begun))
         (first script (stop_script (run_at (outside_of rows (told.size d)) y (start sectors) Boot turns steps) p 0) (at text told shelf o d) (at text told shelf o d1) TheDisk (made begun shelf)),
     λ _. tt,
   );
@@ -183,22 +182,22 @@ save_refused {L} {O} {D} {T} text told y rows start turns steps script o d d1 f 
     [],
     tt,
     λ shelf. same_script script (script ++ []) (at text told shelf o d) (at text told shelf o d1) (of_load f) (sym (append-nil script))
-        (subst (Performs script (at text told shelf o d) (at text told shelf o d1)) (sym (by_disk (Kept L × SaveEnd) f begun)) (made begun shelf)),
+        (subst (Performs script (at text told shelf o d) (at text told shelf o d1)) (sym (by_disk (Kept L × RunEnd) f begun)) (made begun shelf)),
   );
-  none = λ e. ap (λ (q : D). (o, q)) (calls.none (same_loads T (Kept L × SaveEnd) f ∙ e));
+  none = λ e. ap (λ (q : D). (o, q)) (calls.none (same_loads T (Kept L × RunEnd) f ∙ e));
 }
   where
-    made : loads {T = Kept L × SaveEnd} (Err f) ≡ true → (shelf : Files) → Performs script (at text told shelf o d) (at text told shelf o d1) (Some TheDisk)
-    made begun shelf = subst (Performs script (at text told shelf o d) (at text told shelf o d1)) (by_disk (Kept L × SaveEnd) f begun) (calls.made (same_loads T (Kept L × SaveEnd) f ∙ begun) shelf (output text o))
+    made : loads {T = Kept L × RunEnd} (Err f) ≡ true → (shelf : Files) → Performs script (at text told shelf o d) (at text told shelf o d1) (Some TheDisk)
+    made begun shelf = subst (Performs script (at text told shelf o d) (at text told shelf o d1)) (by_disk (Kept L × RunEnd) f begun) (calls.made (same_loads T (Kept L × RunEnd) f ∙ begun) shelf (output text o))
 
 -- WHERE ONE IS
-abbrev ToStopAt : {L O D : Type 0} → sink_of.Ghosts O → sectors_of.Ghosts D → Kept L → Booted → Rows → View → (size turns budget : ℕ) → O → D → O → D → SaveEnd → Type 0
+abbrev ToStopAt : {L O D : Type 0} → sink_of.Ghosts O → sectors_of.Ghosts D → Kept L → Booted → Rows → View → (size turns budget : ℕ) → O → D → O → D → RunEnd → Type 0
 ToStopAt text told r b rows v size turns budget o d o1 d1 e =
     (y : System) (s : State) (late held : ℕ) (old : List (List ℕ)) (base : Base) (k t wanted steps : ℕ) (c : Cvm) → Bootable b rows size y s late held old → FirstAt (outside_of rows size) s k t → 1 ≤ wanted → k + turns ≡ wanted → budget + t ≡ steps →
     Ready (outside_of rows size) y s v base k t c (around r (told.sectors d) budget (text.text o)) → c.status ≡ Running → (p : Past) → IsPast (run_at (outside_of rows size) y s v wanted steps) p →
-    StopsBy text told (o, d) (o1, d1) (begin_script (run_at (outside_of rows size) y s v wanted steps) k ++ stop_script (run_at (outside_of rows size) y s v wanted steps) p t) (due_stop (run_at (outside_of rows size) y s v wanted steps) p) e
+    EndsBy text told (o, d) (o1, d1) (begin_script (run_at (outside_of rows size) y s v wanted steps) k ++ stop_script (run_at (outside_of rows size) y s v wanted steps) p t) (due_stop (run_at (outside_of rows size) y s v wanted steps) p) e
 
-module _ {L O D : Type 0} (text : sink_of.Ghosts O) (told : sectors_of.Ghosts D) (layer : L) (b : Booted) (rows : Rows) (start : List (List ℕ) → State) (held need : ℕ) (turns steps : ℕ) (script : List Call) (o o1 : O) (d d1 d2 : D) (r new : Kept L) (e : SaveEnd)
+module _ {L O D : Type 0} (text : sink_of.Ghosts O) (told : sectors_of.Ghosts D) (layer : L) (b : Booted) (rows : Rows) (start : List (List ℕ) → State) (held need : ℕ) (turns steps : ℕ) (script : List Call) (o o1 : O) (d d1 d2 : D) (r new : Kept L) (e : RunEnd)
     (fresh : IsFresh layer b Boot rows need (told.size d) r) (size : told.size d1 ≡ told.size d) (some : 1 ≤ turns)
     (premises : (old : List (List ℕ)) → told.sectors d ≡ Some old → (late : ℕ) × Bootable b rows (told.size d) (system_of b rows) (start old) late held old)
     (ready : StandsReady (system_of b rows) start (told.sectors d) (told.sectors d1) r) (loaded : LoadCalls {T = Kept L} told d d1 script (Ok r)) (calls : ToStopCalls text told r turns steps (o, d1) (o1, d2) e) where
@@ -216,9 +215,9 @@ module _ {L O D : Type 0} (text : sink_of.Ghosts O) (told : sectors_of.Ghosts D)
         let rn : Run = run_at (outside_of rows (told.size d)) y (start sectors) Boot turns steps in
         let w = stop_at y (start sectors) (premises sectors is).0 held sectors (behind (text.text o)) 0 0 turns steps (first_cvm y) (premises sectors is).1 (record { before = λ j h. absurd (omega (arith, h)); on = λ j h. absurd (omega (arith, h)) }) some (omega arith) (omega arith)
         (subst (λ (q : View). Ready (outside_of rows (told.size d)) y (start sectors) q (behind (text.text o)) 0 0 (first_cvm y) (around r (told.sectors d1) steps (text.text o))) fresh.view_is (ready (outside_of rows (told.size d)) sectors steps (text.text o) is)) refl p past in (
-          λ shelf. both script (stop_script rn p 0) (at text told shelf o d) (at text told shelf o d1) (at text told shelf o1 d2) (of_stop e) (loaded.made refl shelf (output text o)) (w.made shelf),
+          λ shelf. both script (stop_script rn p 0) (at text told shelf o d) (at text told shelf o d1) (at text told shelf o1 d2) (of_end e) (loaded.made refl shelf (output text o)) (w.made shelf),
           w.is,
         );
-    some = λ _. (calls.some.0, calls.some.1, λ shelf. both script calls.some.0 (at text told shelf o d) (at text told shelf o d1) (at text told shelf o1 d2) (of_stop e) (loaded.made refl shelf (output text o)) (calls.some.2 shelf));
+    some = λ _. (calls.some.0, calls.some.1, λ shelf. both script calls.some.0 (at text told shelf o d) (at text told shelf o d1) (at text told shelf o1 d2) (of_end e) (loaded.made refl shelf (output text o)) (calls.some.2 shelf));
     none = λ f. absurd (let h = f in cc);
   }

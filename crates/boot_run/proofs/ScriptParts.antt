@@ -1,22 +1,21 @@
 -- Scripts of a run put together: rows of a sink as scripts, parts behind parts, and which turns of a boot add no row.
-use Rattle.std.proofs.Common.{◌≡◌, ℕ, zero, suc, ◌<◌, ◌≤◌, Option, Some, None, List, [], ◌∷◌, ◌++◌, length, Result, refl, sym, ap, ◌∙◌, subst, arith, ⊎_elim, append-nil, append_assoc}
+use Rattle.std.proofs.Common.{◌≡◌, ℕ, zero, suc, ◌<◌, ◌≤◌, Option, Some, None, List, [], ◌∷◌, ◌++◌, length, refl, sym, ap, ◌∙◌, subst, arith, ⊎_elim, append-nil, append_assoc}
 use Rattle.std.specs.Prelude.{bit_or}
+use Rattle.std.specs.Io.KnownBytes.{append_known}
 use Rattle.std.proofs.lemmas.List.{length-append}
 use Rattle.std.proofs.lemmas.Bool.{cases_lt}
 use Rattle.cvm_outside.specs.Outside.{Outside, Files, Output, output, drive}
 use Rattle.cvm_outside.specs.declared.sink.Sink as sink_of
 use Rattle.cvm_outside.specs.declared.sectors.Sectors as sectors_of
-use Rattle.cvm_outside.specs.declared.sink.SinkFault.{SinkFault}
-use Rattle.cvm_outside.specs.Script.{Call, Printed, Who, Performs, done, Puts, blame, of_sink}
+use Rattle.cvm_outside.specs.Script.{Call, Printed, Who, Performs, done, Puts}
 use Rattle.cvm_outside.proofs.Follow.{both, first}
 use Rattle.cvm_outside.proofs.Parts.{append_known-nil}
-use Rattle.cvm_outside.proofs.Putting.{put_once, performed, same_script}
+use Rattle.cvm_outside.proofs.Putting.{performed, same_script}
 use Rattle.mips_table.specs.Device as device
 use Rattle.mips_table.specs.Machine.{State}
 use Rattle.mips_table.specs.Turns.{lines_of_turn}
 use Rattle.cvm_model.specs.Cvm.{System, Status, Running, Halted, Faulted, Cvm, IsCvm, Begin, Steps, Traps, Interrupts, begin, turn, turn_by, cvm}
 use Rattle.cvm_model.specs.declared.row.Row.{Row}
-use Rattle.boot_report.specs.Leaves.{PutsRows}
 use Rattle.boot_turns.specs.RunMachines.{RunMachines, RowsGrow}
 use Rattle.boot_turns.specs.StepScript.{prints}
 use Rattle.boot_run.specs.Closing.{says}
@@ -25,9 +24,9 @@ use Rattle.boot_run.specs.Closing.{says}
 abbrev pub at : {O D : Type 0} → sink_of.Ghosts O → sectors_of.Ghosts D → Files → O → D → Outside
 at text told shelf o d = record { shelf = shelf; sink = output text o; disk = drive told d }
 
--- what a call put into a sink
-pub puts_of : {T O : Type 0} (text : sink_of.Ghosts O) (o o1 : O) (rows : List ℕ) (result : Result T SinkFault) → PutsRows text.text text.faults o o1 rows result → Puts rows (output text o) (output text o1) (blame of_sink result)
-puts_of text o o1 rows result p = put_once rows (output text o) (output text o1) result p.ok p.err p.count
+-- what a sink has once rows were put
+pub text_put : (old new : Output) (rows : List ℕ) → Puts rows old new None → new.text ≡ append_known old.text rows
+text_put old new rows p = ap (λ (o : Output). o.text) p.by
 
 -- nothing is put
 none_same : (old new : Output) → Puts [] old new None → new ≡ old

@@ -1,8 +1,7 @@
 -- The script of turns, by what was called before them, in their steps and behind them.
-use Rattle.std.proofs.Common.{◌≡◌, ◌≢◌, ℕ, zero, suc, ◌+◌, ◌-◌, ◌<◌, ◌≤◌, true, false, Option, Some, None, List, [], ◌∷◌, ◌++◌, length, drop, codes, Result, Ok, Err, refl, sym, ap, ap₂, ◌∙◌, subst, arith, ⊎_elim, ◌⊎◌, inl, inr, append-nil, append_assoc}
+use Rattle.std.proofs.Common.{◌≡◌, ◌≢◌, ℕ, zero, suc, ◌+◌, ◌-◌, ◌<◌, ◌≤◌, true, false, Option, Some, None, List, [], ◌∷◌, ◌++◌, length, drop, codes, Result, Ok, Err, refl, sym, ap, ap₂, ◌∙◌, subst, arith, ◌⊎◌, inl, inr, append-nil, append_assoc}
 use Rattle.std.specs.Prelude.{IsSome}
 use Rattle.std.specs.Io.KnownBytes.{append_known}
-use Rattle.std.proofs.lemmas.Bool.{cases_lt}
 use Rattle.std.proofs.lemmas.List.{length-map}
 use Rattle.std.proofs.Math.Seq.{drop-append_seam, drop-length}
 use Rattle.cvm_outside.specs.Outside.{Outside, Output, Files, output, drive}
@@ -27,12 +26,14 @@ use Rattle.layer_contract.specs.Layer.{Rests}
 use Rattle.cvm_model.specs.declared.kernel_fault.KernelFault.{KernelFault}
 use Rattle.cvm_model.specs.declared.row.Next.TheVariants.{Halt}
 use Rattle.boot_turns.specs.Ahead.{Ahead}
-use Rattle.boot_turns.specs.Advances.{Skipped}
+use Rattle.boot_turns.specs.Advances.{Skipped, StillGoes, Stops}
+use Rattle.boot_turns.specs.Completes.{state_seen}
 use Rattle.boot_turns.specs.Entries.{TracesGrow}
 use Rattle.boot_turns.specs.JournalText.{RowsFollow, pending_steps}
 use Rattle.boot_turns.specs.Premises.{StartsFrom}
 use Rattle.boot_turns.specs.RunMachines.{RunMachines, MachinesRun}
 use Rattle.boot_turns.specs.Trace.{Shown}
+use Rattle.boot_turns.specs.TurnEnds.{Stood}
 use Rattle.boot_turns.specs.Tracing.{Traced}
 use Rattle.boot_turns.specs.declared.tracer.Tracer.{Tracer}
 use Rattle.boot_turns.specs.declared.answers.View.{View}
@@ -52,9 +53,10 @@ use Rattle.boot_run.specs.LoadEnds.{Kept}
 use Rattle.boot_run.specs.RunCalls.{run_at, begin_script, fault_script, turns_script, TellsFrom, TurnsCall}
 use Rattle.boot_run.specs.Shown.{has_faulted}
 use Rattle.boot_run.specs.Sink.{Base}
-use Rattle.boot_run.specs.TurnCalls.{rows_of, ended_of, around, Ready, Turned, TurnFails, TurnsEnd, TurnsRun}
-use Rattle.boot_run.specs.TurnParts.{rows_before, rows_after, fault_rows, Views}
+use Rattle.boot_run.specs.TurnCalls.{rows_of, ended_of, around, Ready, Turned, TurnsEnd, TurnsRun}
+use Rattle.boot_run.specs.TurnParts.{rows_before, rows_after, fault_rows, Moved, Views}
 use Rattle.boot_run.proofs.Proceeding.{by_view, starts}
+use Rattle.boot_run.proofs.Skipping.{spread}
 use Rattle.boot_run.proofs.ScriptParts.{at, none_put, says_put, some_put, prints_put, three, two, one, same_rows}
 use Rattle.boot_run.proofs.TracedTurn.{start_at, traced_mid}
 
@@ -153,17 +155,6 @@ module _ {O D : Type 0} (text : sink_of.Ghosts O) (told : sectors_of.Ghosts D) (
       (says_put text told shelf o o1 d rows blamed
       (subst (λ (l : List ℕ). Puts l (output text o) (output text o1) blamed) (ap (fault_rows (pending_steps j)) is ∙ fault_is follow j (fault_name f)) puts))
 
--- turns that were passed, and the next up to some step
-spread : (x : device.Environment) (y : System) (s : State) (k t : ℕ) (c : Cvm) (i : ℕ) → Skipped x y s k t c i → (u : ℕ) → ((j : ℕ) → t + i ≤ j → j ≤ u → complete x s j ≡ k + i) →
-    (j : ℕ) → t ≤ j → j ≤ u → (k ≤ complete x s j) × (complete x s j ≤ k + i)
-spread x y s k t c i w u flat j from to = ⊎_elim
-    (λ (lt : j < t + i).
-    let here : t + (j - t) ≡ j = omega (arith, from) in
-    let e : complete x s j ≡ k + (j - t) = subst (λ a. complete x s a ≡ k + (j - t)) here (w.done (j - t) (omega (arith, lt, from))) in
-    (omega (arith, e), omega (arith, e, lt, from)))
-    (λ (ge : t + i ≤ j). let e = flat j ge to in (omega (arith, e), omega (arith, e)))
-    (cases_lt j (t + i))
-
 -- at the end of a turn the abstract machine is as the run says
 at_end : (x : device.Environment) (y : System) (s : State) (late held : ℕ) → RunMachines x y s late held → (v : View) (turns steps : ℕ) (p : Past) (t n : ℕ) → TellsFrom (run_at x y s v turns steps) p t (t + n) → (k from : ℕ) (c : Cvm) →
     (a : Ahead x y s k from c) → t + n ≡ a.end → cvm_at (run_at x y s v turns steps) p (t + n) ≡ a.after
@@ -248,62 +239,64 @@ module _ {L O D : Type 0} (text : sink_of.Ghosts O) (told : sectors_of.Ghosts D)
         (ap (λ (q : Output). q.text) puts.by ∙ ap (append_known (text.text o)) (ap (λ q. rows_before r.boot q r.turns) e ∙ starts r.boot kept r.turns y same))
 
     -- THE TURNS WERE BROKEN OFF
-    module _ {R : Type 0} (f : RunFault) (no_sink : r.tracer ≡ None → f ≡ Sink → ⊥) (calls : StepsCall {T = R} text told (map_of (boot_of r.boot)) r.machine r.tracer (o1, d) (o2, d1) n (Err f)) where
-      boot_fails : (f' : RunFault) → f' ≡ f → r.tracer ≡ None → (y : System) (s : State) (late held : ℕ) → RunMachines x y s late held → (base : Base) (k t : ℕ) (c : Cvm) →
-          Ready x y s Boot base k t c (around r (told.sectors d) budget (text.text o)) → (i : ℕ) → i ≤ budget → (w : Skipped x y s k t c i) →
-          TurnFails x y s Boot base (k + i) (t + i) w.after (record (around r (told.sectors d) budget (text.text o)) { budget = budget - i }) (around new (told.sectors d1) left (text.text o2)) f' →
+    module _ {R : Type 0} (f : RunFault) (calls : StepsCall {T = R} text told (map_of (boot_of r.boot)) r.machine r.tracer (o1, d) (o2, d1) n (Err f)) where
+      -- in a step whose calls fail
+      boot_breaks : (y : System) (s : State) (late held : ℕ) → RunMachines x y s late held → (k t : ℕ) (c : Cvm) → Stood x y s k t c → (i : ℕ) → i ≤ budget → (w : Skipped x y s k t c i) → (at : ℕ) → t + i ≤ at →
+          left + (at + 1) ≡ budget - i + (t + i) → StillGoes x y s (k + i) (t + i) at → (turns steps : ℕ) (p : Past) → TellsFrom (run_at x y s Boot turns steps) p t (t + n) → (old new : Outside) (whom : Who) →
+          Performs (transfers x s t n) old new (Some whom) → Performs (steps_script (run_at x y s Boot turns steps) p t n) old new (Some whom)
+      boot_breaks y s late held m k t c stood i le w at from spent goes turns steps p tells old new whom made =
+          let many : n ≡ suc (at - t) = omega (arith, n_is, spent, le, from) in
+          last_breaks x y s late held m turns steps p t n tells k (k + i) c w.after stood.cvm w.stood.cvm w.rows (at - t) many
+          (spread x y s k t c i w (t + (at - t)) (λ j low high. goes.between j low (omega (arith, high, from)))) old new whom made
+
+      boot_fails : (f' : RunFault) → (y : System) (s : State) (late held : ℕ) → RunMachines x y s late held → (k t : ℕ) (c : Cvm) → Stood x y s k t c → (i : ℕ) → i ≤ budget → (w : Skipped x y s k t c i) →
+          (now : Option State) → Stops x y s (k + i) (t + i) now (budget - i) left f' →
           (turns steps : ℕ) (p : Past) → TellsFrom (run_at x y s Boot turns steps) p t (t + n) → (old new : Outside) → Performs (transfers x s t n) old new (of_run f') →
           Performs (steps_script (run_at x y s Boot turns steps) p t n) old new (of_run f')
-      boot_fails StepLimit is none y s late held m base k t c ready i le w fails turns steps p tells old new made =
+      boot_fails StepLimit y s late held m k t c stood i le w now fails turns steps p tells old new made =
           let spent : left ≡ 0 = fails.spent in
           let all : t + n ≡ t + i + (budget - i) = omega (arith, n_is, spent, le) in
           same_script (transfers x s t n) (steps_script (run_at x y s Boot turns steps) p t n) old new None
-          (sym (quiet_steps x y s late held m turns steps p t n tells k (k + i) c w.after ready.stood.cvm w.stood.cvm w.rows
-          (spread x y s k t c i w (t + n) (λ j from to. fails.between j from (omega (arith, to, all)))))) made
-      boot_fails Disk is none y s late held m base k t c ready i le w fails turns steps p tells old new made =
-          let spent : left + suc fails.at ≡ budget - i + (t + i) = fails.budget in
-          let from : t + i ≤ fails.at = fails.from in
-          let many : n ≡ suc (fails.at - t) = omega (arith, n_is, spent, le, from) in
-          last_breaks x y s late held m turns steps p t n tells k (k + i) c w.after ready.stood.cvm w.stood.cvm w.rows (fails.at - t) many
-          (spread x y s k t c i w (t + (fails.at - t)) (λ j low high. fails.between j low (omega (arith, high, from)))) old new TheDisk made
-      boot_fails Sink is none y s late held m base k t c ready i le w fails turns steps p tells old new made = absurd (no_sink none (sym is))
+          (sym (quiet_steps x y s late held m turns steps p t n tells k (k + i) c w.after stood.cvm w.stood.cvm w.rows
+          (spread x y s k t c i w (t + n) (λ j from to. fails.goes.between j from (omega (arith, to, all)))))) made
+      boot_fails Disk y s late held m k t c stood i le w now fails turns steps p tells old new made = boot_breaks y s late held m k t c stood i le w fails.at fails.from fails.spent fails.goes turns steps p tells old new TheDisk made
+      boot_fails Sink y s late held m k t c stood i le w now fails turns steps p tells old new made = boot_breaks y s late held m k t c stood i le w fails.at fails.from fails.spent fails.goes turns steps p tells old new TheSink made
 
       -- of a run that is out of steps nothing is behind them
-      none_behind : (f' : RunFault) → (v : View) (y : System) (s : State) (late held : ℕ) → RunMachines x y s late held → (base : Base) (k t : ℕ) (c : Cvm) (i : ℕ) → i ≤ budget → (w : Skipped x y s k t c i) →
-          TurnFails x y s v base (k + i) (t + i) w.after (record (around r (told.sectors d) budget (text.text o)) { budget = budget - i }) (around new (told.sectors d1) left (text.text o2)) f' →
+      none_behind : (f' : RunFault) → (v : View) (y : System) (s : State) (late held : ℕ) → RunMachines x y s late held → (k t : ℕ) (c : Cvm) (i : ℕ) → i ≤ budget → (w : Skipped x y s k t c i) →
+          (now : Option State) → Stops x y s (k + i) (t + i) now (budget - i) left f' →
           (turns steps : ℕ) (p : Past) → TellsFrom (run_at x y s v turns steps) p t (t + n) → of_run f' ≡ None →
           fault_script v (run_at x y s v turns steps) p (t + n) (run x s (t + n)).off (cvm_at (run_at x y s v turns steps) p (t + n)).status ≡ []
-      none_behind StepLimit v y s late held m base k t c i le w fails turns steps p tells e =
+      none_behind StepLimit v y s late held m k t c i le w now fails turns steps p tells e =
           let spent : left ≡ 0 = fails.spent in
           let all : t + n ≡ t + i + (budget - i) = omega (arith, n_is, spent, le) in
-          let here : complete x s (t + n) ≡ k + i = fails.between (t + n) (omega (arith, all)) (omega (arith, all)) in
+          let here : complete x s (t + n) ≡ k + i = fails.goes.between (t + n) (omega (arith, all)) (omega (arith, all)) in
           let is : cvm_at (run_at x y s v turns steps) p (t + n) ≡ w.after =
           m.same (k + i) (cvm_at (run_at x y s v turns steps) p (t + n)) w.after (subst (λ j. IsCvm y (lines_of_turn x s) j (cvm_at (run_at x y s v turns steps) p (t + n))) here (tells.turns (t + n) (omega arith) (omega arith))) w.stood.cvm in
           goes_none v (run_at x y s v turns steps) p (t + n) (run x s (t + n)).off (cvm_at (run_at x y s v turns steps) p (t + n)).status (ap (λ (q : Cvm). q.status) is ∙ w.running)
-      none_behind Disk v y s late held m base k t c i le w fails turns steps p tells e = absurd (let h = e in cc)
-      none_behind Sink v y s late held m base k t c i le w fails turns steps p tells e = absurd (let h = e in cc)
+      none_behind Disk v y s late held m k t c i le w now fails turns steps p tells e = absurd (let h = e in cc)
+      none_behind Sink v y s late held m k t c i le w now fails turns steps p tells e = absurd (let h = e in cc)
 
-      pub broken_calls : {T : Type 0} → TurnsRun (told.size d) r most (around r (told.sectors d) budget (text.text o)) (around new (told.sectors d1) left (text.text o2)) (Err f) → TurnsCall {T = T} text told r budget (o, d) (o2, d1) n (Err f)
-      broken_calls {T} runs = record {
-        exact = by_view r views (λ v. EndsAs (text.text o2) (Err f) v → CallsAs o2 d1 n (of_run f) v)
-            (λ e ends. λ u y s late held base k t c same lawful ready running turns steps p tells shelf.
-            let q = ends u y s late held base k t c same lawful ready running in
+      pub broken_calls : {T : Type 0} → Moved (told.size d) r new most (told.sectors d) (told.sectors d1) (text.text o1) (text.text o2) budget left (Err f) → TurnsCall {T = T} text told r budget (o, d) (o2, d1) n (Err f)
+      broken_calls {T} moved = record {
+        exact = by_view r views (CallsAs o2 d1 n (of_run f))
+            (λ e. λ u y s late held base k t c same lawful ready running turns steps p tells shelf.
+            let q = moved.advances u y s late held lawful k t c ready.stood running ready.state in
             let m = law u x y s late held lawful in
             let rn : Run = run_at x y s Boot turns steps in
             two (begin_script rn k) (steps_script rn p t n) (fault_script Boot rn p (t + n) (run x s (t + n)).off (cvm_at rn p (t + n)).status) (at text told shelf o d) (at text told shelf o1 d) (at text told shelf o2 d1) (of_run f)
             (λ _. no_fault rn p (t + n) (run x s (t + n)).off (cvm_at rn p (t + n)).status refl)
             (begin_none y s turns steps k shelf e puts)
-            (boot_fails f refl e y s late held m base k t c ready q.0 q.2 q.3 q.4 turns steps p tells (at text told shelf o1 d) (at text told shelf o2 d1) (calls.untraced e s t ready.state shelf)))
-            (λ kept e low high ends. λ u y s late held base k t c same lawful ready running turns steps p tells shelf.
-            let q = ends u y s late held base k t c same lawful ready running in
+            (boot_fails f y s late held m k t c ready.stood q.0 q.2 q.3 (state_seen (told.sectors d1) new.machine) q.4 turns steps p tells (at text told shelf o1 d) (at text told shelf o2 d1) (calls.untraced e s t ready.state shelf)))
+            (λ kept e low high. λ u y s late held base k t c same lawful ready running turns steps p tells shelf.
+            let q = moved.advances u y s late held lawful k t c ready.stood running ready.state in
             let m = law u x y s late held lawful in
             let rn : Run = run_at x y s (Trace kept.user) turns steps in
             two (begin_script rn k) (steps_script rn p t n) (fault_script (Trace kept.user) rn p (t + n) (run x s (t + n)).off (cvm_at rn p (t + n)).status) (at text told shelf o d) (at text told shelf o1 d) (at text told shelf o2 d1) (of_run f)
-            (none_behind f (Trace kept.user) y s late held m base k t c q.0 q.2 q.3 q.4 turns steps p tells)
+            (none_behind f (Trace kept.user) y s late held m k t c q.0 q.2 q.3 (state_seen (told.sectors d1) new.machine) q.4 turns steps p tells)
             (begin_put kept y s turns steps k shelf None e same ready.turns (λ ne. absurd (ne refl)) puts)
             (calls.traced u y s late held kept.user t (base.shows (start_at y kept.user 0)) lawful (ap map_of (sym same)) low (few y kept.user same high) ready.state
-            (traced kept e low high u y s late held base k t c same lawful ready running) p turns steps tells.user shelf))
-            runs;
+            (traced kept e low high u y s late held base k t c same lawful ready running) p turns steps tells.user shelf));
         some = λ _. (
           Printed None ∷ calls.some.0,
           calls.some.1,

@@ -25,8 +25,7 @@ use Rattle.boot_run.specs.Loading.{system_of}
 use Rattle.boot_run.specs.LoadEnds.{Kept}
 use Rattle.boot_run.specs.SavedRuns.{SavedAt}
 use Rattle.boot_run.specs.Saving.{saved_run, RunsToStop, RunStops, StaysThere}
-use Rattle.boot_run.specs.declared.saving.SaveEnd.{SaveEnd}
-use Rattle.boot_run.specs.declared.saving.SaveEnd.TheVariants.{Stopped, Ended}
+use Rattle.boot_run.specs.declared.whole.RunEnd.{RunEnd}
 use Rattle.boot_run.specs.Sink.{Base}
 use Rattle.boot_run.specs.TurnCalls.{Around, around, KeepsLoad}
 use Rattle.boot_run.specs.Pieces.{Gone, GoRuns}
@@ -111,8 +110,8 @@ one_told (Some c) a b e f = cc
 -- the loop is done, and the run goes on: it stops there
 module _ {L : Type 0} (run_is : (u : CUnit) → MachinesRun (IsTypedState u)) (counts : TurnLaws) (count : ℕ) (r mid : Kept L) (turns steps left : ℕ) (told mid_told : Option (List (List ℕ))) (text mid_text : Option (List ℕ))
     (kept : KeepsLoad r mid) (gone : GoRuns count r turns (around r told steps text) (around mid mid_told left mid_text) (Ok tt)) where
-  pub stops : mid.ended ≡ None → RunsToStop count r mid turns (around r told steps text) mid_told Stopped
-  stops on = λ s0 delay bound old base k t wanted total c now p view starts some more sum ready there.
+  pub stops : (e : RunEnd) → mid.ended ≡ None → RunsToStop count r mid turns (around r told steps text) mid_told e
+  stops e on = λ s0 delay bound old base k t wanted total c now p view starts some more sum ready there is.
       let x = outside_of r.machine.rows count in
       let y = system_of r.boot r.machine.rows in
       let m = machines run_is r.boot r.machine.rows count y s0 delay bound old p in
@@ -134,9 +133,10 @@ module _ {L : Type 0} (run_is : (u : CUnit) → MachinesRun (IsTypedState u)) (c
 module _ {L D O : Type 0} (run_is : (u : CUnit) → MachinesRun (IsTypedState u)) (counts : TurnLaws) (size : D → ℕ) (sectors : D → Option (List (List ℕ))) (text : O → Option (List ℕ))
     (r mid new : Kept L) (disk mid_disk redisk : D) (out mid_out reout : O) (turns steps left : ℕ) (kept : KeepsLoad r mid)
     (gone : GoRuns (size disk) r turns (around r (sectors disk) steps (text out)) (around mid (sectors mid_disk) left (text mid_out)) (Ok tt)) where
-  pub stopped : (e : SaveEnd) → StaysThere mid mid_disk mid_out new redisk reout e → RunStops size sectors text turns steps r disk out new redisk e
-  stopped Stopped (on, a, b, c) =
-      subst (λ (n : Kept L). RunStops size sectors text turns steps r disk out n redisk Stopped) (sym a)
-      (subst (λ (d : D). RunStops size sectors text turns steps r disk out mid d Stopped) (sym b)
-      (stops run_is counts (size disk) r mid turns steps left (sectors disk) (sectors mid_disk) (text out) (text mid_out) kept gone on))
-  stopped (Ended e) stays = λ s0 delay bound old base k t wanted total c now p view starts some more sum ready there. tt
+  pub stopped : (e : RunEnd) → StaysThere mid mid_disk mid_out new redisk reout e → RunStops size sectors text turns steps r disk out new redisk e
+  stopped e stays = λ s0 delay bound old base k t wanted total c now p view starts some more sum ready there is.
+      let w = stays is in
+      subst (λ (n : Kept L). RunStops size sectors text turns steps r disk out n redisk e) (sym w.1)
+      (subst (λ (d : D). RunStops size sectors text turns steps r disk out mid d e) (sym w.2)
+      (stops run_is counts (size disk) r mid turns steps left (sectors disk) (sectors mid_disk) (text out) (text mid_out) kept gone e w.0))
+      s0 delay bound old base k t wanted total c now p view starts some more sum ready there is

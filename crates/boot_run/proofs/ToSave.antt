@@ -12,20 +12,20 @@ use Rattle.boot_turns.specs.declared.answers.View.{View}
 use Rattle.boot_turns.specs.declared.answers.View.TheVariants.{Boot}
 use Rattle.boot_run.specs.Loading.{system_of}
 use Rattle.boot_run.specs.LoadEnds.{Kept, IsFresh}
-use Rattle.boot_run.specs.declared.saving.SaveEnd.{SaveEnd}
+use Rattle.boot_run.specs.declared.whole.RunEnd.{RunEnd}
 use Rattle.boot_run.specs.Saving.{saved_run, Stops, RunsToStop, WholeStops}
 use Rattle.boot_run.specs.Sink.{Base, behind}
 use Rattle.boot_run.specs.TurnCalls.{Around, around, Ready, StandsReady}
 use Rattle.boot_run.specs.Pieces.{FirstAt, Bootable}
 
 -- a loaded run to where it stops, of this boot, over these rows and with this view
-abbrev StopsAt : {L : Type 0} → Booted → Rows → View → ℕ → (new : Kept L) → (turns : ℕ) → Around → Option (List (List ℕ)) → SaveEnd → Type 0
+abbrev StopsAt : {L : Type 0} → Booted → Rows → View → ℕ → (new : Kept L) → (turns : ℕ) → Around → Option (List (List ℕ)) → RunEnd → Type 0
 StopsAt b rows v count new turns before retold e = (s0 : State) (delay bound : ℕ) (old : List (List ℕ)) (base : Base) (k t wanted total : ℕ) (c : Cvm) (now : List (List ℕ)) →
     Bootable b rows count (system_of b rows) s0 delay bound old → v ≡ Boot →
     FirstAt (outside_of rows count) s0 k t → 1 ≤ wanted → k + turns ≡ wanted → before.budget + t ≡ total → Ready (outside_of rows count) (system_of b rows) s0 v base k t c before → retold ≡ Some now →
     Stops (outside_of rows count) (system_of b rows) s0 wanted total (saved_run new) now e
 
-module _ {L : Type 0} (layer : L) (b : Booted) (rows : Rows) (need count size : ℕ) (turns steps : ℕ) (told mid retold : Option (List (List ℕ))) (before : Option (List ℕ)) (r new : Kept L) (e : SaveEnd)
+module _ {L : Type 0} (layer : L) (b : Booted) (rows : Rows) (need count size : ℕ) (turns steps : ℕ) (told mid retold : Option (List (List ℕ))) (before : Option (List ℕ)) (r new : Kept L) (e : RunEnd)
     (fresh : IsFresh layer b Boot rows need count r) (same : size ≡ count) (some : 1 ≤ turns)
     (premises : (old : List (List ℕ)) → told ≡ Some old → Bootable b rows count (system_of b rows) (loaded (system_of b rows) old) 1 (user_sectors (system_of b rows)) old)
     (ready : StandsReady (system_of b rows) (loaded (system_of b rows)) told mid r)

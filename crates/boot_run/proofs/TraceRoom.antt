@@ -1,5 +1,5 @@
 -- What a loaded run keeps for a trace: a user of the boot, and what is needed to print its rows.
-use Rattle.std.proofs.Common.{◌≡◌, ℕ, ◌+◌, ◌*◌, ◌≤◌, ◌&&◌, Bool, true, false, Some, refl, arith}
+use Rattle.std.proofs.Common.{◌≡◌, ℕ, ◌+◌, ◌≤◌, ◌&&◌, Bool, true, false, Some, refl, arith}
 use Rattle.std.specs.Prelude.{IsTrue, nat_lt}
 use Rattle.std.proofs.lemmas.Bool.{ltb-true, lt-ltb}
 use Rattle.boot_turns.specs.declared.tracer.Tracer.{Tracer}
@@ -12,27 +12,17 @@ both_are false b e = absurd (cc)
 all_are : (a b : Bool) → a ≡ true → b ≡ true → (a && b) ≡ true
 all_are a b e f = rw (e, f) refl
 
--- what the test of a tracer says
-fits : (kept : Tracer) (users time : ℕ) → IsTrue (tracer_fits (Some kept) users time) →
-    (1 ≤ kept.user) × (kept.user ≤ users) × (kept.steps ≤ time) × (kept.reads ≤ 4294967296 * time)
-fits kept users time h =
-    let a = both_are (nat_lt 0 kept.user && nat_lt kept.user (users + 1)) (nat_lt kept.steps (time + 1) && nat_lt kept.reads (4294967296 * time + 1)) h in
+-- a tracer fits, by numbers
+pub fits_so : (kept : Tracer) (users time : ℕ) → 1 ≤ kept.user → kept.user ≤ users → kept.steps ≤ time → IsTrue (tracer_fits (Some kept) users time)
+fits_so kept users time low high steps =
+    all_are (nat_lt 0 kept.user && nat_lt kept.user (users + 1)) (nat_lt kept.steps (time + 1))
+    (all_are (nat_lt 0 kept.user) (nat_lt kept.user (users + 1)) (lt-ltb 0 kept.user low) (lt-ltb kept.user (users + 1) (omega (arith, high)))) (lt-ltb kept.steps (time + 1) (omega (arith, steps)))
+
+-- a user that is kept is there
+pub user_there : (kept : Tracer) (users time : ℕ) → IsTrue (tracer_fits (Some kept) users time) → (1 ≤ kept.user) × (kept.user ≤ users)
+user_there kept users time h =
+    let a = both_are (nat_lt 0 kept.user && nat_lt kept.user (users + 1)) (nat_lt kept.steps (time + 1)) h in
     let b = both_are (nat_lt 0 kept.user) (nat_lt kept.user (users + 1)) a.0 in
-    let d = both_are (nat_lt kept.steps (time + 1)) (nat_lt kept.reads (4294967296 * time + 1)) a.1 in
     let low = ltb-true 0 kept.user b.0 in
     let high = ltb-true kept.user (users + 1) b.1 in
-    let steps = ltb-true kept.steps (time + 1) d.0 in
-    let reads = ltb-true kept.reads (4294967296 * time + 1) d.1 in
-    (omega (arith, low), omega (arith, high), omega (arith, steps), omega (arith, reads))
-
--- a tracer fits, by numbers
-pub fits_so : (kept : Tracer) (users time : ℕ) → 1 ≤ kept.user → kept.user ≤ users → kept.steps ≤ time → kept.reads ≤ 4294967296 * time → IsTrue (tracer_fits (Some kept) users time)
-fits_so kept users time low high steps reads =
-    all_are (nat_lt 0 kept.user && nat_lt kept.user (users + 1)) (nat_lt kept.steps (time + 1) && nat_lt kept.reads (4294967296 * time + 1))
-    (all_are (nat_lt 0 kept.user) (nat_lt kept.user (users + 1)) (lt-ltb 0 kept.user low) (lt-ltb kept.user (users + 1) (omega (arith, high))))
-    (all_are (nat_lt kept.steps (time + 1)) (nat_lt kept.reads (4294967296 * time + 1)) (lt-ltb kept.steps (time + 1) (omega (arith, steps)))
-    (lt-ltb kept.reads (4294967296 * time + 1) (omega (arith, reads))))
-
--- a user that is kept is there, and its words have room in its pages
-pub user_there : (kept : Tracer) (users time : ℕ) → IsTrue (tracer_fits (Some kept) users time) → (1 ≤ kept.user) × (kept.user ≤ users)
-user_there kept users time h = let f = fits kept users time h in (f.0, f.1)
+    (omega (arith, low), omega (arith, high))

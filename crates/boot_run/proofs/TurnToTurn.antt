@@ -16,7 +16,7 @@ use Rattle.boot_turns.specs.declared.answers.View.{View}
 use Rattle.boot_turns.specs.declared.answers.Turn.{Turn}
 use Rattle.boot_turns.specs.declared.answers.RunFault.{RunFault}
 use Rattle.boot_turns.specs.declared.answers.RunFault.TheVariants.{StepLimit, Disk, Sink}
-use Rattle.boot_run.specs.TurnCalls.{ended_of, Around, Ready, Turned, Limited, TurnFails, TurnsEnd}
+use Rattle.boot_run.specs.TurnCalls.{ended_of, Around, Ready, Turned, Limited, TurnsEnd}
 use Rattle.boot_run.specs.Pieces.{Gone, Late, FirstAt, GoFails}
 use Rattle.boot_run.specs.Sink.{Base}
 
@@ -108,7 +108,7 @@ going_turns x y s0 v base steps i t c most before after made answer g (n, lt, le
     (came_on x y s0 steps i t c before.budget g.came n le s) w
 
 -- no end comes before t
-not_before : (x : Environment) (y : System) (s0 : State) (turns steps i t : ℕ) (c : Cvm) (budget : ℕ) → i ≤ turns → Came x y s0 steps i t c budget → (j : ℕ) → j < t → is_end x s0 turns j ≡ false
+pub not_before : (x : Environment) (y : System) (s0 : State) (turns steps i t : ℕ) (c : Cvm) (budget : ℕ) → i ≤ turns → Came x y s0 steps i t c budget → (j : ℕ) → j < t → is_end x s0 turns j ≡ false
 not_before x y s0 turns steps i t c budget le g j h = let b = g.before j h in no_end x s0 turns j (λ e. omega (arith, b, e)) (g.on j h)
 
 within : (x : Environment) (y : System) (s0 : State) (steps i t : ℕ) (c : Cvm) (budget : ℕ) → Came x y s0 steps i t c budget → t ≤ steps
@@ -190,13 +190,10 @@ module _ (counts : TurnLaws) (x : Environment) (y : System) (s0 : State) (v : Vi
         text = w.text;
       }
 
-  turn_fails : (f : RunFault) → TurnFails x y s0 v base i t c before after f → GoFails x y s0 v base turns steps after f
-  turn_fails StepLimit w = late w
-  turn_fails Disk w = tt
-  turn_fails Sink w = tt
-
 -- a call that makes so many turns at most fails in one of them
 pub go_fails : (counts : TurnLaws) (x : Environment) (y : System) (s0 : State) (v : View) (base : Base) (turns steps i t : ℕ) (c : Cvm) (most : ℕ) (before after : Around) → i + most ≤ turns → Going x y s0 v base steps i t c before →
     (f : RunFault) → TurnsEnd x y s0 v base i t c most before after (Err f) → GoFails x y s0 v base turns steps after f
-go_fails counts x y s0 v base turns steps i t c most before after room g f (n, lt, le, s, w) =
-    turn_fails counts x y s0 v base turns steps (i + n) (t + n) s.after (record before { budget = before.budget - n }) after (omega (arith, room, lt)) (came_on x y s0 steps i t c before.budget g.came n le s) f w
+go_fails counts x y s0 v base turns steps i t c most before after room g StepLimit (n, lt, le, s, w) =
+    late counts x y s0 v base turns steps (i + n) (t + n) s.after (record before { budget = before.budget - n }) after (omega (arith, room, lt)) (came_on x y s0 steps i t c before.budget g.came n le s) w
+go_fails counts x y s0 v base turns steps i t c most before after room g Disk w = tt
+go_fails counts x y s0 v base turns steps i t c most before after room g Sink w = tt

@@ -20,6 +20,7 @@ use Rattle.boot_turns.specs.declared.answers.RunFault.{RunFault}
 use Rattle.boot_turns.specs.declared.answers.RunFault.TheVariants.{StepLimit, Disk, Sink}
 use Rattle.boot_run.specs.declared.whole.RunEnd.{RunEnd}
 use Rattle.boot_run.specs.declared.whole.RunEnd.TheVariants as ends
+use Rattle.boot_run.specs.RunEnds.{EndsUnsaved}
 use Rattle.boot_run.specs.AnyEnds.{ended_off}
 use Rattle.boot_run.specs.AnyRun.{AnyGoRuns, is_faulted}
 use Rattle.boot_run.specs.AnyScripts.{untold_script, end_by_power, power_end, IsReport, EndsUntold, GoUntold, RestUntold}
@@ -58,25 +59,31 @@ module _ {O D : Type 0} (text : sink_of.Ghosts O) (told : sectors_of.Ghosts D) (
 -- no report stands behind any end
 no_report : (due : RunEnd) → IsReport due []
 no_report ends.Done = tt
+no_report ends.Stopped = refl
 no_report ends.KernelFaulted = refl
 no_report ends.OutOfSteps = refl
 no_report ends.DiskFault = refl
 no_report ends.SinkFault = refl
+no_report ends.ShelfFault = refl
 
 -- ends that no call's fault makes, by whether the kernel faulted
 faulted_end : (e : RunEnd) → is_faulted e ≡ true → e ≡ ends.KernelFaulted
 faulted_end ends.KernelFaulted h = refl
 faulted_end ends.Done h = absurd (cc)
+faulted_end ends.Stopped h = absurd (cc)
 faulted_end ends.OutOfSteps h = absurd (cc)
 faulted_end ends.DiskFault h = absurd (cc)
 faulted_end ends.SinkFault h = absurd (cc)
+faulted_end ends.ShelfFault h = absurd (cc)
 
-done_end : (e : RunEnd) → is_faulted e ≡ false → e ≢ ends.OutOfSteps → of_end e ≡ None → e ≡ ends.Done
-done_end ends.Done h other none = refl
-done_end ends.KernelFaulted h other none = absurd (cc)
-done_end ends.OutOfSteps h other none = absurd (other refl)
-done_end ends.DiskFault h other none = absurd (let n = none in cc)
-done_end ends.SinkFault h other none = absurd (let n = none in cc)
+done_end : (e : RunEnd) → EndsUnsaved e → is_faulted e ≡ false → e ≢ ends.OutOfSteps → of_end e ≡ None → e ≡ ends.Done
+done_end ends.Done plain h other none = refl
+done_end ends.Stopped plain h other none = absurd plain
+done_end ends.KernelFaulted plain h other none = absurd (cc)
+done_end ends.OutOfSteps plain h other none = absurd (other refl)
+done_end ends.DiskFault plain h other none = absurd (let n = none in cc)
+done_end ends.SinkFault plain h other none = absurd (let n = none in cc)
+done_end ends.ShelfFault plain h other none = absurd plain
 
 -- THE LOOP FAILED
 pub rest_broken : {L O D : Type 0} (T : Type 0) (text : sink_of.Ghosts O) (told : sectors_of.Ghosts D) (r new : Kept L) (o o1 : O) (d d1 : D) (turns budget left : ℕ) (counts : TurnLaws) (f : RunFault) →
@@ -107,7 +114,7 @@ rest_broken T text told r new o o1 d d1 turns budget left counts f goes calls y 
 -- OR CAME TO ITS END, and the run is closed
 module _ {L O D : Type 0} (text : sink_of.Ghosts O) (told : sectors_of.Ghosts D) (r mid : Kept L) (o o1 o2 : O) (d d1 d2 : D) (turns budget left : ℕ) (counts : TurnLaws) (e : RunEnd)
     (goes : AnyGoRuns (told.size d) r turns (around r (told.sectors d) budget (text.text o)) (around mid (told.sectors d1) left (text.text o1)) (Ok tt)) (calls : GoUntold {T = Unit {0}} text told r turns budget (o, d) (o1, d1) (Ok tt))
-    (closes : CloseCalls text told mid (o1, d1) (o2, d2) e) (how : has_faulted mid.ended ≡ is_faulted e) (other : e ≢ ends.OutOfSteps) where
+    (closes : CloseCalls text told mid (o1, d1) (o2, d2) e) (how : has_faulted mid.ended ≡ is_faulted e) (other : e ≢ ends.OutOfSteps) (plain : EndsUnsaved e) where
   -- the report, by whether the kernel faulted
   closed_by : (faulted : Bool) → has_faulted mid.ended ≡ faulted → (x : device.Environment) (y : System) (s : State) (wanted steps t : ℕ) → power_end (run_at x y s Boot wanted steps) ≡ closed_end faulted →
       Made text told (o, d) (o1, d1) (untold_script x s t (end_within x s wanted steps - t)) None → EndsUntold text told (o, d) (o2, d2) (run_at x y s Boot wanted steps) t e
@@ -124,7 +131,7 @@ module _ {L O D : Type 0} (text : sink_of.Ghosts O) (told : sectors_of.Ghosts D)
       let all : List Call = untold_script x s t (end_within x s wanted steps - t) in
       due_so text told (o, d) (o2, d2) x y s wanted steps t ends.Done due closes.some.0 closes.some.1 e (record {
         made = λ shelf. both all closes.some.0 (at text told shelf o d) (at text told shelf o1 d1) (at text told shelf o2 d2) (of_end e) (made shelf) (closes.some.2 shelf);
-        is = λ none. done_end e (sym how ∙ is) other none;
+        is = λ none. done_end e plain (sym how ∙ is) other none;
       })
 
   pub rest_closed : RestUntold text told r turns budget (o, d) (o2, d2) e

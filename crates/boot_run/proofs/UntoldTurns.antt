@@ -26,7 +26,7 @@ use Rattle.boot_turns.specs.declared.answers.RunFault.{RunFault}
 use Rattle.boot_turns.specs.declared.answers.RunFault.TheVariants.{StepLimit, Disk, Sink}
 use Rattle.boot_turns.specs.declared.tracer.Tracer.{Tracer}
 use Rattle.boot_turns.proofs.StepMakes.{from_add}
-use Rattle.boot_run.specs.AnyRun.{is_traced, AnyTurnsRun, AnyGoRuns}
+use Rattle.boot_run.specs.AnyRun.{AnyTurnsRun, AnyGoRuns}
 use Rattle.boot_run.specs.AnyScripts.{untold_script, TurnsUntold, GoUntold}
 use Rattle.boot_run.specs.LoadEnds.{Kept}
 use Rattle.boot_run.specs.TurnCalls.{around, KeepsLoad}
@@ -175,18 +175,18 @@ module _ {L O D : Type 0} (text : sink_of.Ghosts O) (told : sectors_of.Ghosts D)
       AnyGoRuns (told.size d) r turns (around r (told.sectors d) budget (text.text o)) (around new (told.sectors d1) left (text.text o1)) (Err f) → GoUntold {T = T} text told r turns budget (o, d) (o1, d1) (Err f)
   untold_failed T f so goes s k t wanted steps alone on fine comes here is more sum shelf =
       let x = outside_of r.machine.rows (told.size d) in
-      by f x s t wanted steps (subst (λ i. BrokeOff x s (is_traced r.view) i t (state_seen (told.sectors d1) new.machine) budget left f) more (goes s k t comes here is on)) sum shelf (so s k t alone on fine comes here is shelf)
+      by f x s t wanted steps (subst (λ i. BrokeOff x s i t (state_seen (told.sectors d1) new.machine) budget left f) more (goes s k t comes here is on)) sum shelf (so s k t alone on fine comes here is shelf)
     where
-      by : (f : RunFault) (x : device.Environment) (s : State) (t wanted steps : ℕ) → BrokeOff x s (is_traced r.view) wanted t (state_seen (told.sectors d1) new.machine) budget left f → budget + t ≡ steps → (shelf : Files) →
+      by : (f : RunFault) (x : device.Environment) (s : State) (t wanted steps : ℕ) → BrokeOff x s wanted t (state_seen (told.sectors d1) new.machine) budget left f → budget + t ≡ steps → (shelf : Files) →
           Performs (untold_script x s t (budget - left)) (at text told shelf o d) (at text told shelf o1 d1) (of_run f) → Performs (untold_script x s t (end_within x s wanted steps - t)) (at text told shelf o d) (at text told shelf o1 d1) (of_run f)
       by StepLimit x s t wanted steps (spent, sooner, is) sum shelf p =
           let end = none_within counts x s wanted steps (λ j le. no_end_before x s wanted (suc (t + budget)) sooner j (omega (arith, le, sum))) in
           let last : end_within x s wanted steps ≡ steps = end.1 in
           let many : budget - left ≡ end_within x s wanted steps - t = omega (arith, last, spent, sum) in
           subst (λ q. Performs (untold_script x s t q) (at text told shelf o d) (at text told shelf o1 d1) None) many p
-      by Disk x s t wanted steps (u, from, sooner, leaves, spent) sum shelf p =
-          let last = no_sooner counts x s wanted steps (suc u) (omega (arith, spent, sum)) (no_end_before x s wanted (suc u) sooner) in
+      by Disk x s t wanted steps (u, from, sooner, spent) sum shelf p =
+          let last = no_sooner counts x s wanted steps u (omega (arith, spent, sum)) (no_end_before x s wanted u sooner) in
           more_steps x s t (budget - left) (end_within x s wanted steps - t) (omega (arith, last, from, spent)) (at text told shelf o d) (at text told shelf o1 d1) TheDisk p
-      by Sink x s t wanted steps (u, from, sooner, is, spent) sum shelf p =
+      by Sink x s t wanted steps (u, from, sooner, spent) sum shelf p =
           let last = no_sooner counts x s wanted steps u (omega (arith, spent, sum)) (no_end_before x s wanted u sooner) in
           more_steps x s t (budget - left) (end_within x s wanted steps - t) (omega (arith, last, from, spent)) (at text told shelf o d) (at text told shelf o1 d1) TheSink p

@@ -7,8 +7,6 @@ use Rattle.mips_machine.specs.Steps.{outside_of}
 use Rattle.boot_turns.specs.AnyTurns.{BrokeOff}
 use Rattle.boot_turns.specs.Sooner.{ComesTo}
 use Rattle.boot_turns.specs.declared.answers.Turn.{Turn}
-use Rattle.boot_turns.specs.declared.answers.View.{View}
-use Rattle.boot_turns.specs.declared.answers.View.TheVariants.{Boot, Trace}
 use Rattle.boot_turns.specs.declared.answers.RunFault.{RunFault}
 use Rattle.boot_run.specs.declared.whole.RunEnd.{RunEnd}
 use Rattle.boot_run.specs.declared.whole.RunEnd.TheVariants.{KernelFaulted}
@@ -24,14 +22,9 @@ pub record CameTo (x : Environment) (s : State) (k t : ℕ) (before after : Arou
   pub spent : after.budget + at ≡ before.budget + t
   pub ended : after.ended ≡ ended_off (run x s at).off
 
--- whether a user is traced
-abbrev pub is_traced : View → Bool
-is_traced Boot = false
-is_traced (Trace u) = true
-
 -- or it was broken off before k turns were complete
-abbrev pub WasCut : Environment → State → View → (k t : ℕ) → (before after : Around) → RunFault → Type 0
-WasCut x s v k t before after fault = BrokeOff x s (is_traced v) k t after.state before.budget after.budget fault
+abbrev pub WasCut : Environment → State → (k t : ℕ) → (before after : Around) → RunFault → Type 0
+WasCut x s k t before after fault = BrokeOff x s k t after.state before.budget after.budget fault
 
 -- P of each step t of each run from any s, of the machine of a run over a disk of so many sectors: k turns are complete there, and it is on
 abbrev pub FromAnywhere : {L : Type 0} → (count : ℕ) → Kept L → Around → (Environment → State → (k t : ℕ) → Type 0) → Type 0
@@ -42,12 +35,12 @@ FromAnywhere count r before P = (s : State) (k t : ℕ) → ComesTo (outside_of 
 -- TURNS, so many at most
 abbrev pub AnyTurnsRun : {L : Type 0} → (count : ℕ) → Kept L → (most : ℕ) → (before after : Around) → Result (ℕ × Turn) RunFault → Type 0
 AnyTurnsRun count r most before after result = FromAnywhere count r before
-    (λ x s k t. MatchResult result (λ made. CameTo x s (k + made.0) t before after) (WasCut x s r.view (k + most) t before after))
+    (λ x s k t. MatchResult result (λ made. CameTo x s (k + made.0) t before after) (WasCut x s (k + most) t before after))
 
 -- TURNS until so many are complete or the machine is off
 abbrev pub AnyGoRuns : {L : Type 0} → (count : ℕ) → Kept L → (turns : ℕ) → (before after : Around) → Result (Unit {0}) RunFault → Type 0
 AnyGoRuns count r turns before after result = FromAnywhere count r before
-    (λ x s k t. MatchResult result (λ _. CameTo x s (k + turns) t before after) (WasCut x s r.view (k + turns) t before after))
+    (λ x s k t. MatchResult result (λ _. CameTo x s (k + turns) t before after) (WasCut x s (k + turns) t before after))
 
 -- whether a run ended by a fault of the kernel
 abbrev pub is_faulted : RunEnd → Bool

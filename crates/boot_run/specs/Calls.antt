@@ -5,7 +5,6 @@ use Rattle.boot_turns.specs.declared.answers.Turn.{Turn}
 use Rattle.boot_turns.specs.declared.answers.RunFault.{RunFault}
 use Rattle.boot_run.specs.AnyRun.{AnyTurnsRun, AnyGoRuns}
 use Rattle.boot_run.specs.LoadEnds.{Kept}
-use Rattle.boot_run.specs.Report.{ReportRuns}
 use Rattle.boot_run.specs.TurnCalls.{around, TurnsRun}
 use Rattle.boot_run.specs.TurnParts.{MakesTurn}
 use Rattle.boot_run.specs.Pieces.{GoRuns}
@@ -30,10 +29,6 @@ module _ {D O : Type 0} (size : D → ℕ) (sectors : D → Option (List (List �
   abbrev pub TakesTurns : {L : Type 0} → (most : ℕ) → Kept L → D → ℕ → O → Kept L → D → ℕ → O → Result (ℕ × Turn) RunFault → Type 0
   TakesTurns most run disk budget out new retold left printed result = run.fault ≡ None → run.ended ≡ None →
       TurnsRun (size disk) run most (around run (sectors disk) budget (text out)) (around new (sectors retold) left (text printed)) result
-
-  -- the report is printed
-  abbrev pub Reports : {L : Type 0} → Kept L → D → O → Kept L → D → O → Result (Unit {0}) RunFault → Type 0
-  Reports run disk out new retold printed result = ReportRuns (size disk) run new (sectors disk) (sectors retold) (text out) (text printed) result
 
   -- turns are made until so many are complete or the run has ended
   abbrev pub GoesTurns : {L : Type 0} → (turns : ℕ) → Kept L → D → ℕ → O → Kept L → D → ℕ → O → Result (Unit {0}) RunFault → Type 0

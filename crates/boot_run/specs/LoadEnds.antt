@@ -42,18 +42,17 @@ LoadFails b view need count before now Disk = HasDiskRoom b view need count × R
 -- what is kept of a trace before the first step
 abbrev pub first_tracer : View → Option Tracer
 first_tracer Boot = None
-first_tracer (Trace u) = Some (record { user = u; steps = 0; call = None; reads = 0 })
+first_tracer (Trace u) = Some (record { user = u; steps = 0; call = None })
 
 -- what is viewed is what a tracer is kept for
 abbrev pub viewed : Option Tracer → View
 viewed None = Boot
 viewed (Some kept) = Trace kept.user
 
--- a trace is of one of the users, no more steps are pending than were made, and at most 2^32 words were read for the rows of each step
+-- a trace is of one of the users, and no more steps are pending than were made
 abbrev pub tracer_fits : Option Tracer → (users time : ℕ) → Bool
 tracer_fits None users time = true
-tracer_fits (Some kept) users time =
-    nat_lt 0 kept.user && nat_lt kept.user (users + 1) && (nat_lt kept.steps (time + 1) && nat_lt kept.reads (4294967296 * time + 1))
+tracer_fits (Some kept) users time = nat_lt 0 kept.user && nat_lt kept.user (users + 1) && nat_lt kept.steps (time + 1)
 
 -- what contracts see of a loaded run: what it was loaded with, the number of its disk's sectors, its machine,
 -- the turns that are complete, the current user, how the run ended, the kept fault, and what is kept of a trace

@@ -1,16 +1,12 @@
 -- What the calls of a loaded run leave, in one record each; and what a call of `turn` says, which is one of `turns` that makes one turn at most.
 use Rattle.std.specs.Prelude.{◌≡◌, ◌≢◌, ℕ, ◌+◌, ◌<◌, ◌≤◌, ◌^◌, IfOk, IfErr, IfSome, IsSome, OnOk, Option, Some, None, List, Result, Ok, Err}
-use Rattle.cvm_outside.specs.Causes.{Rose}
-use Rattle.cvm_outside.specs.Numbering.{tally}
-use Rattle.boot_report.specs.Blames.{Blames}
-use Rattle.boot_report.specs.Leaves.{OnlyViews}
 use Rattle.boot_turns.specs.declared.answers.Turn.{Turn}
 use Rattle.boot_turns.specs.declared.answers.Turn.TheVariants.{Over}
 use Rattle.boot_turns.specs.declared.answers.RunFault.{RunFault}
-use Rattle.boot_turns.specs.declared.answers.RunFault.TheVariants.{StepLimit, Disk, Sink}
+use Rattle.boot_turns.specs.declared.answers.RunFault.TheVariants.{StepLimit}
 use Rattle.boot_run.specs.Calls.{TakesTurns, ProceedsAnyhow}
 use Rattle.boot_run.specs.LoadEnds.{Kept}
-use Rattle.boot_run.specs.TurnCalls.{IsCalled, RunIsOver, KeepsLoad}
+use Rattle.boot_run.specs.TurnCalls.{RunIsOver, KeepsLoad}
 
 -- turns can be made, so many at most and one at least, over a disk of so many sectors and from such a budget
 pub record CanMake {L : Type 0} (most : ℕ) (run : Kept L) (count budget : ℕ) : Type 0 where
@@ -29,23 +25,35 @@ pub record CanRun {L : Type 0} (steps : ℕ) (run : Kept L) (count : ℕ) : Type
   pub fine : run.fault ≡ None
   pub time : run.machine.time + steps < 2 ^ 64
 
--- by the disk's size, its sectors and its count of faults, and the sink's text and its count
-module _ {D O : Type 0} (size : D → ℕ) (sectors : D → Option (List (List ℕ))) (broke : D → ℕ) (text : O → Option (List ℕ)) (cut : O → ℕ) where
-  -- beside what the turns come to, where a run that kept no fault and hasn't ended makes turns, so many at most, with a disk, a budget and a sink, before
-  -- and after: what was loaded is kept, the disk or the sink is blamed only where its count rose, the steps are taken from the budget, and one turn at
-  -- least is made unless there is a fault
-  pub record TurnsMake {L : Type 0} (most : ℕ) (run : Kept L) (disk : D) (budget : ℕ) (out : O) (new : Kept L) (retold : D) (left : ℕ) (printed : O)
+-- what a report leaves: nothing of the run changes but its fault, and the disk's sectors are as before; a fault that it kept is answered again and nothing
+-- is touched; a new one is kept, and is no spent budget; by the size and the sectors of a disk, and the objects before and after
+pub record ReportLeaves {L D O : Type 0} (size : D → ℕ) (sectors : D → Option (List (List ℕ))) (run : Kept L) (disk : D) (out : O) (new : Kept L)
+    (retold : D) (printed : O) (result : Result (Unit {0}) RunFault) : Type 0 where
+  pub same : new ≡ record run { fault = new.fault }
+  pub same_size : size retold ≡ size disk
+  pub same_sectors : sectors retold ≡ sectors disk
+  pub again : IfSome run.fault (λ f. result ≡ Err f)
+  pub still : IsSome run.fault → (new ≡ run) × (retold ≡ disk) × (printed ≡ out)
+  pub keeps : IfErr result (λ f. new.fault ≡ Some f)
+  pub fine : OnOk result (new.fault ≡ None)
+  pub limit : result ≡ Err StepLimit → run.fault ≡ Some StepLimit
+
+-- by the disk's size
+module _ {D : Type 0} (size : D → ℕ) where
+  -- beside what the turns come to, where a run that kept no fault and hasn't ended makes turns, so many at most, with a disk and a budget, before and
+  -- after: what was loaded is kept, the steps are taken from the budget, and one turn at least is made unless there is a fault
+  pub record TurnsMake {L : Type 0} (most : ℕ) (run : Kept L) (disk : D) (budget : ℕ) (new : Kept L) (retold : D) (left : ℕ)
       (result : Result (ℕ × Turn) RunFault) : Type 0 where
     pub kept : KeepsLoad run new
     pub fault : new.fault ≡ run.fault
     pub same_size : size retold ≡ size disk
-    pub blame : Blames (result ≡ Err Disk) (result ≡ Err Sink) broke disk retold cut out printed
     pub spent : new.machine.time + left ≡ run.machine.time + budget
     pub limit : result ≡ Err StepLimit → (left ≡ 0) × (new.machine.hardware.off ≡ None)
     pub made : IfOk result (λ r. (1 ≤ r.0) × (r.0 ≤ most) × (r.1 ≢ Over))
 
-  -- and whatever the run is: a fault that it kept is answered again, one that has ended answers that it has, and both touch nothing; a new fault is kept
-  pub record TurnsLeave {L : Type 0} (most : ℕ) (run : Kept L) (disk : D) (budget : ℕ) (out : O) (new : Kept L) (retold : D) (left : ℕ) (printed : O)
+  -- and whatever the run is: a fault that it kept is answered again, one that has ended answers that it has, and both touch nothing, the sink neither; a new
+  -- fault is kept
+  pub record TurnsLeave {L O : Type 0} (most : ℕ) (run : Kept L) (disk : D) (budget : ℕ) (out : O) (new : Kept L) (retold : D) (left : ℕ) (printed : O)
       (result : Result (ℕ × Turn) RunFault) : Type 0 where
     pub kept : KeepsLoad run new
     pub same_size : size retold ≡ size disk
@@ -56,38 +64,16 @@ module _ {D O : Type 0} (size : D → ℕ) (sectors : D → Option (List (List �
     pub still : RunIsOver run → (new ≡ run) × (left ≡ budget) × (retold ≡ disk) × (printed ≡ out)
     pub keeps : IfErr result (λ f. new.fault ≡ Some f)
     pub fine : OnOk result (new.fault ≡ None)
-    pub disk_broke : result ≡ Err Disk → run.fault ≡ None → Rose (broke disk) (broke retold)
-    pub disk_same : result ≢ Err Disk → broke retold ≡ broke disk
-    pub sink_broke : result ≡ Err Sink → run.fault ≡ None → Rose (cut out) (cut printed)
-    pub sink_same : result ≢ Err Sink → cut printed ≡ cut out
     pub spent : new.machine.time + left ≡ run.machine.time + budget
     pub limit : result ≡ Err StepLimit → run.fault ≡ None → (left ≡ 0) × (new.machine.hardware.off ≡ None)
 
-  -- what a report leaves: pages were at most read, and nothing of the run changes but what was viewed and its fault; a fault that it kept is answered
-  -- again and nothing is touched; a new one is kept, and is a fault of the disk or of the sink, of which each has a count
-  pub record ReportLeaves {L : Type 0} (run : Kept L) (disk : D) (out : O) (new : Kept L) (retold : D) (printed : O) (result : Result (Unit {0}) RunFault) :
-      Type 0 where
-    pub same : new ≡ record run { machine = new.machine; fault = new.fault }
-    pub view : OnlyViews run.machine new.machine sectors size disk retold
-    pub again : IfSome run.fault (λ f. result ≡ Err f)
-    pub still : IsSome run.fault → (new ≡ run) × (retold ≡ disk) × (printed ≡ out)
-    pub keeps : IfErr result (λ f. new.fault ≡ Some f)
-    pub fine : OnOk result (new.fault ≡ None)
-    pub limit : result ≡ Err StepLimit → run.fault ≡ Some StepLimit
-    pub disk_broke : result ≡ Err Disk → run.fault ≡ None → Rose (broke disk) (broke retold)
-    pub disk_same : result ≢ Err Disk → broke retold ≡ broke disk
-    pub sink_broke : result ≡ Err Sink → run.fault ≡ None → Rose (cut out) (cut printed)
-    pub sink_same : result ≢ Err Sink → cut printed ≡ cut out
-
--- and by the disk's count of calls
-module _ {D O : Type 0} (size : D → ℕ) (sectors : D → Option (List (List ℕ))) (broke made : D → ℕ) (text : O → Option (List ℕ)) (cut : O → ℕ) where
-  -- TURNS, so many at most: what they leave, what they come to, and how often the disk was called
+-- TURNS, so many at most: what they leave, and what they come to
+module _ {D O : Type 0} (size : D → ℕ) (sectors : D → Option (List (List ℕ))) (text : O → Option (List ℕ)) where
   pub record TurnsSay {L : Type 0} (most : ℕ) (run : Kept L) (disk : D) (budget : ℕ) (out : O) (new : Kept L) (retold : D) (left : ℕ) (printed : O)
       (result : Result (ℕ × Turn) RunFault) : Type 0 where
-    pub leaves : TurnsLeave size sectors broke text cut most run disk budget out new retold left printed result
+    pub leaves : TurnsLeave size most run disk budget out new retold left printed result
     pub ends : TakesTurns size sectors text most run disk budget out new retold left printed result
     pub any : ProceedsAnyhow size sectors text most run disk budget out new retold left printed result
-    pub calls : IsCalled run new (tally broke made disk) (tally broke made retold)
 
 -- one turn at most, as a call of `turns` answers it
 abbrev pub as_turns : Result Turn RunFault → Result (ℕ × Turn) RunFault

@@ -23,6 +23,7 @@ use Rattle.boot_run.specs.declared.whole.RunEnd.{RunEnd}
 use Rattle.boot_run.specs.declared.whole.RunEnd.TheVariants as ends
 use Rattle.boot_run.specs.Loading.{system_of}
 use Rattle.boot_run.specs.LoadEnds.{Kept, pages_needed, rom_needed}
+use Rattle.boot_run.specs.SavedRuns.{IsDisk}
 use Rattle.boot_run.specs.TurnCalls.{Around, Ready}
 use Rattle.boot_run.specs.Sink.{Base}
 use Rattle.boot_run.specs.Whole.{rom_start_of}
@@ -34,9 +35,9 @@ pub record Bootable (b : Booted) (rows : Rows) (count : ℕ) (y : System) (s : S
   pub beyond : Beyond held old s.device.sectors
   pub same : y.boot ≡ boot_of b
 
--- so it is of the loaded machine with each disk of so many sectors that are enough, where they are told
-abbrev pub AreBootable : Booted → Rows → (count : ℕ) → (told : Option (List (List ℕ))) → Type 0
-AreBootable b rows count told = (old : List (List ℕ)) → told ≡ Some old → pages_needed b ≤ count →
+-- so it is of the loaded machine with each disk of so many sectors
+abbrev pub AreBoots : Booted → Rows → (count : ℕ) → Type 0
+AreBoots b rows count = (old : List (List ℕ)) → IsDisk count old →
     Bootable b rows count (system_of b rows) (loaded (system_of b rows) old) 1 (user_sectors (system_of b rows)) old
 
 -- and of the machine with its boot ROM
@@ -44,6 +45,14 @@ pub record RomBootable (b : Booted) (rows : Rows) (count : ℕ) (old : List (Lis
   pub late : ℕ
   pub within : late ≤ rom_steps (system_of b rows)
   pub bootable : Bootable b rows count (system_of b rows) (rom_start_of (system_of b rows) old) late (rom_sectors (system_of b rows)) old
+
+abbrev pub AreRomBoots : Booted → Rows → (count : ℕ) → Type 0
+AreRomBoots b rows count = (old : List (List ℕ)) → IsDisk count old → RomBootable b rows count old
+
+-- where the sectors are told, and are enough
+abbrev pub AreBootable : Booted → Rows → (count : ℕ) → (told : Option (List (List ℕ))) → Type 0
+AreBootable b rows count told = (old : List (List ℕ)) → told ≡ Some old → pages_needed b ≤ count →
+    Bootable b rows count (system_of b rows) (loaded (system_of b rows) old) 1 (user_sectors (system_of b rows)) old
 
 abbrev pub AreRomBootable : Booted → Rows → (count : ℕ) → (told : Option (List (List ℕ))) → Type 0
 AreRomBootable b rows count told = (old : List (List ℕ)) → told ≡ Some old → rom_needed b ≤ count → RomBootable b rows count old

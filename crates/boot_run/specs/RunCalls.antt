@@ -10,7 +10,7 @@ use Rattle.c0_meaning.specs.TypedState.{IsTypedState}
 use Rattle.cvm_outside.specs.Outside.{Files, Output, output, drive}
 use Rattle.cvm_outside.specs.declared.sink.Sink as sink_of
 use Rattle.cvm_outside.specs.declared.sectors.Sectors as sectors_of
-use Rattle.cvm_outside.specs.Script.{Call, Who, TheSink, TheDisk, Performs, Makes, blame}
+use Rattle.cvm_outside.specs.Script.{Call, Who, TheSink, TheShelf, TheDisk, Performs, Makes, blame}
 use Rattle.cvm_model.specs.Cvm.{System, Status, Running, Faulted, Cvm, IsCvm}
 use Rattle.layer_contract.specs.Boots.{boot_of}
 use Rattle.boot_turns.specs.Premises.{StartsFrom}
@@ -118,6 +118,7 @@ pub record LoadCalls {D T : Type 0} (told : sectors_of.Ghosts D) (disk redisk : 
 abbrev pub of_end : RunEnd → Option Who
 of_end ends.DiskFault = Some TheDisk
 of_end ends.SinkFault = Some TheSink
+of_end ends.ShelfFault = Some TheShelf
 of_end other = None
 
 abbrev pub end_by : (ended : Bool) → Status → RunEnd

@@ -16,14 +16,12 @@ use Rattle.boot_turns.specs.Runs.{Run, Past, IsPast, steps_made, has_ended, cvm_
 use Rattle.boot_turns.specs.StepScript.{steps_script}
 use Rattle.boot_turns.specs.LoopScripts.{AreOfRun}
 use Rattle.boot_run.specs.declared.load.LoadFault.{LoadFault}
-use Rattle.boot_run.specs.declared.saving.SaveEnd.{SaveEnd}
-use Rattle.boot_run.specs.declared.saving.SaveEnd.TheVariants.{Stopped, Ended}
-use Rattle.boot_run.specs.declared.whole.RunEnd.TheVariants.{OutOfSteps}
+use Rattle.boot_run.specs.declared.whole.RunEnd.{RunEnd}
+use Rattle.boot_run.specs.declared.whole.RunEnd.TheVariants.{Stopped}
 use Rattle.boot_run.specs.Closing.{closing_script}
 use Rattle.boot_run.specs.LoadEnds.{Kept}
 use Rattle.boot_run.specs.Pieces.{Bootable, FirstAt}
-use Rattle.boot_run.specs.RunCalls.{run_at, begin_script, report_script, TellsFrom, of_load, loads, of_end, end_by, Made, SomeMade}
-use Rattle.boot_run.specs.Saving.{end_of_stop}
+use Rattle.boot_run.specs.RunCalls.{run_at, begin_script, report_script, TellsFrom, of_load, loads, of_end, end_by, EndsBy, Made, SomeMade}
 use Rattle.boot_run.specs.Sink.{Base}
 use Rattle.boot_run.specs.TurnCalls.{around, Ready}
 
@@ -37,41 +35,31 @@ abbrev pub stop_script : Run → Past → (t : ℕ) → List Call
 stop_script r p t =
     steps_script r p t (steps_made r - t) ++ (if has_ended r then unless_on (cvm_at r p (steps_made r)).status (closing_script r p) else [])
 
--- whom an end blames, and how a run is to end that is to be saved, where no call fails
-abbrev pub of_stop : SaveEnd → Option Who
-of_stop end = of_end (end_of_stop end)
-
-abbrev pub stop_by : (ended : Bool) → Status → SaveEnd
-stop_by false status = Ended OutOfSteps
+-- how a run ends that is to be saved, where no call fails
+abbrev pub stop_by : (ended : Bool) → Status → RunEnd
 stop_by true Running = Stopped
-stop_by true other = Ended (end_by true other)
+stop_by ended other = end_by ended other
 
-abbrev pub due_stop : Run → Past → SaveEnd
+abbrev pub due_stop : Run → Past → RunEnd
 due_stop r p = stop_by (has_ended r) (cvm_at r p (steps_made r)).status
 
--- a script is made, and the run ends as is due unless a call fails
-pub record StopsBy {O D : Type 0} (text : sink_of.Ghosts O) (told : sectors_of.Ghosts D) (old new : O × D) (script : List Call) (due end : SaveEnd) :
-    Type 0 where
-  pub made : Made text told old new script (of_stop end)
-  pub is : of_stop end ≡ None → end ≡ due
-
 -- THE CALLS THAT STOP A RUN, between turns of any boot of this kernel that stands there, or close it
-abbrev pub StopPerforms : {O D L : Type 0} → sink_of.Ghosts O → sectors_of.Ghosts D → Kept L → (old new : O × D) → SaveEnd → Type 0
+abbrev pub StopPerforms : {O D L : Type 0} → sink_of.Ghosts O → sectors_of.Ghosts D → Kept L → (old new : O × D) → RunEnd → Type 0
 StopPerforms text told run (out, disk) new end =
     (budget : ℕ) (y : System) (s : State) (late held : ℕ) (base : Base) (k t : ℕ) (c : Cvm) → y.boot ≡ boot_of run.boot →
     StartsFrom (IsTypedState (unit_view run.boot.unit)) (outside_of run.machine.rows (told.size disk)) y s late held →
     Ready (outside_of run.machine.rows (told.size disk)) y s run.view base (suc k) t c (around run (told.sectors disk) budget (text.text out)) →
     (turns steps : ℕ) (p : Past) → TellsFrom (run_at (outside_of run.machine.rows (told.size disk)) y s run.view turns steps) p t t →
-    StopsBy text told (out, disk) new
+    EndsBy text told (out, disk) new
     (unless_on c.status (report_script run.view (run_at (outside_of run.machine.rows (told.size disk)) y s run.view turns steps) p t c.status))
     (stop_by true c.status) end
 
-pub record StopCalls {O D L : Type 0} (text : sink_of.Ghosts O) (told : sectors_of.Ghosts D) (run : Kept L) (old new : O × D) (end : SaveEnd) : Type 0 where
+pub record StopCalls {O D L : Type 0} (text : sink_of.Ghosts O) (told : sectors_of.Ghosts D) (run : Kept L) (old new : O × D) (end : RunEnd) : Type 0 where
   pub exact : StopPerforms text told run old new end
-  pub some : SomeMade text told old new (of_stop end)
+  pub some : SomeMade text told old new (of_end end)
 
 -- THE CALLS OF A LOADED RUN UP TO ITS STOP, or to its end
-abbrev pub ToStopPerforms : {O D L : Type 0} → sink_of.Ghosts O → sectors_of.Ghosts D → Kept L → (turns budget : ℕ) → (old new : O × D) → SaveEnd →
+abbrev pub ToStopPerforms : {O D L : Type 0} → sink_of.Ghosts O → sectors_of.Ghosts D → Kept L → (turns budget : ℕ) → (old new : O × D) → RunEnd →
     Type 0
 ToStopPerforms text told run turns budget (out, disk) new end =
     (y : System) (s : State) (late held : ℕ) (old : List (List ℕ)) (base : Base) (k t wanted steps : ℕ) (c : Cvm) →
@@ -79,27 +67,27 @@ ToStopPerforms text told run turns budget (out, disk) new end =
     k + turns ≡ wanted → budget + t ≡ steps →
     Ready (outside_of run.machine.rows (told.size disk)) y s run.view base k t c (around run (told.sectors disk) budget (text.text out)) →
     c.status ≡ Running → (p : Past) → IsPast (run_at (outside_of run.machine.rows (told.size disk)) y s run.view wanted steps) p →
-    StopsBy text told (out, disk) new (begin_script (run_at (outside_of run.machine.rows (told.size disk)) y s run.view wanted steps) k
+    EndsBy text told (out, disk) new (begin_script (run_at (outside_of run.machine.rows (told.size disk)) y s run.view wanted steps) k
     ++ stop_script (run_at (outside_of run.machine.rows (told.size disk)) y s run.view wanted steps) p t)
     (due_stop (run_at (outside_of run.machine.rows (told.size disk)) y s run.view wanted steps) p) end
 
 pub record ToStopCalls {O D L : Type 0} (text : sink_of.Ghosts O) (told : sectors_of.Ghosts D) (run : Kept L) (turns budget : ℕ) (old new : O × D)
-    (end : SaveEnd) : Type 0 where
+    (end : RunEnd) : Type 0 where
   pub exact : ToStopPerforms text told run turns budget old new end
-  pub some : SomeMade text told old new (of_stop end)
+  pub some : SomeMade text told old new (of_end end)
 
 -- whom an answer blames of a call that loads a run to be saved, and whether its end is the one that is due
-abbrev pub of_save : {L : Type 0} → Result (Kept L × SaveEnd) LoadFault → Option Who
-of_save (Ok (run, end)) = of_stop end
+abbrev pub of_save : {L : Type 0} → Result (Kept L × RunEnd) LoadFault → Option Who
+of_save (Ok (run, end)) = of_end end
 of_save (Err fault) = of_load fault
 
-abbrev pub IsDueStop : {L : Type 0} → Result (Kept L × SaveEnd) LoadFault → SaveEnd → Type 0
+abbrev pub IsDueStop : {L : Type 0} → Result (Kept L × RunEnd) LoadFault → RunEnd → Type 0
 IsDueStop (Ok (run, end)) due = end ≡ due
 IsDueStop (Err fault) due = ⊤
 
 -- THE CALLS OF A BOOT THAT IS TO BE SAVED, as those of a whole boot
 pub record SaveScript {O D L : Type 0} (text : sink_of.Ghosts O) (told : sectors_of.Ghosts D) (y : System) (rows : Rows) (start : List (List ℕ) → State)
-    (turns steps : ℕ) (load : List Call) (old new : O × D) (result : Result (Kept L × SaveEnd) LoadFault) : Type 0 where
+    (turns steps : ℕ) (load : List Call) (old new : O × D) (result : Result (Kept L × RunEnd) LoadFault) : Type 0 where
   pub exact : loads result ≡ true → (sectors : List (List ℕ)) (p : Past) → told.sectors old.1 ≡ Some sectors →
       IsPast (run_at (outside_of rows (told.size old.1)) y (start sectors) Boot turns steps) p →
       Made text told old new (load ++ stop_script (run_at (outside_of rows (told.size old.1)) y (start sectors) Boot turns steps) p 0) (of_save result)

@@ -1,5 +1,5 @@
 -- What a saved run leaves, and how one that is taken up from there ends.
-use Rattle.std.specs.Prelude.{◌≡◌, ℕ, ◌≤◌, None, Option, List, length, drop, All}
+use Rattle.std.specs.Prelude.{◌≡◌, ℕ, ◌≤◌, Some, None, Option, List, length, drop, All}
 use Rattle.std.specs.Io.KnownBytes.{append_known}
 use Rattle.mips_table.specs.Device.{Environment}
 use Rattle.mips_table.specs.Turns.{IsTurnEnd}
@@ -32,3 +32,7 @@ after_saved had shown = record { least = length shown; shows = λ text. append_k
 pub record IsDisk (count : ℕ) (old : List (List ℕ)) : Type 0 where
   pub size : length old ≡ count
   pub each : All IsPage old
+
+-- sectors that are told are a disk's
+abbrev pub AreDisk : (count : ℕ) → (told : Option (List (List ℕ))) → Type 0
+AreDisk count told = (old : List (List ℕ)) → told ≡ Some old → IsDisk count old

@@ -9,16 +9,13 @@ use Rattle.mips_machine.specs.Steps.{outside_of}
 use Rattle.cvm_model.specs.Cvm.{System, Cvm}
 use Rattle.layer_contract.specs.declared.boot.Boot.{Boot as Booted}
 use Rattle.layer_contract.specs.Follows.{loaded}
-use Rattle.layer_contract.specs.Starts.{user_sectors}
 use Rattle.boot_turns.specs.declared.answers.View.TheVariants.{Boot}
 use Rattle.boot_run.specs.declared.load.LoadFault.{LoadFault}
 use Rattle.boot_run.specs.declared.whole.RunEnd.{RunEnd}
-use Rattle.boot_run.specs.declared.whole.RunEnd.TheVariants as ends
-use Rattle.boot_run.specs.declared.saving.SaveEnd.{SaveEnd}
-use Rattle.boot_run.specs.declared.saving.SaveEnd.TheVariants.{Stopped, Ended}
+use Rattle.boot_run.specs.declared.whole.RunEnd.TheVariants.{Stopped}
 use Rattle.boot_run.specs.Loading.{system_of}
 use Rattle.boot_run.specs.LoadEnds.{Kept}
-use Rattle.boot_run.specs.SavedRuns.{SavedAt, IsDisk}
+use Rattle.boot_run.specs.SavedRuns.{SavedAt}
 use Rattle.boot_run.specs.Sink.{Base}
 use Rattle.boot_run.specs.TurnCalls.{Around, around, Ready}
 use Rattle.boot_run.specs.Pieces.{Bootable, FirstAt}
@@ -27,13 +24,13 @@ use Rattle.boot_run.specs.Pieces.{Bootable, FirstAt}
 abbrev pub saved_run : {L : Type 0} → Kept L → List ℕ
 saved_run r = saved r.machine.rows.inputs (state_of r.machine []) r.turns r.current
 
--- WHERE A RUN THAT IS TO BE SAVED STOPS, from `s`: these words are those of its machine there, and these sectors its own. Of one that ends nothing is said
-abbrev pub Stops : Environment → System → State → (turns steps : ℕ) → (words : List ℕ) → (now : List (List ℕ)) → SaveEnd → Type 0
-Stops x y s turns steps words now Stopped = (shown : List ℕ) × SavedAt x y s turns steps words now shown
-Stops x y s turns steps words now (Ended e) = ⊤
+-- WHERE A RUN THAT IS TO BE SAVED STOPS, from `s`: these words are those of its machine there, and these sectors its own. Of one that ends nothing is
+-- said
+abbrev pub Stops : Environment → System → State → (turns steps : ℕ) → (words : List ℕ) → (now : List (List ℕ)) → RunEnd → Type 0
+Stops x y s turns steps words now end = end ≡ Stopped → (shown : List ℕ) × SavedAt x y s turns steps words now shown
 
 -- so it is of a loaded run, from any moment at which turns are complete for the first time
-abbrev pub RunsToStop : {L : Type 0} → (count : ℕ) → (r new : Kept L) → (turns : ℕ) → (before : Around) → (retold : Option (List (List ℕ))) → SaveEnd →
+abbrev pub RunsToStop : {L : Type 0} → (count : ℕ) → (r new : Kept L) → (turns : ℕ) → (before : Around) → (retold : Option (List (List ℕ))) → RunEnd →
     Type 0
 RunsToStop count r new turns before retold result =
     (s : State) (late held : ℕ) (old : List (List ℕ)) (base : Base) (k t wanted total : ℕ) (c : Cvm) (now : List (List ℕ)) →
@@ -43,20 +40,15 @@ RunsToStop count r new turns before retold result =
     Stops (outside_of r.machine.rows count) (system_of r.boot r.machine.rows) s wanted total (saved_run new) now result
 
 -- and of a call that loads one, with the run
-abbrev pub AnswerStops : {L : Type 0} → Environment → System → State → (turns steps : ℕ) → (now : List (List ℕ)) → Result (Kept L × SaveEnd) LoadFault → Type 0
+abbrev pub AnswerStops : {L : Type 0} → Environment → System → State → (turns steps : ℕ) → (now : List (List ℕ)) → Result (Kept L × RunEnd) LoadFault → Type 0
 AnswerStops x y s turns steps now (Ok (r, e)) = Stops x y s turns steps (saved_run r) now e
 AnswerStops x y s turns steps now (Err fault) = ⊤
 
 -- for what is booted, a schedule's rows and a disk of so many sectors, where it tells them before and after
 abbrev pub WholeStops : {L : Type 0} → Booted → Rows → ℕ → (turns steps : ℕ) → (told retold : Option (List (List ℕ))) →
-    Result (Kept L × SaveEnd) LoadFault → Type 0
+    Result (Kept L × RunEnd) LoadFault → Type 0
 WholeStops b rows count turns steps told retold result = (old now : List (List ℕ)) → told ≡ Some old → retold ≡ Some now →
     AnswerStops (outside_of rows count) (system_of b rows) (loaded (system_of b rows) old) turns steps now result
-
--- how it is told as one of a boot
-abbrev pub end_of_stop : SaveEnd → RunEnd
-end_of_stop Stopped = ends.Done
-end_of_stop (Ended e) = e
 
 -- A RUN THAT WAS TAKEN UP and made no step since: of a boot, it goes on, and its machine can be saved
 pub record IsResumed {L : Type 0} (r : Kept L) : Type 0 where
@@ -76,26 +68,20 @@ pub record IsTakenUp {L : Type 0} (layer : L) (boot : Booted) (rows : Rows) (cou
   pub words_are : saved_run r ≡ words
   pub resumed : IsResumed r
 
--- what is booted under these rows can be, over each disk of so many sectors
-abbrev pub AreBoots : Booted → Rows → (count : ℕ) → Type 0
-AreBoots b rows count = (old : List (List ℕ)) → IsDisk count old →
-    Bootable b rows count (system_of b rows) (loaded (system_of b rows) old) 1 (user_sectors (system_of b rows)) old
-
 -- one that goes on stops there, untouched
-abbrev pub StaysThere : {L D O : Type 0} → Kept L → D → O → Kept L → D → O → SaveEnd → Type 0
-StaysThere run disk out new redisk reout Stopped = (run.ended ≡ None) × (new ≡ run) × (redisk ≡ disk) × (reout ≡ out)
-StaysThere run disk out new redisk reout (Ended e) = ⊤
+abbrev pub StaysThere : {L D O : Type 0} → Kept L → D → O → Kept L → D → O → RunEnd → Type 0
+StaysThere run disk out new redisk reout end = end ≡ Stopped → (run.ended ≡ None) × (new ≡ run) × (redisk ≡ disk) × (reout ≡ out)
 
 -- The calls, by the run, the disk and the sink before, and then by the run and the disk after. The first words of each tell the disk's size, its sectors
 -- and the sink's text.
 module _ {D O : Type 0} (size : D → ℕ) (sectors : D → Option (List (List ℕ))) (text : O → Option (List ℕ)) where
   -- a loaded run is run to where it can be saved
-  abbrev pub RunStops : {L : Type 0} → (turns steps : ℕ) → Kept L → D → O → Kept L → D → SaveEnd → Type 0
+  abbrev pub RunStops : {L : Type 0} → (turns steps : ℕ) → Kept L → D → O → Kept L → D → RunEnd → Type 0
   RunStops turns steps run disk out new redisk result =
       RunsToStop (size disk) run new turns (around run (sectors disk) steps (text out)) (sectors redisk) result
 
 -- what is booted over such a disk, under a schedule, is run so
 abbrev pub StopsSaved : {L D : Type 0} → (size : D → ℕ) → (sectors : D → Option (List (List ℕ))) → Booted → Rows → (turns steps : ℕ) → D → D →
-    Result (Kept L × SaveEnd) LoadFault → Type 0
+    Result (Kept L × RunEnd) LoadFault → Type 0
 StopsSaved size sectors boot rows turns steps disk redisk result =
     WholeStops boot rows (size disk) turns steps (sectors disk) (sectors redisk) result

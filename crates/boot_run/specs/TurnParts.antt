@@ -1,6 +1,6 @@
 -- The parts of a call of `turns`: what is printed before the machine goes on, the turn itself, and what is printed after it.
 use Rattle.std.specs.Prelude.{◌≡◌, ℕ, zero, suc, ◌+◌, ◌-◌, ◌≤◌, ◌^◌, min, All, if◌then◌else◌, Option, Some, None, List, [], ◌++◌, length, map, slice_index}
-use Rattle.std.specs.Prelude.{is_some, Result, Ok, Err, MatchResult}
+use Rattle.std.specs.Prelude.{Result, Ok, Err, MatchResult}
 use Rattle.mips_table.specs.Flat.{Flat}
 use Rattle.mips_machine.specs.Machine.{Held}
 use Rattle.layer_map.specs.Map.{current_at}
@@ -78,9 +78,9 @@ pub record Counted {L : Type 0} (old new : Kept L) (skipped : ℕ) (b : Begun) (
 -- what the machine did, and what a trace printed, over a disk of so many sectors, with these texts and budgets
 pub record Moved {L : Type 0} (count : ℕ) (old new : Kept L) (most : ℕ) (told retold : Option (List (List ℕ))) (text retext : Option (List ℕ)) (budget left : ℕ)
     (result : Result (ℕ × Begun) RunFault) : Type 0 where
-  pub advances : Advances count (is_some old.tracer) old.machine new.machine told retold budget left most result
-  pub anyhow : AnyTurns count (is_some old.tracer) old.machine new.machine told retold budget left most result
-  pub traces : TraceRuns count (map_of (boot_of old.boot)) old.machine new.machine told retold
+  pub advances : Advances count old.machine new.machine told retold budget left most result
+  pub anyhow : AnyTurns count old.machine new.machine told retold budget left most result
+  pub traces : TraceRuns count (map_of (boot_of old.boot)) old.machine told
       (record { tracer = old.tracer; text = text; budget = budget }) (record { tracer = new.tracer; text = retext; budget = left }) result
 
 -- THE TURNS: the last is complete and all are counted, or it was broken off

@@ -1,6 +1,7 @@
 //! Loaded runs: `load`, `load_rom`, `turn`, `turns`, `report`, `ended` and `steps` over any layer.
 #![tactic(auto)]
 
+mod laws;
 mod load;
 mod next;
 mod pages;
@@ -15,10 +16,10 @@ mod whole;
 
 pub use boot_turns::{RunFault, Turn, View};
 pub use cvm_model::{Next, Row};
-pub use load::LoadFault;
+pub use laws::systems_can_boot;
+pub use load::{LoadFault, Setup, Shortage, check_room};
 pub use pasts::pasts_exist;
-pub use places::frames_of;
 pub use resuming::{run_on, saved_boots_are_of_runs};
 pub use run::Run;
-pub use saving::{SaveEnd, run_to_save};
-pub use whole::{RunEnd, run_rom, run_whole, saved_runs_are_taken_up};
+pub use saving::run_to_save;
+pub use whole::{Limits, RunEnd, run_rom, run_whole, saved_runs_are_taken_up};

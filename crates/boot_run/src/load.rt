@@ -1,19 +1,21 @@
 // The machine of a boot, loaded.
-ghost use Rattle.std.specs.Prelude.{◌≡◌, ◌+◌, ◌*◌, ◌/◌, ◌≤◌};
+ghost use Rattle.std.specs.Prelude.{◌≡◌, ◌+◌, ◌*◌, ◌/◌, ◌<◌, ◌≤◌};
 ghost use Rattle.std.specs.Prelude.{ℕ, length, map, IfOk, IfErr, OnOk, Err, Ok};
 ghost use Rattle.layer_map.specs.Map.{MapInRange, memory_frames};
 ghost use Rattle.cvm_model.specs.Cvm.{map_of};
-ghost use Rattle.layer_contract.specs.Boots.{boot_of};
+ghost use Rattle.layer_contract.specs.Boots.{boot_of, BootFollows};
 ghost use Rattle.mips_machine.specs.Machine.{started};
-ghost use Rattle.boot_run.specs.Loading.{with_words, with_rom};
-ghost use Rattle.boot_run.specs.declared.load.LoadFault.TheVariants.{Memory as NoRoom};
-ghost use Rattle.boot_run.specs.LoadEnds.{first_tracer};
+ghost use Rattle.boot_turns.specs.Rom.{own_rom};
+ghost use Rattle.boot_run.specs.Loading.{system_of, with_words, with_rom};
+ghost use Rattle.boot_run.specs.declared.load.LoadFault.TheVariants.{Memory as NoRoom, SmallDisk as NoSpace};
+ghost use Rattle.boot_run.specs.LoadEnds.{first_tracer, pages_needed, rom_needed};
 ghost use Rattle.boot_run.specs.RunEnds.{SeesUser};
 
 use crate::pages::put_words;
+use boot_rom::rom_words;
 use boot_turns::View;
 use boot_turns::tracer::Tracer;
-use layer_contract::Boot;
+use layer_contract::{Boot, Layer};
 use layer_map::Map;
 use masm::instruction;
 use mips_machine::Machine;
@@ -21,6 +23,28 @@ use mips_table::encode;
 use schedule_file::Schedule;
 use std::alloc::{AllocError, Global};
 use thiserror::Error;
+
+/// What a run is made of.
+#[derive(Drop)]
+pub struct Setup<L> {
+    /// Memory for the run.
+    pub alloc: Global,
+    /// The layer.
+    pub layer: L,
+    /// What is booted over it.
+    pub boot: Boot,
+    /// The schedule of its interrupts.
+    pub schedule: Schedule,
+}
+
+/// How many sectors a run needs, where a disk has fewer.
+#[derive(Clone, Copy, Debug, PartialEq, Eq)]
+pub struct Shortage {
+    /// How many it needs.
+    pub need: u32,
+    /// How many there are.
+    pub have: u32,
+}
 
 /// Why a run is not loaded.
 #[derive(Clone, Copy, Debug, PartialEq, Eq, Error)]
@@ -57,6 +81,32 @@ impl From<AllocError> for LoadFault {
     }
 }
 
+impl From<Shortage> for LoadFault {
+    ghost from_gives = { λ s e. e ≡ NoSpace s.need s.have };
+
+    fn from(few: Shortage) -> Self {
+        LoadFault::SmallDisk {
+            need: few.need,
+            have: few.have,
+        }
+    }
+}
+
+/// Whether a disk of so many sectors has those that a run needs.
+///
+/// # Errors
+///
+/// It has fewer.
+pub fn check_room(have: u32, need: u32) -> Result<(), Shortage>
+    ensures ok { OnOk result (need ≤ have) }
+    ensures few { IfErr result (λ e. (e.need ≡ need) × (e.have ≡ have) × (have < need)) }
+{
+    if have < need {
+        return Err(Shortage { need, have });
+    }
+    Ok(())
+}
+
 // Whether a view is of a boot, or of a user that there is.
 //
 // # Errors
@@ -83,7 +133,6 @@ pub(crate) fn first_tracer(view: View) -> Option<Tracer>
             user,
             steps: 0,
             call: None,
-            reads: 0,
         }),
     }
 }
@@ -131,10 +180,43 @@ pub(crate) fn rom_machine(
     Ok(machine)
 }
 
+// How many sectors the users' pages take.
+pub(crate) fn pages_needed(boot: &Boot) -> u32
+    requires { MapInRange (map_of (boot_of boot.now)) }
+    ensures { result ≡ pages_needed boot.now }
+{
+    boot.users.len() as u32 * boot.params.pages
+}
+
 // How many sectors words take.
 pub(crate) fn sectors_of(words: &[u32]) -> u32
     requires { length words.now ≤ 4194304 }
     ensures { result ≡ (length words.now + 1023) / 1024 }
 {
     (words.len() as u32 + 1023) / 1024
+}
+
+// How many sectors the users' pages take, and the linked words behind them.
+pub(crate) fn rom_needed(boot: &Boot) -> u32
+    requires { MapInRange (map_of (boot_of boot.now)) }
+    ensures { result ≡ rom_needed boot.now }
+{
+    pages_needed(boot) + sectors_of(boot.words.as_slice())
+}
+
+// The words of the ROM that loads what is booted.
+//
+// # Errors
+//
+// Want of memory.
+pub(crate) fn own_rom<L: Layer>(setup: &Setup<L>) -> Result<Vec<u32>, AllocError>
+    requires { BootFollows (L.image setup.now.layer) (L.sizes setup.now.layer) (L.map setup.now.layer) setup.now.boot }
+    ensures words { IfOk result (λ v. v.items ≡ own_rom (system_of setup.now.boot setup.now.schedule)) }
+    ensures few { IfOk result (λ v. length v.items ≤ 1024) }
+{
+    setup.layer.keeps_laws();
+    let boot = &setup.boot;
+    let users = boot.users.len() as u32;
+    let sectors = sectors_of(boot.words.as_slice());
+    rom_words(setup.alloc, users, boot.params.pages, sectors)
 }

@@ -6,7 +6,7 @@ ghost use Rattle.boot_run.specs.Loading.{system_of};
 ghost use Rattle.boot_run.specs.Pasts.{HavePasts};
 ghost use Rattle.boot_run.specs.Whole.{rom_start_of};
 
-use crate::whole::{premises_hold, rom_premises_hold};
+use crate::laws::premises_hold;
 use boot_turns::{machines_run, traces_grow};
 use cvm_outside::Sectors;
 use layer_contract::{Boot, Layer};
@@ -25,5 +25,4 @@ pub fn pasts_exist<L: Layer, D: Sectors>(layer: &L, boot: &Boot, schedule: &Sche
     traces_grow();
     turns_are_counted();
     premises_hold(layer, boot, schedule, disk);
-    rom_premises_hold(layer, boot, schedule, disk);
 }

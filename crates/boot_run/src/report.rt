@@ -1,17 +1,18 @@
 // The end and the report of a run, printed from its machine.
-ghost use Rattle.std.specs.Prelude.{◌≡◌, ◌++◌, length};
+ghost use Rattle.std.specs.Prelude.{◌≡◌, ◌≢◌, ◌++◌, length, Err};
 ghost use Rattle.cvm_model.specs.Text.{steps_row as steps_text};
 ghost use Rattle.boot_report.specs.Globals.{AreInside, GlobalsStand};
 ghost use Rattle.boot_report.specs.Texts.{end_row};
-ghost use Rattle.boot_run.specs.Report.{kernel_rows, runs_now, closing_calls, trace_calls, ForClosing, ForTraceClosing, StepsStand};
-ghost use Rattle.boot_report.specs.Leaves.{Reports};
+ghost use Rattle.boot_run.specs.Report.{kernel_rows, runs_now, closing_calls, trace_calls};
 ghost use Rattle.boot_report.specs.Scripts.{of_report};
-ghost use Rattle.cvm_outside.specs.Script.{Makes, Prints};
+ghost use Rattle.cvm_outside.specs.Script.{Makes, Prints, blame};
+ghost use Rattle.boot_turns.specs.RowScripts.{of_run};
 ghost use Rattle.boot_report.specs.Stand.{CanReadUser, CanReadUsers};
 
 use crate::places::Places;
 use boot_report::journal_text::steps_row;
 use boot_report::{ReportFault, put_end, put_globals, put_log, put_user_rows, put_users};
+use boot_turns::RunFault;
 use boot_turns::tracer::Tracer;
 use c0_tree::Decl;
 use cvm_outside::single_calls::put;
@@ -49,7 +50,7 @@ fn runs_now(halted: bool, current: u32) -> u32
 //
 // A fault of the disk or of the sink.
 pub(crate) fn put_closing<D: Sectors, O: Sink>(
-    machine: &mut Machine,
+    machine: &Machine,
     places: &Places,
     decls: &[Decl],
     halted: bool,
@@ -58,12 +59,10 @@ pub(crate) fn put_closing<D: Sectors, O: Sink>(
     out: &mut O,
 ) -> Result<(), ReportFault>
     requires many { length places.now.offsets.items ≡ length decls.now }
-    requires users { CanReadUsers places.now.map (length machine.old.hardware.memory) (D.size disk.old) }
+    requires users { CanReadUsers places.now.map (length machine.now.hardware.memory) (D.size disk.old) }
     requires inside { AreInside places.now.map places.now.offsets.items }
-    ensures report { Reports (ForClosing (D.sectors disk.old) machine.old halted current places.now decls.now)
-        machine.old machine.new D.sectors D.size D.faults D.calls disk.old disk.new O.text O.faults out.old out.new result }
-    ensures script { Makes O.Sink D.Sectors (out.old, disk.old) (out.new, disk.new)
-        (closing_calls halted current machine.old (D.sectors disk.old) places.now decls.now) of_report result }
+    ensures { Makes O.Sink D.Sectors (out.old, disk.old) (out.new, disk.new)
+        (closing_calls halted current machine.now (D.sectors disk.old) places.now decls.now) of_report result }
 {
     put_kernel(machine, places, decls, halted, out)?;
     let running = runs_now(halted, current);
@@ -83,9 +82,9 @@ fn put_last<O: Sink>(steps: u64, halted: bool, out: &mut O) -> Result<(), SinkFa
 //
 // # Errors
 //
-// A fault of the disk or of the sink. Where the disk failed the row of the last steps is printed.
+// A fault of the disk or of the sink.
 pub(crate) fn put_trace_closing<D: Sectors, O: Sink>(
-    machine: &mut Machine,
+    machine: &Machine,
     map: &Map,
     tracer: Tracer,
     halted: bool,
@@ -93,14 +92,23 @@ pub(crate) fn put_trace_closing<D: Sectors, O: Sink>(
     disk: &mut D,
     out: &mut O,
 ) -> Result<(), ReportFault>
-    requires { CanReadUser map.now tracer.user (length machine.old.hardware.memory) (D.size disk.old) }
-    ensures report { Reports (ForTraceClosing (D.sectors disk.old) machine.old halted current map.now tracer)
-        machine.old machine.new D.sectors D.size D.faults D.calls disk.old disk.new O.text O.faults out.old out.new result }
-    ensures rows { StepsStand (D.sectors disk.old) machine.old halted current map.now tracer (O.text out.old) (O.text out.new) result }
-    ensures script { Makes O.Sink D.Sectors (out.old, disk.old) (out.new, disk.new)
-        (trace_calls halted current machine.old (D.sectors disk.old) map.now tracer) of_report result }
+    requires { CanReadUser map.now tracer.user (length machine.now.hardware.memory) (D.size disk.old) }
+    ensures { Makes O.Sink D.Sectors (out.old, disk.old) (out.new, disk.new)
+        (trace_calls halted current machine.now (D.sectors disk.old) map.now tracer) of_report result }
 {
     put_last(tracer.steps, halted, out)?;
     let running = runs_now(halted, current);
     put_user_rows(machine, map, running, tracer.user, disk, out)
+}
+
+// What a report answers, as a run answers it.
+pub(crate) fn as_run(answer: Result<(), ReportFault>) -> Result<(), RunFault>
+    ensures blame { blame of_report answer ≡ blame of_run result }
+    ensures limit { result ≢ Err RunFault.StepLimit }
+{
+    match answer {
+        Ok(()) => Ok(()),
+        Err(ReportFault::Disk) => Err(RunFault::Disk),
+        Err(ReportFault::Sink) => Err(RunFault::Sink),
+    }
 }

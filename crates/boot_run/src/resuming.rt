@@ -3,38 +3,21 @@ ghost use Rattle.std.specs.Prelude.{◌≡◌, ℕ, ◌+◌, ◌-◌, ◌<◌, �
 ghost use Rattle.layer_map.specs.Map.{memory_words};
 ghost use Rattle.mips_machine.specs.Machine.{state_of};
 ghost use Rattle.mips_machine.specs.Saved.{saved, AreSaved, CanBeSaved};
-ghost use Rattle.layer_contract.specs.Boots.{BootFollows};
 ghost use Rattle.boot_run.specs.OneTurn.{CanClose};
-ghost use Rattle.boot_run.specs.LoadEnds.{pages_needed};
 ghost use Rattle.boot_run.specs.AnyScripts.{RestUntold};
 ghost use Rattle.boot_run.specs.RunCalls.{RestCalls};
 ghost use Rattle.boot_run.specs.SavedFiles.{SavedBootsAreOfRuns};
-ghost use Rattle.boot_run.specs.Saving.{AreBoots};
+ghost use Rattle.boot_run.specs.RunEnds.{EndsUnsaved};
 
 use crate::run::Run;
-use crate::whole::{RunEnd, are_words, run_to_end};
+use crate::whole::{Limits, RunEnd, run_to_end};
 use cvm_outside::{Sectors, Sink};
-use layer_contract::{Boot, Layer, the_loaded_machine_starts};
+use layer_contract::Layer;
 use layer_map::{Map, memory_is_whole, parts_are_in_order};
 use mips_machine::Machine;
-use mips_machine::laws::schedules_end;
 use mips_table::runs::{a_new_machine_is_steady, machines_stay_steady, runs_are_taken_up};
 use schedule_file::Schedule;
 use std::alloc::{AllocError, Global};
-
-// A law: what a layer, what is booted and a schedule promise are the premises of a boot over each disk that has the sectors which it needs.
-pub(crate) fn boots_hold<L: Layer>(layer: &L, boot: &Boot, schedule: &Schedule, count: u32)
-    requires follows { BootFollows (L.image layer.now) (L.sizes layer.now) (L.map layer.now) boot.now }
-    requires room { pages_needed boot.now ≤ count }
-    ensures { AreBoots boot.now schedule.now count }
-{
-    the_loaded_machine_starts();
-    layer.keeps_laws();
-    are_words(boot.words.as_slice());
-    schedules_end(schedule);
-    let _ = schedule.longest();
-    let _ = schedule.inputs();
-}
 
 // The machine that these words tell, under a schedule.
 //
@@ -90,19 +73,19 @@ pub fn saved_boots_are_of_runs()
 /// [`run_whole`](crate::run_whole) prints from there on.
 pub fn run_on<L: Layer + Drop, D: Sectors, O: Sink>(
     run: &mut Run<L>,
-    turns: u32,
-    steps: u64,
+    limits: Limits,
     disk: &mut D,
     out: &mut O,
 ) -> RunEnd
     requires can { CanClose run.old (D.size disk.old) }
-    requires done { run.old.turns ≤ turns }
-    ensures script { RestCalls O.Sink D.Sectors run.old (turns - run.old.turns) (steps - run.old.machine.time)
+    requires done { run.old.turns ≤ limits.turns }
+    ensures ends { EndsUnsaved result }
+    ensures script { RestCalls O.Sink D.Sectors run.old (limits.turns - run.old.turns) (limits.steps - run.old.machine.time)
         (out.old, disk.old) (out.new, disk.new) result }
-    ensures untold { RestUntold O.Sink D.Sectors run.old (turns - run.old.turns) (steps - run.old.machine.time)
+    ensures untold { RestUntold O.Sink D.Sectors run.old (limits.turns - run.old.turns) (limits.steps - run.old.machine.time)
         (out.old, disk.old) (out.new, disk.new) result }
 {
-    let left = turns_left(run, turns);
-    let budget = steps_left(run, steps);
-    run_to_end(run, left, budget, disk, out)
+    let turns = turns_left(run, limits.turns);
+    let steps = steps_left(run, limits.steps);
+    run_to_end(run, Limits { turns, steps }, disk, out)
 }

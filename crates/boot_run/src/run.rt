@@ -1,38 +1,41 @@
 // A loaded run.
 ghost use Rattle.std.specs.Prelude.{◌≡◌, ◌≢◌, ◌∷◌, ◌+◌, ◌-◌, ◌<◌, ◌≤◌, ◌^◌};
 ghost use Rattle.std.specs.Prelude.{false, true, [], length, slice_index, IfOk, IsSome, OnErr, Err, Ok, Some, None};
-ghost use Rattle.std.specs.Result.{result_err};
-ghost use Rattle.cvm_outside.specs.Numbering.{tally};
+ghost use Rattle.cvm_outside.specs.Script.{Prints};
 ghost use Rattle.layer_map.specs.Map.{memory_words};
 ghost use Rattle.mips_machine.specs.Saved.{AreSaved};
 ghost use Rattle.cvm_model.specs.Cvm.{map_of};
 ghost use Rattle.layer_contract.specs.Boots.{boot_of, BootFollows};
-ghost use Rattle.boot_report.specs.Blames.{Blames};
 ghost use Rattle.boot_turns.specs.LoopScripts.{StepsCall};
-ghost use Rattle.boot_run.specs.LoadEnds.{LoadLeaves, pages_needed, rom_needed};
+ghost use Rattle.boot_turns.specs.Rom.{own_rom};
+ghost use Rattle.boot_run.specs.LoadEnds.{HasDiskRoom, LoadLeaves, pages_needed, rom_needed};
 ghost use Rattle.boot_run.specs.Loaded.{IsLoaded, LoadTorn, boot_load, rom_load};
-ghost use Rattle.boot_report.specs.Leaves.{CallsDisk, OnlyViews, PutsRows};
 ghost use Rattle.boot_run.specs.LoadedPages.{user_pages, rom_pages};
 ghost use Rattle.boot_run.specs.Loading.{system_of};
 ghost use Rattle.boot_run.specs.LoadScript.{load_script};
 ghost use Rattle.boot_run.specs.AnyScripts.{TurnsUntold};
 ghost use Rattle.boot_run.specs.RunCalls.{LoadCalls, ReportCalls, TurnsCall};
-ghost use Rattle.boot_run.specs.Calls.{MakesTurns, Proceeds, ProceedsAnyhow, Reports};
+ghost use Rattle.boot_run.specs.Calls.{MakesTurns, Proceeds, ProceedsAnyhow};
 ghost use Rattle.boot_run.specs.OneTurn.{CanMake, TurnsMake, ReportLeaves, TurnsSay, as_turns};
-ghost use Rattle.boot_run.specs.Saving.{saved_run, AreBoots, IsTakenUp};
+ghost use Rattle.boot_run.specs.Pieces.{AreBoots};
+ghost use Rattle.boot_run.specs.Saving.{saved_run, IsTakenUp};
 ghost use Rattle.boot_run.specs.Shown.{has_faulted};
-ghost use Rattle.boot_run.specs.TurnCalls.{rows_of, IsCalled};
+ghost use Rattle.boot_run.specs.TurnCalls.{rows_of};
 ghost use Rattle.boot_run.specs.TurnParts.{rows_before, rows_after, Views};
 ghost use Rattle.cvm_model.specs.declared.row.Row.{Row as OneRow};
 
-use crate::load::{LoadFault, check_view, first_tracer, loaded_machine, rom_machine, sectors_of};
+use crate::laws::systems_can_boot;
+use crate::load::{
+    LoadFault, Setup, check_room, check_view, first_tracer, loaded_machine, own_rom, pages_needed,
+    rom_machine, rom_needed,
+};
 use crate::next::{ended_by, has_faulted, seen_next};
 use crate::pages::write_pages;
 use crate::places::{Places, places_of};
-use crate::report::{put_closing, put_trace_closing};
-use crate::resuming::{boots_hold, resumed_machine};
+use crate::report::{as_run, put_closing, put_trace_closing};
+use crate::resuming::resumed_machine;
 use crate::turn_rows::{put_fault, put_row, put_start};
-use boot_report::{ReportFault, the_globals_tell, the_rows_tell, the_user_rows_tell};
+use boot_report::{a_user_is_told, the_globals_tell, the_rows_tell};
 use boot_turns::completion::complete;
 use boot_turns::tracer::Tracer;
 use boot_turns::{
@@ -114,14 +117,11 @@ impl<L: Layer + Drop> Run<L> {
             disk.old disk.new result }
         ensures script { LoadCalls D.Sectors disk.old disk.new (load_script (user_pages (system_of boot schedule)) (pages_needed boot)) result }
     {
-        let users = boot.users.len() as u32;
-        check_view(view, users)?;
-        let need = users * boot.params.pages;
+        check_view(view, boot.users.len() as u32)?;
+        let need = pages_needed(&boot);
         let have = disk.count();
-        if have < need {
-            return Err(LoadFault::SmallDisk { need, have });
-        }
-        let places = places_of(alloc, &boot)?;
+        check_room(have, need)?;
+        let places = places_of(alloc, &boot, layer.memory_map())?;
         let machine = loaded_machine(alloc, &places.map, &boot, schedule)?;
         match write_pages(boot.users.as_slice(), boot.params.pages, &[], need, disk) {
             Ok(()) => Ok(Run {
@@ -164,24 +164,66 @@ impl<L: Layer + Drop> Run<L> {
             disk.old disk.new result }
         ensures script { LoadCalls D.Sectors disk.old disk.new (load_script (rom_pages (system_of boot schedule)) (rom_needed boot)) result }
     {
-        let users = boot.users.len() as u32;
-        check_view(view, users)?;
+        check_view(view, boot.users.len() as u32)?;
+        check_room(disk.count(), rom_needed(&boot))?;
+        let setup = Setup {
+            alloc,
+            layer,
+            boot,
+            schedule,
+        };
+        Run::load_words(setup, view, rom.as_slice(), disk)
+    }
+
+    // As [`Run::load_rom`], with the ROM that loads what is booted.
+    pub(crate) fn load_own_rom<D: Sectors>(
+        setup: Setup<L>,
+        view: View,
+        disk: &mut D,
+    ) -> Result<Run<L>, LoadFault>
+        requires { BootFollows (L.image setup.layer) (L.sizes setup.layer) (L.map setup.layer) setup.boot }
+        ensures loaded { IfOk result (IsLoaded D.size D.sectors D.faults D.calls setup.layer setup.boot view setup.schedule
+            (rom_load setup.boot setup.schedule (own_rom (system_of setup.boot setup.schedule))) disk.old disk.new) }
+        ensures leaves { LoadLeaves D.size D.sectors D.faults D.calls setup.boot view (rom_needed setup.boot)
+            (LoadTorn (rom_load setup.boot setup.schedule (own_rom (system_of setup.boot setup.schedule)))) disk.old disk.new result }
+        ensures script { LoadCalls D.Sectors disk.old disk.new
+            (load_script (rom_pages (system_of setup.boot setup.schedule)) (rom_needed setup.boot)) result }
+    {
+        check_view(view, setup.boot.users.len() as u32)?;
+        check_room(disk.count(), rom_needed(&setup.boot))?;
+        let rom = own_rom(&setup)?;
+        Run::load_words(setup, view, rom.as_slice(), disk)
+    }
+
+    // Loads it on a machine with a boot ROM of these words, of a view that there is, over a disk with the sectors that it needs.
+    fn load_words<D: Sectors>(
+        setup: Setup<L>,
+        view: View,
+        rom: &[u32],
+        disk: &mut D,
+    ) -> Result<Run<L>, LoadFault>
+        requires follows { BootFollows (L.image setup.layer) (L.sizes setup.layer) (L.map setup.layer) setup.boot }
+        requires few { length rom.now ≤ 1024 }
+        requires room { HasDiskRoom setup.boot view (rom_needed setup.boot) (D.size disk.old) }
+        ensures loaded { IfOk result (IsLoaded D.size D.sectors D.faults D.calls setup.layer setup.boot view setup.schedule
+            (rom_load setup.boot setup.schedule rom.now) disk.old disk.new) }
+        ensures leaves { LoadLeaves D.size D.sectors D.faults D.calls setup.boot view (rom_needed setup.boot)
+            (LoadTorn (rom_load setup.boot setup.schedule rom.now)) disk.old disk.new result }
+        ensures script { LoadCalls D.Sectors disk.old disk.new
+            (load_script (rom_pages (system_of setup.boot setup.schedule)) (rom_needed setup.boot)) result }
+    {
+        let boot = setup.boot;
+        let count = disk.count();
+        let places = places_of(setup.alloc, &boot, setup.layer.memory_map())?;
+        let machine = rom_machine(setup.alloc, &places.map, rom, setup.schedule)?;
+        let users = boot.users.as_slice();
         let words = boot.words.as_slice();
-        let behind = sectors_of(words);
-        let need = users * boot.params.pages + behind;
-        let have = disk.count();
-        if have < need {
-            return Err(LoadFault::SmallDisk { need, have });
-        }
-        let places = places_of(alloc, &boot)?;
-        let rom = rom.as_slice();
-        let machine = rom_machine(alloc, &places.map, rom, schedule)?;
-        match write_pages(boot.users.as_slice(), boot.params.pages, words, need, disk) {
+        match write_pages(users, boot.params.pages, words, rom_needed(&boot), disk) {
             Ok(()) => Ok(Run {
-                layer,
+                layer: setup.layer,
                 boot,
                 tracer: first_tracer(view),
-                count: have,
+                count,
                 machine,
                 turns: 0,
                 current: 0,
@@ -195,7 +237,7 @@ impl<L: Layer + Drop> Run<L> {
 
     // Prints what stands before the next turn: the first row of a trace, before its first turn.
     fn put_before<O: Sink>(&self, out: &mut O) -> Result<(), SinkFault>
-        ensures put { PutsRows O.text O.faults out.old out.new (rows_before self.now.boot self.now.tracer self.now.turns) result }
+        ensures put { Prints O.Sink out.old out.new (rows_before self.now.boot self.now.tracer self.now.turns) result }
         ensures first { OnErr result (IsSome self.now.tracer × (self.now.turns ≡ 0)) }
         ensures views { Views self.now }
     {
@@ -218,12 +260,9 @@ impl<L: Layer + Drop> Run<L> {
         out: &mut O,
     ) -> Result<(u32, Turn), RunFault>
         requires can { CanMake most self.old (D.size disk.old) budget.old }
-        ensures makes { TurnsMake D.size D.sectors D.faults O.text O.faults most
-            self.old disk.old budget.old out.old self.new disk.new budget.new out.new result }
+        ensures makes { TurnsMake D.size most self.old disk.old budget.old self.new disk.new budget.new result }
         ensures ends { MakesTurns D.size D.sectors O.text most self.old disk.old budget.old out.old self.new disk.new budget.new out.new result }
-        ensures calls { IsCalled self.old self.new (tally D.faults D.calls disk.old) (tally D.faults D.calls disk.new) }
         ensures untraced { self.old.tracer ≡ None → (self.new.tracer ≡ None) × (out.new ≡ out.old) }
-        ensures no_sink { self.old.tracer ≡ None → result ≢ Err RunFault.Sink }
         ensures script { StepsCall O.Sink D.Sectors (map_of (boot_of self.old.boot)) self.old.machine self.old.tracer
             (out.old, disk.old) (out.new, disk.new) (budget.old - budget.new) result }
         ensures less { budget.new ≤ budget.old }
@@ -263,7 +302,7 @@ impl<L: Layer + Drop> Run<L> {
 
     // Prints what stands behind a turn: of a boot the row of its dispatch, and of a trace the kernel's fault.
     fn put_after<O: Sink>(&self, answer: Turn, out: &mut O) -> Result<(), SinkFault>
-        ensures put { PutsRows O.text O.faults out.old out.new (rows_after self.now.tracer self.now.ended answer) result }
+        ensures put { Prints O.Sink out.old out.new (rows_after self.now.tracer self.now.ended answer) result }
         ensures dispatch { self.now.tracer ≡ None → OnErr result ((row : OneRow) × (rows_of answer ≡ row ∷ [])) }
         ensures faulted { IsSome self.now.tracer → OnErr result (has_faulted self.now.ended ≡ true) }
     {
@@ -282,11 +321,9 @@ impl<L: Layer + Drop> Run<L> {
         out: &mut O,
     ) -> Result<(u32, Turn), RunFault>
         requires can { CanMake most self.old (D.size disk.old) budget.old }
-        ensures makes { TurnsMake D.size D.sectors D.faults O.text O.faults most
-            self.old disk.old budget.old out.old self.new disk.new budget.new out.new result }
+        ensures makes { TurnsMake D.size most self.old disk.old budget.old self.new disk.new budget.new result }
         ensures ends { Proceeds D.size D.sectors O.text most self.old disk.old budget.old out.old self.new disk.new budget.new out.new result }
         ensures any { ProceedsAnyhow D.size D.sectors O.text most self.old disk.old budget.old out.old self.new disk.new budget.new out.new result }
-        ensures calls { IsCalled self.old self.new (tally D.faults D.calls disk.old) (tally D.faults D.calls disk.new) }
         ensures script { TurnsCall O.Sink D.Sectors self.old budget.old (out.old, disk.old) (out.new, disk.new) (budget.old - budget.new) result }
         ensures untold { TurnsUntold O.Sink D.Sectors self.old (out.old, disk.old) (out.new, disk.new) (budget.old - budget.new) result }
         ensures untraced { self.old.tracer ≡ None → self.new.tracer ≡ None }
@@ -318,8 +355,7 @@ impl<L: Layer + Drop> Run<L> {
         out: &mut O,
     ) -> Result<(u32, Turn), RunFault>
         requires can { CanMake most self.old (D.size disk.old) budget.old }
-        ensures says { TurnsSay D.size D.sectors D.faults D.calls O.text O.faults most
-            self.old disk.old budget.old out.old self.new disk.new budget.new out.new result }
+        ensures says { TurnsSay D.size D.sectors O.text most self.old disk.old budget.old out.old self.new disk.new budget.new out.new result }
         ensures script { TurnsCall O.Sink D.Sectors self.old budget.old (out.old, disk.old) (out.new, disk.new) (budget.old - budget.new) result }
         ensures untold { TurnsUntold O.Sink D.Sectors self.old (out.old, disk.old) (out.new, disk.new) (budget.old - budget.new) result }
         ensures untraced { self.old.tracer ≡ None → self.new.tracer ≡ None }
@@ -352,8 +388,7 @@ impl<L: Layer + Drop> Run<L> {
         out: &mut O,
     ) -> Result<Turn, RunFault>
         requires can { CanMake 1 self.old (D.size disk.old) budget.old }
-        ensures says { TurnsSay D.size D.sectors D.faults D.calls O.text O.faults 1
-            self.old disk.old budget.old out.old self.new disk.new budget.new out.new (as_turns result) }
+        ensures says { TurnsSay D.size D.sectors O.text 1 self.old disk.old budget.old out.old self.new disk.new budget.new out.new (as_turns result) }
         ensures script { TurnsCall O.Sink D.Sectors self.old budget.old (out.old, disk.old) (out.new, disk.new) (budget.old - budget.new) result }
     {
         let (_, turn) = self.turns(1, budget, disk, out)?;
@@ -361,56 +396,43 @@ impl<L: Layer + Drop> Run<L> {
     }
 
     // Prints the end and the report of a run that halted, or goes on: of a trace its last steps, the end, and the rows of its user.
-    fn put_report<D: Sectors, O: Sink>(&mut self, disk: &mut D, out: &mut O) -> Result<(), RunFault>
-        requires disk { D.size disk.old ≡ self.old.count }
-        requires goes_on { has_faulted self.old.ended ≡ false }
-        ensures same { self.new ≡ record self.old { machine = self.new.machine } }
-        ensures view { OnlyViews self.old.machine self.new.machine D.sectors D.size disk.old disk.new }
-        ensures ends { Reports D.size D.sectors O.text self.old disk.old out.old (record self.new { fault = result_err result }) disk.new out.new result }
+    fn put_report<D: Sectors, O: Sink>(&self, disk: &mut D, out: &mut O) -> Result<(), RunFault>
+        requires disk { D.size disk.old ≡ self.now.count }
+        requires goes_on { has_faulted self.now.ended ≡ false }
         ensures limit { result ≢ Err RunFault.StepLimit }
-        ensures blame { Blames (result ≡ Err RunFault.Disk) (result ≡ Err RunFault.Sink) D.faults disk.old disk.new O.faults out.old out.new }
-        ensures asks { CallsDisk (result ≡ Err RunFault.Disk) (tally D.faults D.calls disk.old) (tally D.faults D.calls disk.new) }
-        ensures script { ReportCalls O.Sink D.Sectors self.old (out.old, disk.old) (out.new, disk.new) result }
+        ensures script { ReportCalls O.Sink D.Sectors self.now (out.old, disk.old) (out.new, disk.new) result }
     {
         machines_run();
         runs_stay_typed();
         traces_grow();
         journal_rows_follow();
         the_rows_tell();
-        the_user_rows_tell();
+        a_user_is_told();
         the_globals_tell();
         parts_are_in_order();
         memory_is_whole();
         let halted = self.ended.is_some();
         if let Some(tracer) = self.tracer {
-            match put_trace_closing(
-                &mut self.machine,
+            return as_run(put_trace_closing(
+                &self.machine,
                 &self.places.map,
                 tracer,
                 halted,
                 self.current,
                 disk,
                 out,
-            ) {
-                Ok(()) => return Ok(()),
-                Err(ReportFault::Disk) => return Err(RunFault::Disk),
-                Err(ReportFault::Sink) => return Err(RunFault::Sink),
-            }
+            ));
         }
         let decls = self.boot.unit.unit().globals.as_slice();
-        match put_closing(
-            &mut self.machine,
+        as_run(put_closing(
+            &self.machine,
             &self.places,
             decls,
             halted,
             self.current,
             disk,
             out,
-        ) {
-            Ok(()) => return Ok(()),
-            Err(ReportFault::Disk) => return Err(RunFault::Disk),
-            Err(ReportFault::Sink) => return Err(RunFault::Sink),
-        }
+        ))
     }
 
     /// Prints the end and the report of a run that halted, or goes on: of a trace the row of the last steps, the end, and the rows of the
@@ -419,13 +441,11 @@ impl<L: Layer + Drop> Run<L> {
     ///
     /// # Errors
     ///
-    /// `Disk` and `Sink`, only where the count of faults of that object rose. After a fault each call answers it again, and touches
-    /// nothing.
+    /// `Disk` and `Sink`, where a call of that object failed; what is printed then stands in the script. After a fault each call answers it
+    /// again, and touches nothing.
     pub fn report<D: Sectors, O: Sink>(&mut self, disk: &mut D, out: &mut O) -> Result<(), RunFault>
         requires disk { D.size disk.old ≡ self.old.count }
-        ensures rest { ReportLeaves D.size D.sectors D.faults O.text O.faults self.old disk.old out.old self.new disk.new out.new result }
-        ensures ends { self.old.fault ≡ None → Reports D.size D.sectors O.text self.old disk.old out.old self.new disk.new out.new result }
-        ensures asks { self.old.fault ≡ None → CallsDisk (result ≡ Err RunFault.Disk) (tally D.faults D.calls disk.old) (tally D.faults D.calls disk.new) }
+        ensures rest { ReportLeaves D.size D.sectors self.old disk.old out.old self.new disk.new out.new result }
         ensures script { ReportCalls O.Sink D.Sectors self.old (out.old, disk.old) (out.new, disk.new) result }
     {
         if let Some(fault) = self.fault {
@@ -461,33 +481,25 @@ impl<L: Layer + Drop> Run<L> {
     /// # Errors
     ///
     /// Want of memory.
-    pub fn resumed(
-        alloc: Global,
-        layer: L,
-        boot: Boot,
-        schedule: Schedule,
-        count: u32,
-        from: &[u32],
-    ) -> Result<Run<L>, AllocError>
-        requires follows { BootFollows (L.image layer) (L.sizes layer) (L.map layer) boot }
-        requires words { AreSaved (memory_words (map_of (boot_of boot))) schedule.inputs from.now }
+    pub fn resumed(setup: Setup<L>, count: u32, from: &[u32]) -> Result<Run<L>, AllocError>
+        requires follows { BootFollows (L.image setup.layer) (L.sizes setup.layer) (L.map setup.layer) setup.boot }
+        requires words { AreSaved (memory_words (map_of (boot_of setup.boot))) setup.schedule.inputs from.now }
         requires some { 1 ≤ slice_index from.now 5 }
-        requires room { pages_needed boot ≤ count }
-        ensures taken_up { IfOk result (IsTakenUp layer boot schedule count from.now) }
-        ensures memory { IfOk result (λ r. length r.machine.hardware.memory ≡ memory_words (map_of (boot_of boot))) }
-        ensures boots { AreBoots boot schedule count }
+        requires room { pages_needed setup.boot ≤ count }
+        ensures taken_up { IfOk result (IsTakenUp setup.layer setup.boot setup.schedule count from.now) }
+        ensures memory { IfOk result (λ r. length r.machine.hardware.memory ≡ memory_words (map_of (boot_of setup.boot))) }
+        ensures boots { AreBoots setup.boot setup.schedule count }
     {
-        boots_hold(&layer, &boot, &schedule, count);
-        let places = places_of(alloc, &boot)?;
-        let machine = resumed_machine(alloc, &places.map, schedule, from)?;
-        let turns = u64::from(from[5]);
+        systems_can_boot(&setup.layer, &setup.boot, &setup.schedule);
+        let places = places_of(setup.alloc, &setup.boot, setup.layer.memory_map())?;
+        let machine = resumed_machine(setup.alloc, &places.map, setup.schedule, from)?;
         Ok(Run {
-            layer,
-            boot,
+            layer: setup.layer,
+            boot: setup.boot,
             tracer: None,
             count,
             machine,
-            turns,
+            turns: u64::from(from[5]),
             current: from[6],
             ended: None,
             fault: None,

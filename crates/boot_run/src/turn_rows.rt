@@ -1,18 +1,19 @@
 // What a call of `turn` prints beside the rows of a journal: the first row of a trace, a dispatch's row, and the kernel's fault.
 ghost use Rattle.std.specs.Prelude.{◌≡◌, ◌∷◌, ◌++◌, [], true, OnErr};
+ghost use Rattle.cvm_outside.specs.Script.{Prints};
 ghost use Rattle.cvm_model.specs.Primitives.{pages_of};
 ghost use Rattle.cvm_model.specs.Text.{rows_text, start_row as start_text, steps_row as steps_text};
 ghost use Rattle.cvm_model.specs.declared.row.Row.{Row as OneRow};
 ghost use Rattle.boot_run.specs.Shown.{has_faulted};
 ghost use Rattle.boot_run.specs.TurnCalls.{rows_of};
 ghost use Rattle.boot_run.specs.TurnParts.{first_machine, fault_rows, HasUser};
-ghost use Rattle.boot_report.specs.Leaves.{PutsRows};
 ghost use Rattle.boot_report.specs.Texts.{fault_row};
 
 use boot_report::journal_text::{start_row, steps_row};
 use boot_report::row_text::{fault_row, row_text};
 use boot_turns::Turn;
 use cvm_model::{KernelFault, Next};
+use cvm_outside::single_calls::put;
 use cvm_outside::{Sink, SinkFault};
 use layer_contract::Boot;
 
@@ -32,10 +33,10 @@ fn first_pages(boot: &Boot, user: u32) -> u32
 // A fault of the sink.
 pub(crate) fn put_start<O: Sink>(boot: &Boot, user: u32, out: &mut O) -> Result<(), SinkFault>
     requires { HasUser boot.now user }
-    ensures { PutsRows O.text O.faults out.old out.new (start_text user (first_machine boot.now user)) result }
+    ensures { Prints O.Sink out.old out.new (start_text user (first_machine boot.now user)) result }
 {
     let pages = first_pages(boot, user);
-    out.put(start_row(user, pages).as_str().as_bytes())
+    put(start_row(user, pages).as_str().as_bytes(), out)
 }
 
 // Prints the row of a dispatch.
@@ -44,11 +45,11 @@ pub(crate) fn put_start<O: Sink>(boot: &Boot, user: u32, out: &mut O) -> Result<
 //
 // A fault of the sink.
 pub(crate) fn put_row<O: Sink>(answer: Turn, out: &mut O) -> Result<(), SinkFault>
-    ensures put { PutsRows O.text O.faults out.old out.new (rows_text (rows_of answer)) result }
+    ensures put { Prints O.Sink out.old out.new (rows_text (rows_of answer)) result }
     ensures dispatch { OnErr result ((row : OneRow) × (rows_of answer ≡ row ∷ [])) }
 {
     match answer {
-        Turn::Dispatch(row) => out.put(row_text(&row).as_str().as_bytes()),
+        Turn::Dispatch(row) => put(row_text(&row).as_str().as_bytes(), out),
         Turn::Step(_) | Turn::Over => Ok(()),
     }
 }
@@ -59,10 +60,10 @@ pub(crate) fn put_row<O: Sink>(answer: Turn, out: &mut O) -> Result<(), SinkFaul
 //
 // A fault of the sink.
 fn put_both<O: Sink>(steps: u64, fault: KernelFault, out: &mut O) -> Result<(), SinkFault>
-    ensures { PutsRows O.text O.faults out.old out.new (steps_text steps ++ fault_row fault) result }
+    ensures { Prints O.Sink out.old out.new (steps_text steps ++ fault_row fault) result }
 {
-    out.put(steps_row(steps).as_str().as_bytes())?;
-    out.put(fault_row(fault).as_str().as_bytes())
+    put(steps_row(steps).as_str().as_bytes(), out)?;
+    put(fault_row(fault).as_str().as_bytes(), out)
 }
 
 // Prints the last rows of a trace whose kernel faulted, after so many steps that have no row yet. Of any other run it prints nothing.
@@ -75,7 +76,7 @@ pub(crate) fn put_fault<O: Sink>(
     ended: Option<Next>,
     out: &mut O,
 ) -> Result<(), SinkFault>
-    ensures put { PutsRows O.text O.faults out.old out.new (fault_rows steps ended) result }
+    ensures put { Prints O.Sink out.old out.new (fault_rows steps ended) result }
     ensures faulted { OnErr result (has_faulted ended ≡ true) }
 {
     match ended {

@@ -1,6 +1,6 @@
 -- The loop to the end of a turn, in a run from a start.
 -- It serves `loops_advance` alone.
-use Rattle.std.proofs.Common.{◌≡◌, ⊎_elim, None, ℕ, zero, suc, ◌+◌, ◌-◌, ◌<◌, ◌≤◌, Bool, true, false, Option, Some, Result, Ok, Err, refl, sym, ap, ◌∙◌, subst, subst₂, arith, eq-eqb, slice_index}
+use Rattle.std.proofs.Common.{◌≡◌, ⊎_elim, None, ℕ, zero, suc, ◌+◌, ◌-◌, ◌<◌, ◌≤◌, true, false, Option, Some, Result, Ok, Err, refl, sym, ap, ◌∙◌, subst, subst₂, arith, eq-eqb, slice_index}
 use Rattle.std.specs.Prelude.{◌==◌, not, bit_or}
 use Rattle.std.proofs.lemmas.Bool.{cases_lt}
 use Rattle.mips_table.specs.Device.{Environment}
@@ -39,14 +39,14 @@ goes : (x : Environment) (y : System) (s : State) (late held : ℕ) → RunMachi
     Progress x s t u b → StillGoes x y s k t u
 goes x y s late held m k t u c b le st r p = let w = m.unfound k t u c b le st r p in record { between = w.0; on = w.1 }
 
-stopped : (x : Environment) (y : System) (s : State) (late held : ℕ) → RunMachines x y s late held → (k t : ℕ) (c : Cvm) → Stood x y s k t c → c.status ≡ Running → (traced : Bool) (now : Option State) (budget left : ℕ) (f : RunFault) →
-    CompleteErr x traced now budget left s t f → Stops x y s traced k t now budget left f
-stopped x y s late held m k t c st r traced now budget left StepLimit (u, le, spent, is, none, on, p) =
+stopped : (x : Environment) (y : System) (s : State) (late held : ℕ) → RunMachines x y s late held → (k t : ℕ) (c : Cvm) → Stood x y s k t c → c.status ≡ Running → (now : Option State) (budget left : ℕ) (f : RunFault) →
+    CompleteErr x now budget left s t f → Stops x y s k t now budget left f
+stopped x y s late held m k t c st r now budget left StepLimit (u, le, spent, is, none, on, p) =
     let g = goes x y s late held m k t u c p.0 le st r p.1 in
     let at : u ≡ t + budget = omega (arith, spent, none) in
     record { spent = none; state = subst (λ i. now ≡ Some (run x s i)) at is; goes = subst (StillGoes x y s k t) at g }
-stopped x y s late held m k t c st r traced now budget left Disk d = record { at = d.0; from = d.1; spent = d.2; goes = goes x y s late held m k t d.0 c d.3.0 d.1 st r d.3.1; torn = d.4 }
-stopped x y s late held m k t c st r traced now budget left Sink d = record { at = d.0; from = d.1; spent = d.2; goes = goes x y s late held m k t d.0 c d.3.0 d.1 st r d.3.1; state = d.4 }
+stopped x y s late held m k t c st r now budget left Disk d = record { at = d.0; from = d.1; spent = d.2; goes = goes x y s late held m k t d.0 c d.3.0 d.1 st r d.3.1 }
+stopped x y s late held m k t c st r now budget left Sink d = record { at = d.0; from = d.1; spent = d.2; goes = goes x y s late held m k t d.0 c d.3.0 d.1 st r d.3.1 }
 
 -- THE TURNS THAT ARE PASSED
 -- where k turns are complete at t, and the run goes on, the machine is on
@@ -142,16 +142,16 @@ skipped x y s late held m k t c st r zero skips =
     }
 skipped x y s late held m k t c st r (suc n) skips = one_more x y s late held m k t c n (skipped x y s late held m k t c st r n (λ j l. skips j (omega (arith, l)))) skips
 
-by_result : (x : Environment) (y : System) (s : State) (late held : ℕ) → RunMachines x y s late held → (k t : ℕ) (c : Cvm) → Stood x y s k t c → c.status ≡ Running → (traced : Bool) (now : Option State) (budget left most : ℕ) (result : Result (ℕ × Begun) RunFault) →
-    CompleteEnds x traced now budget left s t most result → AdvanceEnds x y s traced k t c now budget left most result
-by_result x y s late held m k t c st r traced now budget left most (Ok b) (n, few, small, skips, d) =
+by_result : (x : Environment) (y : System) (s : State) (late held : ℕ) → RunMachines x y s late held → (k t : ℕ) (c : Cvm) → Stood x y s k t c → c.status ≡ Running → (now : Option State) (budget left most : ℕ) (result : Result (ℕ × Begun) RunFault) →
+    CompleteEnds x now budget left s t most result → AdvanceEnds x y s k t c now budget left most result
+by_result x y s late held m k t c st r now budget left most (Ok b) (n, few, small, skips, d) =
     let w = skipped x y s late held m k t c st r n skips in
     (n, few, small, w, (d.0, went x y s late held m (k + n) (t + n) w.after w.stood w.running now (budget - n) left b.1 d.1))
-by_result x y s late held m k t c st r traced now budget left most (Err f) (n, few, small, skips, d) =
+by_result x y s late held m k t c st r now budget left most (Err f) (n, few, small, skips, d) =
     let w = skipped x y s late held m k t c st r n skips in
-    (n, few, small, w, stopped x y s late held m (k + n) (t + n) w.after w.stood w.running traced now (budget - n) left f d)
+    (n, few, small, w, stopped x y s late held m (k + n) (t + n) w.after w.stood w.running now (budget - n) left f d)
 
-pub advances : (Typed : C0State → Type 0) → MachinesRun Typed → (x : Environment) (traced : Bool) (before now : Option State) (budget left most : ℕ) (result : Result (ℕ × Begun) RunFault) →
-    ((s : State) (t : ℕ) → before ≡ Some (run x s t) → CompleteEnds x traced now budget left s t most result) → AdvancesTyped Typed x traced before now budget left most result
-advances Typed m x traced before now budget left most result ends = λ y s late held from k t c st r is.
-    by_result x y s late held (m x y s late held from) k t c st r traced now budget left most result (ends s t is)
+pub advances : (Typed : C0State → Type 0) → MachinesRun Typed → (x : Environment) (before now : Option State) (budget left most : ℕ) (result : Result (ℕ × Begun) RunFault) →
+    ((s : State) (t : ℕ) → before ≡ Some (run x s t) → CompleteEnds x now budget left s t most result) → AdvancesTyped Typed x before now budget left most result
+advances Typed m x before now budget left most result ends = λ y s late held from k t c st r is.
+    by_result x y s late held (m x y s late held from) k t c st r now budget left most result (ends s t is)

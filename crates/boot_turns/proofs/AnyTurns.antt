@@ -219,32 +219,32 @@ any_ok x s k t c on now budget left b (u, how, is, spent) = (
   spent,
 )
 
-any_err : (x : Environment) (s : State) (k t : ℕ) → ComesTo x s k t → (run x s t).off ≡ None → (traced : Bool) (now : Option State) (budget left : ℕ) (f : RunFault) → CompleteErr x traced now budget left s t f → BrokeOff x s traced (suc k) t now budget left f
-any_err x s k t c on traced now budget left StepLimit (u, le, spent, is, none, here, p) =
+any_err : (x : Environment) (s : State) (k t : ℕ) → ComesTo x s k t → (run x s t).off ≡ None → (now : Option State) (budget left : ℕ) (f : RunFault) → CompleteErr x now budget left s t f → BrokeOff x s (suc k) t now budget left f
+any_err x s k t c on now budget left StepLimit (u, le, spent, is, none, here, p) =
     let at : u ≡ t + budget = omega (arith, spent, none) in
     (none, subst (λ i. NoSooner x s (suc k) (suc i)) at (not_yet x s k t c on u p.0 p.1 here), subst (λ i. now ≡ Some (run x s i)) at is)
-any_err x s k t c on traced now budget left Disk (u, le, spent, p, leaves, here) = let sum : left + suc u ≡ budget + t = omega (arith, spent) in (u, le, not_yet x s k t c on u p.0 p.1 here, leaves, sum)
-any_err x s k t c on traced now budget left Sink (u, le, spent, p, is, here) = let sum : left + suc u ≡ budget + t = omega (arith, spent) in (suc u, omega (arith, le), not_yet x s k t c on u p.0 p.1 here, is, sum)
+any_err x s k t c on now budget left Disk (u, le, spent, p, here) = let sum : left + suc u ≡ budget + t = omega (arith, spent) in (suc u, omega (arith, le), not_yet x s k t c on u p.0 p.1 here, sum)
+any_err x s k t c on now budget left Sink (u, le, spent, p, here) = let sum : left + suc u ≡ budget + t = omega (arith, spent) in (suc u, omega (arith, le), not_yet x s k t c on u p.0 p.1 here, sum)
 
 -- behind turns that were passed, of so many at most
-broke_later : (x : Environment) (s : State) (traced : Bool) (k m t n : ℕ) (now : Option State) (budget left : ℕ) → k ≤ m → n ≤ budget → (f : RunFault) → BrokeOff x s traced k (t + n) now (budget - n) left f → BrokeOff x s traced m t now budget left f
-broke_later x s traced k m t n now budget left le few StepLimit (none, sooner, is) =
+broke_later : (x : Environment) (s : State) (k m t n : ℕ) (now : Option State) (budget left : ℕ) → k ≤ m → n ≤ budget → (f : RunFault) → BrokeOff x s k (t + n) now (budget - n) left f → BrokeOff x s m t now budget left f
+broke_later x s k m t n now budget left le few StepLimit (none, sooner, is) =
     let at : t + n + (budget - n) ≡ t + budget = omega (arith, few) in
     (none, subst (λ i. NoSooner x s m (suc i)) at (sooner_than x s k m (suc (t + n + (budget - n))) (suc (t + n + (budget - n))) le (omega arith) sooner), subst (λ i. now ≡ Some (run x s i)) at is)
-broke_later x s traced k m t n now budget left le few Disk (at, from, sooner, leaves, spent) = (at, omega (arith, from), sooner_than x s k m (suc at) (suc at) le (omega arith) sooner, leaves, omega (arith, spent, few))
-broke_later x s traced k m t n now budget left le few Sink (at, from, sooner, is, spent) = (at, omega (arith, from), sooner_than x s k m at at le (omega arith) sooner, is, omega (arith, spent, few))
+broke_later x s k m t n now budget left le few Disk (at, from, sooner, spent) = (at, omega (arith, from), sooner_than x s k m at at le (omega arith) sooner, omega (arith, spent, few))
+broke_later x s k m t n now budget left le few Sink (at, from, sooner, spent) = (at, omega (arith, from), sooner_than x s k m at at le (omega arith) sooner, omega (arith, spent, few))
 
-by_result : (x : Environment) (s : State) (k t : ℕ) → ComesTo x s k t → (run x s t).off ≡ None → (traced : Bool) (now : Option State) (budget left most : ℕ) (result : Result (ℕ × Begun) RunFault) → CompleteEnds x traced now budget left s t most result →
-    MatchResult result (λ r. Came x s (k + suc r.0) t now budget left) (BrokeOff x s traced (k + most) t now budget left)
-by_result x s k t c on traced now budget left most (Ok r) (n, less, few, skips, (is, e)) =
+by_result : (x : Environment) (s : State) (k t : ℕ) → ComesTo x s k t → (run x s t).off ≡ None → (now : Option State) (budget left most : ℕ) (result : Result (ℕ × Begun) RunFault) → CompleteEnds x now budget left s t most result →
+    MatchResult result (λ r. Came x s (k + suc r.0) t now budget left) (BrokeOff x s (k + most) t now budget left)
+by_result x s k t c on now budget left most (Ok r) (n, less, few, skips, (is, e)) =
     let w = any_ok x s (k + n) (t + n) (after_skips x s k t n c on skips) (skips_on x s t n on skips) now (budget - n) left r.1 e in
     let all : suc (k + n) ≡ k + suc r.0 = omega (arith, is) in
     let spent = w.3 in
     (w.0, subst (λ i. ComesTo x s i w.0) all w.1, w.2, omega (arith, spent, few))
-by_result x s k t c on traced now budget left most (Err f) (n, less, few, skips, e) =
-    broke_later x s traced (suc (k + n)) (k + most) t n now budget left (omega (arith, less)) few f
-    (any_err x s (k + n) (t + n) (after_skips x s k t n c on skips) (skips_on x s t n on skips) traced now (budget - n) left f e)
+by_result x s k t c on now budget left most (Err f) (n, less, few, skips, e) =
+    broke_later x s (suc (k + n)) (k + most) t n now budget left (omega (arith, less)) few f
+    (any_err x s (k + n) (t + n) (after_skips x s k t n c on skips) (skips_on x s t n on skips) now (budget - n) left f e)
 
 pub loops_make_turns : LoopsMakeTurns
-loops_make_turns count traced old new told retold budget left most result ends = λ s k t c on is.
-    by_result (outside_of old.rows count) s k t c on traced (state_seen retold new) budget left most result (ends s t is)
+loops_make_turns count old new told retold budget left most result ends = λ s k t c on is.
+    by_result (outside_of old.rows count) s k t c on (state_seen retold new) budget left most result (ends s t is)

@@ -1,28 +1,23 @@
 -- The rows of words that are put one after another.
-use Rattle.std.proofs.Common.{◌≡◌, ◌≢◌, ℕ, zero, suc, ◌+◌, ◌-◌, ◌*◌, ◌/◌, ◌<◌, ◌≤◌, false, Option, List, [], ◌∷◌, ◌++◌, length, take, drop, refl, sym, ap, ap₂, ◌∙◌, subst, arith, append-nil, ne_eqb}
-use Rattle.std.specs.Prelude.{◌==◌}
+use Rattle.std.proofs.Common.{◌≡◌, ℕ, zero, suc, ◌+◌, ◌-◌, ◌*◌, ◌/◌, ◌<◌, ◌≤◌, false, Option, List, [], ◌∷◌, ◌++◌, length, take, drop, refl, sym, ap, ap₂, ◌∙◌, arith, append-nil, ne_eqb}
+use Rattle.std.specs.Prelude.{◌==◌, if◌then◌else◌, Bool, true}
 use Rattle.std.specs.Io.KnownBytes.{append_known}
-use Rattle.std.proofs.lemmas.List.{append_assoc, get_or-drop, length-drop, take_more}
+use Rattle.std.proofs.lemmas.List.{get_or-drop, length-drop, take_more}
 use Rattle.std.proofs.lemmas.Bool.{cond-false}
-use Rattle.cvm_outside.specs.Told.{AppendsPart}
-use Rattle.cvm_outside.proofs.Parts.{append_known-nil, puts-both, part-front, part-back}
+use Rattle.cvm_outside.proofs.Parts.{append_known-nil, puts-both}
 use Rattle.mips_table.specs.Machine.{State}
 use Rattle.layer_map.specs.Map.{Map}
 use Rattle.page_model.specs.Paging.{Paged}
 use Rattle.cvm_model.specs.Kernel.{Put}
 use Rattle.cvm_model.specs.Primitives.{puts}
 use Rattle.cvm_model.specs.Text.{steps_row, entry_row, journal_rows_after}
-use Rattle.mips_machine.specs.Machine.{Held, state_of}
 use Rattle.cvm_model.specs.Paged.{paged_of}
-use Rattle.boot_report.specs.Texts.{EntriesFit, SameButViewed}
 use Rattle.boot_report.specs.Told.{user_word, WordsAreTold}
-use Rattle.boot_report.specs.Resident.{word_calls}
 use Rattle.boot_turns.specs.declared.tracer.Tracer.{Tracer}
 use Rattle.boot_turns.specs.JournalText.{steps_after}
+use Rattle.boot_turns.specs.Steps.{KeepsTracer}
 use Rattle.boot_turns.specs.Copies.{user_words, copy_rows, copied_kept, steps_left}
-use Rattle.boot_turns.specs.Returns.{words_read}
-use Rattle.boot_turns.proofs.JournalRows.{more, nil_back, put_some}
-use Rattle.boot_turns.proofs.Reading.{next_read}
+use Rattle.boot_turns.proofs.JournalRows.{more}
 
 -- one word more is put
 puts_one : (address : ℕ) (ws : List ℕ) (w : ℕ) → puts address (ws ++ w ∷ []) ≡ puts address ws ++ Put (address + 4 * length ws) w ∷ []
@@ -76,26 +71,6 @@ module _ (m : Map) (a : Paged) (u steps address : ℕ) where
       ∙ ap (λ s. copy_rows m a u steps address n ++ journal_rows_after false s (Put (address + 4 * n) (user_word m a u (address / 4 + n)) ∷ [])) (left_is n)
       ∙ ap (λ r. copy_rows m a u steps address n ++ r) (append-nil _)
 
-  -- there are some, where there is a word
-  pub copies_some : (n : ℕ) → 1 ≤ n → copy_rows m a u steps address n ≢ []
-  copies_some zero le e = absurd (omega (arith, le))
-  copies_some (suc n) le e =
-      put_some (address + 4 * n) (user_word m a u (address / 4 + n))
-      (nil_back (steps_row (steps_left steps n)) (entry_row (Put (address + 4 * n) (user_word m a u (address / 4 + n))))
-      (nil_back (copy_rows m a u steps address n) (steps_row (steps_left steps n) ++ entry_row (Put (address + 4 * n) (user_word m a u (address / 4 + n)))) (sym (rows_next n) ∙ e)))
-
-  -- the rows of some are the first of those of more
-  pub rows_grow : (i d : ℕ) → (rest : List ℕ) × (copy_rows m a u steps address (i + d) ≡ copy_rows m a u steps address i ++ rest)
-  rows_grow i zero = let e : i + 0 ≡ i = omega arith in ([], ap (copy_rows m a u steps address) e ∙ sym (append-nil _))
-  rows_grow i (suc d) =
-      let r = rows_grow i d in
-      let e : i + suc d ≡ suc (i + d) = omega arith in
-      let next : List ℕ = steps_row (steps_left steps (i + d)) ++ entry_row (Put (address + 4 * (i + d)) (user_word m a u (address / 4 + (i + d)))) in (
-        r.0 ++ (steps_row (steps_left steps (i + d)) ++ entry_row (Put (address + 4 * (i + d)) (user_word m a u (address / 4 + (i + d))))),
-        ap (copy_rows m a u steps address) e ∙ rows_next (i + d) ∙ ap (λ l. l ++ (steps_row (steps_left steps (i + d)) ++ entry_row (Put (address + 4 * (i + d)) (user_word m a u (address / 4 + (i + d)))))) r.1
-            ∙ append_assoc (copy_rows m a u steps address i) r.0 _,
-      )
-
   module _ (old mid new : Option (List ℕ)) (i : ℕ) (row : List ℕ) (left : ℕ) (before : mid ≡ append_known old (copy_rows m a u steps address i))
       (row_is : row ≡ entry_row (Put (address + 4 * i) (user_word m a u (address / 4 + i)))) (left_now : left ≡ steps_left steps i) where
     both : steps_row left ++ row ≡ steps_row (steps_left steps i) ++ entry_row (Put (address + 4 * i) (user_word m a u (address / 4 + i)))
@@ -108,57 +83,37 @@ module _ (m : Map) (a : Paged) (u steps address : ℕ) where
         puts-both old mid new (copy_rows m a u steps address i) (steps_row (steps_left steps i) ++ entry_row (Put (address + 4 * i) (user_word m a u (address / 4 + i)))) before (is ∙ ap (append_known mid) both)
         ∙ ap (append_known old) (sym (rows_next i) ∙ ap (copy_rows m a u steps address) e)
 
-    -- or a part of it
-    pub part_put : (n : ℕ) → i < n → AppendsPart mid new (steps_row left ++ row) → AppendsPart old new (copy_rows m a u steps address n)
-    part_put n lt p =
-        let e : suc i + (n - suc i) ≡ n = omega (arith, lt) in
-        let g = rows_grow (suc i) (n - suc i) in
-        subst (AppendsPart old new) (sym g.1 ∙ ap (copy_rows m a u steps address) e)
-        (part-front old new (copy_rows m a u steps address (suc i)) g.0
-        (subst (AppendsPart old new) (sym (rows_next i))
-        (part-back old mid new (copy_rows m a u steps address i) (steps_row (steps_left steps i) ++ entry_row (Put (address + 4 * i) (user_word m a u (address / 4 + i)))) before
-        (subst (AppendsPart mid new) both p))))
-
-  -- nothing more is put
-  pub stop_put : (old mid : Option (List ℕ)) (i n : ℕ) → i ≤ n → mid ≡ append_known old (copy_rows m a u steps address i) → AppendsPart old mid (copy_rows m a u steps address n)
-  stop_put old mid i n le before =
-      let e : i + (n - i) ≡ n = omega (arith, le) in
-      let g = rows_grow i (n - i) in
-      subst (AppendsPart old mid) (sym g.1 ∙ ap (copy_rows m a u steps address) e)
-      (part-front old mid (copy_rows m a u steps address i) g.0 (length (copy_rows m a u steps address i), before ∙ ap (append_known old) (sym (take_whole (copy_rows m a u steps address i)))))
-    where
-      take_whole : (xs : List ℕ) → take (length xs) xs ≡ xs
-      take_whole [] = refl
-      take_whole (x ∷ xs) = ap (λ l. x ∷ l) (take_whole xs)
-
   pub none_put : (old : Option (List ℕ)) → old ≡ append_known old (copy_rows m a u steps address 0)
   none_put old = sym (append_known-nil old)
 
 pub left_none : (steps i : ℕ) → steps_left steps (i + 1) ≡ 0
 left_none steps i = cond-false (i + 1 == 0) steps 0 (ne_eqb (i + 1) 0 (λ e. absurd (omega (arith, e))))
 
--- the tracer after one put more, for which the word was read
-pub put_tracer : (m : Map) (s : State) (address : ℕ) (old now mid new : Tracer) (i : ℕ) → now ≡ copied_kept m s old address i → mid ≡ record now { reads = now.reads + word_calls m s old.user (address / 4 + i) } → new ≡ record mid { steps = 0 } →
-    new ≡ copied_kept m s old address (i + 1)
-put_tracer m s address old now mid new i before counts is =
-    is ∙ ap (λ (t : Tracer). record t { steps = 0 }) counts ∙ ap (λ (t : Tracer). record t { steps = 0; reads = t.reads + word_calls m s old.user (address / 4 + i) }) before
-    ∙ ap₂ (λ (n r : ℕ). record old { steps = n; reads = r }) (sym (left_none old.steps i)) (sum ∙ ap (λ r. old.reads + r) (sym (next_read m s old.user (address / 4) i)))
+-- the tracer after one put more
+pub put_tracer : (old now new : Tracer) (i : ℕ) → now ≡ copied_kept old i → new ≡ record now { steps = 0 } → new ≡ copied_kept old (i + 1)
+put_tracer old now new i before is = is ∙ ap (λ (t : Tracer). record t { steps = 0 }) before ∙ ap (λ n. record old { steps = n }) (sym (left_none old.steps i))
+
+-- puts leave no more steps with no row
+few_left : (steps n : ℕ) → steps_left steps n ≤ steps
+few_left steps n = by (n == 0)
   where
-    sum : old.reads + words_read m s old.user (address / 4) i + word_calls m s old.user (address / 4 + i) ≡ old.reads + (words_read m s old.user (address / 4) i + word_calls m s old.user (address / 4 + i))
-    sum = omega arith
+    by : (b : Bool) → (if b then steps else 0) ≤ steps
+    by true = omega arith
+    by false = omega arith
 
--- what is viewed is not part of the state
-pub state_same : (old new : Held) (ss : List (List ℕ)) → SameButViewed old new → state_of new ss ≡ state_of old ss
-state_same old new ss e = ap (λ h. state_of h ss) e
+-- so of a trace its user is kept, and no more steps, by so many puts and by what comes behind them
+pub keeps_puts : (kept new : Tracer) (n : ℕ) → new ≡ copied_kept kept n → KeepsTracer kept new
+keeps_puts kept new n is =
+    let left : new.steps ≡ steps_left kept.steps n = ap (λ (t : Tracer). t.steps) is in
+    let few = few_left kept.steps n in
+    record { user = ap (λ (t : Tracer). t.user) is; few = omega (arith, left, few) }
 
-pub fits_then : (m : Map) (old new : Held) (ss : List (List ℕ)) → SameButViewed old new → EntriesFit m (state_of old ss) → EntriesFit m (state_of new ss)
-fits_then m old new ss e f = subst (EntriesFit m) (sym (state_same old new ss e)) f
+pub keeps_more : (kept mid new : Tracer) → KeepsTracer kept mid → KeepsTracer mid new → KeepsTracer kept new
+keeps_more kept mid new a b = record { user = b.user ∙ a.user; few = let p = a.few in let q = b.few in omega (arith, p, q) }
 
 -- the row of the word that was read
-pub row_read : (m : Map) (old now : Held) (ss : List (List ℕ)) (u v k address word : ℕ) (row : List ℕ) → SameButViewed old now → v ≡ u → word ≡ user_word m (paged_of m (state_of now ss)) v k → row ≡ entry_row (Put address word) →
-    row ≡ entry_row (Put address (user_word m (paged_of m (state_of old ss)) u k))
-row_read m old now ss u v k address word row same e is r =
-    r ∙ ap (λ w. entry_row (Put address w)) (is ∙ ap (λ v. user_word m (paged_of m (state_of now ss)) v k) e ∙ ap (λ s. user_word m (paged_of m s) u k) (state_same old now ss same))
+pub row_read : (m : Map) (s : State) (u v k address word : ℕ) (row : List ℕ) → v ≡ u → word ≡ user_word m (paged_of m s) v k → row ≡ entry_row (Put address word) → row ≡ entry_row (Put address (user_word m (paged_of m s) u k))
+row_read m s u v k address word row e is r = r ∙ ap (λ w. entry_row (Put address w)) (is ∙ ap (λ v. user_word m (paged_of m s) v k) e)
 
 -- where a user's words are told, n of them from word k on are those of its pages
 pub copies_tell : (m : Map) (s : State) (u k n : ℕ) (words : List ℕ) → WordsAreTold m s u words → k + n ≤ length words →

@@ -1,6 +1,6 @@
 -- An untrapped step that keeps user mode is counted where a trace is printed, and has no rows.
 -- It serves `step_traced` alone.
-use Rattle.std.proofs.Common.{◌≡◌, ℕ, zero, suc, ◌+◌, ◌&&◌, Bool, true, false, Option, Some, None, Ok, List, [], ◌∷◌, slice_index, refl, sym, ap, ap₂, ◌∙◌, subst, arith}
+use Rattle.std.proofs.Common.{◌≡◌, ℕ, zero, suc, ◌+◌, ◌&&◌, Bool, true, false, Option, Some, None, Ok, List, [], ◌∷◌, slice_index, refl, sym, ap, ap₂, ◌∙◌, subst}
 use Rattle.std.specs.Prelude.{◌==◌, not, if◌then◌else◌, nat_lt, IfSome}
 use Rattle.std.specs.Option.{option_map}
 use Rattle.std.specs.Io.KnownBytes.{append_known}
@@ -26,15 +26,10 @@ use Rattle.boot_turns.specs.Completes.{state_seen, note}
 use Rattle.boot_turns.specs.Entries.{turn_begins, TracesGrow}
 use Rattle.boot_turns.specs.Returns.{entry_note, noted_at, notes_on}
 use Rattle.boot_turns.specs.JournalText.{steps_after, RowsFollow}
-use Rattle.boot_turns.specs.Tracing.{counted_step, followed, kept_after, reads_of}
+use Rattle.boot_turns.specs.Tracing.{counted_step, followed, kept_after}
 use Rattle.boot_turns.specs.TraceSteps.{StepTraces}
 use Rattle.boot_turns.proofs.Entering.{is_at}
 use Rattle.boot_turns.proofs.Tracking.{step_goes, step_untraced}
-
--- and no word is read
-pub counted_reads : (current : ℕ) (o : Option Tracer) → reads_of (option_map (counted_step current) o) ≡ reads_of o
-counted_reads current None = refl
-counted_reads current (Some k) = refl
 
 -- in user mode no primitive is entered
 no_entry : (n : ℕ) (s : State) → slice_index s.special MODE ≡ 1 → noted_at n s ≡ None
@@ -60,18 +55,12 @@ one_more : (n : ℕ) (b : Bool) → steps_after n (if b then Untrapped ∷ [] el
 one_more n true = refl
 one_more n false = refl
 
-abbrev tracer_of : ℕ → ℕ → Option Entered → ℕ → Tracer
-tracer_of u n c r = record { user = u; steps = n; call = c; reads = r }
-
 module _ (s : State) (k : Tracer) (current : ℕ) (words : List ℕ) (user : slice_index s.special MODE ≡ 1) (free : k.call ≡ None) where
   pub counted_rows : journal_rows_after false k.steps (followed s k current true words) ≡ []
   counted_rows = ap (journal_rows_after false k.steps) (begins_as s k.user current user) ∙ no_rows k.steps (current == k.user)
 
-  pub counted_kept : (m : Map) → counted_step current k ≡ kept_after m s k current true words
-  counted_kept m =
-      let none : k.reads ≡ k.reads + 0 = omega arith in
-      ap₂ (λ (n : ℕ) (c : Option Entered). tracer_of k.user n c k.reads) (sym counted_steps) called
-      ∙ ap (tracer_of k.user (steps_after k.steps (followed s k current true words)) (notes_on s k.call)) none
+  pub counted_kept : counted_step current k ≡ kept_after s k current true words
+  counted_kept = ap₂ (λ (n : ℕ) (c : Option Entered). record k { steps = n; call = c }) (sym counted_steps) called
     where
       counted_steps : steps_after k.steps (followed s k current true words) ≡ (if current == k.user then k.steps + 1 else k.steps)
       counted_steps = ap (steps_after k.steps) (begins_as s k.user current user) ∙ one_more k.steps (current == k.user)
@@ -83,10 +72,10 @@ module _ (s : State) (k : Tracer) (current : ℕ) (words : List ℕ) (user : sli
 pub step_counted : (grow : (c : CUnit) → TracesGrow (IsTypedState c)) (f : RowsFollow) (tell : WordsTell) (x : Environment) (m : Map) (held : Held) (told : Option (List (List ℕ))) (before after : Option Tracer) (text : Option (List ℕ)) → held.hardware.off ≡ None →
     (mid : Held) (midtold : Option (List (List ℕ))) → state_seen midtold mid ≡ option_map (step x) (state_seen told held) → (current : ℕ) → IfSome before (λ _. current ≡ slice_index held.hardware.memory current_at) →
     IfSome (state_seen told held) (λ s. true ≡ begins_turn x s) → slice_index mid.hardware.special MODE ≡ 1 → IfSome before (λ k. k.call ≡ None) → after ≡ option_map (counted_step current) before → (stepped : Stepped) →
-    StepTraces x m held mid told midtold before after text text (Ok stepped)
-step_counted grow f tell x m held told None after text on mid midtold ran current is began user free counts stepped = step_untraced x m held mid told midtold after text text (Ok stepped)
+    StepTraces x m held told before after text text (Ok stepped)
+step_counted grow f tell x m held told None after text on mid midtold ran current is began user free counts stepped = step_untraced x m held told after text text (Ok stepped)
 step_counted grow f tell x m held told (Some k) after text on mid midtold ran current is began user free counts stepped =
-    subst (λ (t : Option Tracer). StepTraces x m held mid told midtold (Some k) t text text (Ok stepped)) (sym counts)
-    (step_goes grow f tell x m held told k text on mid mid midtold midtold refl ran current is true began stepped (Some k) (counted_step current k) text refl
+    subst (λ (t : Option Tracer). StepTraces x m held told (Some k) t text text (Ok stepped)) (sym counts)
+    (step_goes grow f tell x m held told k text on mid midtold ran current is true began stepped (Some k) (counted_step current k) text refl
     (λ ss words e t. sym (ap (append_known text) (counted_rows (state_of mid ss) k current words user free) ∙ append_known-nil text))
-    (λ ss words e t. counted_kept (state_of mid ss) k current words user free m))
+    (λ ss words e t. counted_kept (state_of mid ss) k current words user free))

@@ -1,22 +1,20 @@
 -- What a step was, and the special registers after it, say whether it began a turn.
-use Rattle.std.proofs.Common.{◌≡◌, ℕ, zero, suc, ◌+◌, ◌&&◌, ◌||◌, not, Bool, true, false, Option, Some, None, List, [], refl, sym, ap, ap₂, ◌∙◌, subst, slice_index, slice_set, ◌/◌}
+use Rattle.std.proofs.Common.{◌≡◌, ℕ, ◌+◌, ◌&&◌, ◌||◌, not, Bool, true, false, Option, Some, None, List, [], refl, sym, ap, ap₂, ◌∙◌, subst, slice_index, ◌/◌}
 use Rattle.std.specs.Prelude.{IfSome, is_some, nat_lt, ◌==◌}
 use Rattle.std.specs.Option.{option_map}
 use Rattle.std.proofs.lemmas.Bool.{cond_both}
 use Rattle.mips_table.specs.declared.cause.Cause.{Cause}
 use Rattle.mips_table.specs.declared.cause.Cause.TheVariants as causes
-use Rattle.mips_table.specs.Device.{Device, Environment, Pending, Idle, Reading, Writing}
+use Rattle.mips_table.specs.Device.{Environment}
 use Rattle.mips_table.specs.declared.special.TheConstants.{SR, MODE, PTL, ECA, EDATA}
 use Rattle.mips_table.specs.Machine.{State, cause_number, Coming, Interrupt, Done, coming, latched, come_to, step_ended, if_on, step}
 use Rattle.mips_table.specs.Turns.{in_user, is_handled, handled, begins_turn}
-use Rattle.sector_disk.specs.Ports.{Ports, ports_of, TransferFails}
 use Rattle.mips_machine.specs.declared.event.Event.{Event}
 use Rattle.mips_machine.specs.declared.event.Event.TheVariants.{Ran, Taken, Off, Power}
 use Rattle.mips_machine.specs.Hardware.{told_as, event_by}
 use Rattle.mips_machine.specs.Machine.{Held, state_of}
-use Rattle.mips_machine.specs.Steps.{outside_of, event_if, event_of, before_count, after_step, StepDone, StepFailed}
-use Rattle.boot_turns.specs.Completes.{state_seen, was_off, was_taken, begun_at, StepTorn, SeenTorn, PortsStepped, SeenPorts}
-use Rattle.boot_turns.specs.Torn.{TornBy, Torn}
+use Rattle.mips_machine.specs.Steps.{outside_of, event_if, event_of, after_step, StepDone, StepFailed}
+use Rattle.boot_turns.specs.Completes.{state_seen, was_off, was_taken, begun_at}
 use Rattle.boot_turns.proofs.Stepping.{on_time, instruction, Plain, instruction_plain}
 
 -- by the event as a whole
@@ -248,40 +246,6 @@ untaken_begins reset user pages edata (Taken c) hu ht hr = absurd (let g : true 
 untaken_begins reset user pages edata Ran hu ht hr = neither reset user hr hu
 untaken_begins reset user pages edata (Power word) hu ht hr = neither reset user hr hu
 
--- a transfer that fails leaves all sectors but the one that it names
-torn_by : (p : Pending) (buffer after : List ℕ) (ss : List (List ℕ)) (retold : Option (List (List ℕ))) → TransferFails p buffer after (Some ss) retold →
-    (now : List (List ℕ)) × (retold ≡ Some now) × TornBy p ss now
-torn_by Idle buffer after ss retold h = absurd h
-torn_by (Reading zero sector) buffer after ss retold h = (ss, h, refl)
-torn_by (Reading (suc left) sector) buffer after ss retold h = absurd h
-torn_by (Writing zero sector) buffer after ss retold h = let w = h.1 in (slice_set ss sector w.0, w.1, (w.0, refl))
-torn_by (Writing (suc left) sector) buffer after ss retold h = absurd h
-
-pub fails_torn : (count : ℕ) (old new : Held) (told retold : Option (List (List ℕ))) → StepFailed count old new told retold → StepTorn count old told retold
-fails_torn count old new told retold h = λ ss e.
-    let d : Device = before_count (outside_of old.rows count) (state_of old ss) in
-    torn_by d.pending d.buffer new.hardware.buffer ss retold (subst (λ (t : Option (List (List ℕ))). TransferFails d.pending d.buffer new.hardware.buffer t retold) e (h.disk ss))
-
-pub fails_ports : (count : ℕ) (old new : Held) (told retold : Option (List (List ℕ))) → StepFailed count old new told retold → PortsStepped count old new
-fails_ports count old new told retold h = λ ss. ap (λ (s : State). ports_of s.device) (h.state ss)
-
 pub told_as_some : (told : Option (List (List ℕ))) (held : Held) (v : State) → state_seen told held ≡ Some v → (ss : List (List ℕ)) × (told ≡ Some ss) × (state_of held ss ≡ v)
 told_as_some None held v h = absurd (let f : ◌≡◌ {A = Option State} None (Some v) = h in cc)
 told_as_some (Some ss) held v h = (ss, refl, cc)
-
-pub step_torn : (count : ℕ) (x : Environment) (old new : Held) (told retold : Option (List (List ℕ))) (v : State) → outside_of old.rows count ≡ x → state_seen told old ≡ Some v → StepTorn count old told retold → SeenTorn x v (state_seen retold new)
-step_torn count x old new told retold v same is h =
-    let s = told_as_some told old v is in
-    let w = h s.0 s.1 in (
-      w.0,
-      ap (option_map (λ (z : State). z.device.sectors)) (ap (λ (r : Option (List (List ℕ))). state_seen r new) w.1),
-      subst (λ (u : State). Torn x u w.0) s.2 (subst (λ (u : Environment). Torn u (state_of old s.0) w.0) same w.2),
-    )
-
-pub step_ports : (count : ℕ) (x : Environment) (old new : Held) (told retold : Option (List (List ℕ))) (v : State) → outside_of old.rows count ≡ x → state_seen told old ≡ Some v → StepTorn count old told retold → PortsStepped count old new → SeenPorts (step x v) (state_seen retold new)
-step_ports count x old new told retold v same is torn ports =
-    let s = told_as_some told old v is in
-    let w = torn s.0 s.1 in
-    ap (λ (r : Option (List (List ℕ))). option_map (λ (z : State). ports_of z.device) (state_seen r new)) w.1
-    ∙ ap (λ (p : Ports). Some p) (ports s.0)
-    ∙ ap₂ (λ (u : Environment) (z : State). Some (ports_of (step u z).device)) same s.2

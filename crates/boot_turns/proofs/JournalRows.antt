@@ -5,7 +5,7 @@ use Rattle.cvm_model.specs.Kernel.{JournalEntry, Stepped, Trapped, Set, Size, Pu
 use Rattle.cvm_model.specs.Text.{steps_row, entry_row, journal_rows_after}
 use Rattle.boot_turns.specs.JournalText.{steps_after, RowsFollow}
 
--- a list with an element is not empty, and nothing stands behind a list that is the same with it
+-- a list with an element is not empty
 cons_some : (x : ℕ) (xs : List ℕ) → x ∷ xs ≢ []
 cons_some x xs e = cc
 
@@ -16,10 +16,6 @@ nil_front (x ∷ a) b e = absurd (cons_some x (a ++ b) e)
 pub nil_back : (a b : List ℕ) → a ++ b ≡ [] → b ≡ []
 nil_back [] b e = e
 nil_back (x ∷ a) b e = absurd (cons_some x (a ++ b) e)
-
-pub nil_behind : (a b : List ℕ) → a ≡ a ++ b → b ≡ []
-nil_behind [] b e = sym e
-nil_behind (x ∷ a) b e = nil_behind a b (let f : x ∷ a ≡ x ∷ (a ++ b) = e in cc)
 
 -- an entry that is no step has its row after those of the steps
 more_after : (n : ℕ) (e j d : List ℕ) → (steps_row n ++ e ++ (j ++ d)) ≡ (steps_row n ++ e ++ j) ++ d

@@ -1,5 +1,5 @@
 -- One more step of the loop to the end of a turn.
-use Rattle.std.proofs.Common.{◌≡◌, ℕ, suc, ◌+◌, ◌<◌, ◌≤◌, inl, inr, ◌||◌, not, Bool, true, false, Option, Some, None, List, refl, sym, ap, ◌∙◌, subst, subst₂, ⊎_elim, arith}
+use Rattle.std.proofs.Common.{◌≡◌, ℕ, suc, ◌+◌, ◌<◌, ◌≤◌, ◌||◌, not, Bool, true, false, Option, Some, None, List, refl, sym, ap, ◌∙◌, subst, subst₂, ⊎_elim, arith}
 use Rattle.std.specs.Prelude.{IfSome, is_some, slice_index}
 use Rattle.std.specs.Option.{option_map}
 use Rattle.std.proofs.lemmas.Bool.{cases_lt}
@@ -9,11 +9,11 @@ use Rattle.mips_table.specs.Machine.{State, run, step}
 use Rattle.mips_table.specs.Turns.{begins_turn, rests, in_user}
 use Rattle.mips_machine.specs.Machine.{Held, state_of}
 use Rattle.mips_machine.specs.Steps.{outside_of}
-use Rattle.boot_turns.specs.Completes.{state_seen, note, shown, noted, is_at_rest, Open, Progress, Skips, PortsStepped, StepRan, StepTorn, StepFails, StepFaults, DiskLeaves, CompleteErr, PassesQuietly}
+use Rattle.boot_turns.specs.Completes.{state_seen, note, shown, noted, is_at_rest, Open, Progress, Skips, CompleteErr, PassesQuietly}
 use Rattle.boot_turns.specs.declared.completion.Begun.{Begun}
 use Rattle.boot_turns.specs.declared.answers.RunFault.{RunFault}
 use Rattle.boot_turns.specs.declared.answers.RunFault.TheVariants.{StepLimit, Disk, Sink}
-use Rattle.boot_turns.proofs.Events.{step_torn, step_ports, told_as_some}
+use Rattle.boot_turns.proofs.Events.{told_as_some}
 use Rattle.boot_turns.proofs.Stretches.{later}
 use Rattle.boot_turns.proofs.QuietStretches.{skips_stretch}
 use Rattle.mips_machine.specs.Quiet.{Stretch}
@@ -83,24 +83,12 @@ one_step x y s t u told retold old new b out began same le is p ran bg note_is =
     let there : state_seen retold new ≡ Some (run x s (suc u)) = seen_more x _ _ _ ran2 is in
     (there, subst (Opened x s t (suc u)) (sym note_is) (opened_more x s t u b began (shown new) le p bg2 (seen_note retold new _ there)))
 
--- what a fault of the disk leaves of the step at u
-fails_leave : (count : ℕ) (x : Environment) (s : State) (u : ℕ) (told retold : Option (List (List ℕ))) (old new : Held) → outside_of old.rows count ≡ x → state_seen told old ≡ Some (run x s u) →
-    (traced : Bool) → StepFails count old new told retold traced → DiskLeaves x s u traced (state_seen retold new)
-fails_leave count x s u told retold old new same is false h = (step_torn count x old new told retold (run x s u) same is h.0, step_ports count x old new told retold (run x s u) same is h.0 h.1)
-fails_leave count x s u told retold old new same is true h = ⊎_elim
-    (λ (h : StepTorn count old told retold × PortsStepped count old new). inl (step_torn count x old new told retold (run x s u) same is h.0, step_ports count x old new told retold (run x s u) same is h.0 h.1))
-    (λ (ran : StepRan count old new told retold). inr (seen_more x (state_seen told old) (state_seen retold new) (run x s u) (subst (λ (z : Environment). state_seen retold new ≡ option_map (step z) (state_seen told old)) same ran) is))
-    h
-
 -- the step at u failed, or its rows
-pub step_stops : (count : ℕ) (x : Environment) (s : State) (t u before after : ℕ) (told retold : Option (List (List ℕ))) (old new : Held) (traced : Bool) (b : Option Begun) (f : RunFault) → outside_of old.rows count ≡ x → t ≤ u → after + (u + 1) ≡ before + t →
-    state_seen told old ≡ Some (run x s u) → Progress x s t u b → (run x s u).off ≡ None → StepFaults count old new told retold traced f →
-    CompleteErr x traced (state_seen retold new) before after s t f
-step_stops count x s t u before after told retold old new traced b StepLimit same le spent is p on fault = absurd fault
-step_stops count x s t u before after told retold old new traced b Disk same le spent is p on fault = (u, le, spent, (b, p), fails_leave count x s u told retold old new same is traced fault, on)
-step_stops count x s t u before after told retold old new traced b Sink same le spent is p on fault =
-    let ran_x : state_seen retold new ≡ option_map (step x) (state_seen told old) = subst (λ (z : Environment). state_seen retold new ≡ option_map (step z) (state_seen told old)) same fault in
-    (u, le, spent, (b, p), seen_more x (state_seen told old) (state_seen retold new) (run x s u) ran_x is, on)
+pub step_stops : (x : Environment) (s : State) (t u before after : ℕ) (new : Option State) (b : Option Begun) (f : RunFault) → (f ≡ StepLimit → ⊥) → t ≤ u → after + (u + 1) ≡ before + t → Progress x s t u b → (run x s u).off ≡ None →
+    CompleteErr x new before after s t f
+step_stops x s t u before after new b StepLimit limit le spent p on = absurd (limit refl)
+step_stops x s t u before after new b Disk limit le spent p on = (u, le, spent, (b, p), on)
+step_stops x s t u before after new b Sink limit le spent p on = (u, le, spent, (b, p), on)
 
 -- a turn that is passed: the step at u, after n of them, began it and kept user mode
 pub skips_more : (x y : Environment) (s : State) (t n m u : ℕ) (told retold : Option (List (List ℕ))) (old new : Held) → y ≡ x → u ≡ t + n → m ≡ n + 1 → Skips x s t n →

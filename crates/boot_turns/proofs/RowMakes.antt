@@ -1,14 +1,12 @@
 -- What the rows of a step make of a sink and a disk, as scripts: rows that are read from no page, words that were copied, and the rows of one step by what
 -- its code tests. What a call says of texts and counts is turned into its script here once.
-use Rattle.std.proofs.Common.{◌≡◌, ◌≢◌, ℕ, ◌+◌, ◌*◌, ◌/◌, ◌<◌, ◌≤◌, ◌&&◌, Bool, true, false, nat_lt, List, [], ◌∷◌, ◌++◌, Option, Some, None, Result, slice_index, refl, sym, ap, ap₂, ◌∙◌, subst, eq-eqb, ne_eqb, lt-ltb, le-ltb}
+use Rattle.std.proofs.Common.{◌≡◌, ◌≢◌, ℕ, ◌+◌, ◌*◌, ◌/◌, ◌<◌, ◌≤◌, ◌&&◌, Bool, true, false, nat_lt, List, [], ◌∷◌, ◌++◌, Option, Some, None, slice_index, refl, sym, ap, ap₂, ◌∙◌, subst, eq-eqb, ne_eqb, lt-ltb, le-ltb}
 use Rattle.std.specs.Prelude.{◌==◌, if◌then◌else◌, IfSome}
 use Rattle.std.proofs.lemmas.Bool.{cond-true, cond-false}
-use Rattle.cvm_outside.specs.Outside.{Files, Output, Drive, output}
-use Rattle.cvm_outside.specs.declared.sink.SinkFault.{SinkFault}
-use Rattle.cvm_outside.specs.declared.sink.Sink as sink_of
-use Rattle.cvm_outside.specs.Script.{Call, Who, Puts, Performs, done, blame, of_sink}
+use Rattle.cvm_outside.specs.Outside.{Files, Output, Drive}
+use Rattle.cvm_outside.specs.Script.{Call, Who, Puts, Performs, done}
 use Rattle.cvm_outside.proofs.Parts.{append_known-nil}
-use Rattle.cvm_outside.proofs.Putting.{put_once, performed, then_prints, same_script, scripts-none}
+use Rattle.cvm_outside.proofs.Putting.{performed, then_prints, same_script, scripts-none}
 use Rattle.mips_table.specs.Machine.{State}
 use Rattle.mips_machine.specs.Machine.{Held, state_of}
 use Rattle.layer_map.specs.Map.{Map}
@@ -17,7 +15,6 @@ use Rattle.page_model.specs.Paging.{Paged}
 use Rattle.cvm_model.specs.Kernel.{JournalEntry, Put}
 use Rattle.cvm_model.specs.Paged.{paged_of}
 use Rattle.cvm_model.specs.Text.{steps_row, entry_row, journal_rows_after}
-use Rattle.boot_report.specs.Leaves as reported
 use Rattle.boot_report.specs.Resident.{word_reads}
 use Rattle.boot_report.specs.Texts.{EntriesFit}
 use Rattle.boot_report.specs.Told.{user_word}
@@ -30,10 +27,6 @@ use Rattle.boot_turns.specs.Entries.{turn_begins, call_ends}
 use Rattle.boot_turns.specs.Returns.{returned}
 use Rattle.boot_turns.specs.StepScript.{prints}
 use Rattle.boot_turns.specs.RowScripts.{ArePages, copied_script, copy_script, words_copied, ended_script, returned_script, followed_script}
-
--- what is put of rows
-pub puts_of : {T O : Type 0} (text : sink_of.Ghosts O) (out reout : O) (rows : List ℕ) (r : Result T SinkFault) → reported.PutsRows text.text text.faults out reout rows r → Puts rows (output text out) (output text reout) (blame of_sink r)
-puts_of text out reout rows r put = put_once rows (output text out) (output text reout) r put.ok put.err put.count
 
 -- rows are put, where there are any
 pub prints_made : (rows : List ℕ) (shelf : Files) (disk : Drive) (old new : Output) (blamed : Option Who) → Puts rows old new blamed → ((whom : Who) → blamed ≡ Some whom → rows ≢ []) →

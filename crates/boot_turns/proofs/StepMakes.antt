@@ -120,7 +120,7 @@ module _ {O D : Type 0} (x : device.Environment) (text : sink_of.Ghosts O) (told
   step_follows grow f tell on k is mid o2 d1 d2 current began result ran current_is began_is moved rows = rw is (record {
     untraced = λ none s t at shelf. absurd (let e : ◌≡◌ {A = Option Tracer} (Some k) None = none in cc);
     traced = λ c y s late limit u t base from map_is low high at traced p turns steps shown shelf.
-        step_made grow f tell x m held (told.sectors d) k (text.text o) on mid mid (told.sectors d1) (told.sectors d1) refl ran current current_is began began_is
+        step_made grow f tell x m held (told.sectors d) k (text.text o) on mid (told.sectors d1) ran current current_is began began_is
         (record { unit = c; y = y; s = s; late = late; held = limit; u = u; t = t; base = base; from = from; map_is = map_is; low = low; high = high; at = at; traced = traced }) p turns steps shown
         (λ (l : List Call). Performs l (over text told shelf o d) (over text told shelf o2 d2) (blame of_run result))
         (λ ss pages are. both (script_of_step x (state_of held ss)) (followed_script m (state_of mid []) pages k current began) (over text told shelf o d) (over text told shelf o d1) (over text told shelf o2 d2) (blame of_run result) (moved ss shelf) (rows pages are shelf));

@@ -1,14 +1,12 @@
--- What the loop has printed of a trace: what one step adds to it, where the step or its rows fail, and how far it is at each step of the loop.
-use Rattle.std.proofs.Common.{◌≡◌, ◌≢◌, ℕ, suc, ◌+◌, ◌/◌, ◌<◌, ◌≤◌, inl, inr, Bool, true, Option, Some, None, Result, Ok, Err, List, [], ◌++◌, length, take, slice_index, refl, sym, ap, ap₂, ◌∙◌, subst, subst₂, length-append, arith}
-use Rattle.std.specs.Prelude.{IfSome, MatchResult, false, if◌then◌else◌}
+-- What the loop has printed of a trace: what one step adds to it, and how far it is at each step of the loop.
+use Rattle.std.proofs.Common.{◌≡◌, ℕ, suc, ◌+◌, ◌≤◌, Bool, Option, Some, None, Result, Ok, Err, List, [], ◌++◌, length, slice_index, refl, sym, ap, ap₂, ◌∙◌, subst, arith}
+use Rattle.std.specs.Prelude.{IfSome, OnOk, false}
 use Rattle.std.specs.Option.{option_map}
 use Rattle.std.specs.Io.KnownBytes.{append_known}
-use Rattle.std.proofs.Math.Seq.{take-append-add, take-append_seam}
-use Rattle.cvm_outside.specs.Told.{AppendsPart}
 use Rattle.cvm_outside.proofs.Parts.{puts-both}
 use Rattle.mips_table.specs.Device.{Environment}
 use Rattle.mips_table.specs.Machine.{State, run, step}
-use Rattle.mips_table.specs.Turns.{begins_turn, rests}
+use Rattle.mips_table.specs.Turns.{begins_turn}
 use Rattle.mips_machine.specs.Machine.{Held, state_of}
 use Rattle.mips_machine.specs.Steps.{outside_of, script_of_step}
 use Rattle.layer_map.specs.Map.{Map, MapInRange, current_at}
@@ -17,7 +15,6 @@ use Rattle.c0_meaning.specs.TypedState.{IsTypedState}
 use Rattle.cvm_model.specs.Kernel.{JournalEntry}
 use Rattle.cvm_model.specs.Cvm.{System, Running, map_of}
 use Rattle.cvm_model.specs.Text.{open_journal_rows, journal_rows_after}
-use Rattle.layer_contract.specs.declared.registers.TheConstants.{ANSWER}
 use Rattle.layer_contract.specs.Follows.{site_of}
 use Rattle.boot_report.specs.Told.{WordsAreTold, WordsTell}
 use Rattle.boot_turns.specs.declared.completion.Begun.{Begun}
@@ -26,27 +23,22 @@ use Rattle.boot_turns.specs.declared.tracer.Entered.{Entered}
 use Rattle.boot_turns.specs.declared.tracer.Tracer.{Tracer}
 use Rattle.boot_turns.specs.declared.answers.RunFault.{RunFault}
 use Rattle.boot_turns.specs.declared.answers.RunFault.TheVariants.{StepLimit, Disk, Sink}
-use Rattle.boot_turns.specs.Completes.{state_seen, SeenTorn, StepTorn}
+use Rattle.boot_turns.specs.Completes.{state_seen}
 use Rattle.boot_turns.specs.Premises.{StartsFrom}
-use Rattle.boot_turns.specs.TurnEnds.{Prefix}
-use Rattle.boot_turns.specs.Entries.{call_ends, IsPlaced, step_entries, WordsAt, ShowsMore, HasRows, TracesGrow}
-use Rattle.boot_turns.specs.Returns.{noted_call, notes_on, returned, copy_reads, return_reads, reads_before, IsCopyTo}
-use Rattle.boot_turns.specs.Copies.{FollowFails}
+use Rattle.boot_turns.specs.Entries.{step_entries, WordsAt, ShowsMore, TracesGrow}
+use Rattle.boot_turns.specs.Returns.{noted_call, notes_on, returned}
 use Rattle.boot_turns.specs.JournalText.{steps_after, pending_steps, RowsFollow}
-use Rattle.boot_turns.specs.Tracing.{followed, followed_reads, kept_after, reads_of, ReturnTold, tracer_at, FollowCut, Traced, RowsTorn, RowsCut, TracedOn, TraceStops, Tracing, TraceRuns}
+use Rattle.boot_turns.specs.Tracing.{followed, kept_after, ReturnTold, tracer_at, Traced, TracedOn, Tracing, TraceRuns, UnlessFailed}
 use Rattle.boot_turns.specs.Trace.{Shown}
-use Rattle.boot_turns.specs.TraceSteps.{StepStops, StepTraces}
+use Rattle.boot_turns.specs.TraceSteps.{StepTraces}
 use Rattle.boot_turns.specs.Runs.{Run, Past}
 use Rattle.boot_turns.specs.StepScript.{step_script, steps_script}
 use Rattle.boot_turns.specs.RowScripts.{ArePages, followed_script}
 use Rattle.boot_turns.specs.LoopScripts.{traced_run}
 use Rattle.cvm_outside.specs.Script.{Call}
 use Rattle.page_model.specs.Paging.{Paged}
-use Rattle.boot_turns.proofs.Events.{told_as_some, step_torn}
+use Rattle.boot_turns.proofs.Events.{told_as_some}
 use Rattle.boot_turns.proofs.LoopSteps.{seen_more}
-use Rattle.boot_turns.proofs.Reading.{reads_seen}
-use Rattle.boot_turns.proofs.Followed.{call_returned, call_seen, copied_length, first_rows}
-use Rattle.boot_turns.proofs.JournalRows.{nil_behind}
 use Rattle.boot_turns.proofs.ShownRows.{scripts-one, rows_followed, followed_here, pages_for}
 
 -- THE ROWS: those of the entries d follow those of j
@@ -54,87 +46,20 @@ module _ (f : RowsFollow) (base text : Option (List ℕ)) (j d : List JournalEnt
   rows_done : (retext : Option (List ℕ)) → retext ≡ append_known text (journal_rows_after false (pending_steps j) d) → retext ≡ append_known base (open_journal_rows (j ++ d))
   rows_done retext h = puts-both base text retext (open_journal_rows j) (journal_rows_after false (pending_steps j) d) is h ∙ ap (λ r. append_known base r) (sym (f.more j d))
 
-  -- or the first of them alone
-  rows_first : (retext : Option (List ℕ)) (i : ℕ) → retext ≡ append_known text (journal_rows_after false (pending_steps j) (take i d)) → retext ≡ append_known base (open_journal_rows (take (length j + i) (j ++ d)))
-  rows_first retext i h =
-      puts-both base text retext (open_journal_rows j) (journal_rows_after false (pending_steps j) (take i d)) is h
-      ∙ ap (append_known base) (sym (f.more j (take i d)) ∙ ap (λ (l : List JournalEntry). open_journal_rows l) (sym (take-append-add j d i)))
-
-  -- and where there are some of d the rows are others
-  rows_others : journal_rows_after false (pending_steps j) d ≢ [] → open_journal_rows j ≢ open_journal_rows (j ++ d)
-  rows_others some e = some (nil_behind (open_journal_rows j) (journal_rows_after false (pending_steps j) d) (e ∙ f.more j d))
-
-  -- or a part of them was put
-  rows_cut : (retext : Option (List ℕ)) → AppendsPart text retext (journal_rows_after false (pending_steps j) d) →
-      (rows : List ℕ) × Prefix (open_journal_rows j) (open_journal_rows (j ++ d)) rows × (retext ≡ append_known base rows)
-  rows_cut retext part =
-      let rest : List ℕ = journal_rows_after false (pending_steps j) d in (
-        open_journal_rows j ++ take part.0 rest,
-        record {
-          count = length (open_journal_rows j) + part.0;
-          is = sym (ap (take (length (open_journal_rows j) + part.0)) (f.more j d) ∙ take-append-add (open_journal_rows j) rest part.0);
-          holds = take-append_seam (open_journal_rows j) (take part.0 rest);
-        },
-        puts-both base text retext (open_journal_rows j) (take part.0 rest) is part.1,
-      )
-
-abbrev tracer_of : ℕ → ℕ → Option Entered → ℕ → Tracer
-tracer_of u n c r = record { user = u; steps = n; call = c; reads = r }
+abbrev tracer_of : ℕ → ℕ → Option Entered → Tracer
+tracer_of u n c = record { user = u; steps = n; call = c }
 
 -- ONE STEP of the run, of which j was shown before it
 module _ (f : RowsFollow) (x : Environment) (y : System) (s : State) (u t : ℕ) (base text : Option (List ℕ)) (kept : Option Tracer) (w : Traced x y s u t base kept text) (more : ShowsMore x y s u t w.journal) where
   abbrev entries : List JournalEntry
   entries = step_entries x s u t more.words
 
-  step_torn_rows : (now : Option State) → SeenTorn x (run x s t) now → RowsTorn x y s u t (reads_of kept) base now text
-  step_torn_rows now torn = inl (record { before = w.journal; shown_before = w.shown; torn = torn; read = ap reads_of w.keeps; printed = w.printed })
-
-  rows_torn_rows : (now : Option State) → now ≡ Some (run x s (suc t)) → begins_turn x (run x s t) ≡ false → (call : Entered) → returned (run x s (suc t)) (noted_call x s t) ≡ Some call →
-      IsCopyTo u call (slice_index (run x s (suc t)).cpu.regs ANSWER) → (i n : ℕ) → i < length entries →
-      copy_reads (map_of y.boot) (run x s (suc t)) u call i < copy_reads (map_of y.boot) (run x s (suc t)) u call (suc i) →
-      n ≡ reads_before x (map_of y.boot) s u t + copy_reads (map_of y.boot) (run x s (suc t)) u call (suc i) →
-      (retext : Option (List ℕ)) → retext ≡ append_known text (journal_rows_after false (pending_steps w.journal) (take i entries)) → RowsTorn x y s u t n base now retext
-  rows_torn_rows now done none call returns copy i n less away read retext h =
-      let long = length-append w.journal entries in
-      inr (record {
-        copy = record { goes_on = none; ends = record { call = call; returns = returns; copy = copy } };
-        done = done;
-        before = w.journal;
-        after = w.journal ++ entries;
-        shown_before = w.shown;
-        shown_after = more.shown;
-        words = i;
-        less = omega (arith, long, less);
-        away = away;
-        read = read;
-        printed = rows_first f base text w.journal entries w.printed retext i h;
-      })
-
-  step_cut_rows : rests (run x s (suc t)) ≡ false → journal_rows_after false (pending_steps w.journal) entries ≢ [] → (n : ℕ) → reads_before x (map_of y.boot) s u t ≤ n → n ≤ reads_before x (map_of y.boot) s u (suc t) →
-      (retext : Option (List ℕ)) → AppendsPart text retext (journal_rows_after false (pending_steps w.journal) entries) → RowsCut x y s u t n base retext
-  step_cut_rows busy some n least most retext part =
-      let r = rows_cut f base text w.journal entries w.printed retext part in
-      record {
-        busy = busy;
-        before = w.journal;
-        after = w.journal ++ entries;
-        shown_before = w.shown;
-        shown_after = more.shown;
-        some = rows_others f base text w.journal entries w.printed some;
-        least = least;
-        most = most;
-        rows = r.0;
-        part = r.1;
-        printed = r.2;
-      }
-
   step_done_rows : (retext : Option (List ℕ)) (after : Tracer) → retext ≡ append_known text (journal_rows_after false (pending_steps w.journal) entries) →
-      after ≡ tracer_of u (steps_after (pending_steps w.journal) entries) (notes_on (run x s (suc t)) (noted_call x s t)) (reads_before x (map_of y.boot) s u (suc t)) → Traced x y s u (suc t) base (Some after) retext
+      after ≡ tracer_of u (steps_after (pending_steps w.journal) entries) (notes_on (run x s (suc t)) (noted_call x s t)) → Traced x y s u (suc t) base (Some after) retext
   step_done_rows retext after h is =
       let c : Option Entered = notes_on (run x s (suc t)) (noted_call x s t) in
-      let r : ℕ = reads_before x (map_of y.boot) s u (suc t) in
-      let counted : ◌≡◌ {A = Option Tracer} (Some (tracer_of u (steps_after (pending_steps w.journal) entries) c r)) (Some (tracer_of u (pending_steps (w.journal ++ entries)) c r)) =
-      ap (λ (n : ℕ). Some (tracer_of u n c r)) (sym (f.count w.journal entries)) in
+      let counted : ◌≡◌ {A = Option Tracer} (Some (tracer_of u (steps_after (pending_steps w.journal) entries) c)) (Some (tracer_of u (pending_steps (w.journal ++ entries)) c)) =
+      ap (λ (n : ℕ). Some (tracer_of u n c)) (sym (f.count w.journal entries)) in
       record { journal = w.journal ++ entries; shown = more.shown; keeps = ap (λ (k : Tracer). Some k) is ∙ counted; printed = rows_done f base text w.journal entries w.printed retext h }
 
 -- what is followed are the entries of the step
@@ -148,17 +73,6 @@ followed_is x y s u t j k hk now hn current hc began hb words =
     ∙ ap (λ (n : State). followed n k' current began words) hn
     ∙ ap (λ (c : ℕ). followed z k' c began words) hc
     ∙ ap (λ (b : Bool). followed z k' e b words) hb
-
--- and its words that are read from the disk are those of what is followed
-reads_is : (x : Environment) (y : System) (s : State) (u t : ℕ) (j : List JournalEntry) (m : Map) → m ≡ map_of y.boot → (k : Tracer) → k ≡ tracer_at x y s u t j → (now : State) → now ≡ run x s (suc t) →
-    (began : Bool) → began ≡ begins_turn x (run x s t) → k.reads + followed_reads m now k began ≡ reads_before x (map_of y.boot) s u (suc t)
-reads_is x y s u t j m hm k hk now hn began hb =
-    let k' : Tracer = tracer_at x y s u t j in
-    let z : State = run x s (suc t) in
-    ap (λ (k : Tracer). k.reads + followed_reads m now k began) hk
-    ∙ ap (λ (n : State). k'.reads + followed_reads m n k' began) hn
-    ∙ ap (λ (m : Map). k'.reads + followed_reads m z k' began) hm
-    ∙ ap (λ (b : Bool). k'.reads + followed_reads (map_of y.boot) z k' b) hb
 
 -- where a primitive returns, the words that are shown are told
 words_told : (x : Environment) (y : System) → WordsTell → MapInRange (site_of y.boot).map → (u : ℕ) → 1 ≤ u → u ≤ length y.boot.users → (held : Held) (ss : List (List ℕ)) (words : List ℕ) (o : Option Entered) →
@@ -187,31 +101,14 @@ pub record Booted (x : Environment) (m : Map) (now : Option State) (kept : Optio
   pub traced : Traced x y s u t base kept text
 
 -- the clause on a step is of each such run
-pub each_step : (x : Environment) (m : Map) (held new : Held) (told retold : Option (List (List ℕ))) (before after : Option Tracer) (text retext : Option (List ℕ)) (result : Result Stepped RunFault) →
-    ((b : Booted x m (state_seen told held) before text) → MatchResult result (λ _. Traced x b.y b.s b.u (suc b.t) b.base after retext) (StepStops x b.y b.s b.u b.t b.base (state_seen retold new) after retext)) →
-    StepTraces x m held new told retold before after text retext result
-each_step x m held new told retold before after text retext result f = λ unit y s late limit u t base from map_is low high at traced.
+pub each_step : (x : Environment) (m : Map) (held : Held) (told : Option (List (List ℕ))) (before after : Option Tracer) (text retext : Option (List ℕ)) (result : Result Stepped RunFault) →
+    ((b : Booted x m (state_seen told held) before text) → OnOk result (Traced x b.y b.s b.u (suc b.t) b.base after retext)) → StepTraces x m held told before after text retext result
+each_step x m held told before after text retext result f = λ unit y s late limit u t base from map_is low high at traced.
     f (record { unit = unit; y = y; s = s; late = late; held = limit; u = u; t = t; base = base; from = from; map_is = map_is; low = low; high = high; at = at; traced = traced })
 
--- which primitive returns is told by the memory alone, whatever the sectors hold
-returned_seen : (held : Held) (ss : List (List ℕ)) (noted : Option Entered) → returned (state_of held ss) noted ≡ returned (state_of held []) noted
-returned_seen held ss None = refl
-returned_seen held ss (Some e) = refl
-
--- how many words of it are read, too
-return_seen : (m : Map) (held : Held) (ss : List (List ℕ)) (u : ℕ) (o : Option Entered) → return_reads m (state_of held ss) u o ≡ return_reads m (state_of held []) u o
-return_seen m held ss u None = refl
-return_seen m held ss u (Some e) = call_seen m held ss u (slice_index held.hardware.cpu.regs ANSWER) e
-
-followed_seen : (m : Map) (held : Held) (ss : List (List ℕ)) (k : Tracer) (began : Bool) → followed_reads m (state_of held ss) k began ≡ followed_reads m (state_of held []) k began
-followed_seen m held ss k began =
-    ap (λ (n : ℕ). if began then 0 else n) (ap (return_reads m (state_of held ss) k.user) (returned_seen held ss k.call) ∙ return_seen m held ss k.user (returned (state_of held []) k.call))
-
--- and so is whether a step has rows
-rows_seen : (held : Held) (ss : List (List ℕ)) (noted : Option Entered) (began : Bool) → HasRows (state_of held []) noted began → HasRows (state_of held ss) noted began
-rows_seen held ss noted true h = h
-rows_seen held ss None false h = h
-rows_seen held ss (Some e) false h = h
+-- where a call failed there is nothing to be said
+pub step_broke : (x : Environment) (m : Map) (held : Held) (told : Option (List (List ℕ))) (before after : Option Tracer) (text retext : Option (List ℕ)) (result : Result Stepped RunFault) (e : RunFault) → result ≡ Err e → StepTraces x m held told before after text retext result
+step_broke x m held told before after text retext result e is = rw is (each_step x m held told before after text retext (Err e) (λ b. tt))
 
 same_some : {A : Type 0} (a b : A) → Some a ≡ Some b → a ≡ b
 same_some a b h = cc
@@ -234,14 +131,8 @@ module _ (grow : (c : CUnit) → TracesGrow (IsTypedState c)) (f : RowsFollow) (
   keeps_at : (b : Here) → k ≡ tracer_at x b.y b.s b.u b.t b.traced.journal
   keeps_at b = same_some k (tracer_at x b.y b.s b.u b.t b.traced.journal) b.traced.keeps
 
-  -- the disk failed in the step
-  step_fails : (new : Held) (retold : Option (List (List ℕ))) (result : Result Stepped RunFault) (e : RunFault) → result ≡ Err e → e ≡ Disk →
-      ((b : Here) → SeenTorn x (run x b.s b.t) (state_seen retold new)) → StepTraces x m held new told retold (Some k) (Some k) text text result
-  step_fails new retold result e hr he torn = rw (hr, he) (each_step x m held new told retold (Some k) (Some k) text text (Err Disk) (λ (b : Here).
-      step_torn_rows f x b.y b.s b.u b.t b.base text (Some k) b.traced (more_at b) (state_seen retold new) (torn b)))
-
   -- the step was done
-  module _ (mid new : Held) (midtold retold : Option (List (List ℕ))) (same : state_seen retold new ≡ state_seen midtold mid) (ran : state_seen midtold mid ≡ option_map (step x) (state_seen told held)) (current : ℕ) (current_is : current ≡ slice_index held.hardware.memory current_at)
+  module _ (mid : Held) (midtold : Option (List (List ℕ))) (ran : state_seen midtold mid ≡ option_map (step x) (state_seen told held)) (current : ℕ) (current_is : current ≡ slice_index held.hardware.memory current_at)
       (began : Bool) (began_is : IfSome (state_seen told held) (λ s. began ≡ begins_turn x s)) where
     told_at : (b : Here) → (ss : List (List ℕ)) × (midtold ≡ Some ss) × (state_of mid ss ≡ run x b.s (suc b.t))
     told_at b = told_as_some midtold mid (run x b.s (suc b.t)) (seen_more x (state_seen told held) (state_seen midtold mid) (run x b.s b.t) ran b.at)
@@ -275,30 +166,17 @@ module _ (grow : (c : CUnit) → TracesGrow (IsTypedState c)) (f : RowsFollow) (
         ap (λ (n : ℕ). journal_rows_after false n (followed (state_of mid (told_at b).0) k current began (more_at b).words)) (ap (λ (k : Tracer). k.steps) (keeps_at b))
         ∙ ap (journal_rows_after false (pending_steps b.traced.journal)) (entries_at b)
 
-    -- how many words are read for the rows so far
-    reads_at : (b : Here) → k.reads + followed_reads m (state_of mid (told_at b).0) k began ≡ reads_before x (map_of b.y.boot) b.s b.u (suc b.t)
-    reads_at b = reads_is x b.y b.s b.u b.t b.traced.journal m b.map_is k (keeps_at b) (state_of mid (told_at b).0) (told_at b).2 began (begun_at b)
-
-    -- where the sink failed they are at least those of the steps before, and at most those of this one, too
-    least_at : (b : Here) (n : ℕ) → k.reads ≤ n → reads_before x (map_of b.y.boot) b.s b.u b.t ≤ n
-    least_at b n least = let e : k.reads ≡ reads_before x (map_of b.y.boot) b.s b.u b.t = ap (λ (k : Tracer). k.reads) (keeps_at b) in omega (arith, e, least)
-
-    most_at : (b : Here) (n : ℕ) → n ≤ k.reads + followed_reads m (state_of mid []) k began → n ≤ reads_before x (map_of b.y.boot) b.s b.u (suc b.t)
-    most_at b n most = subst (λ r. n ≤ r) (ap (λ r. k.reads + r) (sym (followed_seen m mid (told_at b).0 k began)) ∙ reads_at b) most
-
     -- what is kept after the step
     kept_at : (b : Here) →
-        kept_after m (state_of mid (told_at b).0) k current began (more_at b).words
-        ≡ tracer_of b.u (steps_after (pending_steps b.traced.journal) (step_entries x b.s b.u b.t (more_at b).words)) (notes_on (run x b.s (suc b.t)) (noted_call x b.s b.t)) (reads_before x (map_of b.y.boot) b.s b.u (suc b.t))
+        kept_after (state_of mid (told_at b).0) k current began (more_at b).words
+        ≡ tracer_of b.u (steps_after (pending_steps b.traced.journal) (step_entries x b.s b.u b.t (more_at b).words)) (notes_on (run x b.s (suc b.t)) (noted_call x b.s b.t))
     kept_at b =
         let s : State = state_of mid (told_at b).0 in
         let kt : Tracer = tracer_at x b.y b.s b.u b.t b.traced.journal in
         let entries : List JournalEntry = followed s k current began (more_at b).words in
-        let read : ℕ = reads_before x (map_of b.y.boot) b.s b.u (suc b.t) in
-        ap (tracer_of k.user (steps_after k.steps entries) (notes_on s k.call)) (reads_at b)
-        ∙ ap (λ (k : Tracer). tracer_of k.user (steps_after k.steps entries) (notes_on s k.call) read) (keeps_at b)
-        ∙ ap (λ (d : List JournalEntry). tracer_of kt.user (steps_after kt.steps d) (notes_on s kt.call) read) (entries_at b)
-        ∙ ap (λ (s : State). tracer_of kt.user (steps_after kt.steps (step_entries x b.s b.u b.t (more_at b).words)) (notes_on s kt.call) read) (told_at b).2
+        ap (λ (k : Tracer). tracer_of k.user (steps_after k.steps entries) (notes_on s k.call)) (keeps_at b)
+        ∙ ap (λ (d : List JournalEntry). tracer_of kt.user (steps_after kt.steps d) (notes_on s kt.call)) (entries_at b)
+        ∙ ap (λ (s : State). tracer_of kt.user (steps_after kt.steps (step_entries x b.s b.u b.t (more_at b).words)) (notes_on s kt.call)) (told_at b).2
 
     -- THE CALLS OF THE STEP: what the code makes of it is the script of the run's step
     returns_run : (b : Here) → ReturnTold (map_of b.y.boot) (run x b.s (suc b.t)) b.u (more_at b).words (returned (run x b.s (suc b.t)) (noted_call x b.s b.t))
@@ -330,106 +208,17 @@ module _ (grow : (c : CUnit) → TracesGrow (IsTypedState c)) (f : RowsFollow) (
         ((ss : List (List ℕ)) (words : List ℕ) → midtold ≡ Some ss → ReturnTold m (state_of mid ss) k.user words (returned (state_of mid ss) k.call) →
         retext ≡ append_known text (journal_rows_after false k.steps (followed (state_of mid ss) k current began words))) →
         ((ss : List (List ℕ)) (words : List ℕ) → midtold ≡ Some ss → ReturnTold m (state_of mid ss) k.user words (returned (state_of mid ss) k.call) →
-        after ≡ kept_after m (state_of mid ss) k current began words) →
-        StepTraces x m held new told retold before (Some after) text retext (Ok stepped)
-    step_goes stepped before after retext hb says keeps = rw hb (each_step x m held new told retold (Some k) (Some after) text retext (Ok stepped) (λ (b : Here).
+        after ≡ kept_after (state_of mid ss) k current began words) →
+        StepTraces x m held told before (Some after) text retext (Ok stepped)
+    step_goes stepped before after retext hb says keeps = rw hb (each_step x m held told (Some k) (Some after) text retext (Ok stepped) (λ (b : Here).
         let put = says (told_at b).0 (more_at b).words (told_at b).1 (returns_at b) in
         let is = keeps (told_at b).0 (more_at b).words (told_at b).1 (returns_at b) in
         step_done_rows f x b.y b.s b.u b.t b.base text (Some k) b.traced (more_at b) retext after (put ∙ ap (append_known text) (rows_at b)) (is ∙ kept_at b)))
 
-    -- a word of those that a primitive copied couldn't be read for its row
-    module _ (after : Tracer) (retext : Option (List ℕ)) (c : FollowFails midtold mid m k after began text retext) (b : Here) where
-      abbrev there : State
-      there = state_of mid (told_at b).0
-
-      abbrev answer : ℕ
-      answer = slice_index mid.hardware.cpu.regs ANSWER
-
-      abbrev words : List ℕ
-      words = (more_at b).words
-
-      returns_there : returned there k.call ≡ Some c.ends.call
-      returns_there = returned_seen mid (told_at b).0 k.call ∙ c.ends.returns
-
-      -- its words lie in the user's memory, which the pages tell
-      told_there : WordsAreTold m there k.user words × IsPlaced k.user c.ends.call answer words
-      told_there = subst (ReturnTold m there k.user words) returns_there (returns_at b)
-
-      -- the step's entries are the primitive's
-      call_there : call_ends k.user c.ends.call answer words ≡ step_entries x b.s b.u b.t words
-      call_there =
-          sym (call_returned there k current began words m (returned there k.call) c.ends.call answer c.goes_on refl returns_there refl (returns_at b))
-          ∙ entries_at b
-
-      -- and so are the words that are read
-      words_there : (n : ℕ) → copy_reads m (state_of mid []) k.user c.ends.call n ≡ copy_reads (map_of b.y.boot) (run x b.s (suc b.t)) b.u c.ends.call n
-      words_there n =
-          sym (reads_seen m mid (told_at b).0 k.user (slice_index c.ends.call.arguments 3 / 4) n)
-          ∙ ap₂ (λ (s : State) (t : Tracer). copy_reads m s t.user c.ends.call n) (told_at b).2 (keeps_at b)
-          ∙ ap (λ (m : Map). copy_reads m (run x b.s (suc b.t)) b.u c.ends.call n) b.map_is
-
-      torn_there : state_seen retold new ≡ Some (run x b.s (suc b.t)) → RowsTorn x b.y b.s b.u b.t after.reads b.base (state_seen retold new) retext
-      torn_there done =
-          let i : ℕ = c.fails.words in
-          let less = c.fails.less in
-          let one = c.ends.copy.done in
-          let user = c.ends.copy.user in
-          let sixth = c.ends.copy.copies in
-          let long : length (step_entries x b.s b.u b.t words) ≡ slice_index c.ends.call.arguments 4 =
-          ap (λ (j : List JournalEntry). length j) (sym call_there) ∙ copied_length m there k.user k.steps answer c.ends.call words one user sixth told_there.0 told_there.1 in
-          let rows = first_rows m there k.user k.steps answer c.ends.call words one user sixth told_there.0 told_there.1 i (omega (arith, less)) in
-          rows_torn_rows f x b.y b.s b.u b.t b.base text (Some k) b.traced (more_at b) (state_seen retold new) done (sym (begun_at b) ∙ c.goes_on) c.ends.call
-          (sym (ap₂ returned (told_at b).2 (call_at b)) ∙ returns_there)
-          (subst₂ (λ (u : ℕ) (s : State). IsCopyTo u c.ends.call (slice_index s.cpu.regs ANSWER)) (ap (λ (t : Tracer). t.user) (keeps_at b)) (told_at b).2 c.ends.copy)
-          i after.reads (omega (arith, long, less)) (subst₂ (λ p q. p < q) (words_there i) (words_there (suc i)) c.fails.away)
-          (c.fails.read ∙ ap₂ (λ p q. p + q) (ap (λ (t : Tracer). t.reads) (keeps_at b)) (words_there (suc i))) retext
-          (c.fails.printed (told_at b).0 (told_at b).1 told_there.0.entries ∙ ap (append_known text) (rows ∙ ap₂ (λ (n : ℕ) (d : List JournalEntry). journal_rows_after false n (take i d)) (ap (λ (t : Tracer). t.steps) (keeps_at b)) call_there))
-
-    -- a step that has rows completes no turn
-    busy_at : (b : Here) → HasRows (state_of mid []) k.call began → rests (run x b.s (suc b.t)) ≡ false
-    busy_at b h =
-        let w = told_as_some told held (run x b.s b.t) b.at in
-        let is_on : (run x b.s b.t).off ≡ None = ap (λ (s : State). s.off) (sym w.2) ∙ on in
-        let seen_there : HasRows (run x b.s (suc b.t)) k.call began = subst (λ z. HasRows z k.call began) (told_at b).2 (rows_seen mid (told_at b).0 k.call began h) in
-        (grow b.unit x b.y b.s b.late b.held b.u b.from b.low b.high).busy b.t is_on (subst₂ (HasRows (run x b.s (suc b.t))) (call_at b) (begun_at b) seen_there)
-
-    -- the sink failed in the rows of the step
-    cut_at : (after : Tracer) (retext : Option (List ℕ)) → HasRows (state_of mid []) k.call began → FollowCut midtold mid m k after current began → k.reads ≤ after.reads → (b : Here) →
-        AppendsPart text retext (journal_rows_after false (pending_steps b.traced.journal) (step_entries x b.s b.u b.t (more_at b).words)) → RowsCut x b.y b.s b.u b.t after.reads b.base retext
-    cut_at after retext puts cut least b part =
-        let some = subst (λ (rows : List ℕ). rows ≢ []) (rows_at b) (cut.some (told_at b).0 (more_at b).words (told_at b).1 (returns_at b)) in
-        step_cut_rows f x b.y b.s b.u b.t b.base text (Some k) b.traced (more_at b) (busy_at b puts) some after.reads (least_at b after.reads least) (most_at b after.reads cut.read) retext part
-
-    pub step_stops : (before : Option Tracer) (after : Tracer) (retext : Option (List ℕ)) (result : Result Stepped RunFault) (e fault : RunFault) → before ≡ Some k → result ≡ Err e → e ≡ fault → (fault ≡ StepLimit → ⊥) →
-        (fault ≡ Disk → FollowFails midtold mid m k after began text retext) → (fault ≡ Sink → HasRows (state_of mid []) k.call began) →
-        (fault ≡ Sink → FollowCut midtold mid m k after current began) → k.reads ≤ after.reads →
-        ((ss : List (List ℕ)) (words : List ℕ) → midtold ≡ Some ss → ReturnTold m (state_of mid ss) k.user words (returned (state_of mid ss) k.call) →
-        AppendsPart text retext (journal_rows_after false k.steps (followed (state_of mid ss) k current began words))) →
-        StepTraces x m held new told retold before (Some after) text retext result
-    step_stops before after retext result e fault hb hr he limit fails puts cut least says =
-        rw (hb, hr, he) (each_step x m held new told retold (Some k) (Some after) text retext (Err fault) (λ (b : Here). by_fault b fault limit fails puts cut))
-      where
-        part : (b : Here) → AppendsPart text retext (journal_rows_after false (pending_steps b.traced.journal) (step_entries x b.s b.u b.t (more_at b).words))
-        part b = subst (AppendsPart text retext) (rows_at b) (says (told_at b).0 (more_at b).words (told_at b).1 (returns_at b))
-
-        by_fault : (b : Here) (fault : RunFault) → (fault ≡ StepLimit → ⊥) → (fault ≡ Disk → FollowFails midtold mid m k after began text retext) → (fault ≡ Sink → HasRows (state_of mid []) k.call began) →
-            (fault ≡ Sink → FollowCut midtold mid m k after current began) → StepStops x b.y b.s b.u b.t b.base (state_seen retold new) (Some after) retext fault
-        by_fault b StepLimit limit fails puts cut = limit refl
-        by_fault b Disk limit fails puts cut = torn_there after retext (fails refl) b (same ∙ seen_more x (state_seen told held) (state_seen midtold mid) (run x b.s b.t) ran b.at)
-        by_fault b Sink limit fails puts cut = cut_at after retext (puts refl) (cut refl) least b (part b)
-
 -- where none is printed there is nothing to be said
-pub step_untraced : (x : Environment) (m : Map) (held new : Held) (told retold : Option (List (List ℕ))) (after : Option Tracer) (text retext : Option (List ℕ)) (result : Result Stepped RunFault) → StepTraces x m held new told retold None after text retext result
-step_untraced x m held new told retold after text retext result = each_step x m held new told retold None after text retext result (λ (b : Booted x m (state_seen told held) None text).
+pub step_untraced : (x : Environment) (m : Map) (held : Held) (told : Option (List (List ℕ))) (after : Option Tracer) (text retext : Option (List ℕ)) (result : Result Stepped RunFault) → StepTraces x m held told None after text retext result
+step_untraced x m held told after text retext result = each_step x m held told None after text retext result (λ (b : Booted x m (state_seen told held) None text).
     absurd (let e : ◌≡◌ {A = Option Tracer} None (Some (tracer_at x b.y b.s b.u b.t b.traced.journal)) = b.traced.keeps in cc))
-
--- the disk failed in the step
-pub step_breaks : (grow : (c : CUnit) → TracesGrow (IsTypedState c)) (f : RowsFollow) (tell : WordsTell) (count : ℕ) (m : Map) (held new : Held) (told retold : Option (List (List ℕ))) (kept : Option Tracer) (text : Option (List ℕ)) (result : Result Stepped RunFault) (e : RunFault) →
-    held.hardware.off ≡ None → result ≡ Err e → e ≡ Disk → StepTorn count held told retold → StepTraces (outside_of held.rows count) m held new told retold kept kept text text result
-step_breaks grow f tell count m held new told retold None text result e on hr he torn = step_untraced (outside_of held.rows count) m held new told retold None text text result
-step_breaks grow f tell count m held new told retold (Some k) text result e on hr he torn =
-    let x = outside_of held.rows count in
-    step_fails grow f tell x m held told k text on new retold result e hr he (λ b. step_torn count x held new told retold (run x b.s b.t) refl b.at torn)
 
 -- THE LOOP: how far a run is whose trace goes on
 pub record Tracked (x : Environment) (y : System) (s : State) (u t : ℕ) (base : Option (List ℕ)) (now : Option State) (before after : ℕ) (kept : Option Tracer) (text : Option (List ℕ)) : Type 0 where
@@ -443,12 +232,10 @@ abbrev pub Tracks : Environment → Map → (start now : Option State) → (befo
 Tracks x m start now before after = (b : Booted x m start before.tracer before.text) → Tracked x b.y b.s b.u b.t b.base now before.budget after.budget after.tracer after.text
 
 -- the clause on a loop is of each run
-each_run : (count : ℕ) (m : Map) (held new : Held) (told retold : Option (List (List ℕ))) (before after : Tracing) (result : Result (ℕ × Begun) RunFault) →
+each_run : (count : ℕ) (m : Map) (held : Held) (told : Option (List (List ℕ))) (before after : Tracing) (result : Result (ℕ × Begun) RunFault) →
     ((b : Booted (outside_of held.rows count) m (state_seen told held) before.tracer before.text) →
-    MatchResult result (λ _. TracedOn (outside_of held.rows count) b.y b.s b.u b.t b.base before.budget after.budget after.tracer after.text)
-    (TraceStops (outside_of held.rows count) b.y b.s b.u b.t b.base (state_seen retold new) before.budget after.budget after.tracer after.text)) →
-    TraceRuns count m held new told retold before after result
-each_run count m held new told retold before after result f = λ unit y s late limit u t base from map_is low high at traced.
+    UnlessFailed result (TracedOn (outside_of held.rows count) b.y b.s b.u b.t b.base before.budget after.budget after.tracer after.text)) → TraceRuns count m held told before after result
+each_run count m held told before after result f = λ unit y s late limit u t base from map_is low high at traced.
     f (record { unit = unit; y = y; s = s; late = late; held = limit; u = u; t = t; base = base; from = from; map_is = map_is; low = low; high = high; at = at; traced = traced })
 
 pub tracks_none : (x : Environment) (m : Map) (start : Option State) (before : Tracing) → Tracks x m start start before before
@@ -459,22 +246,22 @@ traced_on : (x : Environment) (y : System) (s : State) (u t : ℕ) (base : Optio
 traced_on x y s u t base now before after kept text w = record { at = w.at; from = w.from; spent = w.spent; traced = w.traced }
 
 module _ (count : ℕ) (m : Map) (held mid : Held) (told midtold : Option (List (List ℕ))) (before now : Tracing) (so_far : Tracks (outside_of held.rows count) m (state_seen told held) (state_seen midtold mid) before now) where
-  -- the budget was spent, or the machine is off
-  pub tracks_limit : (new : Held) (retold : Option (List (List ℕ))) → TraceRuns count m held new told retold before now (Err StepLimit)
-  tracks_limit new retold = each_run count m held new told retold before now (Err StepLimit) (λ b. traced_on _ b.y b.s b.u b.t b.base (state_seen midtold mid) _ _ _ _ (so_far b))
+  -- the budget was spent
+  pub tracks_limit : TraceRuns count m held told before now (Err StepLimit)
+  tracks_limit = each_run count m held told before now (Err StepLimit) (λ b. traced_on _ b.y b.s b.u b.t b.base (state_seen midtold mid) _ _ _ _ (so_far b))
 
-  -- the turn is complete
-  pub tracks_whole : (new : Held) (retold : Option (List (List ℕ))) (begun : ℕ × Begun) → TraceRuns count m held new told retold before now (Ok begun)
-  tracks_whole new retold begun = each_run count m held new told retold before now (Ok begun) (λ b. traced_on _ b.y b.s b.u b.t b.base (state_seen midtold mid) _ _ _ _ (so_far b))
+  -- the turn is complete, or the machine is off
+  pub tracks_whole : (begun : ℕ × Begun) → TraceRuns count m held told before now (Ok begun)
+  tracks_whole begun = each_run count m held told before now (Ok begun) (λ b. traced_on _ b.y b.s b.u b.t b.base (state_seen midtold mid) _ _ _ _ (so_far b))
 
   -- one step more, by which the budget is less
   module _ (z : Environment) (same : z ≡ outside_of held.rows count) (after : Tracing) (less : now.budget ≡ after.budget + 1) where
-    pub tracks_more : (next : Held) (nexttold : Option (List (List ℕ))) (stepped : Stepped) → StepTraces z m mid next midtold nexttold now.tracer after.tracer now.text after.text (Ok stepped) → state_seen nexttold next ≡ option_map (step z) (state_seen midtold mid) → Tracks (outside_of held.rows count) m (state_seen told held) (state_seen nexttold next) before after
+    pub tracks_more : (next : Held) (nexttold : Option (List (List ℕ))) (stepped : Stepped) → StepTraces z m mid midtold now.tracer after.tracer now.text after.text (Ok stepped) → state_seen nexttold next ≡ option_map (step z) (state_seen midtold mid) → Tracks (outside_of held.rows count) m (state_seen told held) (state_seen nexttold next) before after
     tracks_more next nexttold stepped done ran = λ b.
         let x : Environment = outside_of held.rows count in
         let w = so_far b in
         let here : state_seen midtold mid ≡ Some (run x b.s w.at) = w.state in
-        let of_x : StepTraces x m mid next midtold nexttold now.tracer after.tracer now.text after.text (Ok stepped) = subst (λ (z : Environment). StepTraces z m mid next midtold nexttold now.tracer after.tracer now.text after.text (Ok stepped)) same done in
+        let of_x : StepTraces x m mid midtold now.tracer after.tracer now.text after.text (Ok stepped) = subst (λ (z : Environment). StepTraces z m mid midtold now.tracer after.tracer now.text after.text (Ok stepped)) same done in
         let ran_x : state_seen nexttold next ≡ option_map (step x) (state_seen midtold mid) = subst (λ (z : Environment). state_seen nexttold next ≡ option_map (step z) (state_seen midtold mid)) same ran in
         let from = w.from in
         let spent = w.spent in
@@ -486,20 +273,8 @@ module _ (count : ℕ) (m : Map) (held mid : Held) (told midtold : Option (List 
           traced = of_x b.unit b.y b.s b.late b.held b.u w.at b.base b.from b.map_is b.low b.high here w.traced;
         }
 
-    -- or the step or its rows failed
-    pub tracks_stop : (new : Held) (retold : Option (List (List ℕ))) (fault : RunFault) → StepTraces z m mid new midtold retold now.tracer after.tracer now.text after.text (Err fault) →
-        (fault ≡ Sink → state_seen retold new ≡ option_map (step z) (state_seen midtold mid)) → TraceRuns count m held new told retold before after (Err fault)
-    tracks_stop new retold fault fails ran = each_run count m held new told retold before after (Err fault) (λ b.
-        let x : Environment = outside_of held.rows count in
-        let w = so_far b in
-        let here : state_seen midtold mid ≡ Some (run x b.s w.at) = w.state in
-        let of_x : StepTraces x m mid new midtold retold now.tracer after.tracer now.text after.text (Err fault) = subst (λ (z : Environment). StepTraces z m mid new midtold retold now.tracer after.tracer now.text after.text (Err fault)) same fails in
-        let ran_x : fault ≡ Sink → state_seen retold new ≡ option_map (step x) (state_seen midtold mid) = subst (λ (z : Environment). fault ≡ Sink → state_seen retold new ≡ option_map (step z) (state_seen midtold mid)) same ran in
-        by_fault b fault (of_x b.unit b.y b.s b.late b.held b.u w.at b.base b.from b.map_is b.low b.high here w.traced) (λ e. seen_more x (state_seen midtold mid) (state_seen retold new) (run x b.s w.at) (ran_x e) here))
-      where
-        by_fault : (b : Booted (outside_of held.rows count) m (state_seen told held) before.tracer before.text) (fault : RunFault) → StepStops (outside_of held.rows count) b.y b.s b.u (so_far b).at b.base (state_seen retold new) after.tracer after.text fault →
-            (fault ≡ Sink → state_seen retold new ≡ Some (run (outside_of held.rows count) b.s (suc (so_far b).at))) →
-            TraceStops (outside_of held.rows count) b.y b.s b.u b.t b.base (state_seen retold new) before.budget after.budget after.tracer after.text fault
-        by_fault b StepLimit h there = absurd h
-        by_fault b Disk h there = let w = so_far b in let from = w.from in let spent = w.spent in (w.at, omega (arith, from), omega (arith, spent, less), h)
-        by_fault b Sink h there = let w = so_far b in let from = w.from in let spent = w.spent in (w.at, omega (arith, from), omega (arith, spent, less), there refl, h)
+-- or a call failed
+pub tracks_stop : (count : ℕ) (m : Map) (held : Held) (told : Option (List (List ℕ))) (before after : Tracing) (fault : RunFault) → (fault ≡ StepLimit → ⊥) → TraceRuns count m held told before after (Err fault)
+tracks_stop count m held told before after StepLimit limit = absurd (limit refl)
+tracks_stop count m held told before after Disk limit = each_run count m held told before after (Err Disk) (λ b. tt)
+tracks_stop count m held told before after Sink limit = each_run count m held told before after (Err Sink) (λ b. tt)

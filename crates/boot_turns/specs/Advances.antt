@@ -1,5 +1,5 @@
 -- What the run of one turn does to the machine of a run from a start.
-use Rattle.std.specs.Prelude.{◌≡◌, ℕ, suc, ◌+◌, ◌-◌, ◌<◌, ◌≤◌, Bool, Option, Some, None, List, Result, MatchResult}
+use Rattle.std.specs.Prelude.{◌≡◌, ℕ, suc, ◌+◌, ◌-◌, ◌<◌, ◌≤◌, Option, Some, None, List, Result, MatchResult}
 use Rattle.mips_table.specs.Device.{Environment}
 use Rattle.mips_table.specs.Machine.{State, run}
 use Rattle.mips_table.specs.Turns.{complete}
@@ -11,11 +11,11 @@ use Rattle.c0_meaning.specs.State.{C0State}
 use Rattle.cvm_model.specs.Cvm.{System, Running, Cvm}
 use Rattle.boot_turns.specs.TurnEnds.{Stood}
 use Rattle.boot_turns.specs.Ahead.{Ahead}
-use Rattle.boot_turns.specs.Completes.{state_seen, note, DiskLeaves, Skips, Completes}
+use Rattle.boot_turns.specs.Completes.{state_seen, note, Skips, Completes}
 use Rattle.boot_turns.specs.Premises.{StartsFrom}
 use Rattle.boot_turns.specs.declared.completion.Begun.{Begun}
 use Rattle.boot_turns.specs.declared.answers.RunFault.{RunFault}
-use Rattle.boot_turns.specs.declared.answers.RunFault.TheVariants.{StepLimit, Disk, Sink}
+use Rattle.boot_turns.specs.declared.answers.RunFault.TheVariants.{StepLimit}
 
 -- turn k is complete: the machine stands at its end, its steps are taken from the budget, and what is noted is shown after its first step
 pub record Advanced (x : Environment) (y : System) (s : State) (k t : ℕ) (c : Cvm) (now : Option State) (budget left : ℕ) (b : Begun) : Type 0 where
@@ -29,33 +29,23 @@ pub record StillGoes (x : Environment) (y : System) (s : State) (k t u : ℕ) : 
   pub between : (j : ℕ) → t ≤ j → j ≤ u → complete x s j ≡ k
   pub on : (j : ℕ) → j ≤ u → (run x s j).off ≡ None
 
--- the disk failed in step number `at`, or where a user is traced behind it
-pub record DiskStops (x : Environment) (y : System) (s : State) (traced : Bool) (k t : ℕ) (now : Option State) (budget left : ℕ) : Type 0 where
-  pub at : ℕ
-  pub from : t ≤ at
-  pub spent : left + (at + 1) ≡ budget + t
-  pub goes : StillGoes x y s k t at
-  pub torn : DiskLeaves x s at traced now
-
 -- the budget was spent
 pub record BudgetStops (x : Environment) (y : System) (s : State) (k t : ℕ) (now : Option State) (budget left : ℕ) : Type 0 where
   pub spent : left ≡ 0
   pub state : now ≡ Some (run x s (t + budget))
   pub goes : StillGoes x y s k t (t + budget)
 
--- the sink failed in the rows of step number `at`, which is done
-pub record SinkStops (x : Environment) (y : System) (s : State) (k t : ℕ) (now : Option State) (budget left : ℕ) : Type 0 where
+-- the disk or the sink failed in step number `at`, or in its rows
+pub record FaultStops (x : Environment) (y : System) (s : State) (k t : ℕ) (budget left : ℕ) : Type 0 where
   pub at : ℕ
   pub from : t ≤ at
   pub spent : left + (at + 1) ≡ budget + t
   pub goes : StillGoes x y s k t at
-  pub state : now ≡ Some (run x s (suc at))
 
 -- by the fault
-abbrev pub Stops : Environment → System → State → (traced : Bool) → (k t : ℕ) → Option State → (budget left : ℕ) → RunFault → Type 0
-Stops x y s traced k t now budget left StepLimit = BudgetStops x y s k t now budget left
-Stops x y s traced k t now budget left Disk = DiskStops x y s traced k t now budget left
-Stops x y s traced k t now budget left Sink = SinkStops x y s k t now budget left
+abbrev pub Stops : Environment → System → State → (k t : ℕ) → Option State → (budget left : ℕ) → RunFault → Type 0
+Stops x y s k t now budget left StepLimit = BudgetStops x y s k t now budget left
+Stops x y s k t now budget left other = FaultStops x y s k t budget left
 
 -- turns k to k + n - 1, from step t on, were untrapped steps of the current user, one step each
 pub record Skipped (x : Environment) (y : System) (s : State) (k t : ℕ) (c : Cvm) (n : ℕ) : Type 0 where
@@ -69,26 +59,23 @@ pub record Skipped (x : Environment) (y : System) (s : State) (k t : ℕ) (c : C
   pub steps : Skips x s t n
 
 -- how the run of turns ends, so many at most: after n of them, with a turn as `Advanced` says or before its end
-abbrev pub AdvanceEnds : Environment → System → State → (traced : Bool) → (k t : ℕ) → Cvm → Option State → (budget left most : ℕ) →
-    Result (ℕ × Begun) RunFault → Type 0
-AdvanceEnds x y s traced k t c now budget left most result = (n : ℕ) × (n < most) × (n ≤ budget) × (w : Skipped x y s k t c n) ×
+abbrev pub AdvanceEnds : Environment → System → State → (k t : ℕ) → Cvm → Option State → (budget left most : ℕ) → Result (ℕ × Begun) RunFault → Type 0
+AdvanceEnds x y s k t c now budget left most result = (n : ℕ) × (n < most) × (n ≤ budget) × (w : Skipped x y s k t c n) ×
     MatchResult result (λ r. (r.0 ≡ n) × Advanced x y s (k + n) (t + n) w.after now (budget - n) left r.1)
-    (Stops x y s traced (k + n) (t + n) now (budget - n) left)
+    (Stops x y s (k + n) (t + n) now (budget - n) left)
 
 -- turns of the machine, for every run from a start that stands there and goes on
-abbrev pub AdvancesTyped : (C0State → Type 0) → Environment → (traced : Bool) → (before now : Option State) → (budget left most : ℕ) →
-    Result (ℕ × Begun) RunFault → Type 0
-AdvancesTyped Typed x traced before now budget left most result = (y : System) (s : State) (late held : ℕ) → StartsFrom Typed x y s late held →
-    (k t : ℕ) (c : Cvm) → Stood x y s k t c → c.status ≡ Running → before ≡ Some (run x s t) → AdvanceEnds x y s traced k t c now budget left most result
+abbrev pub AdvancesTyped : (C0State → Type 0) → Environment → (before now : Option State) → (budget left most : ℕ) → Result (ℕ × Begun) RunFault → Type 0
+AdvancesTyped Typed x before now budget left most result = (y : System) (s : State) (late held : ℕ) → StartsFrom Typed x y s late held →
+    (k t : ℕ) (c : Cvm) → Stood x y s k t c → c.status ≡ Running → before ≡ Some (run x s t) → AdvanceEnds x y s k t c now budget left most result
 
--- TURNS, over a disk of so many sectors, whatever unit the kernel is, and whether a user is traced
-abbrev pub Advances : (count : ℕ) → (traced : Bool) → (old new : Held) → (told retold : Option (List (List ℕ))) → (budget left most : ℕ) →
+-- TURNS, over a disk of so many sectors, whatever unit the kernel is
+abbrev pub Advances : (count : ℕ) → (old new : Held) → (told retold : Option (List (List ℕ))) → (budget left most : ℕ) →
     Result (ℕ × Begun) RunFault → Type 0
-Advances count traced old new told retold budget left most result =
-    (u : CUnit) → AdvancesTyped (IsTypedState u) (outside_of old.rows count) traced (state_seen told old) (state_seen retold new) budget left most result
+Advances count old new told retold budget left most result =
+    (u : CUnit) → AdvancesTyped (IsTypedState u) (outside_of old.rows count) (state_seen told old) (state_seen retold new) budget left most result
 
 -- so it is of every loop that steps a machine to the end of turns
 abbrev pub LoopsAdvance : Type 0
-LoopsAdvance = (count : ℕ) (traced : Bool) (old new : Held) (told retold : Option (List (List ℕ))) (budget left most : ℕ)
-    (result : Result (ℕ × Begun) RunFault) →
-    Completes count traced old new told retold budget left most result → Advances count traced old new told retold budget left most result
+LoopsAdvance = (count : ℕ) (old new : Held) (told retold : Option (List (List ℕ))) (budget left most : ℕ) (result : Result (ℕ × Begun) RunFault) →
+    Completes count old new told retold budget left most result → Advances count old new told retold budget left most result

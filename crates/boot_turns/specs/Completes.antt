@@ -7,9 +7,8 @@ use Rattle.mips_table.specs.declared.cause.Cause.TheVariants.{Reset, FetchFault,
 use Rattle.mips_table.specs.declared.special.TheConstants.{MODE, ECA, EDATA}
 use Rattle.mips_table.specs.Machine.{State, cause_number, step, run}
 use Rattle.mips_table.specs.Turns.{begins_turn, rests}
-use Rattle.sector_disk.specs.Ports.{ports_of}
 use Rattle.mips_machine.specs.Machine.{Held, state_of}
-use Rattle.mips_machine.specs.Steps.{outside_of, after_step}
+use Rattle.mips_machine.specs.Steps.{outside_of}
 use Rattle.mips_machine.specs.Quiet.{Stretch}
 use Rattle.mips_machine.specs.declared.event.Event.{Event}
 use Rattle.mips_machine.specs.declared.event.Event.TheVariants.{Taken, Off}
@@ -19,8 +18,7 @@ use Rattle.boot_turns.specs.declared.completion.Begun.{Begun}
 use Rattle.boot_turns.specs.declared.completion.Stepped.{Stepped}
 use Rattle.boot_turns.specs.declared.completion.Stepped.TheVariants.{Kept, Began, On}
 use Rattle.boot_turns.specs.declared.answers.RunFault.{RunFault}
-use Rattle.boot_turns.specs.declared.answers.RunFault.TheVariants.{StepLimit, Disk, Sink}
-use Rattle.boot_turns.specs.Torn.{Torn}
+use Rattle.boot_turns.specs.declared.answers.RunFault.TheVariants.{StepLimit}
 
 -- the state of a machine with the sectors of its disk, where they are told
 abbrev pub state_seen : Option (List (List ℕ)) → Held → Option State
@@ -29,34 +27,6 @@ state_seen told held = option_map (state_of held) told
 -- over a disk of so many sectors the machine made one step
 abbrev pub StepRan : (count : ℕ) → (old new : Held) → (told retold : Option (List (List ℕ))) → Type 0
 StepRan count old new told retold = state_seen retold new ≡ option_map (step (outside_of old.rows count)) (state_seen told old)
-
--- the transfer that was due in a step failed, over a disk of so many sectors, where they are told
-abbrev pub StepTorn : (count : ℕ) → Held → (told retold : Option (List (List ℕ))) → Type 0
-StepTorn count old told retold = (ss : List (List ℕ)) → told ≡ Some ss → (now : List (List ℕ)) × (retold ≡ Some now)
-    × Torn (outside_of old.rows count) (state_of old ss) now
-
--- and in a machine that is seen afterwards
-abbrev pub SeenTorn : Environment → State → Option State → Type 0
-SeenTorn x s new = (now : List (List ℕ)) × (option_map (λ (z : State). z.device.sectors) new ≡ Some now) × Torn x s now
-
--- the disk's ports are as after the step of a machine, whatever the sectors are
-abbrev pub PortsStepped : (count : ℕ) → (old new : Held) → Type 0
-PortsStepped count old new = (ss : List (List ℕ)) → new.hardware.ports ≡ ports_of (after_step count old ss).device
-
--- the disk's ports are those of a state, in a machine that is seen
-abbrev pub SeenPorts : State → Option State → Type 0
-SeenPorts s new = option_map (λ (z : State). ports_of z.device) new ≡ Some (ports_of s.device)
-
--- what a fault of the disk in step number t leaves: its transfer failed, and its ports are as after the step; or, where a user is traced, the step is
--- done
-abbrev pub DiskLeaves : Environment → State → (t : ℕ) → (traced : Bool) → Option State → Type 0
-DiskLeaves x s t false new = SeenTorn x (run x s t) new × SeenPorts (run x s (suc t)) new
-DiskLeaves x s t true new = (SeenTorn x (run x s t) new × SeenPorts (run x s (suc t)) new) ⊎ (new ≡ Some (run x s (suc t)))
-
--- the same of one step, over a disk of so many sectors
-abbrev pub StepFails : (count : ℕ) → (old new : Held) → (told retold : Option (List (List ℕ))) → (traced : Bool) → Type 0
-StepFails count old new told retold false = StepTorn count old told retold × PortsStepped count old new
-StepFails count old new told retold true = (StepTorn count old told retold × PortsStepped count old new) ⊎ StepRan count old new told retold
 
 -- the answer is whether that step begins a turn
 abbrev pub StepBegan : (count : ℕ) → Held → Option (List (List ℕ)) → Bool → Type 0
@@ -98,12 +68,6 @@ pub record StepDone (count : ℕ) (old new : Held) (told retold : Option (List (
   pub ran : StepRan count old new told retold
   pub began : StepBegan count old told (turn_began stepped)
   pub kept : KeptUser new stepped
-
--- or there was this fault in the step, or where a user is traced in its rows: the sink fails in rows alone, whose step is done, and no budget is looked at
-abbrev pub StepFaults : (count : ℕ) → (old new : Held) → (told retold : Option (List (List ℕ))) → (traced : Bool) → RunFault → Type 0
-StepFaults count old new told retold traced StepLimit = ⊥
-StepFaults count old new told retold traced Disk = StepFails count old new told retold traced
-StepFaults count old new told retold traced Sink = StepRan count old new told retold
 
 -- what a state shows after the step that begins a turn: the mode, the cause, what it concerns, and the current user's word
 abbrev pub note : State → Begun
@@ -160,15 +124,12 @@ pub record WentOff (x : Environment) (s : State) (t u : ℕ) (b : Begun) : Type 
 abbrev pub CompleteOk : Environment → Option State → ℕ → ℕ → State → ℕ → Begun → Type 0
 CompleteOk x new before after s t b = (u : ℕ) × (Completed x s t u b ⊎ WentOff x s t u b) × (new ≡ Some (run x s u)) × (after + u ≡ before + t)
 
--- the machine is on, and the budget was spent; or the disk failed in step number u or in its rows; or the sink failed in the rows of step number u,
--- which is done
-abbrev pub CompleteErr : Environment → (traced : Bool) → Option State → ℕ → ℕ → State → ℕ → RunFault → Type 0
-CompleteErr x traced new before after s t StepLimit = (u : ℕ) × (t ≤ u) × (after + u ≡ before + t) × (new ≡ Some (run x s u))
+-- the machine is on, and the budget was spent; or the disk or the sink failed in step number u or in its rows
+abbrev pub CompleteErr : Environment → Option State → ℕ → ℕ → State → ℕ → RunFault → Type 0
+CompleteErr x new before after s t StepLimit = (u : ℕ) × (t ≤ u) × (after + u ≡ before + t) × (new ≡ Some (run x s u))
     × (after ≡ 0) × ((run x s u).off ≡ None) × ((b : Option Begun) × Progress x s t u b)
-CompleteErr x traced new before after s t Disk = (u : ℕ) × (t ≤ u) × (after + (u + 1) ≡ before + t) × ((b : Option Begun) × Progress x s t u b)
-    × DiskLeaves x s u traced new × ((run x s u).off ≡ None)
-CompleteErr x traced new before after s t Sink = (u : ℕ) × (t ≤ u) × (after + (u + 1) ≡ before + t) × ((b : Option Begun) × Progress x s t u b)
-    × (new ≡ Some (run x s (suc u))) × ((run x s u).off ≡ None)
+CompleteErr x new before after s t other = (u : ℕ) × (t ≤ u) × (after + (u + 1) ≡ before + t) × ((b : Option Begun) × Progress x s t u b)
+    × ((run x s u).off ≡ None)
 
 -- over any disk the machine made so many steps in which nothing comes from outside, and only the processor, the memory and the time changed
 pub record PassesQuietly (old new : Held) (n : ℕ) : Type 0 where
@@ -181,15 +142,15 @@ Skips x s t n = (j : ℕ) → j < n → (begins_turn x (run x s (t + j)) ≡ tru
     × ((run x s (t + suc j)).off ≡ None)
 
 -- how the loop ends, after n such turns of so many at most
-abbrev pub CompleteEnds : Environment → (traced : Bool) → Option State → ℕ → ℕ → State → ℕ → (most : ℕ) → Result (ℕ × Begun) RunFault → Type 0
-CompleteEnds x traced new before after s t most result = (n : ℕ) × (n < most) × (n ≤ before) × Skips x s t n ×
-    MatchResult result (λ r. (r.0 ≡ n) × CompleteOk x new (before - n) after s (t + n) r.1) (CompleteErr x traced new (before - n) after s (t + n))
+abbrev pub CompleteEnds : Environment → Option State → ℕ → ℕ → State → ℕ → (most : ℕ) → Result (ℕ × Begun) RunFault → Type 0
+CompleteEnds x new before after s t most result = (n : ℕ) × (n < most) × (n ≤ before) × Skips x s t n ×
+    MatchResult result (λ r. (r.0 ≡ n) × CompleteOk x new (before - n) after s (t + n) r.1) (CompleteErr x new (before - n) after s (t + n))
 
 -- THE LOOP, over a disk of so many sectors: from any step of any run in which the machine stands
-abbrev pub Completes : (count : ℕ) → (traced : Bool) → (old new : Held) → (told retold : Option (List (List ℕ))) → (before after most : ℕ) →
+abbrev pub Completes : (count : ℕ) → (old new : Held) → (told retold : Option (List (List ℕ))) → (before after most : ℕ) →
     Result (ℕ × Begun) RunFault → Type 0
-Completes count traced old new told retold before after most result = (s : State) (t : ℕ) → state_seen told old ≡ Some (run (outside_of old.rows count) s t) →
-    CompleteEnds (outside_of old.rows count) traced (state_seen retold new) before after s t most result
+Completes count old new told retold before after most result = (s : State) (t : ℕ) → state_seen told old ≡ Some (run (outside_of old.rows count) s t) →
+    CompleteEnds (outside_of old.rows count) (state_seen retold new) before after s t most result
 
 -- what the machine shows once a turn has begun: a user's step, or the cause of its dispatch and what that concerns
 abbrev pub ShownAs : Begin → Begun → Type 0

@@ -1,5 +1,5 @@
 -- What one step of a loop does to a trace.
-use Rattle.std.specs.Prelude.{◌≡◌, ℕ, suc, ◌≤◌, Option, Some, List, length, Result, MatchResult}
+use Rattle.std.specs.Prelude.{◌≡◌, ℕ, suc, ◌≤◌, Option, Some, List, length, Result, OnOk}
 use Rattle.mips_table.specs.Device.{Environment}
 use Rattle.mips_table.specs.Machine.{State, run}
 use Rattle.mips_machine.specs.Machine.{Held}
@@ -12,28 +12,19 @@ use Rattle.layer_contract.specs.Follows.{site_of}
 use Rattle.boot_turns.specs.declared.completion.Stepped.{Stepped}
 use Rattle.boot_turns.specs.declared.tracer.Tracer.{Tracer}
 use Rattle.boot_turns.specs.declared.answers.RunFault.{RunFault}
-use Rattle.boot_turns.specs.declared.answers.RunFault.TheVariants.{StepLimit, Disk, Sink}
 use Rattle.boot_turns.specs.Completes.{state_seen}
 use Rattle.boot_turns.specs.Premises.{StartsFrom}
-use Rattle.boot_turns.specs.Tracing.{Traced, RowsTorn, RowsCut, reads_of}
+use Rattle.boot_turns.specs.Tracing.{Traced}
 
--- the disk failed in step number t or in its rows, or the sink in its rows
-abbrev pub StepStops : Environment → System → State → (u t : ℕ) → (base : Option (List ℕ)) → (now : Option State) → (kept : Option Tracer) →
-    (text : Option (List ℕ)) → RunFault → Type 0
-StepStops x y s u t base now kept text StepLimit = ⊥
-StepStops x y s u t base now kept text Disk = RowsTorn x y s u t (reads_of kept) base now text
-StepStops x y s u t base now kept text Sink = RowsCut x y s u t (reads_of kept) base text
-
--- ONE STEP OF A TRACE: for every run from a start that stands there, of one of its users
-abbrev pub StepTraces : Environment → Map → (held new : Held) → (told retold : Option (List (List ℕ))) → (before after : Option Tracer) →
-    (text retext : Option (List ℕ)) → Result Stepped RunFault → Type 0
-StepTraces x m held new told retold before after text retext result =
+-- ONE STEP OF A TRACE that no call of the outside failed in: for every run from a start that stands there, of one of its users
+abbrev pub StepTraces : Environment → Map → Held → (told : Option (List (List ℕ))) → (before after : Option Tracer) → (text retext : Option (List ℕ)) →
+    Result Stepped RunFault → Type 0
+StepTraces x m held told before after text retext result =
     (c : CUnit) (y : System) (s : State) (late limit u t : ℕ) (base : Option (List ℕ)) → StartsFrom (IsTypedState c) x y s late limit →
     m ≡ (site_of y.boot).map → 1 ≤ u → u ≤ length y.boot.users → state_seen told held ≡ Some (run x s t) → Traced x y s u t base before text →
-    MatchResult result (λ _. Traced x y s u (suc t) base after retext) (StepStops x y s u t base (state_seen retold new) after retext)
+    OnOk result (Traced x y s u (suc t) base after retext)
 
 -- over a disk of so many sectors
-abbrev pub StepTracesOver : (count : ℕ) → Map → (held new : Held) → (told retold : Option (List (List ℕ))) → (before after : Option Tracer) →
-    (text retext : Option (List ℕ)) → Result Stepped RunFault → Type 0
-StepTracesOver count m held new told retold before after text retext result =
-    StepTraces (outside_of held.rows count) m held new told retold before after text retext result
+abbrev pub StepTracesOver : (count : ℕ) → Map → Held → (told : Option (List (List ℕ))) → (before after : Option Tracer) → (text retext : Option (List ℕ)) →
+    Result Stepped RunFault → Type 0
+StepTracesOver count m held told before after text retext result = StepTraces (outside_of held.rows count) m held told before after text retext result

@@ -5,7 +5,7 @@ ghost use Rattle.boot_turns.specs.Completes.{shown};
 ghost use Rattle.boot_turns.specs.Returns.{notes_on, returned};
 ghost use Rattle.boot_turns.specs.RowScripts.{MakesRows, ended_script, followed_script};
 ghost use Rattle.boot_turns.specs.StepRows.{EndPrints, FollowPrints};
-ghost use Rattle.boot_turns.specs.Steps.{CanFollow, CountsStep, EndLeaves, FollowLeaves};
+ghost use Rattle.boot_turns.specs.Steps.{CanFollow, CountsStep, KeepsTracer, RowsLeave};
 ghost use Rattle.boot_turns.specs.Tracing.{CanTrace};
 
 use crate::answers::RunFault;
@@ -61,7 +61,7 @@ impl Tracer {
     // A fault of the disk, from which a page may have to be read, or of the sink.
     fn end_copy<D: Sectors, O: Sink>(
         &mut self,
-        machine: &mut Machine,
+        machine: &Machine,
         map: &Map,
         call: &Entered,
         answer: u32,
@@ -69,12 +69,12 @@ impl Tracer {
         out: &mut O,
     ) -> Result<(), RunFault>
         requires copy { call.now.primitive ≡ VM_COPY }
-        requires can { CanTrace map.now (length machine.old.hardware.memory) machine.old.time (D.size disk.old) self.old }
-        ensures prints { EndPrints (D.sectors disk.old) machine.old map.now self.old self.new call.now answer (O.text out.old) (O.text out.new) result }
-        ensures leaves { EndLeaves machine.old machine.new self.old self.new D.sectors D.size D.faults D.calls disk.old disk.new
-            O.faults out.old out.new result }
-        ensures script { MakesRows O.Sink D.Sectors machine.old map.now (out.old, disk.old) (out.new, disk.new)
-            (λ pages. ended_script map.now (state_of machine.old []) pages self.old.user self.old.steps call.now answer) result }
+        requires can { CanTrace map.now (length machine.now.hardware.memory) machine.now.time (D.size disk.old) self.old }
+        ensures prints { EndPrints (D.sectors disk.old) machine.now map.now self.old self.new call.now answer (O.text out.old) (O.text out.new) result }
+        ensures keeps { KeepsTracer self.old self.new }
+        ensures leaves { RowsLeave D.sectors D.size disk.old disk.new result }
+        ensures script { MakesRows O.Sink D.Sectors machine.now map.now (out.old, disk.old) (out.new, disk.new)
+            (λ pages. ended_script map.now (state_of machine.now []) pages self.old.user self.old.steps call.now answer) result }
     {
         let [_, _, user, address, count] = call.arguments;
         let most = 1024 * map.params().pages;
@@ -92,19 +92,19 @@ impl Tracer {
     // A fault of the disk, from which a page may have to be read, or of the sink.
     fn end<D: Sectors, O: Sink>(
         &mut self,
-        machine: &mut Machine,
+        machine: &Machine,
         map: &Map,
         call: &Entered,
         answer: u32,
         disk: &mut D,
         out: &mut O,
     ) -> Result<(), RunFault>
-        requires can { CanTrace map.now (length machine.old.hardware.memory) machine.old.time (D.size disk.old) self.old }
-        ensures prints { EndPrints (D.sectors disk.old) machine.old map.now self.old self.new call.now answer (O.text out.old) (O.text out.new) result }
-        ensures leaves { EndLeaves machine.old machine.new self.old self.new D.sectors D.size D.faults D.calls disk.old disk.new
-            O.faults out.old out.new result }
-        ensures script { MakesRows O.Sink D.Sectors machine.old map.now (out.old, disk.old) (out.new, disk.new)
-            (λ pages. ended_script map.now (state_of machine.old []) pages self.old.user self.old.steps call.now answer) result }
+        requires can { CanTrace map.now (length machine.now.hardware.memory) machine.now.time (D.size disk.old) self.old }
+        ensures prints { EndPrints (D.sectors disk.old) machine.now map.now self.old self.new call.now answer (O.text out.old) (O.text out.new) result }
+        ensures keeps { KeepsTracer self.old self.new }
+        ensures leaves { RowsLeave D.sectors D.size disk.old disk.new result }
+        ensures script { MakesRows O.Sink D.Sectors machine.now map.now (out.old, disk.old) (out.new, disk.new)
+            (λ pages. ended_script map.now (state_of machine.now []) pages self.old.user self.old.steps call.now answer) result }
     {
         if call.primitive == VM_COPY {
             return self.end_copy(machine, map, call, answer, disk, out);
@@ -135,19 +135,20 @@ impl Tracer {
     /// A fault of the disk, from which a page may have to be read, or of the sink.
     pub fn follow<D: Sectors, O: Sink>(
         &mut self,
-        machine: &mut Machine,
+        machine: &Machine,
         map: &Map,
         current: u32,
         began: bool,
         disk: &mut D,
         out: &mut O,
     ) -> Result<(), RunFault>
-        requires can { CanFollow map.now machine.old self.old (D.size disk.old) }
-        ensures prints { FollowPrints (D.sectors disk.old) machine.old map.now self.old self.new current began (O.text out.old) (O.text out.new) result }
-        ensures leaves { FollowLeaves map.now machine.old machine.new self.old self.new D.sectors D.size D.faults D.calls disk.old disk.new
-            O.faults out.old out.new result }
-        ensures script { MakesRows O.Sink D.Sectors machine.old map.now (out.old, disk.old) (out.new, disk.new)
-            (λ pages. followed_script map.now (state_of machine.old []) pages self.old current began) result }
+        requires can { CanFollow map.now machine.now self.old (D.size disk.old) }
+        ensures prints { FollowPrints (D.sectors disk.old) machine.now map.now self.old self.new current began (O.text out.old) (O.text out.new) result }
+        ensures user { self.new.user ≡ self.old.user }
+        ensures can { CanTrace map.now (length machine.now.hardware.memory) machine.now.time (D.size disk.new) self.new }
+        ensures leaves { RowsLeave D.sectors D.size disk.old disk.new result }
+        ensures script { MakesRows O.Sink D.Sectors machine.now map.now (out.old, disk.old) (out.new, disk.new)
+            (λ pages. followed_script map.now (state_of machine.now []) pages self.old current began) result }
     {
         if began {
             if current == self.user {

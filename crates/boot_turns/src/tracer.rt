@@ -1,21 +1,22 @@
 // What a trace keeps between two steps, and the rows that it prints.
-ghost use Rattle.std.specs.Prelude.{◌≡◌, ◌*◌, ◌/◌, ◌≤◌, length, ◌+◌, ◌-◌, ◌<◌, ◌^◌, ◌++◌, [], OnOk, OnErr, true};
+ghost use Rattle.std.specs.Prelude.{◌≡◌, ◌*◌, ◌/◌, ◌≤◌, length, ◌+◌, ◌-◌, ◌<◌, ◌^◌, ◌++◌, [], OnOk};
+ghost use Rattle.cvm_outside.specs.Script.{Prints};
 ghost use Rattle.mips_machine.specs.Machine.{state_of};
 ghost use Rattle.cvm_model.specs.Text.{steps_row as steps_text};
 ghost use Rattle.boot_turns.specs.Entries.{turn_begins, call_ends, IsNoCopy};
 ghost use Rattle.boot_turns.specs.Returns.{noted_at};
 ghost use Rattle.boot_turns.specs.RowScripts.{MakesRows, copy_script};
 ghost use Rattle.boot_turns.specs.StepRows.{CopyPrints, PutsEntries};
-ghost use Rattle.boot_turns.specs.Steps.{EndLeaves, KeepsReads};
+ghost use Rattle.boot_turns.specs.Steps.{KeepsTracer, RowsLeave};
 ghost use Rattle.boot_turns.specs.Tracing.{CanTrace};
-ghost use Rattle.boot_report.specs.Leaves.{PutsRows};
 
 use crate::answers::RunFault;
 use crate::completion::Begun;
 use crate::primitives::{VM_PUT, VM_RESIZE, VM_SET};
 use crate::registers::{ARGUMENT, EXTERNAL, MODE, RETURN};
 use boot_report::journal_text::{put_row, set_row, size_row, steps_row, trap_row};
-use boot_report::{is_word_resident, read_user_word};
+use boot_report::read_user_word;
+use cvm_outside::single_calls::put;
 use cvm_outside::{Sectors, Sink, SinkFault};
 use layer_map::{EXITS, Map, PRIMITIVES};
 use mips_machine::Machine;
@@ -57,10 +58,10 @@ pub fn note_entry(machine: &Machine) -> Option<Entered>
 
 // Prints the row of the steps that have none yet, and then this one.
 fn put_after<O: Sink>(steps: u64, row: &[u8], out: &mut O) -> Result<(), SinkFault>
-    ensures { PutsRows O.text O.faults out.old out.new (steps_text steps ++ row.now) result }
+    ensures { Prints O.Sink out.old out.new (steps_text steps ++ row.now) result }
 {
-    out.put(steps_row(steps).as_str().as_bytes())?;
-    out.put(row)
+    put(steps_row(steps).as_str().as_bytes(), out)?;
+    put(row, out)
 }
 
 /// What a trace keeps between two steps.
@@ -72,9 +73,6 @@ pub struct Tracer {
     pub steps: u64,
     /// What is noted of the primitive that is under way.
     pub call: Option<Entered>,
-    /// How many words were read from the disk for rows, the one whose read failed with them. A step may read 2^20, so 64 bits
-    /// might not hold them.
-    pub reads: u128,
 }
 
 impl Tracer {
@@ -90,10 +88,8 @@ impl Tracer {
         out: &mut O,
     ) -> Result<(), SinkFault>
         requires few { self.old.steps < 2 ^ 64 - 1 }
-        ensures prints { PutsEntries O.text O.faults out.old out.new self.old self.new (turn_begins self.old.user current begun.now) result }
-        ensures puts { OnErr result (begun.now.dispatched ≡ true) }
+        ensures prints { PutsEntries O.Sink out.old out.new self.old self.new (turn_begins self.old.user current begun.now) result }
         ensures user { self.new.user ≡ self.old.user }
-        ensures reads { self.new.reads ≡ self.old.reads }
         ensures few { self.new.steps ≤ self.old.steps + 1 }
     {
         if current != self.user {
@@ -115,9 +111,9 @@ impl Tracer {
     //
     // A fault of the sink.
     fn put<O: Sink>(&mut self, row: &[u8], out: &mut O) -> Result<(), SinkFault>
-        ensures put { PutsRows O.text O.faults out.old out.new (steps_text self.old.steps ++ row.now) result }
+        ensures put { Prints O.Sink out.old out.new (steps_text self.old.steps ++ row.now) result }
         ensures steps { OnOk result (self.new ≡ record self.old { steps = 0 }) }
-        ensures keeps { KeepsReads self.old self.new }
+        ensures keeps { KeepsTracer self.old self.new }
     {
         put_after(self.steps, row, out)?;
         self.steps = 0;
@@ -137,8 +133,8 @@ impl Tracer {
         out: &mut O,
     ) -> Result<(), SinkFault>
         requires no_copy { IsNoCopy call.now }
-        ensures prints { PutsEntries O.text O.faults out.old out.new self.old self.new (call_ends self.old.user call.now answer []) result }
-        ensures keeps { KeepsReads self.old self.new }
+        ensures prints { PutsEntries O.Sink out.old out.new self.old self.new (call_ends self.old.user call.now answer []) result }
+        ensures keeps { KeepsTracer self.old self.new }
     {
         let [user, second, third, _, _] = call.arguments;
         if answer != 1 || user != self.user {
@@ -163,27 +159,22 @@ impl Tracer {
     /// A fault of the disk, from which a page may have to be read, or of the sink.
     pub fn put_words<D: Sectors, O: Sink>(
         &mut self,
-        machine: &mut Machine,
+        machine: &Machine,
         map: &Map,
         address: u32,
         count: u32,
         disk: &mut D,
         out: &mut O,
     ) -> Result<(), RunFault>
-        requires can { CanTrace map.now (length machine.old.hardware.memory) machine.old.time (D.size disk.old) self.old }
+        requires can { CanTrace map.now (length machine.now.hardware.memory) machine.now.time (D.size disk.old) self.old }
         requires inside { address / 4 + count ≤ 1024 * map.now.params.pages }
-        ensures prints { CopyPrints (D.sectors disk.old) machine.old map.now self.old self.new address count (O.text out.old) (O.text out.new) result }
-        ensures leaves { EndLeaves machine.old machine.new self.old self.new D.sectors D.size D.faults D.calls disk.old disk.new
-            O.faults out.old out.new result }
-        ensures script { MakesRows O.Sink D.Sectors machine.old map.now (out.old, disk.old) (out.new, disk.new)
-            (λ pages. copy_script map.now (state_of machine.old []) pages self.old.user self.old.steps address count) result }
+        ensures prints { CopyPrints (D.sectors disk.old) machine.now map.now self.old self.new address count (O.text out.old) (O.text out.new) result }
+        ensures keeps { KeepsTracer self.old self.new }
+        ensures leaves { RowsLeave D.sectors D.size disk.old disk.new result }
+        ensures script { MakesRows O.Sink D.Sectors machine.now map.now (out.old, disk.old) (out.new, disk.new)
+            (λ pages. copy_script map.now (state_of machine.now []) pages self.old.user self.old.steps address count) result }
     {
-        // so the words that are read can be counted in as many bits
-        prove!(self.reads <= 4294967296 * u128::from(machine.steps()));
         for i in 0..count {
-            if !is_word_resident(machine, map, self.user, address / 4 + i) {
-                self.reads += 1;
-            }
             let word = read_user_word(machine, map, self.user, address / 4 + i, disk)?;
             self.put(put_row(address + 4 * i, word).as_str().as_bytes(), out)?;
         }

@@ -4,6 +4,7 @@ use Rattle.std.proofs.Common.{◌≡◌, ◌≢◌, inl, inr, ℕ, ◌<◌, List
 use Rattle.std.specs.Prelude.{Option, Result, ⊤}
 use Rattle.std.specs.Option.{IsSome}
 use Rattle.cvm_outside.specs.Told.{TOO_LONG, Tells}
+use Rattle.real_layer.specs.Image.{layer_image}
 use Rattle.c0_tree.specs.Tree.{CUnit}
 use Rattle.c0_types.specs.Front.{IsFrontAnswer}
 use Rattle.c0_types.specs.declared.source_fault.SourceFault.{SourceFault}
@@ -23,9 +24,10 @@ use Rattle.kernel_linker.specs.declared.fault.LinkFault.{LinkFault}
 use Rattle.kernel_linker.specs.declared.fault.LinkFault.TheVariants as linking
 use Rattle.cvm_shell.specs.declared.boot.Stop.{Stop}
 use Rattle.run_scripts.specs.Check.{Check, Told, TellsUnit, has_longest, has_loop, TellsOpened, TellsObject, no_object, has_object}
+use Rattle.run_scripts.specs.Command.{check}
 use Rattle.run_scripts.specs.Refusal.{bad_object, unlinked}
 use Rattle.run_scripts.specs.Plan.{Plan, refuses, prints, told_plan, AfterChecked, IsPlan}
-use Rattle.cvm_shell.specs.Stages.{object_stop, link_stop, IsCheckPlan}
+use Rattle.cvm_shell.specs.Stages.{object_stop, link_stop, FilesPlan}
 use Rattle.cvm_shell.specs.Views.{IfRefused, IfPlan}
 use Rattle.cvm_shell.proofs.Plans.{got_whole, if_plan}
 use Rattle.cvm_shell.proofs.LinkPlans.{OneObject, no_fault, one_object, object_stops, link_stops, memory_of}
@@ -113,6 +115,6 @@ told_of stack u (Cycle functions) text is e = subst (TellsUnit stack u) (sym e) 
 
 -- The object of a check was got.
 pub object_got : {A : Type 0} (made : A → Plan) (file : List ℕ → Option (List ℕ)) (c : Check) (bytes : List ℕ) (r : Result A Stop) → Tells (file c.object) bytes → length bytes < TOO_LONG
-    → IfPlan made (IsPlan ⊤ (AfterChecked c.stack bytes)) r → IfPlan made (IsCheckPlan file c) r
+    → IfPlan made (IsPlan ⊤ (AfterChecked c.stack bytes)) r → IfPlan made (FilesPlan layer_image file (check c)) r
 object_got made file c bytes r t short h =
-    if_plan made _ (IsCheckPlan file c) (λ p is. got_whole (file c.object) (AfterChecked c.stack) (IsSome (file c.object)) ⊤ bytes p (λ told. told) (λ told. tt) t short is) r h
+    if_plan made _ (FilesPlan layer_image file (check c)) (λ p is. got_whole (file c.object) (AfterChecked c.stack) (IsSome (file c.object)) ⊤ bytes p (λ told. told) (λ told. tt) t short is) r h

@@ -1,13 +1,13 @@
 -- How a command ends, by the gets of its stage and by what was done behind them.
-use Rattle.std.proofs.Common.{◌≡◌, ◌≢◌, ◌⊎◌, inl, inr, ℕ, List, [], ◌∷◌, ◌++◌, append-nil, refl, sym, ◌∙◌, subst, Some, None, Ok, Err}
-use Rattle.std.specs.Prelude.{Option, Result, IfSome, OnOk, OnErr, codes}
+use Rattle.std.proofs.Common.{◌≡◌, ◌≢◌, ◌⊎◌, inl, inr, ℕ, List, [], ◌∷◌, ◌++◌, append-nil, refl, sym, ◌∙◌, ap, subst, Some, None, Ok, Err}
+use Rattle.std.specs.Prelude.{Option, Result, IfSome, OnOk, OnErr, codes, ⊤}
 use Rattle.std.specs.Global.{Vec}
 use Rattle.std.specs.Io.KnownBytes.{append_known}
 use Rattle.cvm_outside.specs.Causes.{Counts}
 use Rattle.cvm_outside.specs.Told.{AppendsPart, TOO_LONG}
 use Rattle.cvm_outside.specs.Outside.{Outside, Files, Output, Drive, output}
 use Rattle.cvm_outside.specs.declared.sink.Sink as sink_of
-use Rattle.cvm_outside.specs.Script.{Call, Stored, TheShelf, Performs, done as all_done, breaks, goes_on, blame, of_sink}
+use Rattle.cvm_outside.specs.Script.{Call, Stored, Who, TheShelf, Performs, done as all_done, breaks, goes_on, blame, of_sink}
 use Rattle.cvm_outside.specs.declared.shelf.ShelfFault.{ShelfFault}
 use Rattle.cvm_outside.specs.declared.sink.SinkFault.{SinkFault}
 use Rattle.cvm_outside.proofs.Putting.{put_once, performed}
@@ -23,14 +23,15 @@ use Rattle.cvm_shell.specs.declared.boot.Stop.{Stop}
 use Rattle.cvm_shell.specs.declared.boot.Stop.TheVariants as Stops
 use Rattle.cvm_shell.specs.declared.refusal.Refusal.{Refusal as ByCode}
 use Rattle.cvm_shell.specs.declared.refusal.Refusal.TheVariants as by
-use Rattle.run_scripts.specs.Command.{Boot, Sample, Command, boot, sample, IsCommand, IsNoCommand, IsSample, command_of}
-use Rattle.run_scripts.specs.Plan.{Plan, bad_words, refuses, puts, boots, saves, resumes, prints, no_command}
+use Rattle.run_scripts.specs.Command.{Boot, Sample, Command, boot, sample, IsCommand, IsNoCommand, IsSample, command_of, sample_session}
+use Rattle.run_scripts.specs.Plan.{Plan, bad_words, refuses, puts, boots, saves, resumes, prints, no_command, PartsPlan, IsPlan}
+use Rattle.sample_maker.specs.Sample.{sample_of}
 use Rattle.run_scripts.specs.Refusal.{too_long}
-use Rattle.cvm_shell.specs.Views.{IfPlan, refusal_view, stated_row, stated_status}
-use Rattle.cvm_shell.specs.Stages.{IsSamplePlan}
-use Rattle.run_scripts.specs.Ends.{Ends, done, no_file, no_memory, GetsFor, all, up_to, CommandGets, AreBytes, IsFound, Finds, IsNotGot, Wants, behind, answered}
+use Rattle.cvm_shell.specs.Views.{IfPlan, IfRefused, refusal_view, stated_row, stated_status}
+use Rattle.cvm_shell.specs.Stages.{puts_made, FilesPlan}
+use Rattle.run_scripts.specs.Ends.{Ends, PlanAsks, Joins, done, no_file, no_memory, GetsFor, all, up_to, CommandGets, AreBytes, IsFound, Finds, behind, answered}
 use Rattle.run_scripts.specs.Served.{files_of, gets}
-use Rattle.cvm_shell.specs.Does.{FilesPlan, SaysStop, AreGot, StopGets, AnswerGets, Acts, DoesPlan, DoesOrWants}
+use Rattle.cvm_shell.specs.Does.{SaysStop, AreGot, StopGets, AnswerGets, Acts, DoesPlan, DoesOrWants}
 use Rattle.cvm_shell.proofs.CommandPlans.{plan_of, only_none, which, one_refusal}
 use Rattle.cvm_shell.proofs.GotCalls.{beside}
 use Rattle.cvm_shell.proofs.OneCommand.{one_command}
@@ -93,7 +94,7 @@ finds (puts name bytes) words old f = tt
 finds (prints text) words old f = tt
 
 -- A PLAN WAS DONE behind all gets
-behind_gets : (words : List (List ℕ)) (c : Command) (p : Plan) (old mid new : Outside) (status : Status) → IsCommand words c → FilesPlan old.shelf.file c p → p ≢ bad_words → p ≢ refuses too_long
+behind_gets : (words : List (List ℕ)) (c : Command) (p : Plan) (old mid new : Outside) (status : Status) → IsCommand words c → FilesPlan layer_image old.shelf.file c p → p ≢ bad_words → p ≢ refuses too_long
     → Finds p words old → Performs (gets (files_of c)) old mid None → (files_of c ≢ [] → new.shelf.taken ≢ TOO_LONG) → DoesPlan p mid new status → Ends words old new status
 behind_gets words c p old mid new status is plan some short told got few d = done status (record {
   plan = p;
@@ -112,13 +113,13 @@ behind_gets words c p old mid new status is plan some short told got few d = don
   status_is = d.status_is;
 })
 
-pub plan_done : (words : List (List ℕ)) (c : Command) (p : Plan) (old mid new : Outside) (status : Status) → IsCommand words c → FilesPlan old.shelf.file c p → p ≢ bad_words → p ≢ refuses too_long
+pub plan_done : (words : List (List ℕ)) (c : Command) (p : Plan) (old mid new : Outside) (status : Status) → IsCommand words c → FilesPlan layer_image old.shelf.file c p → p ≢ bad_words → p ≢ refuses too_long
     → Finds p words old → AreGot (files_of c) old mid → new.shelf.taken ≡ mid.shelf.taken → DoesPlan p mid new status → Ends words old new status
 plan_done words c p old mid new status is plan some short told got taken d =
     behind_gets words c p old mid new status is plan some short told got.performs (λ named h. got.few (sym taken ∙ h)) d
 
 -- or there was no memory for it
-pub run_done : (words : List (List ℕ)) (c : Command) (p : Plan) (old mid new : Outside) (status : Status) → IsCommand words c → FilesPlan old.shelf.file c p → p ≢ bad_words → p ≢ refuses too_long
+pub run_done : (words : List (List ℕ)) (c : Command) (p : Plan) (old mid new : Outside) (status : Status) → IsCommand words c → FilesPlan layer_image old.shelf.file c p → p ≢ bad_words → p ≢ refuses too_long
     → IsFound words old → AreGot (files_of c) old mid → new.shelf.taken ≡ mid.shelf.taken → DoesOrWants p mid new status → Ends words old new status
 run_done words c p old mid new status is plan some short f got taken (inl d) = plan_done words c p old mid new status is plan some short (finds p words old f) got taken d
 run_done words c p old mid new status is plan some short f got taken (inr (m, e)) =
@@ -127,7 +128,7 @@ run_done words c p old mid new status is plan some short f got taken (inr (m, e)
     (λ named h. got.few (sym taken ∙ h))))
 
 -- A COMMAND THAT GETS NO FILE
-pub nothing_got : (words : List (List ℕ)) (c : Command) (p : Plan) (old new : Outside) (status : Status) → files_of c ≡ [] → IsCommand words c → FilesPlan old.shelf.file c p → p ≢ bad_words → p ≢ refuses too_long
+pub nothing_got : (words : List (List ℕ)) (c : Command) (p : Plan) (old new : Outside) (status : Status) → files_of c ≡ [] → IsCommand words c → FilesPlan layer_image old.shelf.file c p → p ≢ bad_words → p ≢ refuses too_long
     → Finds p words old → DoesPlan p old new status → Ends words old new status
 nothing_got words c p old new status none is plan some short told d =
     behind_gets words c p old old new status is plan some short told (subst (λ (names : List (List ℕ)). Performs (gets names) old old None) (sym none) (all_done old)) (λ named. absurd (named none)) d
@@ -136,10 +137,15 @@ pub nothing_wanted : (words : List (List ℕ)) (c : Command) (old new : Outside)
 nothing_wanted words c old new none is e =
     no_memory c is (behind [] (files_of c) refl tt (subst (λ (at : Outside). Performs [] old at None) (sym e) (all_done old)) (λ named. absurd (named none)))
 
+-- ONE SCRIPT WAS PERFORMED that the plan asks for
+pub acted : (p : Plan) (script : List Call) (due : Status) (old new : Outside) (status : Status) → PlanAsks p old script due → ((blamed : Option Who) → Joins p old new blamed due)
+    → Acts script due old new status → DoesPlan p old new status
+acted p script due old new status asks joins acts =
+    record { script = script; due = due; asks = asks; blamed = acts.blamed; performs = acts.performs; joins = joins acts.blamed; status_is = acts.status_is }
+
 -- what is refused is no command, and not too long
 pub refusal_plan : (r : ByCode) (old new : Outside) (status : Status) → Acts (says (stated_row r)) (stated_status r) old new status → DoesPlan (refuses (refusal_view r)) old new status
-refusal_plan r old new status acts =
-    record { script = says (stated_row r); due = stated_status r; asks = (refl, refl); blamed = acts.blamed; performs = acts.performs; joins = tt; status_is = acts.status_is }
+refusal_plan r old new status acts = acted (refuses (refusal_view r)) (says (stated_row r)) (stated_status r) old new status (refl, refl) (λ blamed. tt) acts
 
 -- A FAULT WAS REFUSED behind all gets, or behind those up to a file that is too long
 record Refusable (names : List (List ℕ)) (r : ByCode) (old mid : Outside) (taken : ℕ) : Type 0 where
@@ -153,7 +159,7 @@ refusable names by.TooLong old mid taken e h =
 refusable names other old mid taken e h =
     record { got = gets names; gets = all (refuses (refusal_view other)) (λ d. cc) (λ named d. h.few (sym e ∙ d)); performs = h.performs }
 
-pub refused_done : (words : List (List ℕ)) (c : Command) (r : ByCode) (old mid new : Outside) (status : Status) → IsCommand words c → FilesPlan old.shelf.file c (refuses (refusal_view r))
+pub refused_done : (words : List (List ℕ)) (c : Command) (r : ByCode) (old mid new : Outside) (status : Status) → IsCommand words c → FilesPlan layer_image old.shelf.file c (refuses (refusal_view r))
     → StopGets (files_of c) old mid (Stops.Refused r) → new.shelf.taken ≡ mid.shelf.taken → Acts (says (stated_row r)) (stated_status r) mid new status → Ends words old new status
 refused_done words c r old mid new status is plan stops taken acts =
     let h = refusable (files_of c) r old mid new.shelf.taken taken stops in
@@ -176,43 +182,36 @@ refused_done words c r old mid new status is plan stops taken acts =
     })
 
 -- a text was printed
-pub told_done : (words : List (List ℕ)) (c : Command) (text : List ℕ) (old mid new : Outside) (status : Status) → IsCommand words c → FilesPlan old.shelf.file c (prints text)
+pub told_done : (words : List (List ℕ)) (c : Command) (text : List ℕ) (old mid new : Outside) (status : Status) → IsCommand words c → FilesPlan layer_image old.shelf.file c (prints text)
     → AreGot (files_of c) old mid → new.shelf.taken ≡ mid.shelf.taken → Acts (says text) Done mid new status → Ends words old new status
 told_done words c text old mid new status is plan got taken acts =
     plan_done words c (prints text) old mid new status is plan (λ e. cc) (λ e. cc) tt got taken
-    (record { script = says text; due = Done; asks = (refl, refl); blamed = acts.blamed; performs = acts.performs; joins = tt; status_is = acts.status_is })
+    (acted (prints text) (says text) Done mid new status (refl, refl) (λ blamed. tt) acts)
 
 -- what was made was put
 pub put_done : (words : List (List ℕ)) (c : Command) (name put bytes : List ℕ) (r : Result (Unit {0}) ShelfFault) (sink : Output) (disk : Drive) (old mid new : Files) → IsCommand words c
-    → FilesPlan old.file c (puts name bytes) → put ≡ bytes → AreGot (files_of c) (beside sink disk old) (beside sink disk mid) → OnePut name put mid new r
+    → FilesPlan layer_image old.file c (puts name bytes) → put ≡ bytes → AreGot (files_of c) (beside sink disk old) (beside sink disk mid) → OnePut name put mid new r
     → Ends words (beside sink disk old) (beside sink disk new) (put_status r)
 put_done words c name put bytes r sink disk old mid new is plan e got p =
     let h : OnePut name bytes mid new r = subst (λ (bs : List ℕ). OnePut name bs mid new r) e p in
     plan_done words c (puts name bytes) (beside sink disk old) (beside sink disk mid) (beside sink disk new) (put_status r) is plan (λ d. cc) (λ d. cc) tt got p.taken (was_put name bytes sink disk mid new r h)
 
--- a file could not be got
-pub shelf_done : (words : List (List ℕ)) (c : Command) (old new : Outside) → IsCommand words c → IsNotGot (files_of c) old new → Ends words old new Shelf
-shelf_done words c old new is h = no_file c is h
-
--- or there was no memory
-pub memory_done : (words : List (List ℕ)) (c : Command) (old new : Outside) → IsCommand words c → Wants (files_of c) old new → Ends words old new Memory
-memory_done words c old new is h = no_memory c is h
-
 -- WHAT A STAGE MADE of the files that it got, of a command that puts it under a name
 pub record StageMade (c : Command) (name : List ℕ) (sink : Output) (disk : Drive) (old mid : Files) (made : Result (Vec ℕ) Stop) : Type 0 where
   pub gets : AnswerGets (files_of c) (beside sink disk old) (beside sink disk mid) made
-  pub plan : IfPlan (λ v. puts name v.items) (FilesPlan old.file c) made
+  pub plan : IfPlan (puts_made name) (FilesPlan layer_image old.file c) made
 
--- it stopped, and it was said why
-pub stop_done : {O : Type 0} (told : sink_of.Ghosts O) (words : List (List ℕ)) (c : Command) (name : List ℕ) (disk : Drive) (old mid : Files) (s : Stop) (o o' : O) (status : Status) → IsCommand words c
-    → StageMade c name (output told o) disk old mid (Err s) → SaysStop told s o o' status → Ends words (beside (output told o) disk old) (beside (output told o') disk mid) status
-stop_done told words c name disk old mid (Stops.Refused r) o o' status is h says = refused_done words c r _ _ _ status is h.plan h.gets refl (says mid disk)
-stop_done {O} told words c name disk old mid Stops.Shelf o o' status is h (same, e) =
+-- A STAGE STOPPED, and it was said why
+pub stop_done : {O : Type 0} (told : sink_of.Ghosts O) (words : List (List ℕ)) (c : Command) (disk : Drive) (old mid : Files) (s : Stop) (o o' : O) (status : Status) → IsCommand words c
+    → StopGets (files_of c) (beside (output told o) disk old) (beside (output told o) disk mid) s → IfRefused (FilesPlan layer_image old.file c) s → SaysStop told s o o' status
+    → Ends words (beside (output told o) disk old) (beside (output told o') disk mid) status
+stop_done told words c disk old mid (Stops.Refused r) o o' status is gets plan said = refused_done words c r _ _ _ status is plan gets refl (said mid disk)
+stop_done {O} told words c disk old mid Stops.Shelf o o' status is gets plan (same, e) =
     subst (λ (x : O). Ends words (beside (output told o) disk old) (beside (output told x) disk mid) status) (sym same)
-    (subst (Ends words (beside (output told o) disk old) (beside (output told o) disk mid)) (sym e) (shelf_done words c _ _ is h.gets))
-stop_done {O} told words c name disk old mid Stops.Memory o o' status is h (same, e) =
+    (subst (Ends words (beside (output told o) disk old) (beside (output told o) disk mid)) (sym e) (no_file c is gets))
+stop_done {O} told words c disk old mid Stops.Memory o o' status is gets plan (same, e) =
     subst (λ (x : O). Ends words (beside (output told o) disk old) (beside (output told x) disk mid) status) (sym same)
-    (subst (Ends words (beside (output told o) disk old) (beside (output told o) disk mid)) (sym e) (memory_done words c _ _ is h.gets))
+    (subst (Ends words (beside (output told o) disk old) (beside (output told o) disk mid)) (sym e) (no_memory c is gets))
 
 -- THE WORDS ARE NO COMMAND
 pub bad_words_done : (words : List (List ℕ)) (old new : Outside) (status : Status) → IsNoCommand words → Acts (says (codes "bad words\n")) Words old new status → Ends words old new status
@@ -239,13 +238,13 @@ viewed P b view.Boot h = h
 viewed P b (view.Trace u) h = h
 
 -- THE SAMPLE of a number
-pub sample_done : (words : List (List ℕ)) (x : Sample) (p : Plan) (old new : Outside) (status : Status) → IsSample words x → IsSamplePlan layer_image x.number p → p ≢ bad_words → p ≢ refuses too_long
+pub sample_done : (words : List (List ℕ)) (x : Sample) (p : Plan) (old new : Outside) (status : Status) → IsSample words x → IsPlan ⊤ (PartsPlan layer_image sample_session (sample_of x.number)) p → p ≢ bad_words → p ≢ refuses too_long
     → IfSome old.disk.sectors (IsDisk old.disk.size) → DoesOrWants p old new status → Ends words old new status
 sample_done words x p old new status is plan some short disk (inl d) =
     nothing_got words (sample x) p old new status refl is plan some short (finds p words old (found words (sample x) old is tt disk)) d
 sample_done words x p old new status is plan some short disk (inr (m, e)) = subst (Ends words old new) (sym m) (nothing_wanted words (sample x) old new refl is e)
 
-pub sample_refused : (words : List (List ℕ)) (x : Sample) (r : ByCode) (old new : Outside) (status : Status) → IsSample words x → IsSamplePlan layer_image x.number (refuses (refusal_view r)) → r ≢ by.TooLong
+sample_refused : (words : List (List ℕ)) (x : Sample) (r : ByCode) (old new : Outside) (status : Status) → IsSample words x → IsPlan ⊤ (PartsPlan layer_image sample_session (sample_of x.number)) (refuses (refusal_view r)) → r ≢ by.TooLong
     → Acts (says (stated_row r)) (stated_status r) old new status → Ends words old new status
 sample_refused words x r old new status is plan short acts =
     nothing_got words (sample x) (refuses (refusal_view r)) old new status refl is plan (λ e. cc) (other (which r)) tt (refusal_plan r old new status acts)
@@ -253,3 +252,14 @@ sample_refused words x r old new status is plan short acts =
     other : (r ≡ by.TooLong) ⊎ (refusal_view r ≢ too_long) → refuses (refusal_view r) ≢ refuses too_long
     other (inl e) h = short e
     other (inr named) h = named (one_refusal (refusal_view r) too_long h)
+
+-- it stopped, and it was said why
+pub sample_stopped : {O : Type 0} (told : sink_of.Ghosts O) (words : List (List ℕ)) (x : Sample) (shelf : Files) (disk : Drive) (s : Stop) (o o' : O) (status : Status) → IsSample words x
+    → IfRefused (IsPlan ⊤ (PartsPlan layer_image sample_session (sample_of x.number))) s → s ≢ Stops.Shelf → s ≢ Stops.Refused by.TooLong → SaysStop told s o o' status
+    → Ends words (beside (output told o) disk shelf) (beside (output told o') disk shelf) status
+sample_stopped told words x shelf disk (Stops.Refused r) o o' status is plan inside short said =
+    sample_refused words x r _ _ status is plan (λ e. short (ap (λ (y : ByCode). Stops.Refused y) e)) (said shelf disk)
+sample_stopped told words x shelf disk Stops.Shelf o o' status is plan inside short said = absurd (inside refl)
+sample_stopped {O} told words x shelf disk Stops.Memory o o' status is plan inside short (same, e) =
+    subst (Ends words (beside (output told o) disk shelf) (beside (output told o') disk shelf)) (sym e)
+    (nothing_wanted words (sample x) _ _ refl is (ap (λ (y : O). beside (output told y) disk shelf) same))

@@ -15,7 +15,7 @@ use Rattle.cvm_shell.specs.declared.refusal.Refusal.TheVariants as by
 use Rattle.run_scripts.specs.Command.{texts}
 use Rattle.run_scripts.specs.Ends.{IsByte, AreShort, MayBeShort, MayBeLong, IsNotGot, Wants, behind, within, wants}
 use Rattle.run_scripts.specs.Served.{gets}
-use Rattle.cvm_shell.specs.Stages.{stop_of}
+use Rattle.cvm_shell.specs.Stages.{stop_of, IsFile}
 use Rattle.cvm_shell.specs.Does.{AreGot, IsLong, StopGets, AnswerGets}
 
 -- files beside a sink and a disk
@@ -180,13 +180,9 @@ none_got [] at few = record { performs = done at; short = tt; few = few }
 none_got (n ∷ names) at few = record { performs = done at; short = tt; few = few }
 
 -- WHAT WAS GOT is of bytes, where it is told
-told_bytes : (told : Option (List ℕ)) (items : List ℕ) → Tells told items → All IsByte items → IfSome told (All IsByte)
-told_bytes None items t h = tt
-told_bytes (Some xs) items t h = subst (All IsByte) t h
-
--- from a shelf whose files tell the same
-pub got_bytes : (file other : List ℕ → Option (List ℕ)) (name items : List ℕ) → other name ≡ file name → Tells (other name) items → All IsByte items → IfSome (file name) (All IsByte)
-got_bytes file other name items same t h = told_bytes (file name) items (subst (λ (o : Option (List ℕ)). Tells o items) same t) h
+pub told_bytes : (told : Option (List ℕ)) (items : List ℕ) → IsFile told items → IfSome told (All IsByte)
+told_bytes None items f = tt
+told_bytes (Some xs) items f = subst (All IsByte) f.tells f.are_bytes
 
 pub if_ok : {T : Type 0} (P : Type 0) (r : Result T Stop) → P → IfOk r (λ x. P)
 if_ok P (Ok x) h = h

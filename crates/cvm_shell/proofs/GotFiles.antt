@@ -1,6 +1,7 @@
 -- Files that are got one after the other: what comes of all of them, or of the first that is too long.
 use Rattle.std.proofs.Common.{◌≡◌, inl, inr, ℕ, zero, suc, ◌<◌, ◌≤◌, min, List, [], ◌∷◌, ◌++◌, ◌+◌, length, map, take, drop, get_or, Vec, refl, sym, ap, ◌∙◌, subst, arith}
 use Rattle.std.specs.Prelude.{Option, IfSome, ⊤, string_bytes}
+use Rattle.std.specs.Option.{IsSome}
 use Rattle.std.specs.declared.string.String.{String}
 use Rattle.std.specs.declared.alloc.Global.{Global}
 use Rattle.cvm_outside.specs.Told.{TOO_LONG, Tells}
@@ -11,8 +12,8 @@ use Rattle.cvm_shell.specs.declared.boot.Stop.TheVariants.{Refused, Shelf, Memor
 use Rattle.cvm_shell.specs.declared.refusal.Refusal.{Refusal as ByCode}
 use Rattle.run_scripts.specs.Command.{texts}
 use Rattle.run_scripts.specs.Refusal.{too_long}
-use Rattle.run_scripts.specs.Plan.{Plan, refuses, GotAll, AreTold, IsPlan}
-use Rattle.cvm_shell.specs.Stages.{stop_of, Fetched, LongAmong, NotFetched}
+use Rattle.run_scripts.specs.Plan.{Plan, refuses, Got, GotAll, AreTold, IsPlan}
+use Rattle.cvm_shell.specs.Stages.{stop_of, IsFile, Fetched, LongAmong, NotFetched}
 use Rattle.cvm_shell.specs.Views.{refusal_view, IfRefused}
 use Rattle.cvm_shell.proofs.Plans.{got_whole, got_long, long_contents}
 
@@ -62,14 +63,21 @@ long_behind told [] (c ∷ got) n b rest f t l = absurd f
 long_behind told (m ∷ names) [] n b rest f t l = absurd f
 long_behind told (m ∷ names) (c ∷ got) n b rest (u, s, f) t l = inr (c, u, s, long_behind told names got n b rest f t l)
 
--- a fault of the shelf at a file behind those that were got
-pub not_fetched : (told : Files) (names got : List (List ℕ)) (n : List ℕ) (rest : List (List ℕ)) (taken : ℕ) (f : ShelfFault) → Fetched told names got
-    → (f ≡ Long → taken ≡ TOO_LONG) → (f ≡ Long → IfSome (told n) (λ bs. taken ≡ min (length bs) TOO_LONG)) → NotFetched told (names ++ n ∷ rest) (stop_of f)
-not_fetched told names got n rest taken Failed fetched all many = tt
-not_fetched told names got n rest taken Long fetched all many =
+-- a fault of the shelf at a file
+pub not_fetched : (told : Files) (n : List ℕ) (taken : ℕ) (f : ShelfFault) → (f ≡ Long → taken ≡ TOO_LONG) → (f ≡ Long → IfSome (told n) (λ bs. taken ≡ min (length bs) TOO_LONG))
+    → NotFetched told (n ∷ []) (stop_of f)
+not_fetched told n taken Failed all many = tt
+not_fetched told n taken Long all many =
     let contents = long_contents (told n) taken (all refl) (many refl) in
-    (refl, long_behind told names got n contents.0 rest fetched contents.1 contents.2)
-not_fetched told names got n rest taken NoMemory fetched all many = tt
+    (refl, inl contents)
+not_fetched told n taken NoMemory all many = tt
+
+-- at a file behind those that were got
+pub stopped_more : (told : Files) (names got : List (List ℕ)) (n : List ℕ) (rest : List (List ℕ)) (s : Stop) → Fetched told names got → NotFetched told (n ∷ []) s → NotFetched told (names ++ n ∷ rest) s
+stopped_more told names got n rest (Refused r) fetched (e, inl (b, t, l)) = (e, long_behind told names got n b rest fetched t l)
+stopped_more told names got n rest (Refused r) fetched (e, inr (b, t, s, h)) = absurd h
+stopped_more told names got n rest Shelf fetched h = tt
+stopped_more told names got n rest Memory fetched h = tt
 
 -- What holds of files that another shelf tells as well.
 
@@ -113,3 +121,14 @@ pub unfetched_plan : (told : Files) (names : List (List ℕ)) (next : List (List
 unfetched_plan told names next (Refused r) (e, h) = subst (λ (x : ByCode). IsPlan (AreTold told names) (GotAll told names next) (refuses (refusal_view x))) (sym e) (long_plan told names next h)
 unfetched_plan told names next Shelf h = tt
 unfetched_plan told names next Memory h = tt
+
+-- ONE FILE: what stopped its get stops what gets it first
+pub file_stopped : (told : Files) (name : List ℕ) (next : List ℕ → Plan → Type 0) (T : Type 0) (s : Stop) → (T → IsSome (told name)) → NotFetched told (name ∷ []) s → IfRefused (IsPlan T (Got (told name) next)) s
+file_stopped told name next T (Refused r) some (e, inl (b, t, l)) = subst (λ (x : ByCode). IsPlan T (Got (told name) next) (refuses (refusal_view x))) (sym e) (got_long (told name) next T b some t l)
+file_stopped told name next T (Refused r) some (e, inr (b, t, s, h)) = absurd h
+file_stopped told name next T Shelf some h = tt
+file_stopped told name next T Memory some h = tt
+
+-- of a shelf whose files tell the same
+pub file_moved : (told other : Option (List ℕ)) (bytes : List ℕ) → other ≡ told → IsFile other bytes → IsFile told bytes
+file_moved told other bytes e f = subst (λ (o : Option (List ℕ)). IsFile o bytes) e f

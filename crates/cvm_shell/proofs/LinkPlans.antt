@@ -34,8 +34,8 @@ use Rattle.cvm_shell.specs.declared.refusal.Refusal.TheVariants as by
 use Rattle.run_scripts.specs.Command.{Link, link}
 use Rattle.run_scripts.specs.Refusal.{bad_object, bad_file, unlinked}
 use Rattle.cvm_shell.specs.Linked.{IsAcceptedAs}
-use Rattle.run_scripts.specs.Plan.{Plan, refuses, puts, Got, GotAll, words_from, linked_plan, AfterParts, unfit, answered, AfterUsers, AfterParams, AfterSystem, no_object, has_object, AreTold, GetsTold, IsPlan}
-use Rattle.cvm_shell.specs.Stages.{object_stop, file_stop, link_stop, Fetched, IsLinkPlan}
+use Rattle.run_scripts.specs.Plan.{Plan, refuses, puts, Got, GotAll, words_from, linked_plan, AfterParts, unfit, answered, AfterUsers, AfterParams, AfterSystem, no_object, has_object, AreTold, IsPlan}
+use Rattle.cvm_shell.specs.Stages.{GetsTold, object_stop, file_stop, link_stop, Fetched, FilesPlan}
 use Rattle.cvm_shell.specs.Views.{IfRefused, IfPlan}
 use Rattle.cvm_shell.proofs.Plans.{got_whole, if_refused, if_plan}
 use Rattle.cvm_shell.proofs.AcceptedAs.{linked_system, accepted_as}
@@ -234,13 +234,13 @@ AfterObject layer told l object = Got (told l.params) (λ params. GotAll told l.
 
 -- the object was got: a stop at the parameters is a stop of the linking
 pub object_got : (layer : Layers) (told : List ℕ → Option (List ℕ)) (l : Link) (object : List ℕ) (s : Stop) → Tells (told l.object) object → length object < TOO_LONG
-    → IfRefused (IsPlan (IsSome (told l.params) × AreTold told l.users) (AfterObject layer told l object)) s → IfRefused (IsLinkPlan layer told l) s
+    → IfRefused (IsPlan (IsSome (told l.params) × AreTold told l.users) (AfterObject layer told l object)) s → IfRefused (FilesPlan layer told (link l)) s
 object_got layer told l object s t short h =
-    if_refused _ (IsLinkPlan layer told l) (λ p is. got_whole (told l.object) (AfterObject layer told l) (GetsTold told (link l)) (IsSome (told l.params) × AreTold told l.users) object p (λ k. k.0) (λ k. (k.1, k.2)) t short is) s h
+    if_refused _ (FilesPlan layer told (link l)) (λ p is. got_whole (told l.object) (AfterObject layer told l) (GetsTold told (link l)) (IsSome (told l.params) × AreTold told l.users) object p (λ k. k.0) (λ k. (k.1, k.2)) t short is) s h
 
 -- the parameters were got too: a stop at the users
 pub params_got : (layer : Layers) (told : List ℕ → Option (List ℕ)) (l : Link) (object params : List ℕ) (s : Stop) → Tells (told l.object) object → length object < TOO_LONG
-    → Tells (told l.params) params → length params < TOO_LONG → IfRefused (IsPlan (AreTold told l.users) (GotAll told l.users (AfterSystem layer l.image object params))) s → IfRefused (IsLinkPlan layer told l) s
+    → Tells (told l.params) params → length params < TOO_LONG → IfRefused (IsPlan (AreTold told l.users) (GotAll told l.users (AfterSystem layer l.image object params))) s → IfRefused (FilesPlan layer told (link l)) s
 params_got layer told l object params s t short u few h =
     object_got layer told l object s t short
     (if_refused _ _ (λ p is. got_whole (told l.params) (λ ps. GotAll told l.users (AfterSystem layer l.image object ps)) (IsSome (told l.params) × AreTold told l.users) (AreTold told l.users) params p (λ k. k.0) (λ k. k.1) u few is) s h)
@@ -248,8 +248,8 @@ params_got layer told l object params s t short u few h =
 -- all files were got: what their bytes come to is what the linking comes to
 pub system_got : {A : Type 0} (made : A → Plan) (layer : Layers) (told : List ℕ → Option (List ℕ)) (l : Link) (object params : List ℕ) (users : List (List ℕ)) (r : Result A Stop)
     → Tells (told l.object) object → length object < TOO_LONG → Tells (told l.params) params → length params < TOO_LONG → Fetched told l.users users
-    → IfPlan made (IsPlan ⊤ (AfterSystem layer l.image object params users)) r → IfPlan made (IsLinkPlan layer told l) r
+    → IfPlan made (IsPlan ⊤ (AfterSystem layer l.image object params users)) r → IfPlan made (FilesPlan layer told (link l)) r
 system_got made layer told l object params users r t short u few all h =
-    if_plan made _ (IsLinkPlan layer told l) (λ p is. got_whole (told l.object) (AfterObject layer told l) (GetsTold told (link l)) (IsSome (told l.params) × AreTold told l.users) object p (λ k. k.0) (λ k. (k.1, k.2)) t short
+    if_plan made _ (FilesPlan layer told (link l)) (λ p is. got_whole (told l.object) (AfterObject layer told l) (GetsTold told (link l)) (IsSome (told l.params) × AreTold told l.users) object p (λ k. k.0) (λ k. (k.1, k.2)) t short
     (got_whole (told l.params) (λ ps. GotAll told l.users (AfterSystem layer l.image object ps)) (IsSome (told l.params) × AreTold told l.users) (AreTold told l.users) params p (λ k. k.0) (λ k. k.1) u few
     (fetched_plan told l.users users (AfterSystem layer l.image object params) p all is))) r h

@@ -23,8 +23,8 @@ use Rattle.user_c0.specs.Compiled.{ImagesAreWhole, ImagesAreWords}
 use Rattle.user_c0.specs.declared.fault.UserFault.TheVariants.{TooLarge}
 use Rattle.user_c0.specs.Image.{map_of, image_words}
 use Rattle.user_c0.specs.Program.{MAX_IMAGE}
-use Rattle.run_scripts.specs.Refusal.{Refusal, bad_program}
-use Rattle.run_scripts.specs.Plan.{Plan, refuses, puts, bytes_of, Accepts, unread, mistyped, compiles, program_plan, AfterProgram, words_from, before_them}
+use Rattle.run_scripts.specs.Refusal.{Refusal, bad_program, bad_source}
+use Rattle.run_scripts.specs.Plan.{Plan, refuses, puts, bytes_of, Accepts, program_plan, AfterProgram, words_from, before_them}
 use Rattle.cvm_shell.specs.Programs.{IsProgramFile, LinkedPrograms}
 
 no_put : (r : Refusal) (name bytes : List ℕ) → refuses r ≡ puts name bytes → ⊥
@@ -43,9 +43,8 @@ put_of name bytes u e = by (nat_lt MAX_IMAGE (length (image_words u))) refl e
     by false q h = let le = ltb-false MAX_IMAGE (length (image_words u)) q in (omega (arith, le), same_bytes name (bytes_of (image_words u)) bytes h)
 
 compiled : (name source bytes : List ℕ) (p : Plan) → AfterProgram name source p → p ≡ puts name bytes → (u : CUnit) × IsProgramFile source u bytes
-compiled name source bytes _ (unread f n is) e = absurd (no_put _ name bytes e)
-compiled name source bytes _ (mistyped f n short is) e = absurd (no_put _ name bytes e)
-compiled name source bytes _ (compiles u short is) e = let r = put_of name bytes u e in (u, record { unit = is; small = r.0; bytes_are = r.1 })
+compiled name source bytes p (Err f, is, same) e = absurd (no_put (bad_source f) name bytes (sym same ∙ e))
+compiled name source bytes p (Ok u, is, same) e = let r = put_of name bytes u (sym same ∙ e) in (u, record { unit = is; small = r.0; bytes_are = r.1 })
 
 -- words are read back from their bytes
 bits : (ws : List ℕ) → All IsWord ws → AllByRecursion (λ w. w < 2 ^ 32) ws

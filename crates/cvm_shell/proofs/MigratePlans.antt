@@ -15,10 +15,10 @@ use Rattle.kernel_linker.specs.Accept.{accept_answer}
 use Rattle.kernel_linker.specs.Migrate.{migrate_answer, Migrates, MigratedAreAccepted}
 use Rattle.kernel_linker.specs.declared.fault.AcceptFault.{AcceptFault}
 use Rattle.cvm_shell.specs.declared.boot.Stop.{Stop}
-use Rattle.run_scripts.specs.Command.{Migrate}
+use Rattle.run_scripts.specs.Command.{Migrate, migrate}
 use Rattle.cvm_shell.specs.Linked.{IsAcceptedAs, IsAcceptedAsOld}
 use Rattle.run_scripts.specs.Plan.{Plan, puts, Renews, renewed_plan, AfterOld, IsPlan}
-use Rattle.cvm_shell.specs.Stages.{accept_stop, IsMigratePlan}
+use Rattle.cvm_shell.specs.Stages.{accept_stop, FilesPlan}
 use Rattle.cvm_shell.specs.Views.{IfRefused, IfPlan}
 use Rattle.cvm_shell.proofs.Plans.{got_whole, if_plan}
 use Rattle.cvm_shell.proofs.AcceptedAs.{linked_system, accepted_as}
@@ -72,6 +72,6 @@ migrated_accepted law layer old bytes i answers e =
 
 -- An image of form 2 was got.
 pub old_got : {A : Type 0} (made : A → Plan) (layer : Layers) (file : List ℕ → Option (List ℕ)) (m : Migrate) (old : List ℕ) (r : Result A Stop) → Tells (file m.old) old → length old < TOO_LONG
-    → IfPlan made (IsPlan ⊤ (AfterOld layer m.image old)) r → IfPlan made (IsMigratePlan layer file m) r
+    → IfPlan made (IsPlan ⊤ (AfterOld layer m.image old)) r → IfPlan made (FilesPlan layer file (migrate m)) r
 old_got made layer file m old r t short h =
-    if_plan made _ (IsMigratePlan layer file m) (λ p is. got_whole (file m.old) (AfterOld layer m.image) (IsSome (file m.old)) ⊤ old p (λ told. told) (λ told. tt) t short is) r h
+    if_plan made _ (FilesPlan layer file (migrate m)) (λ p is. got_whole (file m.old) (AfterOld layer m.image) (IsSome (file m.old)) ⊤ old p (λ told. told) (λ told. tt) t short is) r h

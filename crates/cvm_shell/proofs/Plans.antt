@@ -4,17 +4,16 @@ use Rattle.std.specs.Prelude.{Option, IfSome, Result, ⊤, replicate}
 use Rattle.std.specs.Option.{IsSome}
 use Rattle.std.proofs.lemmas.List.{length-replicate}
 use Rattle.cvm_outside.specs.Told.{TOO_LONG, Tells}
-use Rattle.cvm_outside.specs.declared.shelf.ShelfFault.{ShelfFault}
-use Rattle.cvm_outside.specs.declared.shelf.ShelfFault.TheVariants.{Failed, TooLong as Long, Memory as NoMemory}
+use Rattle.real_layer.specs.Image.{layer_image}
 use Rattle.mips_asm.specs.Assembled.{assembled}
 use Rattle.mips_asm.specs.declared.fault.AsmFault.{AsmFault}
 use Rattle.mips_asm.specs.declared.fault.AsmFault.TheVariants.{BadByte, UnknownMnemonic, BadOperand, OutOfRange, UnknownLabel, LabelTwice, TooLong, Memory}
 use Rattle.cvm_shell.specs.declared.boot.Stop.{Stop}
 use Rattle.cvm_shell.specs.declared.boot.Stop.TheVariants.{Refused, Shelf, Memory as OutOfMemory}
-use Rattle.run_scripts.specs.Command.{CompileUser}
+use Rattle.run_scripts.specs.Command.{CompileUser, compile_user}
 use Rattle.run_scripts.specs.Refusal.{too_long, bad_text}
 use Rattle.run_scripts.specs.Plan.{Plan, refuses, puts, Got, long, whole, AfterText, no_words, assembles, bytes_of, IsPlan}
-use Rattle.cvm_shell.specs.Stages.{stop_of, text_stop, IsUserPlan}
+use Rattle.cvm_shell.specs.Stages.{text_stop, FilesPlan}
 use Rattle.cvm_shell.specs.Views.{refusal_view, IfRefused, IfPlan}
 
 -- A file is got.
@@ -60,15 +59,6 @@ got_whole told next T U bytes p some part t s is = record {
   only = λ h q got. only_whole told next bytes p t s (λ r n. is.only (part h) r n) (some h) q got;
 }
 
--- a fault of the shelf: a file that is too long is refused
-pub got_fault : (told : Option (List ℕ)) (next : List ℕ → Plan → Type 0) (T : Type 0) (taken : ℕ) (f : ShelfFault) → (T → IsSome told)
-    → (f ≡ Long → taken ≡ TOO_LONG) → (f ≡ Long → IfSome told (λ bs. taken ≡ min (length bs) TOO_LONG)) → IfRefused (IsPlan T (Got told next)) (stop_of f)
-got_fault told next T taken Failed some all many = tt
-got_fault told next T taken Long some all many =
-    let contents = long_contents told taken (all refl) (many refl) in
-    got_long told next T contents.0 some contents.1 contents.2
-got_fault told next T taken NoMemory some all many = tt
-
 -- a fact of a plan and another that follows from it
 pub if_refused : (P Q : Plan → Type 0) → ((p : Plan) → P p → Q p) → (s : Stop) → IfRefused P s → IfRefused Q s
 if_refused P Q f (Refused r) h = f (refuses (refusal_view r)) h
@@ -109,6 +99,6 @@ text_assembled name text words e = record { comes = assembles words e; only = λ
 
 -- The text of a user was got.
 pub text_got : {A : Type 0} (made : A → Plan) (file : List ℕ → Option (List ℕ)) (c : CompileUser) (text : List ℕ) (r : Result A Stop) → Tells (file c.text) text → length text < TOO_LONG
-    → IfPlan made (IsPlan ⊤ (AfterText c.image text)) r → IfPlan made (IsUserPlan file c) r
+    → IfPlan made (IsPlan ⊤ (AfterText c.image text)) r → IfPlan made (FilesPlan layer_image file (compile_user c)) r
 text_got made file c text r t short h =
-    if_plan made _ (IsUserPlan file c) (λ p is. got_whole (file c.text) (AfterText c.image) (IsSome (file c.text)) ⊤ text p (λ told. told) (λ told. tt) t short is) r h
+    if_plan made _ (FilesPlan layer_image file (compile_user c)) (λ p is. got_whole (file c.text) (AfterText c.image) (IsSome (file c.text)) ⊤ text p (λ told. told) (λ told. tt) t short is) r h

@@ -1,5 +1,5 @@
 -- What is done of the plan of a resume, by the calls of the call that takes its machine up and goes on with it.
-use Rattle.std.proofs.Common.{◌≡◌, ◌≢◌, ◌⊎◌, inl, inr, ℕ, zero, suc, ◌+◌, ◌-◌, ◌<◌, ◌≤◌, Bool, true, false, List, [], ◌∷◌, ◌++◌, refl, sym, ap, ◌∙◌, subst, Some, None, Ok, Err, arith}
+use Rattle.std.proofs.Common.{◌≡◌, ◌≢◌, ◌⊎◌, inl, inr, ℕ, zero, suc, ◌+◌, ◌-◌, ◌<◌, ◌≤◌, Bool, true, false, List, [], ◌∷◌, ◌++◌, refl, sym, ap, ◌∙◌, ap₂, subst, Some, None, Ok, Err, arith}
 use Rattle.std.specs.Prelude.{Option, Result, slice_index}
 use Rattle.std.specs.List.{flat_map}
 use Rattle.cvm_words.specs.Bytes.{word}
@@ -18,13 +18,11 @@ use Rattle.boot_turns.specs.Runs.{Run, turns_at, state_at, steps_made, has_ended
 use Rattle.boot_turns.specs.declared.answers.View.TheVariants as view
 use Rattle.boot_turns.proofs.ShownRows.{scripts-same}
 use Rattle.boot_run.specs.declared.whole.RunEnd.{RunEnd}
-use Rattle.boot_run.specs.declared.whole.RunEnd.TheVariants as ends
 use Rattle.boot_run.specs.AnyScripts.{end_by_power, power_end, untold_script, IsReport}
 use Rattle.boot_run.specs.Closing.{says}
 use Rattle.boot_run.specs.Loading.{system_of as loaded_system}
 use Rattle.boot_run.specs.LoadEnds.{pages_needed}
 use Rattle.boot_run.specs.RunCalls.{run_at, of_end, due_end}
-use Rattle.boot_run.specs.RunEnds.{ending_of_end}
 use Rattle.boot_run.specs.RunScript.{AreReads, untold_steps, rest_script}
 use Rattle.boot_run.specs.SavedFiles.{wanted_of}
 use Rattle.machine_save.specs.ResumeCalls.{ResumeScript}
@@ -36,20 +34,23 @@ use Rattle.run_scripts.specs.declared.exit_status.Status.TheVariants.{Done, Refu
 use Rattle.cvm_shell.specs.declared.boot.Ready.{Ready}
 use Rattle.run_scripts.specs.declared.session.Session.{Session}
 use Rattle.cvm_shell.specs.declared.resuming.Resumable.{Resumable}
+use Rattle.cvm_shell.specs.declared.boot.Stop.{Stop}
+use Rattle.cvm_shell.specs.declared.boot.Stop.TheVariants as Stops
 use Rattle.cvm_shell.specs.declared.refusal.Refusal.TheVariants as by
-use Rattle.run_scripts.specs.Boot.{sectors_needed, ended_as}
+use Rattle.run_scripts.specs.Boot.{sectors_needed}
 use Rattle.run_scripts.specs.Command.{Save, save_session}
 use Rattle.run_scripts.specs.Plan.{Plan, bad_words, refuses, resumes, taken_plan, wanted_by}
 use Rattle.run_scripts.specs.Refusal.{bad_save, small_disk, too_long, refusal_text}
 use Rattle.run_scripts.specs.RunStatus.{power_status, run_status}
 use Rattle.run_scripts.specs.SessionRuns.{run_of}
-use Rattle.cvm_shell.specs.Stages.{resumable_for}
+use Rattle.cvm_shell.specs.Stages.{resumable_for, save_stop, resume_stop, status_of_end}
 use Rattle.run_scripts.specs.Ends.{small, over_told, over_untold, SavedRun, Joins, answered}
-use Rattle.cvm_shell.specs.Does.{Acts, DoesPlan, DoesOrWants}
+use Rattle.cvm_shell.specs.Does.{Acts, SaysAs, SaysStop, DoesPlan, DoesOrWants}
 use Rattle.machine_save.specs.declared.resuming.ResumeFault.{ResumeFault}
 use Rattle.cvm_shell.proofs.StartAnswers.{same_wanted, same_need}
-use Rattle.cvm_shell.proofs.Doing.{refusal_plan}
-use Rattle.cvm_shell.proofs.SystemCalls.{same_status, some_status, named}
+use Rattle.cvm_shell.proofs.GotCalls.{beside}
+use Rattle.cvm_shell.proofs.Doing.{acted, refusal_plan}
+use Rattle.cvm_shell.proofs.SystemCalls.{by_end, same_status, some_status, named}
 
 -- what the bytes are answered by tells the plan
 pub answered_so : (r : Resumable) (c : Save) (P : Plan → Type 0) (a : Result (List ℕ) SaveFault) → machine_of (wanted_of r.ready.boot r.ready.schedule c.boot.turns) r.bytes.items ≡ a
@@ -58,10 +59,6 @@ answered_so r c P a e h =
     let same : a ≡ machine_of (wanted_by (system_of r.ready.boot) r.ready.schedule c.boot.turns) r.bytes.items =
     sym e ∙ ap (λ (w : Wanted). machine_of w r.bytes.items) (same_wanted r.ready.boot r.ready.schedule c.boot.turns) in
     subst (λ (x : Result (List ℕ) SaveFault). P (taken_plan (save_session c) (system_of r.ready.boot) r.ready.schedule x)) same h
-
--- the numbers of a fault by other names
-pub small_named : (P : ResumeFault → Type 0) (need have n h : ℕ) → need ≡ n → have ≡ h → P (fault.SmallDisk n h) → P (fault.SmallDisk need have)
-small_named P need have n h a b p = subst (λ (k : ℕ). P (fault.SmallDisk k have)) (sym a) (subst (λ (k : ℕ). P (fault.SmallDisk n k)) (sym b) p)
 
 -- the plan is of a command, and refuses no file that is too long
 pub taken_words : (session : Session) (s : ImageSystem) (rows : Rows) (a : Result (List ℕ) SaveFault) → taken_plan session s rows a ≢ bad_words
@@ -73,21 +70,13 @@ taken_short session s rows (Ok words) e = cc
 taken_short session s rows (Err f) e = cc
 
 -- THE STATUS of an end: of the one that the power word tells
-by_power : (ended : Bool) (off : Option ℕ) → ended_as (ending_of_end (end_by_power ended off)) ≡ power_status ended off
+by_power : (ended : Bool) (off : Option ℕ) → status_of_end (end_by_power ended off) ≡ power_status ended off
 by_power false None = refl
 by_power false (Some zero) = refl
 by_power false (Some (suc n)) = refl
 by_power true None = refl
 by_power true (Some zero) = refl
 by_power true (Some (suc n)) = refl
-
--- of any, where this one is due
-by_end : (e due : RunEnd) (status : Status) → (of_end e ≡ None → e ≡ due) → ended_as (ending_of_end due) ≡ status → ended_as (ending_of_end e) ≡ answered status (of_end e)
-by_end ends.Done due status is same = ap (λ (x : RunEnd). ended_as (ending_of_end x)) (is refl) ∙ same
-by_end ends.KernelFaulted due status is same = ap (λ (x : RunEnd). ended_as (ending_of_end x)) (is refl) ∙ same
-by_end ends.OutOfSteps due status is same = ap (λ (x : RunEnd). ended_as (ending_of_end x)) (is refl) ∙ same
-by_end ends.DiskFault due status is same = refl
-by_end ends.SinkFault due status is same = refl
 
 -- the report behind it
 no_reads : (report : List Call) → report ≡ [] → AreReads report
@@ -129,7 +118,7 @@ module _ {O D : Type 0} (text : sink_of.Ghosts O) (told : sectors_of.Ghosts D) (
   enough = subst (λ (n : ℕ). n ≤ told.size disk) (same_need r.boot r.schedule) room
 
   -- what is left of each run that was saved so
-  rest_of : (due : Status) → ended_as (ending_of_end e) ≡ answered due (of_end e) → Joins (resumes (save_session c) s r.schedule words) before after (of_end e) due
+  rest_of : (due : Status) → status_of_end e ≡ answered due (of_end e) → Joins (resumes (save_session c) s r.schedule words) before after (of_end e) due
   rest_of due stands = λ left run past made fits is a.
       let q : Run = run_of (save_session c) s r.schedule (told.size disk) a.sectors in
       let P : Run → Type 0 = λ x. SavedRun (save_session c) s r.schedule words (told.size disk) left x past made → Performs (rest_script x past made) before after (of_end e)
@@ -148,15 +137,15 @@ module _ {O D : Type 0} (text : sink_of.Ghosts O) (told : sectors_of.Ghosts D) (
       }) in
       (h.made shelf, sym stands ∙ by_end e (due_end q past) (run_status q past) h.is (same_status (has_ended q) (cvm_at q past (steps_made q)).status))) a
 
-  pub went_on_does : machine_of (wanted_of r.boot r.schedule c.boot.turns) bytes ≡ Ok words → DoesPlan (resumes (save_session c) s r.schedule words) before after (ended_as (ending_of_end e))
+  pub went_on_does : machine_of (wanted_of r.boot r.schedule c.boot.turns) bytes ≡ Ok words → DoesPlan (resumes (save_session c) s r.schedule words) before after (status_of_end e)
   went_on_does is = of (told.sectors disk) refl
     where
-      of : (sectors : Option (List (List ℕ))) → told.sectors disk ≡ sectors → DoesPlan (resumes (save_session c) s r.schedule words) before after (ended_as (ending_of_end e))
+      of : (sectors : Option (List (List ℕ))) → told.sectors disk ≡ sectors → DoesPlan (resumes (save_session c) s r.schedule words) before after (status_of_end e)
       of (Some left) t =
           let f = script.untold words left is t in
           let run : Run = run_at (outside_of r.schedule (told.size disk)) (loaded_system r.boot r.schedule) f.machine view.Boot (c.boot.turns - f.finished) (c.boot.steps - f.machine.time) in
           let off : Option ℕ = (state_at run (steps_made run)).off in
-          let stands : ended_as (ending_of_end e) ≡ answered (power_status (has_ended run) off) (of_end e) =
+          let stands : status_of_end e ≡ answered (power_status (has_ended run) off) (of_end e) =
           by_end e (power_end run) (power_status (has_ended run) off) f.ends.ends.is (by_power (has_ended run) off) in
           record {
             script = untold_steps run ++ f.ends.report;
@@ -191,38 +180,62 @@ module _ {O D : Type 0} (text : sink_of.Ghosts O) (told : sectors_of.Ghosts D) (
 pub taken_does : {O D : Type 0} (text : sink_of.Ghosts O) (told : sectors_of.Ghosts D) (r : Resumable) (c : Save) (out reout : O) (disk redisk : D) (shelf : Files) (e : RunEnd) →
     ResumeAnswers r.ready.boot r.ready.schedule c.boot.turns (told.size disk) r.bytes.items (Ok e) →
     ResumeScript text told r.ready.boot r.ready.schedule c.boot.turns c.boot.steps r.bytes.items (out, disk) (reout, redisk) (Ok e) →
-    DoesPlan (resumable_for c r) (record { shelf = shelf; sink = output text out; disk = drive told disk }) (record { shelf = shelf; sink = output text reout; disk = drive told redisk }) (ended_as (ending_of_end e))
+    DoesPlan (resumable_for c r) (record { shelf = shelf; sink = output text out; disk = drive told disk }) (record { shelf = shelf; sink = output text reout; disk = drive told redisk }) (status_of_end e)
 taken_does text told r c out reout disk redisk shelf e (words, a, spells, can, room) script =
-    answered_so r c (λ (p : Plan). DoesPlan p (record { shelf = shelf; sink = output text out; disk = drive told disk }) (record { shelf = shelf; sink = output text reout; disk = drive told redisk }) (ended_as (ending_of_end e)))
+    answered_so r c (λ (p : Plan). DoesPlan p (record { shelf = shelf; sink = output text out; disk = drive told disk }) (record { shelf = shelf; sink = output text reout; disk = drive told redisk }) (status_of_end e))
     (Ok words) a (went_on_does text told r.ready c r.bytes.items words out reout disk redisk shelf e spells can room script a)
 
--- IT WAS REFUSED: by a fault of the file
-pub file_does : (r : Resumable) (c : Save) (old new : Outside) (f : SaveFault) (status : Status) → ResumeAnswers r.ready.boot r.ready.schedule c.boot.turns old.disk.size r.bytes.items (Err (fault.Save f))
-    → ((status ≡ Memory) × (new ≡ old)) ⊎ ((f ≢ saving.Memory) × Acts (says (refusal_text (bad_save f))) Refused old new status) → DoesOrWants (resumable_for c r) old new status
-file_does r c old new f status answers (inl want) = inr want
-file_does r c old new f status (inl e) (inr (other, acts)) = absurd (other e)
-file_does r c old new f status (inr a) (inr (other, acts)) = inl (answered_so r c (λ (p : Plan). DoesPlan p old new status) (Err f) a (refusal_plan (by.BadSave f) old new status acts))
+-- a fault of a file is want of memory, or it is refused
+save_stops : (f : SaveFault) → (f ≡ saving.Memory) ⊎ ((f ≢ saving.Memory) × (save_stop f ≡ Stops.Refused (by.BadSave f)))
+save_stops saving.Magic = inr (λ e. cc, refl)
+save_stops (saving.Truncated at) = inr (λ e. cc, refl)
+save_stops (saving.Trailing at) = inr (λ e. cc, refl)
+save_stops (saving.Field place value) = inr (λ e. cc, refl)
+save_stops (saving.ForgedWord place stored made) = inr (λ e. cc, refl)
+save_stops (saving.SizeTooLarge user pages) = inr (λ e. cc, refl)
+save_stops (saving.TurnsDone done wanted) = inr (λ e. cc, refl)
+save_stops (saving.SaveTooLarge bytes) = inr (λ e. cc, refl)
+save_stops saving.Memory = inl refl
 
--- what is so of both cases
-pub each_case : (M P Q N R A : Type 0) → (M × P) ⊎ (N × R) → (P → Q) → (N → A) → (M × Q) ⊎ (N × A)
-each_case M P Q N R A (inl (m, p)) f g = inl (m, f p)
-each_case M P Q N R A (inr (n, r)) f g = inr (n, g n)
+-- IT WAS REFUSED: by a fault of the file, or want of memory
+file_does : (r : Resumable) (c : Save) (old new : Outside) (f : SaveFault) (status : Status) → ResumeAnswers r.ready.boot r.ready.schedule c.boot.turns old.disk.size r.bytes.items (Err (fault.Save f))
+    → f ≢ saving.Memory → Acts (says (refusal_text (bad_save f))) Refused old new status → DoesPlan (resumable_for c r) old new status
+file_does r c old new f status (inl e) other acts = absurd (other e)
+file_does r c old new f status (inr a) other acts = answered_so r c (λ (p : Plan). DoesPlan p old new status) (Err f) a (refusal_plan (by.BadSave f) old new status acts)
 
 -- or for a disk that is too small
-pub small_resume : (r : Resumable) (c : Save) (old new : Outside) (need have : ℕ) (status : Status) → ResumeAnswers r.ready.boot r.ready.schedule c.boot.turns old.disk.size r.bytes.items (Err (fault.SmallDisk need have))
+small_resume : (r : Resumable) (c : Save) (old new : Outside) (need have : ℕ) (status : Status) → ResumeAnswers r.ready.boot r.ready.schedule c.boot.turns old.disk.size r.bytes.items (Err (fault.SmallDisk need have))
     → Acts (says (refusal_text (small_disk need have))) Disk old new status → DoesPlan (resumable_for c r) old new status
 small_resume r c old new need have status (words, a, n, h, less) acts =
     let session : Session = save_session c in
     let s : ImageSystem = system_of r.ready.boot in
     let needed : need ≡ sectors_needed session s r.ready.schedule = n ∙ same_need r.ready.boot r.ready.schedule in
     let few : old.disk.size < sectors_needed session s r.ready.schedule = subst (λ (k : ℕ). old.disk.size < k) needed (subst (λ (k : ℕ). k < need) h less) in
-    let given = named session s r.ready.schedule need have old new status needed h acts in
-    answered_so r c (λ (p : Plan). DoesPlan p old new status) (Ok words) a (record {
-      script = says (refusal_text (small_disk (sectors_needed session s r.ready.schedule) old.disk.size));
-      due = Disk;
-      asks = small tt few;
-      blamed = given.blamed;
-      performs = given.performs;
-      joins = λ left run past made fits is b. absurd (omega (arith, few, fits));
-      status_is = given.status_is;
-    })
+    answered_so r c (λ (p : Plan). DoesPlan p old new status) (Ok words) a
+    (acted (resumes session s r.ready.schedule words) _ Disk old new status (small tt few) (λ blamed left run past made fits is b. absurd (omega (arith, few, fits)))
+    (named session s r.ready.schedule need have old new status needed h acts))
+
+-- and it was said why
+module _ {O D : Type 0} (text : sink_of.Ghosts O) (told : sectors_of.Ghosts D) (r : Resumable) (c : Save) (o o1 o2 : O) (d d1 : D) (shelf : Files) (status : Status) (same : d1 ≡ d) (unprinted : o1 ≡ o) where
+  abbrev at : O → D → Outside
+  at x y = beside (output text x) (drive told y) shelf
+
+  still : at o1 d1 ≡ at o d
+  still = ap₂ at unprinted same
+
+  said_from : (script : List Call) (due : Status) → Acts script due (at o1 d1) (at o2 d1) status → Acts script due (at o d) (at o2 d1) status
+  said_from script due acts = subst (λ (x : Outside). Acts script due x (at o2 d1) status) still acts
+
+  of_file : (f : SaveFault) → ResumeAnswers r.ready.boot r.ready.schedule c.boot.turns (told.size d) r.bytes.items (Err (fault.Save f)) → SaysStop text (save_stop f) o1 o2 status
+      → (f ≡ saving.Memory) ⊎ ((f ≢ saving.Memory) × (save_stop f ≡ Stops.Refused (by.BadSave f))) → DoesOrWants (resumable_for c r) (at o d) (at o2 d1) status
+  of_file f answers said (inl e) =
+      let want : (o2 ≡ o1) × (status ≡ Memory) = subst (λ (x : SaveFault). SaysStop text (save_stop x) o1 o2 status) e said in
+      inr (want.1, ap (λ (x : O). at x d1) want.0 ∙ still)
+  of_file f answers said (inr (other, e)) =
+      let row : SaysAs text Refused (refusal_text (bad_save f)) o1 o2 status = subst (λ (x : Stop). SaysStop text x o1 o2 status) e said in
+      inl (file_does r c (at o d) (at o2 d1) f status answers other (said_from _ Refused (row shelf (drive told d1))))
+
+  pub untaken_does : (f : ResumeFault) → ResumeAnswers r.ready.boot r.ready.schedule c.boot.turns (told.size d) r.bytes.items (Err f) → SaysStop text (resume_stop f) o1 o2 status
+      → DoesOrWants (resumable_for c r) (at o d) (at o2 d1) status
+  untaken_does (fault.SmallDisk need have) answers said = inl (small_resume r c (at o d) (at o2 d1) need have status answers (said_from _ Disk (said shelf (drive told d1))))
+  untaken_does (fault.Save f) answers said = of_file f answers said (save_stops f)

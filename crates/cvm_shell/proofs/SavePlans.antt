@@ -16,10 +16,10 @@ use Rattle.cvm_shell.specs.declared.boot.Stop.{Stop}
 use Rattle.cvm_shell.specs.declared.boot.Stop.TheVariants.{Refused, Shelf, Memory}
 use Rattle.cvm_shell.specs.declared.refusal.Refusal.{Refusal as ByCode}
 use Rattle.cvm_shell.specs.declared.refusal.Refusal.TheVariants as by
-use Rattle.run_scripts.specs.Command.{Save, resume, save_session}
+use Rattle.run_scripts.specs.Command.{Save, save, resume, save_session}
 use Rattle.run_scripts.specs.Refusal.{bad_save}
-use Rattle.run_scripts.specs.Plan.{Plan, refuses, boots, saves, Got, frames_of, most_bytes, saved_plan, taken_up, AfterFiles, AfterThree, GetsTold, IsPlan}
-use Rattle.cvm_shell.specs.Stages.{save_stop, HasNoRoom, IsBootPlan, IsSavePlan, IsResumePlan}
+use Rattle.run_scripts.specs.Plan.{Plan, refuses, boots, saves, Got, frames_of, most_bytes, saved_plan, taken_up, AfterFiles, AfterThree, IsPlan}
+use Rattle.cvm_shell.specs.Stages.{GetsTold, save_stop, HasNoRoom, IsBootPlan, FilesPlan}
 use Rattle.cvm_shell.specs.Views.{refusal_view, IfRefused}
 use Rattle.cvm_shell.proofs.Plans.{got_whole, if_refused}
 
@@ -30,11 +30,11 @@ abbrev Told : Type 0
 Told = List ℕ → Option (List ℕ)
 
 -- A SAVE
-pub saved_comes : (layer : Layers) (file : Told) (c : Save) (q : Plan) → IsBootPlan layer file c.boot (save_session c) q → IsSavePlan layer file c (saved_plan c.file q)
+pub saved_comes : (layer : Layers) (file : Told) (c : Save) (q : Plan) → IsBootPlan layer file c.boot (save_session c) q → FilesPlan layer file (save c) (saved_plan c.file q)
 saved_comes layer file c q is = record { comes = (q, is.comes, refl); only = λ told p other. other.2 ∙ ap (saved_plan c.file) (is.only told other.0 other.1) }
 
 -- what stops its boot stops it
-pub save_stopped : (layer : Layers) (file : Told) (c : Save) (s : Stop) → IfRefused (IsBootPlan layer file c.boot (save_session c)) s → IfRefused (IsSavePlan layer file c) s
+pub save_stopped : (layer : Layers) (file : Told) (c : Save) (s : Stop) → IfRefused (IsBootPlan layer file c.boot (save_session c)) s → IfRefused (FilesPlan layer file (save c)) s
 save_stopped layer file c (Refused r) h = saved_comes layer file c (refuses (refusal_view r)) h
 save_stopped layer file c Shelf h = tt
 save_stopped layer file c Memory h = tt
@@ -59,17 +59,17 @@ short_plan session s rows name few =
     chosen (nat_lt FILE_ROOM (most_bytes s)) (refuses (bad_save (saving.SaveTooLarge (most_bytes s)))) (saves session s rows name) (not_below FILE_ROOM (most_bytes s) few)
 
 pub save_short : (layer : Layers) (file : Told) (c : Save) (s : ImageSystem) (rows : Rows) → IsBootPlan layer file c.boot (save_session c) (boots (save_session c) s rows) → most_bytes s ≤ FILE_ROOM
-    → IsSavePlan layer file c (saves (save_session c) s rows c.file)
+    → FilesPlan layer file (save c) (saves (save_session c) s rows c.file)
 save_short layer file c s rows is few =
-    subst (IsSavePlan layer file c) (short_plan (save_session c) s rows c.file few)
+    subst (FilesPlan layer file (save c)) (short_plan (save_session c) s rows c.file few)
     (saved_comes layer file c (boots (save_session c) s rows) is)
 
 -- there is none
 pub save_no_room : (layer : Layers) (file : Told) (c : Save) (s : ImageSystem) (rows : Rows) (t : Stop) → IsBootPlan layer file c.boot (save_session c) (boots (save_session c) s rows) → HasNoRoom s t
-    → IfRefused (IsSavePlan layer file c) t
+    → IfRefused (FilesPlan layer file (save c)) t
 save_no_room layer file c s rows (Refused r) is (e, many) =
-    subst (λ (x : ByCode). IsSavePlan layer file c (refuses (refusal_view x))) (sym e)
-    (subst (IsSavePlan layer file c) (chosen_first (nat_lt FILE_ROOM (most_bytes s)) (refuses (bad_save (saving.SaveTooLarge (most_bytes s)))) (saves (save_session c) s rows c.file) (below FILE_ROOM (most_bytes s) many))
+    subst (λ (x : ByCode). FilesPlan layer file (save c) (refuses (refusal_view x))) (sym e)
+    (subst (FilesPlan layer file (save c)) (chosen_first (nat_lt FILE_ROOM (most_bytes s)) (refuses (bad_save (saving.SaveTooLarge (most_bytes s)))) (saves (save_session c) s rows c.file) (below FILE_ROOM (most_bytes s) many))
     (saved_comes layer file c (boots (save_session c) s rows) is))
 save_no_room layer file c s rows Shelf is h = absurd h
 save_no_room layer file c s rows Memory is h = tt
@@ -100,7 +100,7 @@ module _ (layer : Layers) (file : Told) (c : Save) where
   abbrev Rest : Type 0
   Rest = IsSome (file c.boot.schedule) × IsSome (file c.file)
 
-  from_second : (image : List ℕ) (p : Plan) → Tells (file c.boot.image) image → length image < TOO_LONG → IsPlan Rest (Second image) p → IsResumePlan layer file c p
+  from_second : (image : List ℕ) (p : Plan) → Tells (file c.boot.image) image → length image < TOO_LONG → IsPlan Rest (Second image) p → FilesPlan layer file (resume c) p
   from_second image p t short is = got_whole (file c.boot.image) Second (GetsTold file (resume c)) Rest image p (λ told. told.0) (λ told. (told.1, told.2)) t short is
 
   from_third : (image schedule : List ℕ) (p : Plan) → Tells (file c.boot.schedule) schedule → length schedule < TOO_LONG → IsPlan (IsSome (file c.file)) (Third image schedule) p → IsPlan Rest (Second image) p
@@ -108,19 +108,19 @@ module _ (layer : Layers) (file : Told) (c : Save) where
       got_whole (file c.boot.schedule) (Third image) Rest (IsSome (file c.file)) schedule p (λ told. told.0) (λ told. told.1) t short is
 
   -- the image was got: what stops it at the schedule
-  pub second_stopped : (image : List ℕ) (s : Stop) → Tells (file c.boot.image) image → length image < TOO_LONG → IfRefused (IsPlan Rest (Second image)) s → IfRefused (IsResumePlan layer file c) s
-  second_stopped image s t short h = if_refused (IsPlan Rest (Second image)) (IsResumePlan layer file c) (λ p is. from_second image p t short is) s h
+  pub second_stopped : (image : List ℕ) (s : Stop) → Tells (file c.boot.image) image → length image < TOO_LONG → IfRefused (IsPlan Rest (Second image)) s → IfRefused (FilesPlan layer file (resume c)) s
+  second_stopped image s t short h = if_refused (IsPlan Rest (Second image)) (FilesPlan layer file (resume c)) (λ p is. from_second image p t short is) s h
 
   -- the schedule, too: what stops it at the file
   pub third_stopped : (image schedule : List ℕ) (s : Stop) → Tells (file c.boot.image) image → length image < TOO_LONG → Tells (file c.boot.schedule) schedule → length schedule < TOO_LONG
-      → IfRefused (IsPlan (IsSome (file c.file)) (Third image schedule)) s → IfRefused (IsResumePlan layer file c) s
+      → IfRefused (IsPlan (IsSome (file c.file)) (Third image schedule)) s → IfRefused (FilesPlan layer file (resume c)) s
   third_stopped image schedule s t short u few h =
       second_stopped image s t short
       (if_refused (IsPlan (IsSome (file c.file)) (Third image schedule)) (IsPlan Rest (Second image)) (λ p is. from_third image schedule p u few is) s h)
 
   -- all were got
   pub all_got : (image schedule bytes : List ℕ) (p : Plan) → Tells (file c.boot.image) image → length image < TOO_LONG → Tells (file c.boot.schedule) schedule → length schedule < TOO_LONG
-      → Tells (file c.file) bytes → length bytes < TOO_LONG → IsPlan ⊤ (AfterThree layer (save_session c) image schedule bytes) p → IsResumePlan layer file c p
+      → Tells (file c.file) bytes → length bytes < TOO_LONG → IsPlan ⊤ (AfterThree layer (save_session c) image schedule bytes) p → FilesPlan layer file (resume c) p
   all_got image schedule bytes p t short u few v less is =
       from_second image p t short
       (from_third image schedule p u few
@@ -128,9 +128,9 @@ module _ (layer : Layers) (file : Told) (c : Save) where
 
   -- and this stops it behind them
   pub all_stopped : (image schedule bytes : List ℕ) (s : Stop) → Tells (file c.boot.image) image → length image < TOO_LONG → Tells (file c.boot.schedule) schedule → length schedule < TOO_LONG
-      → Tells (file c.file) bytes → length bytes < TOO_LONG → IfRefused (IsPlan ⊤ (AfterFiles layer (save_session c) image schedule)) s → IfRefused (IsResumePlan layer file c) s
+      → Tells (file c.file) bytes → length bytes < TOO_LONG → IfRefused (IsPlan ⊤ (AfterFiles layer (save_session c) image schedule)) s → IfRefused (FilesPlan layer file (resume c)) s
   all_stopped image schedule bytes s t short u few v less h =
-      if_refused (IsPlan ⊤ (AfterThree layer (save_session c) image schedule bytes)) (IsResumePlan layer file c) (λ p is. all_got image schedule bytes p t short u few v less is) s
+      if_refused (IsPlan ⊤ (AfterThree layer (save_session c) image schedule bytes)) (FilesPlan layer file (resume c)) (λ p is. all_got image schedule bytes p t short u few v less is) s
       (three_stopped layer (save_session c) image schedule bytes s h)
 
 -- no room for a machine of so many frames

@@ -1,6 +1,7 @@
 -- What is done of the plan of a save, by the calls of the call that runs its system and puts its file.
-use Rattle.std.proofs.Common.{◌≡◌, ℕ, ◌-◌, ◌≤◌, Bool, true, false, List, [], ◌++◌, append_assoc, append-nil, refl, sym, ap, ◌∙◌, subst, arith, Some, None, Ok, Err}
-use Rattle.std.specs.Prelude.{Option, Result, if◌then◌else◌}
+use Rattle.std.proofs.Common.{◌≡◌, inl, inr, ℕ, ◌-◌, ◌≤◌, Bool, true, false, List, [], ◌++◌, append_assoc, append-nil, refl, sym, ap, ap₂, ◌∙◌, subst, arith, Some, None, Ok, Err}
+use Rattle.std.specs.Prelude.{Option, Result, IfErr, OnErr, if◌then◌else◌}
+use Rattle.cvm_outside.specs.Outside.{Outside}
 use Rattle.cvm_outside.specs.Script.{Call}
 use Rattle.cvm_outside.specs.declared.shelf.Shelf as shelf_of
 use Rattle.cvm_outside.specs.declared.sink.Sink as sink_of
@@ -12,35 +13,33 @@ use Rattle.boot_turns.specs.LoopScripts.{AreOfRun}
 use Rattle.boot_turns.specs.Runs.{Run, Past, steps_made, has_ended, cvm_at}
 use Rattle.boot_turns.specs.StepScript.{steps_script}
 use Rattle.boot_run.specs.declared.load.LoadFault.{LoadFault}
-use Rattle.boot_run.specs.declared.load.LoadFault.TheVariants as load
+use Rattle.boot_run.specs.declared.whole.RunEnd.{RunEnd}
 use Rattle.boot_run.specs.declared.whole.RunEnd.TheVariants as ends
 use Rattle.boot_run.specs.Closing.{closing_script}
 use Rattle.boot_run.specs.Loading.{system_of as loaded_system}
 use Rattle.boot_run.specs.LoadedPages.{user_pages}
 use Rattle.boot_run.specs.LoadEnds.{pages_needed}
 use Rattle.boot_run.specs.LoadScript.{load_script}
-use Rattle.boot_run.specs.RunCalls.{loads}
+use Rattle.boot_run.specs.RunCalls.{loads, of_end, of_answer}
 use Rattle.boot_run.specs.SaveCalls.{stop_script, stop_by, due_stop, unless_on}
-use Rattle.machine_save.specs.SaveCalls.{leave_script, put_script, of_saved, saved_by, IsDueSaved, SomeLeft, SavedScript}
-use Rattle.machine_save.specs.declared.saving.SavedEnd.{SavedEnd}
-use Rattle.machine_save.specs.declared.saving.SavedEnd.TheVariants as saved_end
+use Rattle.machine_save.specs.SaveCalls.{leave_script, put_script, SomeLeft, SavedScript}
 use Rattle.kernel_linker.specs.Accept.{system_of}
 use Rattle.run_scripts.specs.declared.exit_status.Status.{Status}
-use Rattle.run_scripts.specs.declared.exit_status.Status.TheVariants.{Done, Disk}
+use Rattle.run_scripts.specs.declared.exit_status.Status.TheVariants.{Done}
 use Rattle.cvm_shell.specs.declared.boot.Ready.{Ready}
 use Rattle.run_scripts.specs.Boot.{sectors_needed}
 use Rattle.run_scripts.specs.Command.{Save, save_session}
 use Rattle.run_scripts.specs.Plan.{saves}
 use Rattle.run_scripts.specs.SessionRuns.{run_of}
 use Rattle.run_scripts.specs.RunStatus.{status_of, run_status, save_script, leaving_script}
-use Rattle.cvm_shell.specs.Stages.{status_of_saved}
+use Rattle.cvm_shell.specs.Stages.{status_of_end}
 use Rattle.run_scripts.specs.Ends.{over_told, over_untold, SomeSaveAsks, as_boot, is_saved, load_of, answered, seen}
 use Rattle.cvm_shell.specs.Does.{DoesPlan, SavedCalls, SessionPasts}
 use Rattle.cvm_shell.proofs.StartAnswers.{same_need}
-use Rattle.cvm_shell.proofs.SystemCalls.{some_status}
+use Rattle.cvm_shell.proofs.SystemCalls.{status_by, told_status, some_status}
 
 -- the calls, by the sectors that a session needs
-pub ready_calls : {S O D : Type 0} (shelf : shelf_of.Ghosts S) (text : sink_of.Ghosts O) (told : sectors_of.Ghosts D) (r : Ready) (c : Save) (answer : Result SavedEnd LoadFault) (old new : S × O × D) →
+pub ready_calls : {S O D : Type 0} (shelf : shelf_of.Ghosts S) (text : sink_of.Ghosts O) (told : sectors_of.Ghosts D) (r : Ready) (c : Save) (answer : Result RunEnd LoadFault) (old new : S × O × D) →
     SavedScript shelf text told (loaded_system r.boot r.schedule) r.schedule (loaded (loaded_system r.boot r.schedule)) c.boot.turns c.boot.steps
     (load_script (user_pages (loaded_system r.boot r.schedule)) (pages_needed r.boot)) c.file old new answer → SavedCalls shelf text told r c answer old new
 ready_calls shelf text told r c answer old new w =
@@ -69,41 +68,20 @@ script_is name r begin p =
     ∙ ap (λ (l : List Call). steps_script r p 0 (steps_made r) ++ l) (parts name r p (has_ended r) (cvm_at r p (steps_made r)).status))
     ∙ sym (append_assoc begin (steps_script r p 0 (steps_made r)) (if has_ended r then leaving_script name r p (cvm_at r p (steps_made r)).status else []))
 
--- THE STATUS of an answer, of a run that was begun
-abbrev pub saved_status : Result SavedEnd LoadFault → Status
-saved_status (Ok end) = status_of_saved end
-saved_status (Err fault) = Disk
-
-same_saved : (ended : Bool) (st : CvmStatus) → status_of_saved (saved_by (stop_by ended st)) ≡ status_of ended st
-same_saved false Running = refl
-same_saved false Halted = refl
-same_saved false (Faulted f) = refl
-same_saved true Running = refl
-same_saved true Halted = refl
-same_saved true (Faulted f) = refl
-
-as_due : (e : SavedEnd) (run : Run) (p : Past) → e ≡ saved_by (due_stop run p) → status_of_saved e ≡ run_status run p
-as_due e run p is = ap status_of_saved is ∙ same_saved (has_ended run) (cvm_at run p (steps_made run)).status
-
-told_status : (answer : Result SavedEnd LoadFault) → loads answer ≡ true → (run : Run) (p : Past) → (of_saved answer ≡ None → IsDueSaved answer (due_stop run p)) → saved_status answer ≡ answered (run_status run p) (of_saved answer)
-told_status (Ok saved_end.Saved) begun run p due = as_due saved_end.Saved run p (due refl)
-told_status (Ok saved_end.ShelfFault) begun run p due = refl
-told_status (Ok saved_end.RowFault) begun run p due = refl
-told_status (Ok (saved_end.Ended ends.Done)) begun run p due = as_due (saved_end.Ended ends.Done) run p (due refl)
-told_status (Ok (saved_end.Ended ends.KernelFaulted)) begun run p due = as_due (saved_end.Ended ends.KernelFaulted) run p (due refl)
-told_status (Ok (saved_end.Ended ends.OutOfSteps)) begun run p due = as_due (saved_end.Ended ends.OutOfSteps) run p (due refl)
-told_status (Ok (saved_end.Ended ends.DiskFault)) begun run p due = refl
-told_status (Ok (saved_end.Ended ends.SinkFault)) begun run p due = refl
-told_status (Err load.Disk) begun run p due = refl
-told_status (Err load.Memory) begun run p due = absurd (let e = begun in cc)
-told_status (Err (load.SmallDisk need have)) begun run p due = absurd (let e = begun in cc)
-told_status (Err (load.NoSuchUser user users)) begun run p due = absurd (let e = begun in cc)
+-- THE STATUS of the end that is due
+same_stop : (ended : Bool) (st : CvmStatus) → status_of_end (stop_by ended st) ≡ status_of ended st
+same_stop false Running = refl
+same_stop false Halted = refl
+same_stop false (Faulted f) = refl
+same_stop true Running = refl
+same_stop true Halted = refl
+same_stop true (Faulted f) = refl
 
 -- over sectors that aren't told
-record SomeSave (name : List ℕ) (begin more left : List Call) (answer : Result SavedEnd LoadFault) : Type 0 where
+record SomeSave (name : List ℕ) (begin more left : List Call) (answer : Result RunEnd LoadFault) : Type 0 where
   pub due : Status
   pub asks : SomeSaveAsks name begin (begin ++ more ++ left) due
-  pub is : saved_status answer ≡ answered due (of_saved answer)
+  pub is : status_by answer ≡ answered due (of_answer answer)
 
 one_file : (name : List ℕ) (begin more left : List Call) → AreOfRun more → (bytes : List ℕ) → left ≡ put_script name bytes → SomeSaveAsks name begin (begin ++ more ++ left) Done
 one_file name begin more left are bytes e = subst (λ (l : List Call). SomeSaveAsks name begin (begin ++ more ++ l) Done) (sym e) (is_saved more bytes are)
@@ -111,27 +89,40 @@ one_file name begin more left are bytes e = subst (λ (l : List Call). SomeSaveA
 no_more : (begin more left : List Call) → left ≡ [] → begin ++ more ++ left ≡ begin ++ more
 no_more begin more left e = ap (λ (l : List Call). (begin ++ more) ++ l) e ∙ append-nil (begin ++ more)
 
-some_save : (name : List ℕ) (begin more left : List Call) (answer : Result SavedEnd LoadFault) → loads answer ≡ true → AreOfRun more → SomeLeft name answer left → SomeSave name begin more left answer
-some_save name begin more left (Ok saved_end.Saved) begun are (bytes, e) = record { due = Done; asks = one_file name begin more left are bytes e; is = refl }
-some_save name begin more left (Ok saved_end.ShelfFault) begun are (bytes, e) = record { due = Done; asks = one_file name begin more left are bytes e; is = refl }
-some_save name begin more left (Ok saved_end.RowFault) begun are (bytes, e) = record { due = Done; asks = one_file name begin more left are bytes e; is = refl }
-some_save name begin more left (Ok (saved_end.Ended end)) begun are e =
-    let st = some_status (Ok end) refl in
+-- no file is put, or one
+none_left : (name : List ℕ) (begin more left : List Call) (answer : Result RunEnd LoadFault) → loads answer ≡ true → AreOfRun more → left ≡ [] → SomeSave name begin more left answer
+none_left name begin more left answer begun are e =
+    let st = some_status answer begun in
     record { due = st.due; asks = as_boot (begin ++ more ++ left) st.due (more, are, no_more begin more left e, st.one); is = st.is }
-some_save name begin more left (Err load.Disk) begun are e =
-    let st = some_status (Err load.Disk) refl in
-    record { due = st.due; asks = as_boot (begin ++ more ++ left) st.due (more, are, no_more begin more left e, st.one); is = st.is }
-some_save name begin more left (Err load.Memory) begun are e = absurd (let q = begun in cc)
-some_save name begin more left (Err (load.SmallDisk need have)) begun are e = absurd (let q = begun in cc)
-some_save name begin more left (Err (load.NoSuchUser user users)) begun are e = absurd (let q = begun in cc)
+
+one_left : (name : List ℕ) (begin more left : List Call) (end : RunEnd) → AreOfRun more → (bytes : List ℕ) × (left ≡ put_script name bytes) → status_of_end end ≡ answered Done (of_end end)
+    → SomeSave name begin more left (Ok end)
+one_left name begin more left end are (bytes, e) is = record { due = Done; asks = one_file name begin more left are bytes e; is = is }
+
+some_save : (name : List ℕ) (begin more left : List Call) (answer : Result RunEnd LoadFault) → loads answer ≡ true → AreOfRun more → SomeLeft name answer left → SomeSave name begin more left answer
+some_save name begin more left (Ok ends.Stopped) begun are file = one_left name begin more left ends.Stopped are file refl
+some_save name begin more left (Ok ends.ShelfFault) begun are file = one_left name begin more left ends.ShelfFault are file refl
+some_save name begin more left (Ok ends.SinkFault) begun are (inl e) = none_left name begin more left (Ok ends.SinkFault) begun are e
+some_save name begin more left (Ok ends.SinkFault) begun are (inr file) = one_left name begin more left ends.SinkFault are file refl
+some_save name begin more left (Ok ends.Done) begun are e = none_left name begin more left (Ok ends.Done) begun are e
+some_save name begin more left (Ok ends.KernelFaulted) begun are e = none_left name begin more left (Ok ends.KernelFaulted) begun are e
+some_save name begin more left (Ok ends.OutOfSteps) begun are e = none_left name begin more left (Ok ends.OutOfSteps) begun are e
+some_save name begin more left (Ok ends.DiskFault) begun are e = none_left name begin more left (Ok ends.DiskFault) begun are e
+some_save name begin more left (Err f) begun are e = none_left name begin more left (Err f) begun are e
+
+-- nothing was called where nothing is loaded
+pub unmoved_all : {A S O D : Type 0} (answer : Result A LoadFault) (see : S → O → D → Outside) (s s1 : S) (o o1 : O) (d d1 : D) → IfErr answer (λ e. s1 ≡ s) → IfErr answer (λ e. o1 ≡ o) → OnErr answer (d1 ≡ d)
+    → OnErr answer (see s1 o1 d1 ≡ see s o d)
+unmoved_all (Ok x) see s s1 o o1 d d1 h k l = tt
+unmoved_all {S = S} (Err e) see s s1 o o1 d d1 h k l = ap (λ (x : S). see x o1 d1) h ∙ ap₂ (see s) k l
 
 -- A RUN WAS BEGUN that is to be saved
 module _ {S O D : Type 0} (shelf : shelf_of.Ghosts S) (text : sink_of.Ghosts O) (told : sectors_of.Ghosts D) (r : Ready) (c : Save) (s s1 : S) (o o1 : O) (d d1 : D) where
-  pub saved_does : (answer : Result SavedEnd LoadFault) → loads answer ≡ true → SavedCalls shelf text told r c answer (s, o, d) (s1, o1, d1) → SessionPasts r (save_session c) (told.size d) (told.sectors d)
-      → sectors_needed (save_session c) (system_of r.boot) r.schedule ≤ told.size d → DoesPlan (saves (save_session c) (system_of r.boot) r.schedule c.file) (seen shelf text told s o d) (seen shelf text told s1 o1 d1) (saved_status answer)
+  pub saved_does : (answer : Result RunEnd LoadFault) → loads answer ≡ true → SavedCalls shelf text told r c answer (s, o, d) (s1, o1, d1) → SessionPasts r (save_session c) (told.size d) (told.sectors d)
+      → sectors_needed (save_session c) (system_of r.boot) r.schedule ≤ told.size d → DoesPlan (saves (save_session c) (system_of r.boot) r.schedule c.file) (seen shelf text told s o d) (seen shelf text told s1 o1 d1) (status_by answer)
   saved_does answer begun calls pasts room = by (told.sectors d) refl
     where
-      by : (sectors : Option (List (List ℕ))) → told.sectors d ≡ sectors → DoesPlan (saves (save_session c) (system_of r.boot) r.schedule c.file) (seen shelf text told s o d) (seen shelf text told s1 o1 d1) (saved_status answer)
+      by : (sectors : Option (List (List ℕ))) → told.sectors d ≡ sectors → DoesPlan (saves (save_session c) (system_of r.boot) r.schedule c.file) (seen shelf text told s o d) (seen shelf text told s1 o1 d1) (status_by answer)
       by (Some sectors) e =
           let run : Run = run_of (save_session c) (system_of r.boot) r.schedule (told.size d) sectors in
           let begin : List Call = load_of (save_session c) (system_of r.boot) r.schedule in
@@ -141,10 +132,10 @@ module _ {S O D : Type 0} (shelf : shelf_of.Ghosts S) (text : sink_of.Ghosts O) 
             script = save_script c.file run begin past.0;
             due = run_status run past.0;
             asks = over_told sectors _ _ tt room e (record { past = past.0; is_past = past.1; script_is = refl; status_is = refl });
-            blamed = of_saved answer;
-            performs = same_script (begin ++ stop_script run past.0 0 ++ leave_script c.file run past.0 (due_stop run past.0)) (save_script c.file run begin past.0) _ _ (of_saved answer) (script_is c.file run begin past.0) made.0;
+            blamed = of_answer answer;
+            performs = same_script (begin ++ stop_script run past.0 0 ++ leave_script c.file run past.0 (due_stop run past.0)) (save_script c.file run begin past.0) _ _ (of_answer answer) (script_is c.file run begin past.0) made.0;
             joins = tt;
-            status_is = told_status answer begun run past.0 made.1;
+            status_is = told_status answer (due_stop run past.0) (run_status run past.0) begun made.1 (same_stop (has_ended run) (cvm_at run past.0 (steps_made run)).status);
           }
       by None e =
           let begin : List Call = load_of (save_session c) (system_of r.boot) r.schedule in
@@ -154,7 +145,7 @@ module _ {S O D : Type 0} (shelf : shelf_of.Ghosts S) (text : sink_of.Ghosts O) 
             script = begin ++ made.0 ++ made.2;
             due = st.due;
             asks = over_untold _ _ tt room e st.asks;
-            blamed = of_saved answer;
+            blamed = of_answer answer;
             performs = made.4;
             joins = tt;
             status_is = st.is;

@@ -1,6 +1,6 @@
 -- What a call answers that loads a system for its session's start and runs it, from what the two calls of boot_run say. These count users, pages and
 -- words of what is booted; the claims count those of its system.
-use Rattle.std.proofs.Common.{◌≡◌, ◌≢◌, ℕ, ◌*◌, ◌+◌, ◌/◌, List, refl, sym, ap, length, subst, Some, None, Ok, Err}
+use Rattle.std.proofs.Common.{◌≡◌, ℕ, ◌*◌, ◌+◌, ◌/◌, List, sym, ap, length, subst, Some, None, Ok, Err}
 use Rattle.std.specs.Prelude.{All, Option, IfSome, Result, IfOk, IfErr}
 use Rattle.std.proofs.lemmas.List.{length-map}
 use Rattle.schedule_file.specs.Rows.{Rows}
@@ -8,21 +8,18 @@ use Rattle.layer_contract.specs.declared.boot.Boot.{Boot as Booted}
 use Rattle.boot_turns.specs.declared.answers.View.{View}
 use Rattle.boot_run.specs.LoadEnds.{pages_needed, rom_needed, HasDiskRoom, LoadFails}
 use Rattle.boot_run.specs.declared.load.LoadFault.{LoadFault}
-use Rattle.boot_run.specs.declared.load.LoadFault.TheVariants as load
 use Rattle.boot_run.specs.declared.whole.RunEnd.{RunEnd}
 use Rattle.kernel_linker.specs.Accept.{system_of}
 use Rattle.layer_map.specs.Map.{memory_frames}
 use Rattle.cvm_model.specs.Cvm.{map_of}
 use Rattle.layer_contract.specs.Boots.{boot_of}
 use Rattle.saved_file.specs.Resumable.{Wanted}
-use Rattle.boot_turns.specs.declared.answers.View.TheVariants as view
 use Rattle.boot_run.specs.RunEnds.{SeesUser}
 use Rattle.boot_run.specs.SavedFiles.{wanted_of}
 use Rattle.boot_run.specs.SavedRuns.{IsDisk}
 use Rattle.boot_run.proofs.Premises.{are_pages}
 use Rattle.cvm_outside.specs.Told.{IsSector}
 use Rattle.machine_save.specs.SaveRun.{IfUnput}
-use Rattle.machine_save.specs.declared.saving.SavedEnd.{SavedEnd}
 use Rattle.run_scripts.specs.Plan.{wanted_by}
 use Rattle.cvm_shell.specs.declared.boot.Ready.{Ready}
 use Rattle.run_scripts.specs.declared.session.Session.{Session}
@@ -51,13 +48,6 @@ from start session = record { start = start; view = session.view; turns = sessio
 pub same_sight : (booted : Booted) (v : View) → SeesUser v (length booted.users.items) → SeesUser v (length (system_of booted).users)
 same_sight booted v = subst (SeesUser v) (same_count booted)
 
--- the numbers of a fault by other names
-pub small_named : (P : LoadFault → Type 0) (need have n h : ℕ) → need ≡ n → have ≡ h → P (load.SmallDisk n h) → P (load.SmallDisk need have)
-small_named P need have n h a b p = subst (λ (k : ℕ). P (load.SmallDisk k have)) (sym a) (subst (λ (k : ℕ). P (load.SmallDisk n k)) (sym b) p)
-
-pub user_named : (P : LoadFault → Type 0) (user users u n : ℕ) → user ≡ u → users ≡ n → P (load.NoSuchUser u n) → P (load.NoSuchUser user users)
-user_named P user users u n a b p = subst (λ (k : ℕ). P (load.NoSuchUser k users)) (sym a) (subst (λ (k : ℕ). P (load.NoSuchUser u k)) (sym b) p)
-
 -- what a saved machine has to fit is the same of what is booted and of its system
 abbrev with_users : Booted → Rows → (turns users : ℕ) → Wanted
 with_users b rows turns n =
@@ -66,14 +56,8 @@ with_users b rows turns n =
 pub same_wanted : (b : Booted) (rows : Rows) (turns : ℕ) → wanted_of b rows turns ≡ wanted_by (system_of b) rows turns
 same_wanted b rows turns = ap (with_users b rows turns) (same_count b)
 
--- a boot is no trace
-pub no_trace : (b : Booted) (need count before now : ℕ) (u users : ℕ) (f : LoadFault) → f ≡ load.NoSuchUser u users → LoadFails b view.Boot need count before now f → ⊥
-no_trace b need count before now u users f e h =
-    let P : LoadFault → Type 0 = λ x. LoadFails b view.Boot need count before now x in
-    let (d, same, none) = subst P e h in
-    absurd (cc)
-
-pub unput_err : (answer : Result SavedEnd LoadFault) (P : Type 0) → IfUnput answer P → IfErr answer (λ e. P)
+-- what a save leaves where it is refused
+pub unput_err : (answer : Result RunEnd LoadFault) (P : Type 0) → IfUnput answer P → IfErr answer (λ e. P)
 unput_err (Ok end) P h = tt
 unput_err (Err e) P h = h
 
@@ -98,20 +82,6 @@ pub rom_answers : (r : Ready) (session : Session) (answer : Result RunEnd LoadFa
     → IfErr answer (LoadFails r.boot session.view (rom_needed r.boot) old.disk.size old.disk.faults new.disk.faults)
     → IfOk answer (λ e. HasDiskRoom r.boot session.view (rom_needed r.boot) old.disk.size) → CallAnswers r session answer old new
 rom_answers r session answer old new is = answers r session Rom (rom_needed r.boot) (same_rom_need r.boot r.schedule) is answer old new
-
--- WHERE NOTHING IS LOADED from a ROM: the fault is none of the disk's
-unmade_fails : (b : Booted) (v : View) (need count before now : ℕ) (f : LoadFault) → f ≢ load.Disk → LoadFails b v need count 0 0 f → LoadFails b v need count before now f
-unmade_fails b v need count before now load.Memory other h = h
-unmade_fails b v need count before now load.Disk other h = absurd (other refl)
-unmade_fails b v need count before now (load.SmallDisk wanted have) other h = h
-unmade_fails b v need count before now (load.NoSuchUser user users) other h = h
-
-pub unmade_answers : (r : Ready) (session : Session) (f : LoadFault) (have : ℕ) (old new : Outside) → session.start ≡ Rom → have ≡ old.disk.size → f ≢ load.Disk
-    → LoadFails r.boot session.view (rom_needed r.boot) have 0 0 f → CallAnswers r session (Err f) old new
-unmade_answers r session f have old new is count other fails =
-    rom_answers r session (Err f) old new is
-    (unmade_fails r.boot session.view (rom_needed r.boot) old.disk.size old.disk.faults new.disk.faults f other
-    (subst (λ (n : ℕ). LoadFails r.boot session.view (rom_needed r.boot) n 0 0 f) count fails)) tt
 
 -- the sectors that are told are a disk's
 pub told_disk : (count : ℕ) (told : Option (List (List ℕ))) → IfSome told (λ ss. length ss ≡ count) → IfSome told (All IsSector) → IfSome told (IsDisk count)

@@ -1,13 +1,14 @@
 -- What is done of the plan of a run, by the calls of the call that loads its system and runs it.
-use Rattle.std.proofs.Common.{◌≡◌, ◌≢◌, ◌⊎◌, inl, inr, ℕ, ◌<◌, ◌≤◌, ◌++◌, Bool, true, false, List, length, refl, sym, ap, ◌∙◌, subst, Some, None, Ok, Err}
-use Rattle.std.specs.Prelude.{Option, Result}
-use Rattle.cvm_outside.specs.Outside.{Outside, Files, output, drive}
+use Rattle.std.proofs.Common.{◌≡◌, ◌≢◌, ◌⊎◌, inl, inr, ℕ, ◌<◌, ◌≤◌, ◌++◌, Bool, true, false, List, length, refl, sym, ap, ◌∙◌, ap₂, subst, Some, None, Ok, Err}
+use Rattle.std.specs.Prelude.{Option, Result, IfErr, OnErr}
+use Rattle.cvm_outside.specs.Outside.{Outside, Files, Drive, output, drive}
+use Rattle.cvm_outside.specs.Script.{Call, Who}
 use Rattle.cvm_outside.specs.declared.sink.Sink as sink_of
 use Rattle.cvm_outside.specs.declared.sectors.Sectors as sectors_of
 use Rattle.schedule_file.specs.Rows.{Rows}
 use Rattle.cvm_model.specs.Cvm.{Status as CvmStatus, Running, Halted, Faulted}
 use Rattle.layer_contract.specs.Follows.{loaded}
-use Rattle.boot_turns.specs.Runs.{Run, Past, steps_made, has_ended, cvm_at}
+use Rattle.boot_turns.specs.Runs.{Run, steps_made, has_ended, cvm_at}
 use Rattle.boot_turns.specs.declared.answers.View.TheVariants as view
 use Rattle.boot_run.specs.declared.load.LoadFault.{LoadFault}
 use Rattle.boot_run.specs.declared.load.LoadFault.TheVariants as load
@@ -16,11 +17,11 @@ use Rattle.boot_run.specs.declared.whole.RunEnd.TheVariants as ends
 use Rattle.boot_run.specs.Closing.{says}
 use Rattle.boot_run.specs.Loading.{system_of as loaded_system}
 use Rattle.boot_run.specs.LoadedPages.{user_pages, rom_pages}
-use Rattle.boot_run.specs.LoadEnds.{pages_needed, rom_needed}
+use Rattle.boot_run.specs.LoadEnds.{HasDiskRoom, LoadFails, pages_needed, rom_needed}
 use Rattle.boot_run.specs.LoadScript.{load_script}
 use Rattle.boot_run.specs.Pasts.{HavePasts}
-use Rattle.boot_run.specs.RunCalls.{WholeScript, loads, of_answer, IsDue, due_end, end_by}
-use Rattle.boot_run.specs.RunEnds.{SeesUser, ending_of_end}
+use Rattle.boot_run.specs.RunCalls.{WholeScript, loads, of_end, of_answer, IsDue, due_end, end_by}
+use Rattle.boot_run.specs.RunEnds.{SeesUser}
 use Rattle.boot_run.specs.RunScript.{run_script}
 use Rattle.boot_run.specs.Whole.{rom_start_of}
 use Rattle.kernel_linker.specs.Accept.{ImageSystem, system_of}
@@ -30,14 +31,17 @@ use Rattle.cvm_shell.specs.declared.boot.Ready.{Ready}
 use Rattle.run_scripts.specs.declared.session.Session.{Session}
 use Rattle.run_scripts.specs.declared.session.StartPoint.{StartPoint}
 use Rattle.run_scripts.specs.declared.session.StartPoint.TheVariants.{Loaded, Rom}
-use Rattle.run_scripts.specs.Boot.{sectors_needed, ended_as}
+use Rattle.run_scripts.specs.Boot.{sectors_needed}
 use Rattle.run_scripts.specs.Refusal.{small_disk, no_such_user, refusal_text}
-use Rattle.run_scripts.specs.Plan.{boots, saves}
+use Rattle.run_scripts.specs.Plan.{Plan, boots, saves}
 use Rattle.run_scripts.specs.SessionRuns.{run_of}
 use Rattle.run_scripts.specs.RunStatus.{status_of, run_status}
-use Rattle.run_scripts.specs.Ends.{no_user, small, over_told, over_untold, load_of, answered}
-use Rattle.cvm_shell.specs.Does.{Acts, DoesPlan, SessionCalls, SessionPasts}
-use Rattle.cvm_shell.proofs.StartAnswers.{from, same_need, same_rom_need}
+use Rattle.run_scripts.specs.Ends.{PlanAsks, Joins, no_user, small, over_told, over_untold, load_of, answered}
+use Rattle.cvm_shell.specs.Does.{Acts, SaysFault, SaysEnd, DoesPlan, DoesOrWants, SessionCalls, SessionPasts}
+use Rattle.cvm_shell.specs.Stages.{needs, status_of_end, CallAnswers}
+use Rattle.cvm_shell.proofs.GotCalls.{beside}
+use Rattle.cvm_shell.proofs.Doing.{acted}
+use Rattle.cvm_shell.proofs.StartAnswers.{from, same_need, same_rom_need, same_sight, same_count}
 
 -- FOR ITS SESSION'S START: at the loaded machine
 module _ {O D : Type 0} (text : sink_of.Ghosts O) (told : sectors_of.Ghosts D) (r : Ready) (session : Session) (answer : Result RunEnd LoadFault) (old new : O × D) where
@@ -56,16 +60,6 @@ module _ {O D : Type 0} (text : sink_of.Ghosts O) (told : sectors_of.Ghosts D) (
       (subst (λ (n : ℕ). WholeScript text told (loaded_system r.boot r.schedule) r.schedule (rom_start_of (loaded_system r.boot r.schedule)) session.view session.turns session.steps
       (load_script (rom_pages (loaded_system r.boot r.schedule)) n) old new answer) (same_rom_need r.boot r.schedule) w)
 
--- nothing is loaded
-not_loaded : (f : LoadFault) → f ≢ load.Disk → loads {T = RunEnd} (Err f) ≡ true → ⊥
-not_loaded load.Memory other e = cc
-not_loaded load.Disk other e = other refl
-not_loaded (load.SmallDisk need have) other e = cc
-not_loaded (load.NoSuchUser user users) other e = cc
-
-pub unmade_calls : {O D : Type 0} (text : sink_of.Ghosts O) (told : sectors_of.Ghosts D) (r : Ready) (session : Session) (f : LoadFault) (at : O × D) → f ≢ load.Disk → SessionCalls text told r session (Err f) at at
-unmade_calls text told r session f at other = record { exact = λ e. absurd (not_loaded f other e); some = λ e. absurd (not_loaded f other e); none = λ e. refl }
-
 -- the abstract run
 pub loaded_pasts : (r : Ready) (session : Session) (size : ℕ) (told : Option (List (List ℕ))) → session.start ≡ Loaded
     → HavePasts r.boot r.schedule size (pages_needed r.boot) (loaded (loaded_system r.boot r.schedule)) told → SessionPasts r session size told
@@ -79,12 +73,17 @@ rom_pasts r session size told start have =
     subst (λ (a : StartPoint). SessionPasts r (from a session) size told) (sym start)
     (λ sectors is sees room. have sectors session.view session.turns session.steps is (subst (λ (n : ℕ). n ≤ size) (sym (same_rom_need r.boot r.schedule)) room) sees)
 
--- THE STATUS of an answer, of a run that was begun
-abbrev pub status_by : Result RunEnd LoadFault → Status
-status_by (Ok end) = ended_as (ending_of_end end)
-status_by (Err fault) = Disk
+-- THE STATUS of an end is the one that is due, or that of the object that failed
+pub by_end : (e due : RunEnd) (status : Status) → (of_end e ≡ None → e ≡ due) → status_of_end due ≡ status → status_of_end e ≡ answered status (of_end e)
+by_end ends.Done due status is same = ap status_of_end (is refl) ∙ same
+by_end ends.Stopped due status is same = ap status_of_end (is refl) ∙ same
+by_end ends.KernelFaulted due status is same = ap status_of_end (is refl) ∙ same
+by_end ends.OutOfSteps due status is same = ap status_of_end (is refl) ∙ same
+by_end ends.DiskFault due status is same = refl
+by_end ends.SinkFault due status is same = refl
+by_end ends.ShelfFault due status is same = refl
 
-pub same_status : (ended : Bool) (st : CvmStatus) → ended_as (ending_of_end (end_by ended st)) ≡ status_of ended st
+pub same_status : (ended : Bool) (st : CvmStatus) → status_of_end (end_by ended st) ≡ status_of ended st
 same_status false Running = refl
 same_status false Halted = refl
 same_status false (Faulted f) = refl
@@ -92,19 +91,18 @@ same_status true Running = refl
 same_status true Halted = refl
 same_status true (Faulted f) = refl
 
-as_due : (e : RunEnd) (run : Run) (p : Past) → e ≡ due_end run p → ended_as (ending_of_end e) ≡ run_status run p
-as_due e run p is = ap (λ (x : RunEnd). ended_as (ending_of_end x)) is ∙ same_status (has_ended run) (cvm_at run p (steps_made run)).status
+-- and so is that of an answer, of a run that was begun
+abbrev pub status_by : Result RunEnd LoadFault → Status
+status_by (Ok end) = status_of_end end
+status_by (Err fault) = Disk
 
-told_status : (answer : Result RunEnd LoadFault) → loads answer ≡ true → (run : Run) (p : Past) → (of_answer answer ≡ None → IsDue answer (due_end run p)) → status_by answer ≡ answered (run_status run p) (of_answer answer)
-told_status (Ok ends.Done) begun run p due = as_due ends.Done run p (due refl)
-told_status (Ok ends.KernelFaulted) begun run p due = as_due ends.KernelFaulted run p (due refl)
-told_status (Ok ends.OutOfSteps) begun run p due = as_due ends.OutOfSteps run p (due refl)
-told_status (Ok ends.DiskFault) begun run p due = refl
-told_status (Ok ends.SinkFault) begun run p due = refl
-told_status (Err load.Disk) begun run p due = refl
-told_status (Err load.Memory) begun run p due = absurd (cc)
-told_status (Err (load.SmallDisk need have)) begun run p due = absurd (cc)
-told_status (Err (load.NoSuchUser user users)) begun run p due = absurd (cc)
+pub told_status : (answer : Result RunEnd LoadFault) (due : RunEnd) (status : Status) → loads answer ≡ true → (of_answer answer ≡ None → IsDue answer due) → status_of_end due ≡ status
+    → status_by answer ≡ answered status (of_answer answer)
+told_status (Ok end) due status begun is same = by_end end due status is same
+told_status (Err load.Disk) due status begun is same = refl
+told_status (Err load.Memory) due status begun is same = absurd (cc)
+told_status (Err (load.SmallDisk need have)) due status begun is same = absurd (cc)
+told_status (Err (load.NoSuchUser user users)) due status begun is same = absurd (cc)
 
 -- over sectors that aren't told, what an answer tells of it
 pub record SomeStatus (answer : Result RunEnd LoadFault) : Type 0 where
@@ -114,10 +112,12 @@ pub record SomeStatus (answer : Result RunEnd LoadFault) : Type 0 where
 
 pub some_status : (answer : Result RunEnd LoadFault) → loads answer ≡ true → SomeStatus answer
 some_status (Ok ends.Done) begun = record { due = Done; one = inl refl; is = refl }
+some_status (Ok ends.Stopped) begun = record { due = Done; one = inl refl; is = refl }
 some_status (Ok ends.KernelFaulted) begun = record { due = KernelFault; one = inr (inl refl); is = refl }
 some_status (Ok ends.OutOfSteps) begun = record { due = StepLimit; one = inr (inr refl); is = refl }
 some_status (Ok ends.DiskFault) begun = record { due = Done; one = inl refl; is = refl }
 some_status (Ok ends.SinkFault) begun = record { due = Done; one = inl refl; is = refl }
+some_status (Ok ends.ShelfFault) begun = record { due = Done; one = inl refl; is = refl }
 some_status (Err load.Disk) begun = record { due = Done; one = inl refl; is = refl }
 some_status (Err load.Memory) begun = absurd (cc)
 some_status (Err (load.SmallDisk need have)) begun = absurd (cc)
@@ -150,7 +150,7 @@ module _ {O D : Type 0} (text : sink_of.Ghosts O) (told : sectors_of.Ghosts D) (
             blamed = of_answer answer;
             performs = made.0 shelf;
             joins = tt;
-            status_is = told_status answer begun run past.0 made.1;
+            status_is = told_status answer (due_end run past.0) (run_status run past.0) begun made.1 (same_status (has_ended run) (cvm_at run past.0 (steps_made run)).status);
           }
       by None e =
           let made = calls.some begun in
@@ -172,46 +172,79 @@ named session s rows need have old new status needed size acts =
     let A : ℕ → ℕ → Type 0 = λ n h. Acts (says (refusal_text (small_disk n h))) Disk old new status in
     subst (λ (n : ℕ). A n old.disk.size) needed (subst (A need) size acts)
 
-pub small_does : (session : Session) (s : ImageSystem) (rows : Rows) (need have : ℕ) (old new : Outside) (status : Status) → SeesUser session.view (length s.users) → need ≡ sectors_needed session s rows
-    → have ≡ old.disk.size → have < sectors_needed session s rows → Acts (says (refusal_text (small_disk need have))) Disk old new status → DoesPlan (boots session s rows) old new status
-small_does session s rows need have old new status sees needed size less acts =
-    let given = named session s rows need have old new status needed size acts in
-    record {
-      script = says (refusal_text (small_disk (sectors_needed session s rows) old.disk.size));
-      due = Disk;
-      asks = small sees (subst (λ (h : ℕ). h < sectors_needed session s rows) size less);
-      blamed = given.blamed;
-      performs = given.performs;
-      joins = tt;
-      status_is = given.status_is;
-    }
+-- THE PLAN of a session's run: a boot, or a save to the file of this name
+abbrev pub run_plan : Session → ImageSystem → Rows → (put : Option (List ℕ)) → Plan
+run_plan session s rows None = boots session s rows
+run_plan session s rows (Some name) = saves session s rows name
 
--- of a user that there is none
-pub user_does : (session : Session) (s : ImageSystem) (rows : Rows) (u users : ℕ) (old new : Outside) (status : Status) → users ≡ length s.users → session.view ≡ view.Trace u
-    → (SeesUser session.view users → ⊥) → Acts (says (refusal_text (no_such_user u users))) Refused old new status → DoesPlan (boots session s rows) old new status
-user_does session s rows u users old new status count traced none acts =
-    let P : ℕ → Type 0 = λ n. (SeesUser session.view n → ⊥) × Acts (says (refusal_text (no_such_user u n))) Refused old new status in
-    let given : P (length s.users) = subst P count (none, acts) in
-    record {
-      script = says (refusal_text (no_such_user u (length s.users)));
-      due = Refused;
-      asks = no_user u traced given.0;
-      blamed = given.1.blamed;
-      performs = given.1.performs;
-      joins = tt;
-      status_is = given.1.status_is;
-    }
+module _ (session : Session) (s : ImageSystem) (rows : Rows) (put : Option (List ℕ)) (old new : Outside) (status : Status) where
+  joins_any : (put : Option (List ℕ)) (blamed : Option Who) (due : Status) → Joins (run_plan session s rows put) old new blamed due
+  joins_any None blamed due = tt
+  joins_any (Some name) blamed due = tt
 
--- the same of a run that is to be saved
-pub small_save : (session : Session) (s : ImageSystem) (rows : Rows) (name : List ℕ) (need have : ℕ) (old new : Outside) (status : Status) → SeesUser session.view (length s.users) → need ≡ sectors_needed session s rows
-    → have ≡ old.disk.size → have < sectors_needed session s rows → Acts (says (refusal_text (small_disk need have))) Disk old new status → DoesPlan (saves session s rows name) old new status
-small_save session s rows name need have old new status sees needed size less acts =
-    record {
-      script = says (refusal_text (small_disk (sectors_needed session s rows) old.disk.size));
-      due = Disk;
-      asks = small sees (subst (λ (h : ℕ). h < sectors_needed session s rows) size less);
-      blamed = (named session s rows need have old new status needed size acts).blamed;
-      performs = (named session s rows need have old new status needed size acts).performs;
-      joins = tt;
-      status_is = (named session s rows need have old new status needed size acts).status_is;
-    }
+  asks_more : (put : Option (List ℕ)) → SeesUser session.view (length s.users) → old.disk.size < sectors_needed session s rows
+      → PlanAsks (run_plan session s rows put) old (says (refusal_text (small_disk (sectors_needed session s rows) old.disk.size))) Disk
+  asks_more None sees less = small sees less
+  asks_more (Some name) sees less = small sees less
+
+  asks_other : (put : Option (List ℕ)) (u : ℕ) → session.view ≡ view.Trace u → (SeesUser session.view (length s.users) → ⊥)
+      → PlanAsks (run_plan session s rows put) old (says (refusal_text (no_such_user u (length s.users)))) Refused
+  asks_other None u traced none = no_user u traced none
+  asks_other (Some name) u traced none = no_user u traced none
+
+  small_does : (need have : ℕ) → SeesUser session.view (length s.users) → need ≡ sectors_needed session s rows → have ≡ old.disk.size → have < sectors_needed session s rows
+      → Acts (says (refusal_text (small_disk need have))) Disk old new status → DoesPlan (run_plan session s rows put) old new status
+  small_does need have sees needed size less acts =
+      acted (run_plan session s rows put) _ Disk old new status (asks_more put sees (subst (λ (h : ℕ). h < sectors_needed session s rows) size less)) (λ blamed. joins_any put blamed Disk) (named session s rows need have old new status needed size acts)
+
+  -- of a user that there is none
+  user_does : (u users : ℕ) → users ≡ length s.users → session.view ≡ view.Trace u → (SeesUser session.view users → ⊥)
+      → Acts (says (refusal_text (no_such_user u users))) Refused old new status → DoesPlan (run_plan session s rows put) old new status
+  user_does u users count traced none acts =
+      let P : ℕ → Type 0 = λ n. (SeesUser session.view n → ⊥) × Acts (says (refusal_text (no_such_user u n))) Refused old new status in
+      let given : P (length s.users) = subst P count (none, acts) in
+      acted (run_plan session s rows put) _ Refused old new status (asks_other put u traced given.0) (λ blamed. joins_any put blamed Refused) given.1
+
+abbrev as_err : (A : Type 0) → LoadFault → Result A LoadFault
+as_err A f = Err f
+
+pub one_err : {A : Type 0} (f g : LoadFault) → as_err A f ≡ as_err A g → f ≡ g
+one_err f g e = cc
+
+-- nothing was called where nothing is loaded
+pub unmoved : {A O D : Type 0} (answer : Result A LoadFault) (see : O → D → Outside) (o o1 : O) (d d1 : D) → IfErr answer (λ e. o1 ≡ o) → OnErr answer (d1 ≡ d) → OnErr answer (see o1 d1 ≡ see o d)
+unmoved (Ok x) see o o1 d d1 h k = tt
+unmoved (Err e) see o o1 d d1 h k = ap₂ see h k
+
+-- WHAT WAS SAID of a run, beside these files and this disk
+module _ {O : Type 0} (text : sink_of.Ghosts O) (r : Ready) (session : Session) (put : Option (List ℕ)) (shelf : Files) (disk : Drive) (o o' : O) (old : Outside) (status : Status) where
+  abbrev p : Plan
+  p = run_plan session (system_of r.boot) r.schedule put
+
+  abbrev at : O → Outside
+  at x = beside (output text x) disk shelf
+
+  -- it was begun, and the status alone tells how it ended
+  as_begun : (due : Status) → DoesPlan p old (at o) due → (o' ≡ o) × (status ≡ due) → DoesPlan p old (at o') status
+  as_begun due d (same, is) = subst (λ (x : O). DoesPlan p old (at x) status) (sym same) (subst (DoesPlan p old (at o)) (sym is) d)
+
+  -- a row was printed where nothing was called before
+  from_old : (script : List Call) (due : Status) → at o ≡ old → Acts script due (at o) (at o') status → Acts script due old (at o') status
+  from_old script due e acts = subst (λ (x : Outside). Acts script due x (at o') status) e acts
+
+  pub fault_said : (f : LoadFault) (count now : ℕ) → LoadFails r.boot session.view (needs r session) old.disk.size count now f
+      → (f ≡ load.Disk → HasDiskRoom r.boot session.view (needs r session) old.disk.size → DoesPlan p old (at o) Disk) → (f ≢ load.Disk → at o ≡ old) → SaysFault text f o o' status → DoesOrWants p old (at o') status
+  fault_said load.Disk count now fails begun still said = inl (as_begun Disk (begun refl fails.0) said)
+  fault_said load.Memory count now fails begun still (same, is) = inr (is, ap at same ∙ still (λ e. cc))
+  fault_said (load.SmallDisk need have) count now fails begun still said =
+      inl (small_does session (system_of r.boot) r.schedule put old (at o') status need have (same_sight r.boot session.view fails.0) fails.1 fails.2 fails.3
+      (from_old (says (refusal_text (small_disk need have))) Disk (still (λ e. cc)) (said shelf disk)))
+  fault_said (load.NoSuchUser u users) count now fails begun still said =
+      inl (user_does session (system_of r.boot) r.schedule put old (at o') status u users (fails.1 ∙ same_count r.boot) fails.0 fails.2
+      (from_old (says (refusal_text (no_such_user u users))) Refused (still (λ e. cc)) (said shelf disk)))
+
+  pub end_said : (answer : Result RunEnd LoadFault) → CallAnswers r session answer old (at o) → (loads answer ≡ true → HasDiskRoom r.boot session.view (needs r session) old.disk.size → DoesPlan p old (at o) (status_by answer))
+      → (answer ≢ Err load.Disk → OnErr answer (at o ≡ old)) → SaysEnd text answer o o' status → DoesOrWants p old (at o') status
+  end_said (Ok end) a begun still said = inl (as_begun (status_of_end end) (begun refl a.loaded) said)
+  end_said (Err f) a begun still said =
+      fault_said f old.disk.faults disk.faults a.refused (λ e. begun (ap (λ (g : LoadFault). loads {T = RunEnd} (Err g)) e)) (λ other. still (λ e. other (one_err f load.Disk e))) said

@@ -9,25 +9,25 @@ use Rattle.cvm_outside.specs.declared.sink.Sink as sink_of
 use Rattle.cvm_outside.specs.declared.sectors.Sectors as sectors_of
 use Rattle.boot_turns.specs.Runs.{Past, IsPast}
 use Rattle.boot_run.specs.declared.load.LoadFault.{LoadFault}
+use Rattle.boot_run.specs.declared.load.LoadFault.TheVariants as load
 use Rattle.boot_run.specs.declared.whole.RunEnd.{RunEnd}
 use Rattle.boot_run.specs.Closing.{says}
 use Rattle.boot_run.specs.RunCalls.{WholeScript}
 use Rattle.boot_run.specs.RunEnds.{SeesUser}
 use Rattle.machine_save.specs.SaveCalls.{SavedScript}
-use Rattle.machine_save.specs.declared.saving.SavedEnd.{SavedEnd}
 use Rattle.kernel_linker.specs.Accept.{system_of}
 use Rattle.real_layer.specs.Image.{layer_image}
 use Rattle.run_scripts.specs.declared.exit_status.Status.{Status}
-use Rattle.run_scripts.specs.declared.exit_status.Status.TheVariants.{Shelf, Memory}
+use Rattle.run_scripts.specs.declared.exit_status.Status.TheVariants.{Disk, Shelf, Memory}
 use Rattle.cvm_shell.specs.declared.boot.Ready.{Ready}
 use Rattle.run_scripts.specs.declared.session.Session.{Session}
 use Rattle.cvm_shell.specs.declared.boot.Stop.{Stop}
 use Rattle.cvm_shell.specs.declared.boot.Stop.TheVariants as stop
 use Rattle.cvm_shell.specs.declared.refusal.Refusal.TheVariants as refusal
-use Rattle.cvm_shell.specs.Stages.{IsBootPlan, IsSavePlan, IsResumePlan, IsUserPlan, IsKernelPlan, IsProgramPlan, IsLinkPlan, IsMigratePlan, IsSamplePlan, IsCheckPlan}
+use Rattle.cvm_shell.specs.Stages.{status_of_end, puts_made, FilesPlan}
 use Rattle.cvm_shell.specs.Views.{IfPlan, stated_row, stated_status}
-use Rattle.run_scripts.specs.Command.{Command, Save, boot, trace, save, resume, compile_user, compile_kernel, compile_program, link, migrate, sample, check, IsCommand, IsSample, boot_session, trace_session, save_session}
-use Rattle.run_scripts.specs.Plan.{Plan, puts}
+use Rattle.run_scripts.specs.Command.{Command, Save, IsCommand, IsSample, save_session}
+use Rattle.run_scripts.specs.Plan.{Plan}
 use Rattle.run_scripts.specs.Boot.{booted, first_state, sectors_needed}
 use Rattle.run_scripts.specs.SessionRuns.{run_of}
 use Rattle.run_scripts.specs.Ends.{Ends, PlanAsks, Joins, IsNotGot, Wants, AreShort, MayBeLong, answered, load_of, seen}
@@ -65,6 +65,13 @@ abbrev pub Gets : {S T : Type 0} → shelf_of.Ghosts S → (names : List (List �
 Gets told names old new result = (sink : Output) (disk : Drive) →
     AnswerGets names (record { shelf = files told old; sink = sink; disk = disk }) (record { shelf = files told new; sink = sink; disk = disk }) result
 
+-- THE GET of a file, whichever are to be got behind it
+abbrev pub GetsFile : {S T : Type 0} → shelf_of.Ghosts S → (name : List ℕ) → (old new : S) → Result T Stop → Type 0
+GetsFile told name old new result = (rest : List (List ℕ)) (sink : Output) (disk : Drive) →
+    let before : Outside = record { shelf = files told old; sink = sink; disk = disk } in
+    let after : Outside = record { shelf = files told new; sink = sink; disk = disk } in
+    MatchResult result (λ _. AreGot (name ∷ []) before after) (StopGets (name ∷ rest) before after)
+
 -- a script was performed, up to a call that failed, and the status is the one that was due, or that of the object that failed
 pub record Acts (script : List Call) (due : Status) (old new : Outside) (status : Status) : Type 0 where
   pub blamed : Option Who
@@ -82,6 +89,18 @@ SaysStop told (stop.Refused r) old new status = SaysAs told (stated_status r) (s
 SaysStop told stop.Shelf old new status = (new ≡ old) × (status ≡ Shelf)
 SaysStop told stop.Memory old new status = (new ≡ old) × (status ≡ Memory)
 
+-- WHY NO RUN WAS BEGUN is said in the same way, or the disk failed in the load
+abbrev pub SaysFault : {O : Type 0} → sink_of.Ghosts O → LoadFault → (old new : O) → Status → Type 0
+SaysFault told (load.SmallDisk need have) old new status = SaysStop told (stop.Refused (refusal.SmallDisk need have)) old new status
+SaysFault told (load.NoSuchUser user users) old new status = SaysStop told (stop.Refused (refusal.NoSuchUser user users)) old new status
+SaysFault told load.Disk old new status = (new ≡ old) × (status ≡ Disk)
+SaysFault told load.Memory old new status = SaysStop told stop.Memory old new status
+
+-- HOW A RUN ENDED is told by the status alone; or it is said why none was begun
+abbrev pub SaysEnd : {O : Type 0} → sink_of.Ghosts O → Result RunEnd LoadFault → (old new : O) → Status → Type 0
+SaysEnd told answer old new status =
+    MatchResult answer (λ end. (new ≡ old) × (status ≡ status_of_end end)) (λ fault. SaysFault told fault old new status)
+
 -- WHAT WAS DONE of a plan, behind the gets
 pub record DoesPlan (p : Plan) (old new : Outside) (status : Status) : Type 0 where
   pub script : List Call
@@ -97,24 +116,10 @@ abbrev pub CommandDoes : {S O : Type 0} → shelf_of.Ghosts S → sink_of.Ghosts
 CommandDoes shelf sink c status (s, o) (s', o') = (words : List (List ℕ)) (disk : Drive) → IsCommand words c → Ends words
     (record { shelf = files shelf s; sink = output sink o; disk = disk }) (record { shelf = files shelf s'; sink = output sink o'; disk = disk }) status
 
--- the files of a command come to a plan, and to no other
-abbrev pub FilesPlan : (List ℕ → Option (List ℕ)) → Command → Plan → Type 0
-FilesPlan file (boot b) p = IsBootPlan layer_image file b (boot_session b) p
-FilesPlan file (trace t) p = IsBootPlan layer_image file t.boot (trace_session t) p
-FilesPlan file (save c) p = IsSavePlan layer_image file c p
-FilesPlan file (resume c) p = IsResumePlan layer_image file c p
-FilesPlan file (compile_user c) p = IsUserPlan file c p
-FilesPlan file (compile_kernel c) p = IsKernelPlan file c p
-FilesPlan file (compile_program c) p = IsProgramPlan file c p
-FilesPlan file (link l) p = IsLinkPlan layer_image file l p
-FilesPlan file (migrate m) p = IsMigratePlan layer_image file m p
-FilesPlan file (sample x) p = IsSamplePlan layer_image x.number p
-FilesPlan file (check c) p = IsCheckPlan file c p
-
 -- WHAT A STAGE MADE IS PUT under a name, or it is said why the stage stopped: so the command ends whose stage it was, from the shelf that it began with
 abbrev pub PutsMade : {S O : Type 0} → shelf_of.Ghosts S → sink_of.Ghosts O → (name : List ℕ) → Result (Vec ℕ) Stop → Status → (old new : S × O) → Type 0
 PutsMade {S} shelf sink name made status (s, o) (s', o') = (words : List (List ℕ)) (c : Command) (first : S) (disk : Drive) → IsCommand words c →
-    Gets shelf (files_of c) first s made → IfPlan (λ v. puts name v.items) (FilesPlan (shelf.file first) c) made → Ends words
+    Gets shelf (files_of c) first s made → IfPlan (puts_made name) (FilesPlan layer_image (shelf.file first) c) made → Ends words
     (record { shelf = files shelf first; sink = output sink o; disk = disk }) (record { shelf = files shelf s'; sink = output sink o'; disk = disk }) status
 
 -- and over a disk
@@ -153,7 +158,7 @@ SessionPasts r session size told = (sectors : List (List ℕ)) → told ≡ Some
     (p : Past) × IsPast (run_of session (system_of r.boot) r.schedule size sectors) p
 
 -- THE CALLS of a run that is to be saved, over a shelf, a sink and a disk
-abbrev pub SavedCalls : {S O D : Type 0} → shelf_of.Ghosts S → sink_of.Ghosts O → sectors_of.Ghosts D → Ready → Save → Result SavedEnd LoadFault →
+abbrev pub SavedCalls : {S O D : Type 0} → shelf_of.Ghosts S → sink_of.Ghosts O → sectors_of.Ghosts D → Ready → Save → Result RunEnd LoadFault →
     (old new : S × O × D) → Type 0
 SavedCalls shelf text told r c answer old new =
     SavedScript shelf text told (booted (system_of r.boot) r.schedule) r.schedule (first_state (save_session c) (system_of r.boot) r.schedule)

@@ -1,5 +1,6 @@
 -- Only for the contracts inside the crate: how the stages of a command end.
-use Rattle.std.specs.Prelude.{◌≡◌, ◌≢◌, ⊤, ◌⊎◌, ◌<◌, ◌≤◌, ℕ, List, [], ◌∷◌, length, map, Option, Some, Result, Ok, Err, MatchResult, IfOk, IfErr}
+use Rattle.std.specs.Prelude.{◌≡◌, ◌≢◌, ⊤, ◌⊎◌, ◌<◌, ◌≤◌, ℕ, List, [], ◌∷◌, length, map, All, Option, Some, Result, Ok, Err, MatchResult, IfOk, IfErr}
+use Rattle.std.specs.Option.{IsSome}
 use Rattle.cvm_outside.specs.Causes.{Rose}
 use Rattle.cvm_outside.specs.Told.{Tells, TOO_LONG}
 use Rattle.cvm_outside.specs.declared.shelf.ShelfFault.{ShelfFault}
@@ -21,7 +22,7 @@ use Rattle.object_file.specs.declared.fault.ObjectFault.TheVariants as object
 use Rattle.system_files.specs.declared.fault.FileFault.{FileFault}
 use Rattle.system_files.specs.declared.fault.FileFault.TheVariants as system
 use Rattle.kernel_linker.specs.declared.fault.LinkFault.{LinkFault}
-use Rattle.kernel_linker.specs.declared.fault.LinkFault.TheVariants as link
+use Rattle.kernel_linker.specs.declared.fault.LinkFault.TheVariants as linking
 use Rattle.kernel_linker.specs.declared.fault.AcceptFault.{AcceptFault}
 use Rattle.kernel_linker.specs.declared.fault.AcceptFault.TheVariants as accept
 use Rattle.kernel_linker.specs.Accept.{ImageSystem, system_of}
@@ -30,13 +31,12 @@ use Rattle.cvm_model.specs.Cvm.{Cvm, IsCvm, cvm}
 use Rattle.cvm_model.specs.Journal.{journal, replay}
 use Rattle.layer_contract.specs.Boots.{BootFollows}
 use Rattle.boot_turns.specs.TurnEnds.{first_of}
-use Rattle.boot_turns.specs.declared.answers.View.TheVariants as view
-use Rattle.boot_run.specs.LoadEnds.{HasDiskRoom, LoadFails, pages_needed}
-use Rattle.boot_run.specs.RunEnds.{ending_of_end}
-use Rattle.machine_save.specs.declared.saving.SavedEnd.{SavedEnd}
-use Rattle.machine_save.specs.declared.saving.SavedEnd.TheVariants as saved_end
+use Rattle.boot_run.specs.LoadEnds.{HasDiskRoom, LoadFails}
+use Rattle.machine_save.specs.declared.resuming.ResumeFault.{ResumeFault}
+use Rattle.machine_save.specs.declared.resuming.ResumeFault.TheVariants as resuming
 use Rattle.boot_run.specs.declared.load.LoadFault.{LoadFault}
 use Rattle.boot_run.specs.declared.whole.RunEnd.{RunEnd}
+use Rattle.boot_run.specs.declared.whole.RunEnd.TheVariants as run_end
 use Rattle.schedule_file.specs.Rows.{Rows}
 use Rattle.schedule_file.specs.declared.fault.ScheduleFault.{ScheduleFault}
 use Rattle.schedule_file.specs.declared.fault.ScheduleFault.TheVariants as schedule
@@ -51,15 +51,14 @@ use Rattle.cvm_shell.specs.declared.boot.Stop.{Stop}
 use Rattle.cvm_shell.specs.declared.boot.Stop.TheVariants as stop
 use Rattle.cvm_shell.specs.declared.refusal.Refusal.TheVariants as refusal
 use Rattle.run_scripts.specs.declared.exit_status.Status.{Status}
-use Rattle.run_scripts.specs.declared.exit_status.Status.TheVariants.{Done, Shelf, Sink, Memory}
+use Rattle.run_scripts.specs.declared.exit_status.Status.TheVariants.{Done, KernelFault, StepLimit, Disk, Shelf, Sink}
 use Rattle.std.specs.Global.{Vec}
 use Rattle.run_scripts.specs.declared.session.Session.{Session}
-use Rattle.run_scripts.specs.CompileProgram.{CompileProgram}
-use Rattle.run_scripts.specs.Command.{Boot, Save, CompileUser, CompileKernel, Link, Migrate, boot, save, resume, save_session, compile_user, compile_kernel, compile_program, link as link_command, migrate, check}
-use Rattle.run_scripts.specs.Plan.{Plan, puts, boots, saves, most_bytes, wanted_by, taken_plan, BootPlan, SavePlan, ResumePlan, UserPlan, KernelPlan, ProgramPlan, LinkPlan, MigratePlan, SamplePlan, GetsTold, IsPlan, words_from, prints, CheckPlan}
-use Rattle.run_scripts.specs.Check.{Check}
+use Rattle.run_scripts.specs.Command.{Boot, Save, Command, boot, trace, save, resume, compile_user, compile_kernel, compile_program, link, migrate, sample, check, save_session}
+use Rattle.run_scripts.specs.Plan.{Plan, puts, boots, saves, most_bytes, wanted_by, taken_plan, BootPlan, CommandPlan, AreTold, IsPlan, words_from, prints}
 use Rattle.cvm_shell.specs.Views.{IfPlan}
-use Rattle.run_scripts.specs.Boot.{booted, sectors_needed, ended_as}
+use Rattle.run_scripts.specs.Boot.{booted, sectors_needed}
+use Rattle.run_scripts.specs.Ends.{IsByte}
 
 -- what a fault of the shelf comes to
 abbrev pub stop_of : ShelfFault → Stop
@@ -95,7 +94,7 @@ file_stop f = stop.Refused (refusal.BadFile f)
 
 -- what a fault of linking comes to
 abbrev pub link_stop : LinkFault → Stop
-link_stop link.Memory = stop.Memory
+link_stop linking.Memory = stop.Memory
 link_stop f = stop.Refused (refusal.Unlinked f)
 
 -- what a fault of an image comes to
@@ -112,6 +111,17 @@ schedule_stop f = stop.Refused (refusal.BadSchedule f)
 abbrev pub save_stop : SaveFault → Stop
 save_stop saving.Memory = stop.Memory
 save_stop f = stop.Refused (refusal.BadSave f)
+
+-- what a fault of taking it up comes to
+abbrev pub resume_stop : ResumeFault → Stop
+resume_stop (resuming.SmallDisk need have) = stop.Refused (refusal.SmallDisk need have)
+resume_stop (resuming.Save f) = save_stop f
+
+-- A FILE WAS GOT that is told so: these are its bytes, and it is not too long
+pub record IsFile (told : Option (List ℕ)) (bytes : List ℕ) : Type 0 where
+  pub tells : Tells told bytes
+  pub short : length bytes < TOO_LONG
+  pub are_bytes : All IsByte bytes
 
 -- files have these bytes, and none is too long
 abbrev pub Fetched : (List ℕ → Option (List ℕ)) → (names got : List (List ℕ)) → Type 0
@@ -182,70 +192,48 @@ HasNoRoom s (stop.Refused r) = (r ≡ refusal.BadSave (saving.SaveTooLarge (most
 HasNoRoom s stop.Shelf = ⊥
 HasNoRoom s stop.Memory = ⊤
 
--- WHAT A CALL ANSWERS that runs a system which is to be saved, over a disk of so many sectors with these counts of faults
-pub record SaveAnswers (r : Saveable) (size before after : ℕ) (answer : Result SavedEnd LoadFault) : Type 0 where
-  pub refused : IfErr answer (LoadFails r.ready.boot view.Boot (pages_needed r.ready.boot) size before after)
-  pub loaded : IfOk answer (λ _. HasDiskRoom r.ready.boot view.Boot (pages_needed r.ready.boot) size)
+-- the status of a run by its end
+abbrev pub status_of_end : RunEnd → Status
+status_of_end run_end.Done = Done
+status_of_end run_end.Stopped = Done
+status_of_end run_end.KernelFaulted = KernelFault
+status_of_end run_end.OutOfSteps = StepLimit
+status_of_end run_end.DiskFault = Disk
+status_of_end run_end.SinkFault = Sink
+status_of_end run_end.ShelfFault = Shelf
 
--- the status of a run that was to be saved, by its end
-abbrev pub status_of_saved : SavedEnd → Status
-status_of_saved saved_end.Saved = Done
-status_of_saved saved_end.ShelfFault = Shelf
-status_of_saved saved_end.RowFault = Sink
-status_of_saved (saved_end.Ended e) = ended_as (ending_of_end e)
+-- what was made is put
+abbrev pub puts_made : (name : List ℕ) → Vec ℕ → Plan
+puts_made name bytes = puts name bytes.items
 
-abbrev pub compiled : CompileUser → Vec ℕ → Plan
-compiled c image = puts c.image image.items
-
-abbrev pub linkable : CompileKernel → Vec ℕ → Plan
-linkable c object = puts c.object object.items
-
-abbrev pub runnable : CompileProgram → Vec ℕ → Plan
-runnable c image = puts c.image image.items
-
-abbrev pub linked_to : Link → Vec ℕ → Plan
-linked_to l image = puts l.image image.items
-
--- parts of a system come to the plan of every command that links them, where nothing else stopped it
-abbrev pub LinksTo : (Link → Plan → Type 0) → Result (Vec ℕ) Stop → Type 0
-LinksTo Comes result = (l : Link) → IfPlan (linked_to l) (IsPlan ⊤ (Comes l)) result
-
-abbrev pub renewed : Migrate → Vec ℕ → Plan
-renewed m image = puts m.image image.items
+-- what was made comes to the plan of every command that puts it, under whatever name
+abbrev pub PutsAs : ((name : List ℕ) → Plan → Type 0) → Result (Vec ℕ) Stop → Type 0
+PutsAs Comes result = (name : List ℕ) → IfPlan (puts_made name) (IsPlan ⊤ (Comes name)) result
 
 abbrev pub told_text : Vec ℕ → Plan
 told_text text = prints text.items
 
--- what the files of a command come to
-abbrev pub IsLinkPlan : (layer : Map → List ℕ → List ℕ) → (List ℕ → Option (List ℕ)) → Link → Plan → Type 0
-IsLinkPlan layer told l p = IsPlan (GetsTold told (link_command l)) (LinkPlan layer told l) p
+-- the files that a command gets are told
+abbrev pub GetsTold : (List ℕ → Option (List ℕ)) → Command → Type 0
+GetsTold file (boot b) = IsSome (file b.image) × IsSome (file b.schedule)
+GetsTold file (trace t) = IsSome (file t.boot.image) × IsSome (file t.boot.schedule)
+GetsTold file (save c) = IsSome (file c.boot.image) × IsSome (file c.boot.schedule)
+GetsTold file (resume c) = IsSome (file c.boot.image) × IsSome (file c.boot.schedule) × IsSome (file c.file)
+GetsTold file (compile_user c) = IsSome (file c.text)
+GetsTold file (compile_kernel c) = IsSome (file c.source)
+GetsTold file (compile_program c) = IsSome (file c.source)
+GetsTold file (link l) = IsSome (file l.object) × IsSome (file l.params) × AreTold file l.users
+GetsTold file (migrate m) = IsSome (file m.old)
+GetsTold file (sample x) = ⊤
+GetsTold file (check c) = IsSome (file c.object)
 
-abbrev pub IsMigratePlan : (layer : Map → List ℕ → List ℕ) → (List ℕ → Option (List ℕ)) → Migrate → Plan → Type 0
-IsMigratePlan layer told m p = IsPlan (GetsTold told (migrate m)) (MigratePlan layer told m) p
+-- the files of a command come to a plan, and to no other, where they are told
+abbrev pub FilesPlan : (layer : Map → List ℕ → List ℕ) → (List ℕ → Option (List ℕ)) → Command → Plan → Type 0
+FilesPlan layer file c p = IsPlan (GetsTold file c) (CommandPlan layer file c) p
 
-abbrev pub IsCheckPlan : (List ℕ → Option (List ℕ)) → Check → Plan → Type 0
-IsCheckPlan file c p = IsPlan (GetsTold file (check c)) (CheckPlan file c) p
-
-abbrev pub IsSamplePlan : (layer : Map → List ℕ → List ℕ) → (number : ℕ) → Plan → Type 0
-IsSamplePlan layer number p = IsPlan ⊤ (SamplePlan layer number) p
-
+-- so do those of a boot, by whatever session
 abbrev pub IsBootPlan : (layer : Map → List ℕ → List ℕ) → (List ℕ → Option (List ℕ)) → Boot → Session → Plan → Type 0
 IsBootPlan layer file b session p = IsPlan (GetsTold file (boot b)) (BootPlan layer file b session) p
-
-abbrev pub IsSavePlan : (layer : Map → List ℕ → List ℕ) → (List ℕ → Option (List ℕ)) → Save → Plan → Type 0
-IsSavePlan layer file c p = IsPlan (GetsTold file (save c)) (SavePlan layer file c) p
-
-abbrev pub IsResumePlan : (layer : Map → List ℕ → List ℕ) → (List ℕ → Option (List ℕ)) → Save → Plan → Type 0
-IsResumePlan layer file c p = IsPlan (GetsTold file (resume c)) (ResumePlan layer file c) p
-
-abbrev pub IsUserPlan : (List ℕ → Option (List ℕ)) → CompileUser → Plan → Type 0
-IsUserPlan file c p = IsPlan (GetsTold file (compile_user c)) (UserPlan file c) p
-
-abbrev pub IsKernelPlan : (List ℕ → Option (List ℕ)) → CompileKernel → Plan → Type 0
-IsKernelPlan file c p = IsPlan (GetsTold file (compile_kernel c)) (KernelPlan file c) p
-
-abbrev pub IsProgramPlan : (List ℕ → Option (List ℕ)) → CompileProgram → Plan → Type 0
-IsProgramPlan file c p = IsPlan (GetsTold file (compile_program c)) (ProgramPlan file c) p
 
 -- a law of every system: with whatever units its run comes to a state, that state is one; and the replay of a user's journal is its machine there
 abbrev pub JournalsReplay : Type 0

@@ -1,15 +1,17 @@
 // The image of a user: its text, assembled.
-ghost use Rattle.std.specs.Prelude.{◌≡◌, ◌≢◌, ◌↔◌, ◌*◌, ⊤, ℕ, List, length, IfOk, IfErr, IsErrOf};
+ghost use Rattle.std.specs.Prelude.{◌≡◌, ◌≢◌, ◌↔◌, ◌*◌, ℕ, List, length, IfOk, IfErr, IsErrOf};
 ghost use Rattle.cvm_outside.specs.Told.{TOO_LONG};
+ghost use Rattle.real_layer.specs.Image.{layer_image};
 ghost use Rattle.run_scripts.specs.Command as Command;
 ghost use Rattle.cvm_shell.specs.Does.{Gets};
 ghost use Rattle.run_scripts.specs.Served.{files_of};
-ghost use Rattle.run_scripts.specs.Plan.{AfterText, IsPlan, bytes_of};
-ghost use Rattle.cvm_shell.specs.Stages.{text_stop, PlanCounts, compiled, IsUserPlan};
+ghost use Rattle.run_scripts.specs.Plan.{AfterText, bytes_of};
+ghost use Rattle.cvm_shell.specs.Stages.{text_stop, PlanCounts, puts_made, PutsAs, FilesPlan};
 ghost use Rattle.cvm_shell.specs.Views.{user_view, IfPlan};
 
 use crate::boot::Stop;
 use crate::command::CompileUser;
+use crate::getting::get_file;
 use crate::refusal::Refusal;
 use cvm_outside::Shelf;
 use mips_asm::{AsmFault, assemble};
@@ -33,13 +35,13 @@ pub fn user_image<S: Shelf>(
     names: &CompileUser,
     shelf: &mut S,
 ) -> Result<Vec<u8>, Stop>
-    ensures comes { IfPlan (compiled (user_view names.now)) (IsUserPlan (S.file shelf.old) (user_view names.now)) result }
+    ensures comes { IfPlan (puts_made names.now.image.now) (FilesPlan layer_image (S.file shelf.old) (Command.compile_user (user_view names.now))) result }
     ensures long { IsErrOf result (Stop.Refused Refusal.TooLong) ↔ (S.taken shelf.new ≡ TOO_LONG) }
     ensures count { PlanCounts (S.faults shelf.old) (S.faults shelf.new) result }
     ensures files { (n : List ℕ) → S.file shelf.new n ≡ S.file shelf.old n }
     ensures gets { Gets S.Shelf (files_of (Command.compile_user (user_view names.now))) shelf.old shelf.new result }
 {
-    let text = shelf.get(alloc, names.text)?;
+    let text = get_file(alloc, names.text, shelf)?;
     assembled_image(alloc, &text)
 }
 
@@ -50,7 +52,7 @@ pub fn words_have_four_bytes()
 
 // The bytes of the image that a text comes to.
 fn assembled_image(alloc: Global, text: &[u8]) -> Result<Vec<u8>, Stop>
-    ensures comes { (c : Command.CompileUser) → IfPlan (compiled c) (IsPlan ⊤ (AfterText c.image text.now)) result }
+    ensures comes { PutsAs (λ name. AfterText name text.now) result }
     ensures inside { IfErr result (λ s. s ≢ Stop.Shelf) }
     ensures short { IsErrOf result (Stop.Refused Refusal.TooLong) → ⊥ }
 {

@@ -1,12 +1,10 @@
 // A boot or a trace: what its files come to, and the run of the system that is accepted.
-ghost use Rattle.std.specs.Prelude.{All, ◌≡◌, ◌≢◌, ◌↔◌, ◌≤◌, ⊤, ℕ, List, IfOk, IfErr, IsErrOf};
+ghost use Rattle.std.specs.Prelude.{◌≡◌, ◌≢◌, ◌↔◌, ◌≤◌, ⊤, ℕ, List, IfOk, IfErr, IsErrOf};
 ghost use Rattle.cvm_outside.specs.Told.{TOO_LONG};
 ghost use Rattle.real_layer.specs.Image.{layer_image};
-ghost use Rattle.boot_run.specs.RunEnds.{ending_of_end};
-ghost use Rattle.run_scripts.specs.Boot.{ended_as};
 ghost use Rattle.run_scripts.specs.Command.{boot as of_boot};
 ghost use Rattle.cvm_shell.specs.Does.{Gets, SystemDoes};
-ghost use Rattle.run_scripts.specs.Ends.{AreBytes, IsByte};
+ghost use Rattle.run_scripts.specs.Ends.{AreBytes};
 ghost use Rattle.run_scripts.specs.Served.{files_of};
 ghost use Rattle.run_scripts.specs.Plan.{AfterFiles, IsPlan};
 ghost use Rattle.cvm_shell.specs.Stages.{stop_of, accept_stop, schedule_stop, PlanCounts, ready_for, IsBootPlan, SystemFollows};
@@ -14,10 +12,10 @@ ghost use Rattle.cvm_shell.specs.Views.{boot_view, IfPlan};
 
 use crate::accepted::accept_image;
 use crate::command::Boot;
+use crate::getting::get_file;
 use crate::refusal::Refusal;
-use crate::saying::refuse;
+use crate::saying::say_end;
 use crate::starting::load_and_run;
-use boot_run::{LoadFault, RunEnd};
 use c0_types::laws::sources_have_one_answer;
 use cvm_outside::{Sectors, Shelf, ShelfFault, Sink};
 use kernel_linker::AcceptFault;
@@ -93,24 +91,10 @@ pub fn plan<S: Shelf>(alloc: Global, boot: &Boot, shelf: &mut S) -> Result<Ready
     ensures gets { Gets S.Shelf (files_of (of_boot (boot_view boot.now))) shelf.old shelf.new result }
     ensures bytes { IfOk result (λ _. AreBytes (S.file shelf.old) (files_of (of_boot (boot_view boot.now)))) }
 {
-    let image = shelf.get(alloc, boot.image)?;
-    let schedule = shelf.get(alloc, boot.schedule)?;
-    are_bytes(&image);
-    are_bytes(&schedule);
+    let image = get_file(alloc, boot.image, shelf)?;
+    let schedule = get_file(alloc, boot.schedule, shelf)?;
     ready_of(alloc, &image, &schedule)
 }
-
-// Tells proofs that bytes are in the range of their type.
-pub(crate) fn are_bytes(bytes: &Vec<u8>)
-    ensures { All IsByte bytes.now.items }
-{
-    slice_is_bytes(bytes);
-}
-
-// The same of a slice.
-fn slice_is_bytes(bytes: &[u8])
-    ensures { All IsByte bytes.now }
-{}
 
 /// What the bytes of an image and of a schedule come to: what is to be run, by whatever session.
 pub fn ready_of(alloc: Global, image: &[u8], schedule: &[u8]) -> Result<Ready, Stop>
@@ -143,26 +127,6 @@ pub fn run_system<O: Sink, D: Sectors>(
     requires some { 1 ≤ session.turns }
     ensures { SystemDoes O.Sink D.Sectors (ready_for session ready) result (out.old, disk.old) (out.new, disk.new) }
 {
-    match load_and_run(alloc, ready, session, out, disk) {
-        Ok(end) => status_of(end),
-        Err(LoadFault::SmallDisk { need, have }) => refuse(&Refusal::SmallDisk { need, have }, out),
-        Err(LoadFault::Disk) => Status::Disk,
-        Err(LoadFault::Memory) => Status::Memory,
-        Err(LoadFault::NoSuchUser { user, users }) => {
-            refuse(&Refusal::NoSuchUser { user, users }, out)
-        }
-    }
-}
-
-// The status of a run by its end.
-pub(crate) fn status_of(end: RunEnd) -> Status
-    ensures { result ≡ ended_as (ending_of_end end) }
-{
-    match end {
-        RunEnd::Done => Status::Done,
-        RunEnd::KernelFaulted => Status::KernelFault,
-        RunEnd::OutOfSteps => Status::StepLimit,
-        RunEnd::DiskFault => Status::Disk,
-        RunEnd::SinkFault => Status::Sink,
-    }
+    let answer = load_and_run(alloc, ready, session, out, disk);
+    say_end(answer, out)
 }

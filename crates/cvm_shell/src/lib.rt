@@ -19,6 +19,7 @@ pub mod assembly;
 pub mod boot;
 pub mod check;
 pub mod command;
+pub mod getting;
 pub mod laws;
 pub mod linking;
 pub mod migration;
@@ -61,7 +62,7 @@ pub use run_scripts::{Session, StartPoint, Status};
 pub use sampling::sampled;
 pub use saving::{Saveable, plan_save, run_save};
 pub use saving_words::{Save, read_resume, read_save};
-use saying::{refuse, say};
+use saying::{say, say_stop};
 use std::alloc::Global;
 
 /// Runs the command of these words over a shelf of files, a sink of text and a disk.
@@ -180,9 +181,7 @@ fn run_boot<S: Shelf, O: Sink, D: Sectors>(
     };
     match plan(alloc, boot, shelf) {
         Ok(ready) => run_system(alloc, ready, session, out, disk),
-        Err(Stop::Refused(refusal)) => refuse(&refusal, out),
-        Err(Stop::Shelf) => Status::Shelf,
-        Err(Stop::Memory) => Status::Memory,
+        Err(stop) => say_stop(stop, out),
     }
 }
 
@@ -246,8 +245,6 @@ fn run_sample<O: Sink, D: Sectors>(alloc: Global, number: u32, out: &mut O, disk
     };
     match sampled(alloc, number) {
         Ok(ready) => run_system(alloc, ready, session, out, disk),
-        Err(Stop::Refused(refusal)) => refuse(&refusal, out),
-        Err(Stop::Shelf) => Status::Shelf,
-        Err(Stop::Memory) => Status::Memory,
+        Err(stop) => say_stop(stop, out),
     }
 }

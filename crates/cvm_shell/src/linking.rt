@@ -6,11 +6,12 @@ ghost use Rattle.cvm_shell.specs.Does.{Gets};
 ghost use Rattle.run_scripts.specs.Served.{files_of};
 ghost use Rattle.cvm_shell.specs.Linked.{IsAcceptedAs, AreAcceptedAs, LinkIsAccepted};
 ghost use Rattle.run_scripts.specs.Plan.{AfterParts, AfterSystem};
-ghost use Rattle.cvm_shell.specs.Stages.{object_stop, file_stop, link_stop, Fetched, NotFetched, AreWordsOf, PlanCounts, LinksTo, linked_to, IsLinkPlan};
+ghost use Rattle.cvm_shell.specs.Stages.{object_stop, file_stop, link_stop, Fetched, NotFetched, AreWordsOf, PlanCounts, puts_made, PutsAs, FilesPlan};
 ghost use Rattle.cvm_shell.specs.Views.{link_view, IfPlan};
 
 use crate::boot::Stop;
 use crate::command::Link;
+use crate::getting::get_file;
 use crate::refusal::Refusal;
 use boot_image::write;
 use c0_types::laws::sources_have_one_answer;
@@ -62,7 +63,7 @@ pub fn system_image<M: LayerMaker, S: Shelf>(
     names: &Link,
     shelf: &mut S,
 ) -> Result<Vec<u8>, Stop>
-    ensures comes { IfPlan (linked_to (link_view names.now)) (IsLinkPlan M.made (S.file shelf.old) (link_view names.now)) result }
+    ensures comes { IfPlan (puts_made names.now.image.now) (FilesPlan M.made (S.file shelf.old) (link_command (link_view names.now))) result }
     // These bytes are those of an image that is accepted, over the same layer: as the system of the files that were got.
     ensures accepted { IfOk result (λ v. LinkIsAccepted M.made (S.file shelf.old) (link_view names.now) v.items) }
     ensures long { IsErrOf result (Stop.Refused Refusal.TooLong) ↔ (S.taken shelf.new ≡ TOO_LONG) }
@@ -70,8 +71,8 @@ pub fn system_image<M: LayerMaker, S: Shelf>(
     ensures files { (n : List ℕ) → S.file shelf.new n ≡ S.file shelf.old n }
     ensures gets { Gets S.Shelf (files_of (link_command (link_view names.now))) shelf.old shelf.new result }
 {
-    let object = shelf.get(alloc, names.object)?;
-    let params = shelf.get(alloc, names.params)?;
+    let object = get_file(alloc, names.object, shelf)?;
+    let params = get_file(alloc, names.params, shelf)?;
     let users = get_all(alloc, names.users, shelf)?;
     linked_image::<M>(alloc, &object, &params, &users)
 }
@@ -88,7 +89,7 @@ fn get_all<S: Shelf>(alloc: Global, names: &[String], shelf: &mut S) -> Result<V
 {
     let mut files = Vec::new(alloc);
     for name in names {
-        let file = shelf.get(alloc, name.as_str())?;
+        let file = get_file(alloc, name.as_str(), shelf)?;
         if files.push(file).is_err() {
             return Err(Stop::Memory);
         }
@@ -103,7 +104,7 @@ fn linked_image<M: LayerMaker>(
     params: &[u8],
     users: &[Vec<u8>],
 ) -> Result<Vec<u8>, Stop>
-    ensures comes { LinksTo (λ l. AfterSystem M.made l.image object.now params.now (map (λ b. b.items) users.now)) result }
+    ensures comes { PutsAs (λ name. AfterSystem M.made name object.now params.now (map (λ b. b.items) users.now)) result }
     ensures accepted { IfOk result (λ v. AreAcceptedAs M.made object.now params.now (map (λ b. b.items) users.now) v.items) }
     ensures inside { IfErr result (λ s. s ≢ Stop.Shelf) }
     ensures short { IsErrOf result (Stop.Refused Refusal.TooLong) → ⊥ }
@@ -138,7 +139,7 @@ fn image_of<M: LayerMaker>(
     params: &Params,
     users: &[Vec<u32>],
 ) -> Result<Vec<u8>, Stop>
-    ensures comes { LinksTo (λ l. AfterParts M.made l.image object.now params.now (map (λ u. u.items) users.now)) result }
+    ensures comes { PutsAs (λ name. AfterParts M.made name object.now params.now (map (λ u. u.items) users.now)) result }
     ensures accepted { IfOk result (λ v. IsAcceptedAs M.made object.now.source params.now (map (λ u. u.items) users.now) v.items) }
     ensures inside { IfErr result (λ s. s ≢ Stop.Shelf) }
     ensures short { IsErrOf result (Stop.Refused Refusal.TooLong) → ⊥ }

@@ -1,16 +1,17 @@
 // An image of form 2, read and made anew.
-ghost use Rattle.std.specs.Prelude.{◌≡◌, ◌≢◌, ◌↔◌, ⊤, ℕ, List, IfOk, IfErr, IsErrOf};
+ghost use Rattle.std.specs.Prelude.{◌≡◌, ◌≢◌, ◌↔◌, ℕ, List, IfOk, IfErr, IsErrOf};
 ghost use Rattle.cvm_outside.specs.Told.{TOO_LONG};
 ghost use Rattle.run_scripts.specs.Command as Command;
 ghost use Rattle.cvm_shell.specs.Does.{Gets};
 ghost use Rattle.run_scripts.specs.Served.{files_of};
 ghost use Rattle.cvm_shell.specs.Linked.{IsAcceptedAsOld, MigrateIsAccepted};
-ghost use Rattle.run_scripts.specs.Plan.{AfterOld, IsPlan};
-ghost use Rattle.cvm_shell.specs.Stages.{PlanCounts, renewed, IsMigratePlan};
+ghost use Rattle.run_scripts.specs.Plan.{AfterOld};
+ghost use Rattle.cvm_shell.specs.Stages.{PlanCounts, puts_made, PutsAs, FilesPlan};
 ghost use Rattle.cvm_shell.specs.Views.{migrate_view, IfPlan};
 
 use crate::boot::Stop;
 use crate::command::Migrate;
+use crate::getting::get_file;
 use crate::refusal::Refusal;
 use boot_image::write;
 use c0_types::laws::sources_have_one_answer;
@@ -26,7 +27,7 @@ pub fn migrated_image<M: LayerMaker, S: Shelf>(
     names: &Migrate,
     shelf: &mut S,
 ) -> Result<Vec<u8>, Stop>
-    ensures comes { IfPlan (renewed (migrate_view names.now)) (IsMigratePlan M.made (S.file shelf.old) (migrate_view names.now)) result }
+    ensures comes { IfPlan (puts_made names.now.image.now) (FilesPlan M.made (S.file shelf.old) (Command.migrate (migrate_view names.now))) result }
     // These bytes are those of an image that is accepted, over the same layer: as the system of the old image's source, parameters and users.
     ensures accepted { IfOk result (λ v. MigrateIsAccepted M.made (S.file shelf.old) (migrate_view names.now) v.items) }
     ensures long { IsErrOf result (Stop.Refused Refusal.TooLong) ↔ (S.taken shelf.new ≡ TOO_LONG) }
@@ -34,13 +35,13 @@ pub fn migrated_image<M: LayerMaker, S: Shelf>(
     ensures files { (n : List ℕ) → S.file shelf.new n ≡ S.file shelf.old n }
     ensures gets { Gets S.Shelf (files_of (Command.migrate (migrate_view names.now))) shelf.old shelf.new result }
 {
-    let old = shelf.get(alloc, names.old)?;
+    let old = get_file(alloc, names.old, shelf)?;
     renewed_image::<M>(alloc, &old)
 }
 
 // The bytes of the image that is made of an old one.
 fn renewed_image<M: LayerMaker>(alloc: Global, old: &[u8]) -> Result<Vec<u8>, Stop>
-    ensures comes { (m : Command.Migrate) → IfPlan (renewed m) (IsPlan ⊤ (AfterOld M.made m.image old.now)) result }
+    ensures comes { PutsAs (λ name. AfterOld M.made name old.now) result }
     ensures accepted { IfOk result (λ v. IsAcceptedAsOld M.made old.now v.items) }
     ensures inside { IfErr result (λ s. s ≢ Stop.Shelf) }
     ensures short { IsErrOf result (Stop.Refused Refusal.TooLong) → ⊥ }

@@ -1,6 +1,7 @@
 // The object of a kernel: its source, read, checked and compiled.
-ghost use Rattle.std.specs.Prelude.{◌≡◌, ◌≢◌, ◌≤◌, ◌↔◌, ⊤, ℕ, List, length, IfOk, IfErr, IsErrOf};
+ghost use Rattle.std.specs.Prelude.{◌≡◌, ◌≢◌, ◌≤◌, ◌↔◌, ℕ, List, length, IfOk, IfErr, IsErrOf};
 ghost use Rattle.cvm_outside.specs.Told.{TOO_LONG};
+ghost use Rattle.real_layer.specs.Image.{layer_image};
 ghost use Rattle.c0_types.specs.Front.{IsUnitOf};
 ghost use Rattle.c0_tree.specs.View.{unit_view};
 ghost use Rattle.kernel_linker.specs.Object.{object_of};
@@ -8,12 +9,13 @@ ghost use Rattle.object_file.specs.Format.{spelling};
 ghost use Rattle.run_scripts.specs.Command as Command;
 ghost use Rattle.cvm_shell.specs.Does.{Gets};
 ghost use Rattle.run_scripts.specs.Served.{files_of};
-ghost use Rattle.run_scripts.specs.Plan.{AfterKernel, IsPlan, MOST_SOURCE};
-ghost use Rattle.cvm_shell.specs.Stages.{source_stop, PlanCounts, linkable, IsKernelPlan};
+ghost use Rattle.run_scripts.specs.Plan.{AfterKernel};
+ghost use Rattle.cvm_shell.specs.Stages.{source_stop, PlanCounts, puts_made, PutsAs, FilesPlan};
 ghost use Rattle.cvm_shell.specs.Views.{kernel_view, IfPlan};
 
 use crate::boot::Stop;
 use crate::command::CompileKernel;
+use crate::getting::get_file;
 use crate::refusal::Refusal;
 use c0_meaning::Checked;
 use c0_meaning::laws::least_fault_is_there;
@@ -43,19 +45,19 @@ pub fn kernel_object<S: Shelf>(
     names: &CompileKernel,
     shelf: &mut S,
 ) -> Result<Vec<u8>, Stop>
-    ensures comes { IfPlan (linkable (kernel_view names.now)) (IsKernelPlan (S.file shelf.old) (kernel_view names.now)) result }
+    ensures comes { IfPlan (puts_made names.now.object.now) (FilesPlan layer_image (S.file shelf.old) (Command.compile_kernel (kernel_view names.now))) result }
     ensures long { IsErrOf result (Stop.Refused Refusal.TooLong) ↔ (S.taken shelf.new ≡ TOO_LONG) }
     ensures count { PlanCounts (S.faults shelf.old) (S.faults shelf.new) result }
     ensures files { (n : List ℕ) → S.file shelf.new n ≡ S.file shelf.old n }
     ensures gets { Gets S.Shelf (files_of (Command.compile_kernel (kernel_view names.now))) shelf.old shelf.new result }
 {
-    let source = shelf.get(alloc, names.source)?;
+    let source = get_file(alloc, names.source, shelf)?;
     compiled_object(alloc, &source)
 }
 
 // The bytes of the object that a source comes to.
 fn compiled_object(alloc: Global, source: &[u8]) -> Result<Vec<u8>, Stop>
-    ensures comes { (c : Command.CompileKernel) → IfPlan (linkable c) (IsPlan ⊤ (AfterKernel c.object source.now)) result }
+    ensures comes { PutsAs (λ name. AfterKernel name source.now) result }
     ensures inside { IfErr result (λ s. s ≢ Stop.Shelf) }
     ensures short { IsErrOf result (Stop.Refused Refusal.TooLong) → ⊥ }
 {
@@ -70,7 +72,7 @@ fn compiled_object(alloc: Global, source: &[u8]) -> Result<Vec<u8>, Stop>
 // The bytes of the object of a source and its checked unit.
 fn object_bytes(alloc: Global, source: &[u8], unit: &Checked) -> Result<Vec<u8>, AllocError>
     requires unit { IsUnitOf source.now (unit_view unit.now) }
-    requires short { length source.now ≤ MOST_SOURCE }
+    requires short { length source.now ≤ 1048576 }
     ensures { IfOk result (λ v. v.items ≡ spelling (object_of source.now (unit_view unit.now))) }
 {
     let object = make_object(alloc, source, unit)?;

@@ -1,16 +1,18 @@
 // The image of a user program: its source, read, checked and compiled.
-ghost use Rattle.std.specs.Prelude.{◌≡◌, ◌≢◌, ◌↔◌, ⊤, ℕ, List, IfErr, IfSome, IfNone, IsErrOf, Some, option_map};
+ghost use Rattle.std.specs.Prelude.{◌≡◌, ◌≢◌, ◌↔◌, ℕ, List, IfErr, IfSome, IfNone, IsErrOf, Some, option_map};
 ghost use Rattle.cvm_outside.specs.Told.{TOO_LONG};
+ghost use Rattle.real_layer.specs.Image.{layer_image};
 ghost use Rattle.run_scripts.specs.Command as command;
 ghost use Rattle.run_scripts.specs.CompileProgram as compiling;
 ghost use Rattle.cvm_shell.specs.Does.{Gets, CommandDoes};
 ghost use Rattle.run_scripts.specs.Served.{files_of};
-ghost use Rattle.run_scripts.specs.Plan.{AfterProgram, IsPlan};
-ghost use Rattle.cvm_shell.specs.Stages.{program_stop, PlanCounts, runnable, IsProgramPlan};
+ghost use Rattle.run_scripts.specs.Plan.{AfterProgram};
+ghost use Rattle.cvm_shell.specs.Stages.{program_stop, PlanCounts, puts_made, PutsAs, FilesPlan};
 ghost use Rattle.cvm_shell.specs.Views.{program_view, IfPlan};
 
 use crate::assembly::little_endian;
 use crate::boot::Stop;
+use crate::getting::get_file;
 use crate::putting::put_made;
 use crate::refusal::Refusal;
 use c0_meaning::laws::least_fault_is_there;
@@ -68,19 +70,19 @@ pub fn program_image<S: Shelf>(
     names: &CompileProgram,
     shelf: &mut S,
 ) -> Result<Vec<u8>, Stop>
-    ensures comes { IfPlan (runnable (program_view names.now)) (IsProgramPlan (S.file shelf.old) (program_view names.now)) result }
+    ensures comes { IfPlan (puts_made names.now.image.now) (FilesPlan layer_image (S.file shelf.old) (command.compile_program (program_view names.now))) result }
     ensures long { IsErrOf result (Stop.Refused Refusal.TooLong) ↔ (S.taken shelf.new ≡ TOO_LONG) }
     ensures count { PlanCounts (S.faults shelf.old) (S.faults shelf.new) result }
     ensures files { (n : List ℕ) → S.file shelf.new n ≡ S.file shelf.old n }
     ensures gets { Gets S.Shelf (files_of (command.compile_program (program_view names.now))) shelf.old shelf.new result }
 {
-    let source = shelf.get(alloc, names.source)?;
+    let source = get_file(alloc, names.source, shelf)?;
     compiled_program(alloc, &source)
 }
 
 // The bytes of the image that a source comes to.
 fn compiled_program(alloc: Global, source: &[u8]) -> Result<Vec<u8>, Stop>
-    ensures comes { (c : compiling.CompileProgram) → IfPlan (runnable c) (IsPlan ⊤ (AfterProgram c.image source.now)) result }
+    ensures comes { PutsAs (λ name. AfterProgram name source.now) result }
     ensures inside { IfErr result (λ s. s ≢ Stop.Shelf) }
     ensures short { IsErrOf result (Stop.Refused Refusal.TooLong) → ⊥ }
 {

@@ -1,23 +1,37 @@
 // A resume: what its files come to, and the run that goes on.
-ghost use Rattle.std.specs.Prelude.{◌≡◌, ◌≢◌, ◌⊎◌, ◌↔◌, ℕ, List, IfOk, IsErrOf};
+ghost use Rattle.std.specs.Prelude.{◌≡◌, ◌↔◌, ℕ, List, IfOk, IsErrOf};
 ghost use Rattle.cvm_outside.specs.Told.{TOO_LONG};
 ghost use Rattle.real_layer.specs.Image.{layer_image};
 ghost use Rattle.run_scripts.specs.Command.{resume as of_resume};
-ghost use Rattle.cvm_shell.specs.Does.{Gets, RunDoes, SaysAs, SystemDoes};
+ghost use Rattle.cvm_shell.specs.Does.{Gets, RunDoes, SystemDoes};
 ghost use Rattle.run_scripts.specs.Ends.{AreBytes};
 ghost use Rattle.run_scripts.specs.Served.{files_of};
-ghost use Rattle.run_scripts.specs.Refusal.{bad_save, refusal_text};
-ghost use Rattle.cvm_shell.specs.Stages.{resumable_for, SystemFollows, IsResumePlan, PlanCounts};
+ghost use Rattle.cvm_shell.specs.Stages.{resume_stop, resumable_for, SystemFollows, FilesPlan, PlanCounts};
 ghost use Rattle.cvm_shell.specs.Views.{save_view, IfPlan};
 
-use crate::boot::{Ready, Stop, are_bytes, ready_of, status_of};
+use crate::boot::{Ready, Stop, ready_of};
+use crate::getting::get_file;
 use crate::refusal::Refusal;
 use crate::saving_words::Save;
-use crate::saying::refuse;
+use crate::saying::{say_stop, status_of};
+use boot_run::{Limits, Setup};
 use cvm_outside::{Sectors, Shelf, Sink};
-use machine_save::{ResumeFault, SaveFault, resume_run};
+use machine_save::{ResumeFault, resume_run};
 use run_scripts::Status;
 use std::alloc::Global;
+
+impl From<ResumeFault> for Stop {
+    ghost from_gives = { λ f e. e ≡ resume_stop f };
+
+    fn from(fault: ResumeFault) -> Self {
+        match fault {
+            ResumeFault::SmallDisk { need, have } => {
+                Stop::Refused(Refusal::SmallDisk { need, have })
+            }
+            ResumeFault::Save(fault) => Stop::from(fault),
+        }
+    }
+}
 
 /// An accepted system under its schedule, with the bytes of the file of a saved machine.
 #[derive(Drop)]
@@ -30,7 +44,7 @@ pub struct Resumable {
 
 /// Gets the files of a resume: the image, the schedule and the saved machine, in this order; then accepts the image and reads the schedule.
 pub fn plan_resume<S: Shelf>(alloc: Global, resume: &Save, shelf: &mut S) -> Result<Resumable, Stop>
-    ensures comes { IfPlan (resumable_for (save_view resume.now)) (IsResumePlan layer_image (S.file shelf.old) (save_view resume.now)) result }
+    ensures comes { IfPlan (resumable_for (save_view resume.now)) (FilesPlan layer_image (S.file shelf.old) (of_resume (save_view resume.now))) result }
     ensures follows { IfOk result (λ r. SystemFollows r.ready) }
     ensures long { IsErrOf result (Stop.Refused Refusal.TooLong) ↔ (S.taken shelf.new ≡ TOO_LONG) }
     ensures count { PlanCounts (S.faults shelf.old) (S.faults shelf.new) result }
@@ -38,12 +52,9 @@ pub fn plan_resume<S: Shelf>(alloc: Global, resume: &Save, shelf: &mut S) -> Res
     ensures gets { Gets S.Shelf (files_of (of_resume (save_view resume.now))) shelf.old shelf.new result }
     ensures bytes { IfOk result (λ _. AreBytes (S.file shelf.old) (files_of (of_resume (save_view resume.now)))) }
 {
-    let image = shelf.get(alloc, resume.boot.image)?;
-    let schedule = shelf.get(alloc, resume.boot.schedule)?;
-    let bytes = shelf.get(alloc, resume.file)?;
-    are_bytes(&image);
-    are_bytes(&schedule);
-    are_bytes(&bytes);
+    let image = get_file(alloc, resume.boot.image, shelf)?;
+    let schedule = get_file(alloc, resume.boot.schedule, shelf)?;
+    let bytes = get_file(alloc, resume.file, shelf)?;
     let ready = ready_of(alloc, &image, &schedule)?;
     Ok(Resumable { ready, bytes })
 }
@@ -61,9 +72,7 @@ pub fn run_resume<S: Shelf, O: Sink, D: Sectors>(
     disk.are_sectors();
     match plan_resume(alloc, resume, shelf) {
         Ok(resumable) => resume_system(alloc, resumable, resume, out, disk),
-        Err(Stop::Refused(refusal)) => refuse(&refusal, out),
-        Err(Stop::Shelf) => Status::Shelf,
-        Err(Stop::Memory) => Status::Memory,
+        Err(stop) => say_stop(stop, out),
     }
 }
 
@@ -78,33 +87,18 @@ fn resume_system<O: Sink, D: Sectors>(
     requires follows { SystemFollows resumable.ready }
     ensures { SystemDoes O.Sink D.Sectors (resumable_for (save_view resume.now) resumable) result (out.old, disk.old) (out.new, disk.new) }
 {
-    match resume_run(
+    let limits = Limits {
+        turns: resume.boot.turns,
+        steps: resume.boot.steps,
+    };
+    let setup = Setup {
         alloc,
-        resumable.ready.layer,
-        resumable.ready.boot,
-        resumable.ready.schedule,
-        &resumable.bytes,
-        resume.boot.turns,
-        resume.boot.steps,
-        disk,
-        out,
-    ) {
+        layer: resumable.ready.layer,
+        boot: resumable.ready.boot,
+        schedule: resumable.ready.schedule,
+    };
+    match resume_run(setup, &resumable.bytes, limits, disk, out) {
         Ok(end) => status_of(end),
-        Err(ResumeFault::SmallDisk { need, have }) => {
-            refuse(&Refusal::SmallDisk { need, have }, out)
-        }
-        Err(ResumeFault::Save(fault)) => refuse_file(fault, out),
+        Err(fault) => say_stop(Stop::from(fault), out),
     }
-}
-
-// Prints the row of a fault of a saved machine's file. Want of memory is none.
-fn refuse_file<O: Sink>(fault: SaveFault, out: &mut O) -> Status
-    ensures cases { ((result ≡ Status.Memory) × (out.new ≡ out.old))
-        ⊎ ((fault ≢ SaveFault.Memory) × ((result ≡ Status.Refused) ⊎ (result ≡ Status.Sink))) }
-    ensures says { fault ≢ SaveFault.Memory → SaysAs O.Sink Status.Refused (refusal_text (bad_save fault)) out.old out.new result }
-{
-    if let SaveFault::Memory = fault {
-        return Status::Memory;
-    }
-    refuse(&Refusal::BadSave(fault), out)
 }

@@ -4,7 +4,8 @@ ghost use Rattle.real_layer.specs.Image.{layer_image};
 ghost use Rattle.cvm_shell.specs.declared.boot.Stop.TheVariants as stop;
 ghost use Rattle.run_scripts.specs.Command.{sample_session};
 ghost use Rattle.run_scripts.specs.Plan.{PartsPlan, IsLinkedTo, IsPlan};
-ghost use Rattle.cvm_shell.specs.Stages.{ready_for, IsSamplePlan, SystemFollows};
+ghost use Rattle.sample_maker.specs.Sample.{sample_of};
+ghost use Rattle.cvm_shell.specs.Stages.{ready_for, SystemFollows};
 ghost use Rattle.cvm_shell.specs.Views.{IfPlan, IfRefused};
 
 use crate::boot::{Ready, Stop, ready_of};
@@ -29,7 +30,7 @@ impl From<AllocError> for Stop {
 
 /// Makes the parts of the sample of a number, links them, and accepts what is linked: what is to be run.
 pub fn sampled(alloc: Global, number: u32) -> Result<Ready, Stop>
-    ensures comes { IfPlan (ready_for sample_session) (IsSamplePlan layer_image number) result }
+    ensures comes { IfPlan (ready_for sample_session) (IsPlan ⊤ (PartsPlan layer_image sample_session (sample_of number))) result }
     ensures follows { IfOk result SystemFollows }
     ensures inside { IfErr result (λ s. s ≢ Stop.Shelf) }
     ensures short { IsErrOf result (Stop.Refused Refusal.TooLong) → ⊥ }

@@ -1,25 +1,25 @@
 // A save: what its files come to, and the run that is saved.
-ghost use Rattle.std.specs.Prelude.{◌≡◌, ◌≢◌, ◌↔◌, ◌<◌, ◌≤◌, ◌^◌, ℕ, List, IfOk, IfErr, OnErr, IsErrOf, Err};
+ghost use Rattle.std.specs.Prelude.{◌≡◌, ◌≢◌, ◌↔◌, ◌≤◌, ℕ, List, IfOk, IfErr, OnErr, IsErrOf, Err};
 ghost use Rattle.cvm_outside.specs.Told.{TOO_LONG};
 ghost use Rattle.kernel_linker.specs.Accept.{system_of};
 ghost use Rattle.boot_run.specs.SaveRoom.{most_words, FILE_ROOM};
 ghost use Rattle.real_layer.specs.Image.{layer_image};
 ghost use Rattle.run_scripts.specs.Command.{save as of_save, save_session};
 ghost use Rattle.cvm_shell.specs.Does.{Gets, RunDoes, SaveDoes, SavedCalls, SessionPasts};
-ghost use Rattle.run_scripts.specs.Ends.{AreBytes};
+ghost use Rattle.run_scripts.specs.Ends.{AreBytes, seen};
 ghost use Rattle.run_scripts.specs.Served.{files_of};
 ghost use Rattle.run_scripts.specs.Plan.{frames_of, most_bytes};
-ghost use Rattle.cvm_shell.specs.Stages.{save_stop, saveable_for, SaveAnswers, status_of_saved, SystemFollows, HasNoRoom, IsSavePlan, PlanCounts};
+ghost use Rattle.cvm_shell.specs.Stages.{save_stop, saveable_for, CallAnswers, SystemFollows, HasNoRoom, FilesPlan, PlanCounts};
 ghost use Rattle.cvm_shell.specs.Views.{save_view, IfPlan};
 
-use crate::boot::{Ready, Stop, plan, status_of};
+use crate::boot::{Ready, Stop, plan};
 use crate::refusal::Refusal;
 use crate::saving_words::Save;
-use crate::saying::refuse;
-use boot_run::{LoadFault, frames_of, pasts_exist};
+use crate::saying::{say_end, say_stop};
+use boot_run::{Limits, LoadFault, RunEnd, Setup, pasts_exist};
 use cvm_outside::{Sectors, Shelf, Sink};
 use layer_contract::Layer;
-use machine_save::{Room, SaveFault, SavedEnd, boots_hold, save_run};
+use machine_save::{Place, Room, SaveFault, save_run};
 use run_scripts::Status;
 use std::alloc::Global;
 
@@ -45,7 +45,7 @@ pub struct Saveable {
 
 /// Gets the files of a save, the image first; accepts the image, reads the schedule, and takes the room for the file: what is to be run.
 pub fn plan_save<S: Shelf>(alloc: Global, save: &Save, shelf: &mut S) -> Result<Saveable, Stop>
-    ensures comes { IfPlan (saveable_for (save_view save.now)) (IsSavePlan layer_image (S.file shelf.old) (save_view save.now)) result }
+    ensures comes { IfPlan (saveable_for (save_view save.now)) (FilesPlan layer_image (S.file shelf.old) (of_save (save_view save.now))) result }
     ensures follows { IfOk result (λ r. SystemFollows r.ready) }
     ensures room { IfOk result (λ r. r.room.words ≡ most_words (frames_of (system_of r.ready.boot))) }
     ensures short { IfOk result (λ r. most_bytes (system_of r.ready.boot) ≤ FILE_ROOM) }
@@ -68,7 +68,7 @@ fn room_for(alloc: Global, ready: &Ready) -> Result<Room, Stop>
     ensures stops { IfErr result (HasNoRoom (system_of ready.now.boot)) }
 {
     ready.layer.keeps_laws();
-    let frames = frames_of(alloc, &ready.boot)?;
+    let frames = ready.layer.memory_map().memory_frames();
     let room = Room::new(alloc, frames)?;
     Ok(room)
 }
@@ -87,9 +87,7 @@ pub fn run_save<S: Shelf, O: Sink, D: Sectors>(
     disk.are_sectors();
     match plan_save(alloc, save, shelf) {
         Ok(saveable) => save_system(alloc, saveable, save, shelf, out, disk),
-        Err(Stop::Refused(refusal)) => refuse(&refusal, out),
-        Err(Stop::Shelf) => Status::Shelf,
-        Err(Stop::Memory) => Status::Memory,
+        Err(stop) => say_stop(stop, out),
     }
 }
 
@@ -110,15 +108,8 @@ fn save_system<S: Shelf, O: Sink, D: Sectors>(
         (shelf.old, out.old, disk.old) (shelf.new, out.new, disk.new) }
     ensures taken { S.taken shelf.new ≡ S.taken shelf.old }
 {
-    match save_ready(alloc, saveable, save, shelf, out, disk) {
-        Ok(end) => saved_status(end),
-        Err(LoadFault::SmallDisk { need, have }) => refuse(&Refusal::SmallDisk { need, have }, out),
-        Err(LoadFault::Disk) => Status::Disk,
-        Err(LoadFault::Memory) => Status::Memory,
-        Err(LoadFault::NoSuchUser { user, users }) => {
-            refuse(&Refusal::NoSuchUser { user, users }, out)
-        }
-    }
+    let answer = save_ready(alloc, saveable, save, shelf, out, disk);
+    say_end(answer, out)
 }
 
 // Loads and runs a system that is to be saved.
@@ -129,12 +120,13 @@ fn save_ready<S: Shelf, O: Sink, D: Sectors>(
     shelf: &mut S,
     out: &mut O,
     disk: &mut D,
-) -> Result<SavedEnd, LoadFault>
+) -> Result<RunEnd, LoadFault>
     requires follows { SystemFollows saveable.ready }
     requires room { saveable.room.words ≡ most_words (frames_of (system_of saveable.ready.boot)) }
     requires short { most_bytes (system_of saveable.ready.boot) ≤ FILE_ROOM }
     requires some { 1 ≤ (save_view save.now).boot.turns }
-    ensures is { SaveAnswers saveable (D.size disk.old) (D.faults disk.old) (D.faults disk.new) result }
+    ensures answers { CallAnswers saveable.ready (save_session (save_view save.now)) result
+        (seen S.Shelf O.Sink D.Sectors shelf.old out.old disk.old) (seen S.Shelf O.Sink D.Sectors shelf.new out.new disk.new) }
     ensures calls { SavedCalls S.Shelf O.Sink D.Sectors saveable.ready (save_view save.now) result
         (shelf.old, out.old, disk.old) (shelf.new, out.new, disk.new) }
     ensures pasts { SessionPasts saveable.ready (save_session (save_view save.now)) (D.size disk.old) (D.sectors disk.old) }
@@ -144,37 +136,20 @@ fn save_ready<S: Shelf, O: Sink, D: Sectors>(
     ensures still { result ≢ Err LoadFault.Disk → OnErr result (disk.new ≡ disk.old) }
 {
     let ready = &saveable.ready;
-    boots_hold(&ready.layer, &ready.boot, &ready.schedule, disk);
     pasts_exist(&ready.layer, &ready.boot, &ready.schedule, disk);
-    is_in_range(save.boot.steps);
-    save_run(
+    let limits = Limits {
+        turns: save.boot.turns,
+        steps: save.boot.steps,
+    };
+    let setup = Setup {
         alloc,
-        saveable.ready.layer,
-        saveable.ready.boot,
-        saveable.ready.schedule,
-        saveable.room,
-        save.boot.turns,
-        save.boot.steps,
-        save.file,
-        shelf,
-        disk,
-        out,
-    )
-}
-
-// Tells proofs that a number of steps is in the range of its type.
-fn is_in_range(steps: u64)
-    ensures { steps < 2 ^ 64 }
-{}
-
-// The status of a run that was to be saved, by its end.
-fn saved_status(end: SavedEnd) -> Status
-    ensures { result ≡ status_of_saved end }
-{
-    match end {
-        SavedEnd::Saved => Status::Done,
-        SavedEnd::ShelfFault => Status::Shelf,
-        SavedEnd::RowFault => Status::Sink,
-        SavedEnd::Ended(end) => status_of(end),
-    }
+        layer: saveable.ready.layer,
+        boot: saveable.ready.boot,
+        schedule: saveable.ready.schedule,
+    };
+    let place = Place {
+        room: saveable.room,
+        name: save.file,
+    };
+    save_run(setup, limits, place, shelf, disk, out)
 }

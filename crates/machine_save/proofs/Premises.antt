@@ -1,9 +1,7 @@
 -- What holds of a boot and of what is saved of it, from the laws of the crates below.
-use Rattle.std.proofs.Common.{◌≡◌, ℕ, Option, Ok, List, sym, subst}
-use Rattle.std.specs.Prelude.{All, IfSome, length}
+use Rattle.std.proofs.Common.{◌≡◌, ℕ, Ok, List, sym, subst}
 use Rattle.std.specs.List.{flat_map}
 use Rattle.cvm_words.specs.Bytes.{word}
-use Rattle.cvm_outside.specs.Told.{IsSector}
 use Rattle.schedule_file.specs.Rows.{Rows}
 use Rattle.mips_table.specs.Machine.{run}
 use Rattle.mips_machine.specs.Steps.{outside_of}
@@ -13,14 +11,7 @@ use Rattle.saved_file.specs.Resumable.{CanBeResumed}
 use Rattle.saved_file.specs.Answer.{answer, SavedIsReadBack}
 use Rattle.boot_run.specs.Loading.{system_of}
 use Rattle.boot_run.specs.SavedFiles.{SavedBootsAreOfRuns, wanted_of}
-use Rattle.boot_run.proofs.Premises.{are_pages}
-use Rattle.machine_save.specs.SavedBoots.{AreDisk, AreTakenUp, CanBoot}
-
-pub are_disk : (count : ℕ) (told : Option (List (List ℕ))) → IfSome told (λ ss. length ss ≡ count) → IfSome told (All IsSector) → AreDisk count told
-are_disk count told sized sectors = λ old is. record {
-  size = subst (λ (o : Option (List (List ℕ))). IfSome o (λ ss. length ss ≡ count)) is sized;
-  each = are_pages old (subst (λ (o : Option (List (List ℕ))). IfSome o (All IsSector)) is sectors);
-}
+use Rattle.machine_save.specs.SavedBoots.{AreTakenUp, CanBoot}
 
 pub are_taken_up : SavedBootsAreOfRuns → SavedIsReadBack answer → (b : Booted) (rows : Rows) (count : ℕ) → CanBoot b rows count → AreTakenUp b rows count
 are_taken_up of_runs read b rows count boots = λ old left few spent turns words shown room disk at some enough bits limit.

@@ -1,5 +1,5 @@
 -- The script of a save, by that of its run and by the put of its file.
-use Rattle.std.proofs.Common.{◌≡◌, ◌≢◌, ℕ, ◌*◌, ◌+◌, ◌≤◌, ◌<◌, ◌^◌, true, List, [], ◌++◌, length, append-nil, refl, sym, ap, ◌∙◌, subst, arith, Some, None, Ok, Err}
+use Rattle.std.proofs.Common.{◌≡◌, ◌≢◌, ℕ, ◌*◌, ◌+◌, ◌≤◌, ◌<◌, ◌^◌, true, List, [], ◌++◌, length, append-nil, refl, sym, ap, ◌∙◌, subst, arith, inl, inr, Some, None, Ok, Err}
 use Rattle.std.specs.Prelude.{Option, Result, OnOk, OnErr, IsErrOf, IsSome, slice_index, slice_set}
 use Rattle.std.specs.Option.{option_map}
 use Rattle.std.specs.List.{flat_map}
@@ -37,22 +37,20 @@ use Rattle.saved_file.specs.Resumable.{CanBeResumed}
 use Rattle.boot_run.specs.declared.load.LoadFault.{LoadFault}
 use Rattle.boot_run.specs.declared.load.LoadFault.TheVariants as load
 use Rattle.boot_run.specs.declared.whole.RunEnd.{RunEnd}
-use Rattle.boot_run.specs.declared.saving.SaveEnd.{SaveEnd}
-use Rattle.boot_run.specs.declared.saving.SaveEnd.TheVariants.{Stopped, Ended as BootEnded}
+use Rattle.boot_run.specs.declared.whole.RunEnd.TheVariants as ends
+use Rattle.boot_run.specs.declared.whole.RunEnd.TheVariants.{Stopped, SinkFault, ShelfFault as NotPut}
 use Rattle.boot_run.specs.LoadEnds.{Kept, pages_needed}
 use Rattle.boot_run.specs.Loading.{system_of}
 use Rattle.boot_run.specs.RunCalls.{run_at, loads, of_end}
 use Rattle.boot_run.specs.RunScript.{saved_words}
-use Rattle.boot_run.specs.SaveCalls.{SaveScript, stop_script, due_stop, of_stop}
+use Rattle.boot_run.specs.SaveCalls.{SaveScript, stop_script, due_stop}
 use Rattle.boot_run.specs.SavedFiles.{wanted_of}
-use Rattle.boot_run.specs.SavedRuns.{SavedAt, IsDisk}
+use Rattle.boot_run.specs.SavedRuns.{SavedAt, IsDisk, AreDisk}
 use Rattle.boot_run.specs.Saving.{saved_run, WholeStops}
 use Rattle.boot_run.specs.SaveRoom.{most_words}
-use Rattle.machine_save.specs.SaveCalls.{put_script, leave_script, of_put, saved_by, PutCalls, SomeLeft, SavedScript}
+use Rattle.machine_save.specs.SaveCalls.{put_script, leave_script, PutCalls, SomeLeft, SavedScript}
 use Rattle.machine_save.specs.SaveRun.{ShowsSaved}
-use Rattle.machine_save.specs.SavedBoots.{AreDisk, AreTakenUp, CanBoot}
-use Rattle.machine_save.specs.declared.saving.SavedEnd.{SavedEnd}
-use Rattle.machine_save.specs.declared.saving.SavedEnd.TheVariants.{Saved, ShelfFault as NotPut, RowFault, Ended}
+use Rattle.machine_save.specs.SavedBoots.{AreTakenUp, CanBoot}
 
 -- files beside a sink and a disk
 abbrev pub beside : Output → Drive → Files → Outside
@@ -106,12 +104,31 @@ behind : (a b : List Call) (old new : Outside) (blamed : Option Who) → (blamed
 behind a b old new None none p = same_script a (a ++ b) old new None (sym (ap (λ (l : List Call). a ++ l) (none refl) ∙ append-nil a)) p
 behind a b old new (Some whom) none p = first a b old new whom p
 
+-- a run that ended leaves no call
+none_left : (name : List ℕ) (r : Run) (p : Past) (e : RunEnd) → e ≢ Stopped → leave_script name r p e ≡ []
+none_left name r p Stopped over = absurd (over refl)
+none_left name r p ends.Done over = refl
+none_left name r p ends.KernelFaulted over = refl
+none_left name r p ends.OutOfSteps over = refl
+none_left name r p ends.DiskFault over = refl
+none_left name r p SinkFault over = refl
+none_left name r p NotPut over = refl
+
+left_none : (name : List ℕ) (e : RunEnd) → e ≢ Stopped → e ≢ NotPut → SomeLeft name (Ok e) []
+left_none name Stopped over unput = absurd (over refl)
+left_none name ends.Done over unput = refl
+left_none name ends.KernelFaulted over unput = refl
+left_none name ends.OutOfSteps over unput = refl
+left_none name ends.DiskFault over unput = refl
+left_none name SinkFault over unput = inl refl
+left_none name NotPut over unput = absurd (unput refl)
+
 -- NO RUN IS LOADED
 module _ {S O D : Type 0} (shelf : shelf_of.Ghosts S) (text : sink_of.Ghosts O) (told : sectors_of.Ghosts D) (y : System) (rows : Rows) (start : List (List ℕ) → State) (turns steps : ℕ) (script : List Call) (name : List ℕ) (s : S) (o o1 : O) (d d1 : D) where
   abbrev rn : List (List ℕ) → Run
   rn sectors = run_at (outside_of rows (told.size d)) y (start sectors) Boot turns steps
 
-  unloaded : (f : LoadFault) → (loads {T = SavedEnd} (Err f) ≡ true → ⊥) → ◌≡◌ {A = O × D} (o1, d1) (o, d) → SavedScript shelf text told y rows start turns steps script name (s, o, d) (s, o1, d1) (Err f)
+  unloaded : (f : LoadFault) → (loads {T = RunEnd} (Err f) ≡ true → ⊥) → ◌≡◌ {A = O × D} (o1, d1) (o, d) → SavedScript shelf text told y rows start turns steps script name (s, o, d) (s, o1, d1) (Err f)
   unloaded f none same = record {
     exact = λ begun. absurd (none begun);
     some = λ begun. absurd (none begun);
@@ -132,51 +149,55 @@ module _ {S O D : Type 0} (shelf : shelf_of.Ghosts S) (text : sink_of.Ghosts O) 
   save_refused (load.NoSuchUser user users) calls = unloaded (load.NoSuchUser user users) (λ e. cc) (calls.none refl)
 
   -- A RUN HAS ENDED
-  pub save_ended : {L : Type 0} (r : Kept L) (end : SaveEnd) (e : RunEnd) → end ≡ BootEnded e → SaveScript {L = L} text told y rows start turns steps script (o, d) (o1, d1) (Ok (r, end)) →
-      SavedScript shelf text told y rows start turns steps script name (s, o, d) (s, o1, d1) (Ok (Ended e))
-  save_ended {L} r end e is_end given =
-      let calls : SaveScript {L = L} text told y rows start turns steps script (o, d) (o1, d1) (Ok (r, BootEnded e)) = subst (λ (q : SaveEnd). SaveScript {L = L} text told y rows start turns steps script (o, d) (o1, d1) (Ok (r, q))) is_end given in
-      record {
-        exact = λ begun sectors p is past.
-            let w = calls.exact refl sectors p is past in (
-              behind (script ++ stop_script (rn sectors) p 0) (leave_script name (rn sectors) p (due_stop (rn sectors) p)) _ _ (of_end e) (λ none. ap (leave_script name (rn sectors) p) (sym (w.1 none))) (w.0 (files shelf s)),
-              λ none. ap saved_by (w.1 none),
-            );
-        some = λ begun. let w = calls.some refl in (w.0, w.1, [], refl, behind (script ++ w.0) [] _ _ (of_end e) (λ none. refl) (w.2 (files shelf s)));
-        none = λ h. absurd (let q = h in cc);
-      }
+  pub save_ended : {L : Type 0} (r : Kept L) (e : RunEnd) → e ≢ Stopped → e ≢ NotPut → SaveScript {L = L} text told y rows start turns steps script (o, d) (o1, d1) (Ok (r, e)) →
+      SavedScript shelf text told y rows start turns steps script name (s, o, d) (s, o1, d1) (Ok e)
+  save_ended r e over unput calls = record {
+    exact = λ begun sectors p is past.
+        let w = calls.exact refl sectors p is past in (
+          behind (script ++ stop_script (rn sectors) p 0) (leave_script name (rn sectors) p (due_stop (rn sectors) p)) _ _ (of_end e) (λ none. ap (leave_script name (rn sectors) p) (sym (w.1 none)) ∙ none_left name (rn sectors) p e over) (w.0 (files shelf s)),
+          w.1,
+        );
+    some = λ begun. let w = calls.some refl in (w.0, w.1, [], left_none name e over unput, behind (script ++ w.0) [] _ _ (of_end e) (λ none. refl) (w.2 (files shelf s)));
+    none = λ h. absurd (let q = h in cc);
+  }
 
 -- A RUN STOPPED, and its file was put, or was to be
-left_so : (name bytes : List ℕ) (rows after : Option (List ℕ)) (e : SavedEnd) → ShowsSaved rows after e → SomeLeft name (Ok e) (put_script name bytes)
-left_so name bytes rows after Saved shows = (bytes, refl)
+left_so : (name bytes : List ℕ) (rows after : Option (List ℕ)) (e : RunEnd) → ShowsSaved rows after e → SomeLeft name (Ok e) (put_script name bytes)
+left_so name bytes rows after Stopped shows = (bytes, refl)
 left_so name bytes rows after NotPut shows = (bytes, refl)
-left_so name bytes rows after RowFault shows = (bytes, refl)
-left_so name bytes rows after (Ended x) shows = absurd shows
+left_so name bytes rows after SinkFault shows = inr (bytes, refl)
+left_so name bytes rows after ends.Done shows = absurd shows
+left_so name bytes rows after ends.KernelFaulted shows = absurd shows
+left_so name bytes rows after ends.OutOfSteps shows = absurd shows
+left_so name bytes rows after ends.DiskFault shows = absurd shows
 
-due_so : (rows after : Option (List ℕ)) (e : SavedEnd) → ShowsSaved rows after e → of_put e ≡ None → (due : SaveEnd) → Stopped ≡ due → e ≡ saved_by due
-due_so rows after Saved shows none due is = ap saved_by is
+due_so : (rows after : Option (List ℕ)) (e : RunEnd) → ShowsSaved rows after e → of_end e ≡ None → (due : RunEnd) → Stopped ≡ due → e ≡ due
+due_so rows after Stopped shows none due is = is
 due_so rows after NotPut shows none due is = absurd (let e = none in cc)
-due_so rows after RowFault shows none due is = absurd (let e = none in cc)
-due_so rows after (Ended x) shows none due is = absurd shows
+due_so rows after SinkFault shows none due is = absurd (let e = none in cc)
+due_so rows after ends.Done shows none due is = absurd shows
+due_so rows after ends.KernelFaulted shows none due is = absurd shows
+due_so rows after ends.OutOfSteps shows none due is = absurd shows
+due_so rows after ends.DiskFault shows none due is = absurd shows
 
 module _ {S O D : Type 0} (shelf : shelf_of.Ghosts S) (text : sink_of.Ghosts O) (told : sectors_of.Ghosts D) (y : System) (rows : Rows) (start : List (List ℕ) → State) (turns steps room : ℕ) (script : List Call) (name : List ℕ) (s s2 : S) (o o1 o2 : O) (d d1 : D) where
   abbrev run_from : List (List ℕ) → Run
   run_from sectors = run_at (outside_of rows (told.size d)) y (start sectors) Boot turns steps
 
-  pub save_stopped : {L : Type 0} (r : Kept L) (end : SaveEnd) (e : SavedEnd) → end ≡ Stopped → SaveScript {L = L} text told y rows start turns steps script (o, d) (o1, d1) (Ok (r, end)) →
+  pub save_stopped : {L : Type 0} (r : Kept L) (end e : RunEnd) → end ≡ Stopped → SaveScript {L = L} text told y rows start turns steps script (o, d) (o1, d1) (Ok (r, end)) →
       ((sectors : List (List ℕ)) (p : Past) → told.sectors d ≡ Some sectors → IsPast (run_from sectors) p → (length (saved_run r) ≤ room) × (r.turns < 2 ^ 32) × (saved_run r ≡ saved_words (run_from sectors) p)) →
       ShowsSaved (text.text o1) (text.text o2) e → PutCalls shelf text r room name (s, o1) (s2, o2) e → SavedScript shelf text told y rows start turns steps script name (s, o, d) (s2, o2, d1) (Ok e)
   save_stopped {L} r end e is_end given words shows put =
-      let calls : SaveScript {L = L} text told y rows start turns steps script (o, d) (o1, d1) (Ok (r, Stopped)) = subst (λ (q : SaveEnd). SaveScript {L = L} text told y rows start turns steps script (o, d) (o1, d1) (Ok (r, q))) is_end given in
+      let calls : SaveScript {L = L} text told y rows start turns steps script (o, d) (o1, d1) (Ok (r, Stopped)) = subst (λ (q : RunEnd). SaveScript {L = L} text told y rows start turns steps script (o, d) (o1, d1) (Ok (r, q))) is_end given in
       record {
         exact = λ begun sectors p is past.
             let w = calls.exact refl sectors p is past in
             let fits = words sectors p is past in
             let bytes : put.0 ≡ flat_map word (saved_words (run_from sectors) p) = put.1 fits.0 fits.1 ∙ ap (flat_map word) fits.2 in
             let left : put_script name put.0 ≡ leave_script name (run_from sectors) p (due_stop (run_from sectors) p) = ap (put_script name) bytes ∙ ap (leave_script name (run_from sectors) p) (w.1 refl) in (
-              same_script ((script ++ stop_script (run_from sectors) p 0) ++ put_script name put.0) (script ++ stop_script (run_from sectors) p 0 ++ leave_script name (run_from sectors) p (due_stop (run_from sectors) p)) _ _ (of_put e)
+              same_script ((script ++ stop_script (run_from sectors) p 0) ++ put_script name put.0) (script ++ stop_script (run_from sectors) p 0 ++ leave_script name (run_from sectors) p (due_stop (run_from sectors) p)) _ _ (of_end e)
                   (ap (λ (l : List Call). (script ++ stop_script (run_from sectors) p 0) ++ l) left)
-                  (both (script ++ stop_script (run_from sectors) p 0) (put_script name put.0) _ _ _ (of_put e) (w.0 (files shelf s)) (put.2 (drive told d1))),
+                  (both (script ++ stop_script (run_from sectors) p 0) (put_script name put.0) _ _ _ (of_end e) (w.0 (files shelf s)) (put.2 (drive told d1))),
               λ none. due_so (text.text o1) (text.text o2) e shows none (due_stop (run_from sectors) p) (w.1 refl),
             );
         some = λ begun.
@@ -185,7 +206,7 @@ module _ {S O D : Type 0} (shelf : shelf_of.Ghosts S) (text : sink_of.Ghosts O) 
               w.1,
               put_script name put.0,
               left_so name put.0 (text.text o1) (text.text o2) e shows,
-              both (script ++ w.0) (put_script name put.0) _ _ _ (of_put e) (w.2 (files shelf s)) (put.2 (drive told d1)),
+              both (script ++ w.0) (put_script name put.0) _ _ _ (of_end e) (w.2 (files shelf s)) (put.2 (drive told d1)),
             );
         none = λ h. absurd (let q = h in cc);
       }
@@ -219,25 +240,25 @@ stays_told script old new blamed (done _) h = h
 stays_told script old new blamed (breaks c rest _ _ f) h = failed_told c old new f h
 stays_told script old new blamed (goes_on c rest _ mid _ _ d p) h = stays_told rest mid new blamed p (done_told c old mid d h)
 
-pub save_told : {L O D : Type 0} (text : sink_of.Ghosts O) (told : sectors_of.Ghosts D) (y : System) (rows : Rows) (start : List (List ℕ) → State) (turns steps : ℕ) (script : List Call) (o o1 : O) (d d1 : D) (r : Kept L) (end : SaveEnd) →
+pub save_told : {L O D : Type 0} (text : sink_of.Ghosts O) (told : sectors_of.Ghosts D) (y : System) (rows : Rows) (start : List (List ℕ) → State) (turns steps : ℕ) (script : List Call) (o o1 : O) (d d1 : D) (r : Kept L) (end : RunEnd) →
     SaveScript {L = L} text told y rows start turns steps script (o, d) (o1, d1) (Ok (r, end)) → IsSome (told.sectors d) → IsSome (told.sectors d1)
 save_told text told y rows start turns steps script o o1 d d1 r end calls h =
     let more = calls.some refl in
-    stays_told (script ++ more.0) (beside (output text o) (drive told d) no_files) (beside (output text o1) (drive told d1) no_files) (of_stop end) (more.2 no_files) h
+    stays_told (script ++ more.0) (beside (output text o) (drive told d) no_files) (beside (output text o1) (drive told d1) no_files) (of_end end) (more.2 no_files) h
 
 -- what is known of the words of one that stopped, over told sectors
 some_of : {A : Type 0} (o : Option A) → IsSome o → (x : A) × (o ≡ Some x)
 some_of None h = absurd (cc)
 some_of (Some x) h = (x, refl)
 
-pub stopped_words : {L : Type 0} (b : Booted) (rows : Rows) (count turns steps room : ℕ) (told left : Option (List (List ℕ))) (r : Kept L) (end : SaveEnd) → end ≡ Stopped
+pub stopped_words : {L : Type 0} (b : Booted) (rows : Rows) (count turns steps room : ℕ) (told left : Option (List (List ℕ))) (r : Kept L) (end : RunEnd) → end ≡ Stopped
     → WholeStops b rows count turns steps told left (Ok (r, end)) → (IsSome told → IsSome left) → AreTakenUp b rows count → pages_needed b ≤ count → AreDisk count told → 1 ≤ turns → turns < 2 ^ 32 → steps < 2 ^ 64
     → room ≡ most_words (memory_frames (map_of (boot_of b))) → CanBoot b rows count → ((u : CUnit) → MachinesRun (IsTypedState u)) → TurnLaws → (sectors : List (List ℕ)) (p : Past) → told ≡ Some sectors
     → IsPast (run_at (outside_of rows count) (system_of b rows) (loaded (system_of b rows) sectors) Boot turns steps) p
     → (length (saved_run r) ≤ room) × (r.turns < 2 ^ 32) × (saved_run r ≡ saved_words (run_at (outside_of rows count) (system_of b rows) (loaded (system_of b rows) sectors) Boot turns steps) p)
-stopped_words b rows count turns steps room told left r end is_end ends keeps up enough disk one bits limit same can machines counts sectors p is past =
+stopped_words b rows count turns steps room told left r end is_end stops keeps up enough disk one bits limit same can machines counts sectors p is past =
     let some = some_of left (keeps (subst (λ (o : Option (List (List ℕ))). IsSome o) (sym is) refl)) in
-    let w = subst (λ (q : SaveEnd). WholeStops b rows count turns steps told left (Ok (r, q))) is_end ends sectors some.0 is some.1 in
+    let w = stops sectors some.0 is some.1 is_end in
     let fits = has_room b rows count sectors some.0 turns steps room r w.0 up enough (disk sectors is) one bits limit same w.1 in
     let boot = can enough sectors (disk sectors is) in
     let m = machines (unit_view b.unit) (outside_of rows count) (system_of b rows) (loaded (system_of b rows) sectors) 1 (user_sectors (system_of b rows)) boot.starts in

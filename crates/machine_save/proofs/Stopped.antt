@@ -9,8 +9,9 @@ use Rattle.boot_run.specs.LoadEnds.{LoadsRun}
 use Rattle.boot_run.specs.declared.load.LoadFault.{LoadFault}
 use Rattle.boot_run.specs.declared.load.LoadFault.TheVariants.{Disk}
 use Rattle.machine_save.specs.SaveRun.{IfUnput, ShowsSaved}
-use Rattle.machine_save.specs.declared.saving.SavedEnd.{SavedEnd}
-use Rattle.machine_save.specs.declared.saving.SavedEnd.TheVariants.{Saved, ShelfFault, RowFault, Ended}
+use Rattle.boot_run.specs.declared.whole.RunEnd.{RunEnd}
+use Rattle.boot_run.specs.declared.whole.RunEnd.TheVariants as ends
+use Rattle.boot_run.specs.declared.whole.RunEnd.TheVariants.{Stopped, SinkFault, ShelfFault}
 
 one_fault : {A : Type 0} (f g : LoadFault) → ◌≡◌ {A = Result A LoadFault} (Err f) (Err g) → f ≡ g
 one_fault f g e = cc
@@ -38,8 +39,21 @@ module _ {D O : Type 0} (size : D → ℕ) (sectors : D → Option (List (List �
   }
 
 -- WHAT A STATE'S END SAYS
-pub was_put : (rows after : Option (List ℕ)) (e : SavedEnd) (P : Type 0) → ShowsSaved rows after e → IfUnput (Ok e) P
-was_put rows after Saved P shows = tt
+pub was_put : (rows after : Option (List ℕ)) (e : RunEnd) (P : Type 0) → ShowsSaved rows after e → IfUnput (Ok e) P
+was_put rows after Stopped P shows = tt
 was_put rows after ShelfFault P shows = tt
-was_put rows after RowFault P shows = tt
-was_put rows after (Ended end) P shows = absurd shows
+was_put rows after SinkFault P shows = tt
+was_put rows after ends.Done P shows = absurd shows
+was_put rows after ends.KernelFaulted P shows = absurd shows
+was_put rows after ends.OutOfSteps P shows = absurd shows
+was_put rows after ends.DiskFault P shows = absurd shows
+
+-- and what the end of a run says where nothing was put
+pub was_unput : (e : RunEnd) (P : Type 0) → P → IfUnput (Ok e) P
+was_unput Stopped P h = tt
+was_unput ShelfFault P h = tt
+was_unput SinkFault P h = tt
+was_unput ends.Done P h = h
+was_unput ends.KernelFaulted P h = h
+was_unput ends.OutOfSteps P h = h
+was_unput ends.DiskFault P h = h

@@ -1,5 +1,5 @@
 -- What holds of a boot over each disk of so many sectors, and of what is saved of it.
-use Rattle.std.specs.Prelude.{◌≡◌, ℕ, ◌≤◌, ◌<◌, ◌^◌, Option, Some, List, Ok}
+use Rattle.std.specs.Prelude.{◌≡◌, ℕ, ◌≤◌, ◌<◌, ◌^◌, List, Ok}
 use Rattle.std.specs.List.{flat_map}
 use Rattle.cvm_words.specs.Bytes.{word}
 use Rattle.schedule_file.specs.Rows.{Rows}
@@ -11,16 +11,12 @@ use Rattle.saved_file.specs.Answer.{answer}
 use Rattle.boot_run.specs.Loading.{system_of}
 use Rattle.boot_run.specs.LoadEnds.{pages_needed}
 use Rattle.boot_run.specs.SavedRuns.{SavedAt, IsDisk}
-use Rattle.boot_run.specs.Saving.{AreBoots}
+use Rattle.boot_run.specs.Pieces.{AreBoots}
 use Rattle.boot_run.specs.SavedFiles.{wanted_of}
 
 -- it can be booted over each that has the sectors which it needs
 abbrev pub CanBoot : Booted → Rows → (count : ℕ) → Type 0
 CanBoot b rows count = pages_needed b ≤ count → AreBoots b rows count
-
--- sectors that are told are a disk's
-abbrev pub AreDisk : (count : ℕ) → (told : Option (List (List ℕ))) → Type 0
-AreDisk count told = (old : List (List ℕ)) → told ≡ Some old → IsDisk count old
 
 -- what is saved of it can be taken up for no fewer turns, and its file is read back
 abbrev pub AreTakenUp : Booted → Rows → (count : ℕ) → Type 0

@@ -10,5 +10,5 @@ mod space;
 pub use laws::boots_hold;
 pub use resuming::{ResumeFault, resume, resume_run};
 pub use saved_file::SaveFault;
-pub use saving::{SavedEnd, save_run};
+pub use saving::{Place, save_run};
 pub use space::Room;

@@ -15,95 +15,87 @@ ghost use Rattle.boot_run.specs.SaveRoom.{most_words};
 ghost use Rattle.machine_save.specs.SaveCalls.{PutCalls, RowCalls, SavedScript};
 ghost use Rattle.machine_save.specs.SaveRun.{IfUnput, ShowsSaved};
 
-use crate::laws::boots_hold;
+use crate::laws::{are_in_range, boots_hold};
 use crate::space::Room;
-use boot_run::{LoadFault, Run, RunEnd, SaveEnd, run_to_save};
+use boot_run::{Limits, LoadFault, Run, RunEnd, Setup, run_to_save};
 use boot_turns::machines_run;
 use cvm_outside::{Sectors, Shelf, Sink};
-use layer_contract::{Boot, Layer};
+use layer_contract::Layer;
 use mips_table::runs::turns_are_counted;
-use schedule_file::Schedule;
-use std::alloc::Global;
 
-/// How a boot ended that was to be saved.
-#[derive(Clone, Copy, Debug, PartialEq, Eq)]
-pub enum SavedEnd {
-    /// The state was put, and `saved` is printed.
-    Saved,
-    /// The state could not be put: the rows are printed, and `saved` is not.
-    ShelfFault,
-    /// The state was put, and the row `saved` could not be printed whole.
-    RowFault,
-    /// It ended as a boot does: it halted, and the report is printed, or it met a fault. No file is put.
-    Ended(RunEnd),
+/// Where a run is saved.
+#[derive(Drop)]
+pub struct Place<'a> {
+    /// The room that was taken for it.
+    pub room: Room,
+    /// The name of the file.
+    pub name: &'a str,
 }
 
-/// Boots what is to be saved: loads, and makes turns until so many, at least one, are complete or the run has ended or met a fault, at most so many
-/// steps. The rows of the dispatches are printed. Where the turns are complete and the run goes on, its state is put to the file of that name, and the
-/// row `saved` is printed; where it halted its end and the report are. The room is taken before, and is that of the boot's memory.
+/// Boots what is to be saved: loads, and makes turns until so many are complete or the run has ended or met a fault, at most so many steps. The rows of
+/// the dispatches are printed. Where the turns are complete and the run goes on, its state is put to the file of that name, and the row `saved` is
+/// printed; where it halted its end and the report are. The room is taken before, and is that of the boot's memory.
 ///
 /// # Errors
 ///
 /// As [`Run::load`](boot_run::Run::load); nothing is printed then, and no file changes.
 pub fn save_run<L: Layer + Drop, S: Shelf, D: Sectors, O: Sink>(
-    alloc: Global,
-    layer: L,
-    boot: Boot,
-    schedule: Schedule,
-    room: Room,
-    turns: u32,
-    steps: u64,
-    name: &str,
+    setup: Setup<L>,
+    limits: Limits,
+    place: Place<'_>,
     shelf: &mut S,
     disk: &mut D,
     out: &mut O,
-) -> Result<SavedEnd, LoadFault>
-    requires follows { BootFollows (L.image layer) (L.sizes layer) (L.map layer) boot }
-    requires some { 1 ≤ turns }
-    requires room { room.words ≡ most_words (memory_frames (map_of (boot_of boot))) }
+) -> Result<RunEnd, LoadFault>
+    requires follows { BootFollows (L.image setup.layer) (L.sizes setup.layer) (L.map setup.layer) setup.boot }
+    requires some { 1 ≤ limits.turns }
+    requires room { place.room.words ≡ most_words (memory_frames (map_of (boot_of setup.boot))) }
     ensures unput { IfUnput result (shelf.new ≡ shelf.old) }
     ensures taken { S.taken shelf.new ≡ S.taken shelf.old }
-    ensures loads { LoadsRun D.size D.sectors D.faults D.calls boot OfBoot (pages_needed boot) (WholeStopped boot schedule)
+    ensures loads { LoadsRun D.size D.sectors D.faults D.calls setup.boot OfBoot (pages_needed setup.boot) (WholeStopped setup.boot setup.schedule)
         disk.old out.old disk.new out.new result }
-    ensures script { SavedScript S.Shelf O.Sink D.Sectors (system_of boot schedule) schedule (loaded (system_of boot schedule)) turns steps
-        (load_script (user_pages (system_of boot schedule)) (pages_needed boot)) name.now (shelf.old, out.old, disk.old) (shelf.new, out.new, disk.new) result }
+    ensures script { SavedScript S.Shelf O.Sink D.Sectors (system_of setup.boot setup.schedule) setup.schedule
+        (loaded (system_of setup.boot setup.schedule)) limits.turns limits.steps
+        (load_script (user_pages (system_of setup.boot setup.schedule)) (pages_needed setup.boot)) place.entry.name.now
+        (shelf.old, out.old, disk.old) (shelf.new, out.new, disk.new) result }
 {
     machines_run();
     turns_are_counted();
-    boots_hold(&layer, &boot, &schedule, disk);
-    let (run, end) = run_to_save(alloc, layer, boot, schedule, turns, steps, disk, out)?;
-    match end {
-        SaveEnd::Stopped => Ok(put_state(&run, room, name, shelf, out)),
-        SaveEnd::Ended(end) => Ok(SavedEnd::Ended(end)),
+    boots_hold(&setup.layer, &setup.boot, &setup.schedule, disk);
+    are_in_range(limits.turns, limits.steps);
+    let (run, end) = run_to_save(setup, limits, disk, out)?;
+    if let RunEnd::Stopped = end {
+        return Ok(put_state(&run, place, shelf, out));
     }
+    Ok(end)
 }
 
-// Puts the state of a run to the file of that name, and then prints the row `saved`.
+// Puts the state of a run to its place, and then prints the row `saved`.
 fn put_state<L: Layer + Drop, S: Shelf, O: Sink>(
     run: &Run<L>,
-    mut room: Room,
-    name: &str,
+    place: Place<'_>,
     shelf: &mut S,
     out: &mut O,
-) -> SavedEnd
+) -> RunEnd
     ensures shows { ShowsSaved (O.text out.old) (O.text out.new) result }
     ensures taken { S.taken shelf.new ≡ S.taken shelf.old }
-    ensures script { PutCalls S.Shelf O.Sink run.now room.words name.now (shelf.old, out.old) (shelf.new, out.new) result }
+    ensures script { PutCalls S.Shelf O.Sink run.now place.entry.room.words place.entry.name.now (shelf.old, out.old) (shelf.new, out.new) result }
 {
+    let mut room = place.room;
     room.fill(run);
-    match shelf.put(name, room.bytes()) {
+    match shelf.put(place.name, room.bytes()) {
         Ok(()) => put_row(out),
-        Err(_) => SavedEnd::ShelfFault,
+        Err(_) => RunEnd::ShelfFault,
     }
 }
 
 // Prints the row `saved`.
-fn put_row<O: Sink>(out: &mut O) -> SavedEnd
+fn put_row<O: Sink>(out: &mut O) -> RunEnd
     ensures shows { ShowsSaved (O.text out.old) (O.text out.new) result }
     ensures script { RowCalls O.Sink out.old out.new result }
 {
     match out.put(b"saved\n") {
-        Ok(()) => SavedEnd::Saved,
-        Err(_) => SavedEnd::RowFault,
+        Ok(()) => RunEnd::Stopped,
+        Err(_) => RunEnd::SinkFault,
     }
 }

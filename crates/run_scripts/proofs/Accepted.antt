@@ -34,13 +34,13 @@ use Rattle.sample_maker.specs.Sample.{sample_of, user_count, base_of}
 use Rattle.sample_maker.specs.Source.{pattern, filled, filled_byte}
 use Rattle.saved_file.specs.declared.fault.SaveFault.{SaveFault}
 use Rattle.saved_file.specs.declared.fault.SaveFault.TheVariants.{SaveTooLarge as FileTooLarge}
-use Rattle.run_scripts.specs.Refusal.{Refusal, bad_save}
+use Rattle.run_scripts.specs.Refusal.{bad_source, Refusal, bad_save}
 use Rattle.system_files.specs.declared.fault.FileFault.{FileFault}
 use Rattle.layer_map.specs.declared.params.Params.{Params}
 use Rattle.run_scripts.specs.declared.session.Session.{Session}
-use Rattle.run_scripts.specs.Command.{Boot, Command, IsCommand, boot, trace, save, resume, sample_session}
+use Rattle.run_scripts.specs.Command.{Boot, Command, IsCommand, boot, trace, save, resume, compile_user, compile_kernel, compile_program, link, migrate, sample, check, sample_session}
 use Rattle.run_scripts.specs.Check.{Told}
-use Rattle.run_scripts.specs.Plan.{Plan, bad_words, refuses, puts, boots, saves, resumes, prints as tells, Got, long, whole, GotAll, AfterFiles, Answered, BootPlan, accepted_plan, saved_plan, taken_plan, taken_up, most_bytes, AfterText, no_words, assembles, AfterCode, unread, mistyped, compiles, AfterParts, unfit, answered, AfterUsers, AfterParams, AfterSystem, no_object, has_object, linked_plan, renewed_plan, AfterLinking, AfterSource, PartsPlan, told_plan, PlanComesTo, no_command, boot_plan, trace_plan, save_plan, resume_plan, user_plan, kernel_plan, image_plan, link_plan, migrate_plan, sample_plan, check_plan, AllTold}
+use Rattle.run_scripts.specs.Plan.{Plan, bad_words, refuses, puts, boots, saves, resumes, prints as tells, Got, long, whole, GotAll, AfterFiles, Answered, BootPlan, accepted_plan, saved_plan, taken_plan, taken_up, most_bytes, AfterText, no_words, assembles, planned, AfterCode, AfterParts, unfit, answered, AfterUsers, AfterParams, AfterSystem, no_object, has_object, linked_plan, renewed_plan, AfterLinking, AfterSource, PartsPlan, told_plan, PlanComesTo, no_command, by_command, AllTold}
 use Rattle.boot_run.specs.SaveRoom.{FILE_ROOM}
 use Rattle.run_scripts.specs.Ends.{IsByte, AreBytes}
 use Rattle.run_scripts.specs.Served.{files_of}
@@ -213,9 +213,11 @@ module _ (read : AnswersAreSpelled image_of IsInRange) (s : ImageSystem) (rows :
   no_text name text p (assembles words e) t = none_runs s t.system
 
   no_code : (program : Program) (due : CUnit → Plan) (source : List ℕ) (p : Plan) → ((u : CUnit) → RunsThese s rows (due u) → ⊥) → AfterCode program due source p → RunsThese s rows p → ⊥
-  no_code program due source p never (unread f n w) t = none_runs s t.system
-  no_code program due source p never (mistyped f n l w) t = none_runs s t.system
-  no_code program due source p never (compiles u l w) t = never u t
+  no_code program due source p never (front, is, e) t = by front (subst (λ (q : Plan). RunsThese s rows q) e t)
+    where
+      by : (r : Result CUnit SourceFault) → RunsThese s rows (planned bad_source due r) → ⊥
+      by (Ok u) t = never u t
+      by (Err f) t = none_runs s t.system
 
   no_program : (b : Bool) (r : Refusal) (name bytes : List ℕ) → RunsThese s rows (if b then refuses r else puts name bytes) → ⊥
   no_program true r name bytes t = none_runs s t.system
@@ -297,21 +299,21 @@ module _ (read : AnswersAreSpelled image_of IsInRange) (s : ImageSystem) (rows :
     where
       by : (p : Plan) → PlanComesTo words file p → RunsThese s rows p → IsAccepted s rows
       by p (no_command n) t = absurd (none_runs s t.system)
-      by p (boot_plan b _ k g) t = let h = told (boot b) k in after_boot file b _ p (bytes (boot b) k).0 h.0 h.1 g t
-      by p (trace_plan b _ k g) t = let h = told (trace b) k in after_boot file b.boot _ p (bytes (trace b) k).0 h.0 h.1 g t
-      by p (save_plan b _ k g) t = let h = told (save b) k in
-          after_boot file b.boot _ g.0 (bytes (save b) k).0 h.0 h.1 g.1 (unsaved file b.file g.0 (subst (λ (q : Plan). RunsThese s rows q) g.2 t))
-      by p (resume_plan b _ k g) t =
+      by p (by_command (boot b) _ k g) t = let h = told (boot b) k in after_boot file b _ p (bytes (boot b) k).0 h.0 h.1.0 g t
+      by p (by_command (trace b) _ k g) t = let h = told (trace b) k in after_boot file b.boot _ p (bytes (trace b) k).0 h.0 h.1.0 g t
+      by p (by_command (save b) _ k g) t = let h = told (save b) k in
+          after_boot file b.boot _ g.0 (bytes (save b) k).0 h.0 h.1.0 g.1 (unsaved file b.file g.0 (subst (λ (q : Plan). RunsThese s rows q) g.2 t))
+      by p (by_command (resume b) _ k g) t =
           let h = told (resume b) k in
           let one = got (file b.boot.image) _ p h.0 g t in
-          let two = got (file b.boot.schedule) _ p h.1 one.2 t in
-          let three = got (file b.file) _ p h.2 two.2 t in
+          let two = got (file b.boot.schedule) _ p h.1.0 one.2 t in
+          let three = got (file b.file) _ p h.1.1.0 two.2 t in
           let q = three.2 in
           after_files _ one.0 two.0 q.0 (bytes_of_told (file b.boot.image) one.0 (bytes (resume b) k).0 one.1) q.1 (untaken file three.0 q.0 (subst (λ (q : Plan). RunsThese s rows q) q.2 t))
-      by p (user_plan c _ k g) t = absurd (no_got _ _ p (λ b n. no_text c.image b p n) g t)
-      by p (kernel_plan c _ k g) t = absurd (no_got _ _ p (λ b n. no_code _ _ b p (λ u t. none_runs s t.system) n) g t)
-      by p (image_plan c _ k g) t = absurd (no_got _ _ p (λ b n. no_code _ _ b p (λ u t. no_program _ _ _ _ t) n) g t)
-      by p (link_plan l _ k g) t = absurd (no_got _ _ p (λ o n. no_got _ _ p (λ q m. no_all file l.users _ p (λ all. no_system l.image o q all p) m) n) g t)
-      by p (migrate_plan m _ k g) t = absurd (no_got _ _ p (λ b n t. no_renewed m.image n.0 (subst (λ (q : Plan). RunsThese s rows q) n.2 t)) g t)
-      by p (sample_plan x _ k g) t = after_sample x.number p g t
-      by p (check_plan c _ k g) t = absurd (no_got _ _ p (λ b n t. no_told n.0 (subst (λ (q : Plan). RunsThese s rows q) n.2 t)) g t)
+      by p (by_command (compile_user c) _ k g) t = absurd (no_got _ _ p (λ b n. no_text c.image b p n) g t)
+      by p (by_command (compile_kernel c) _ k g) t = absurd (no_got _ _ p (λ b n. no_code _ _ b p (λ u t. none_runs s t.system) n) g t)
+      by p (by_command (compile_program c) _ k g) t = absurd (no_got _ _ p (λ b n. no_code _ _ b p (λ u t. no_program _ _ _ _ t) n) g t)
+      by p (by_command (link l) _ k g) t = absurd (no_got _ _ p (λ o n. no_got _ _ p (λ q m. no_all file l.users _ p (λ all. no_system l.image o q all p) m) n) g t)
+      by p (by_command (migrate m) _ k g) t = absurd (no_got _ _ p (λ b n t. no_renewed m.image n.0 (subst (λ (q : Plan). RunsThese s rows q) n.2 t)) g t)
+      by p (by_command (sample x) _ k g) t = after_sample x.number p g t
+      by p (by_command (check c) _ k g) t = absurd (no_got _ _ p (λ b n t. no_told n.0 (subst (λ (q : Plan). RunsThese s rows q) n.2 t)) g t)

@@ -19,7 +19,8 @@ use Rattle.boot_run.specs.SaveRoom.{FILE_ROOM}
 use Rattle.run_scripts.specs.declared.session.Session.{Session}
 use Rattle.run_scripts.specs.Command.{Boot, Save, Command, IsCommand, boot, trace, save, resume, sample, save_session}
 use Rattle.run_scripts.specs.Refusal.{bad_save}
-use Rattle.run_scripts.specs.Plan.{Plan, refuses, boots, saves, resumes, whole, boot_plan, trace_plan, save_plan, resume_plan, sample_plan, scheduled_plan, saved_plan, taken_plan, most_bytes, Accepts, AfterLinking, BootPlan, PartsPlan, PlanComesTo, GetsTold, AllTold}
+use Rattle.run_scripts.specs.Plan.{Plan, refuses, boots, saves, resumes, whole, by_command, scheduled_plan, saved_plan, taken_plan, most_bytes, Accepts, AfterLinking, BootPlan, PartsPlan, PlanComesTo, AreTold, AllTold}
+use Rattle.run_scripts.specs.Served.{files_of}
 use Rattle.run_scripts.specs.Boot.{AreFilesOf, ArePartsOf, AskFor, by_boot, by_trace, by_sample}
 use Rattle.cvm_outside.specs.Outside.{Outside}
 use Rattle.run_scripts.specs.Saves.{IsHonestSave}
@@ -42,11 +43,11 @@ comes_to_run file b session s rows h =
     (whole h.schedule (boots session s rows) (tells (file b.schedule) h.schedule h.schedule_told) h.schedule_short
     (Ok s, h.accepted, sym (ap (scheduled_plan session s) h.valid)))
 
-gets_told : (file : List ℕ → Option (List ℕ)) (b : Boot) (s : ImageSystem) (rows : Rows) → AreFilesOf file b s rows → GetsTold file (boot b)
-gets_told file b s rows h = (is_told _ h.image h.image_told, is_told _ h.schedule h.schedule_told)
+gets_told : (file : List ℕ → Option (List ℕ)) (b : Boot) (s : ImageSystem) (rows : Rows) → AreFilesOf file b s rows → AreTold file (files_of (boot b))
+gets_told file b s rows h = (is_told _ h.image h.image_told, (is_told _ h.schedule h.schedule_told, tt))
 
-all_told : (words : List (List ℕ)) (file : List ℕ → Option (List ℕ)) (c : Command) → IsCommand words c → GetsTold file c → AllTold words file
-all_told words file c is told d also = subst (λ (x : Command). GetsTold file x) (one_command words c d is also) told
+all_told : (words : List (List ℕ)) (file : List ℕ → Option (List ℕ)) (c : Command) → IsCommand words c → AreTold file (files_of c) → AllTold words file
+all_told words file c is told d also = subst (λ (x : Command). AreTold file (files_of x)) (one_command words c d is also) told
 
 -- of the parts of a sample
 parts_run : (session : Session) (parts : Sampled) (s : ImageSystem) (rows : Rows) → ArePartsOf parts s rows → PartsPlan layer_image session parts (boots session s rows)
@@ -61,15 +62,15 @@ parts_run session parts s rows h =
 pub asked_plan : (words : List (List ℕ)) (file : List ℕ → Option (List ℕ)) (session : Session) (s : ImageSystem) (rows : Rows) → AskFor words file session s rows
     → PlanComesTo words file (boots session s rows) × AllTold words file
 asked_plan words file session s rows (by_boot b is same files) = (
-  boot_plan b (boots session s rows) is (subst (λ (x : Session). BootPlan layer_image file b x (boots session s rows)) same (comes_to_run file b session s rows files)),
+  by_command (boot b) (boots session s rows) is (subst (λ (x : Session). BootPlan layer_image file b x (boots session s rows)) same (comes_to_run file b session s rows files)),
   all_told words file (boot b) is (gets_told file b s rows files),
 )
 asked_plan words file session s rows (by_trace t is same files) = (
-  trace_plan t (boots session s rows) is (subst (λ (x : Session). BootPlan layer_image file t.boot x (boots session s rows)) same (comes_to_run file t.boot session s rows files)),
+  by_command (trace t) (boots session s rows) is (subst (λ (x : Session). BootPlan layer_image file t.boot x (boots session s rows)) same (comes_to_run file t.boot session s rows files)),
   all_told words file (trace t) is (gets_told file t.boot s rows files),
 )
 asked_plan words file session s rows (by_sample x is same parts) = (
-  sample_plan x (boots session s rows) is (subst (λ (y : Session). PartsPlan layer_image y (sample_of x.number) (boots session s rows)) same (parts_run session (sample_of x.number) s rows parts)),
+  by_command (sample x) (boots session s rows) is (subst (λ (y : Session). PartsPlan layer_image y (sample_of x.number) (boots session s rows)) same (parts_run session (sample_of x.number) s rows parts)),
   all_told words file (sample x) is tt,
 )
 
@@ -88,7 +89,7 @@ short_plan session s rows name few =
 pub asked_save : (words : List (List ℕ)) (c : Save) (s : ImageSystem) (rows : Rows) (before : List (List ℕ)) (old new : Outside) → IsHonestSave words c s rows before old new
     → PlanComesTo words old.shelf.file (saves (save_session c) s rows c.file) × AllTold words old.shelf.file
 asked_save words c s rows before old new h = (
-  save_plan c (saves (save_session c) s rows c.file) h.asked
+  by_command (save c) (saves (save_session c) s rows c.file) h.asked
       (boots (save_session c) s rows, comes_to_run old.shelf.file c.boot (save_session c) s rows h.files, sym (short_plan (save_session c) s rows c.file h.short)),
   all_told words old.shelf.file (save c) h.asked (gets_told old.shelf.file c.boot s rows h.files),
 )
@@ -97,8 +98,8 @@ asked_save words c s rows before old new h = (
 pub asked_resume : (words : List (List ℕ)) (c : Save) (s : ImageSystem) (rows : Rows) (machine : List ℕ) (left : List (List ℕ)) (old new : Outside) → IsHonestResume words c s rows machine left old new
     → PlanComesTo words old.shelf.file (resumes (save_session c) s rows machine) × AllTold words old.shelf.file
 asked_resume words c s rows machine left old new h =
-    let files : GetsTold old.shelf.file (resume c) = (is_told _ h.files.image h.files.image_told, is_told _ h.files.schedule h.files.schedule_told, is_told _ h.bytes h.bytes_told) in (
-      resume_plan c (resumes (save_session c) s rows machine) h.asked
+    let files : AreTold old.shelf.file (files_of (resume c)) = (is_told _ h.files.image h.files.image_told, (is_told _ h.files.schedule h.files.schedule_told, (is_told _ h.bytes h.bytes_told, tt))) in (
+      by_command (resume c) (resumes (save_session c) s rows machine) h.asked
           (whole h.files.image (resumes (save_session c) s rows machine) (tells (old.shelf.file c.boot.image) h.files.image h.files.image_told) h.files.image_short
           (whole h.files.schedule (resumes (save_session c) s rows machine) (tells (old.shelf.file c.boot.schedule) h.files.schedule h.files.schedule_told) h.files.schedule_short
           (whole h.bytes (resumes (save_session c) s rows machine) (tells (old.shelf.file c.file) h.bytes h.bytes_told) h.bytes_short

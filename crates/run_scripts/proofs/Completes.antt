@@ -8,7 +8,7 @@ use Rattle.boot_turns.specs.Runs.{Run, Past, has_ended, steps_made, cvm_at}
 use Rattle.run_scripts.specs.SessionRuns.{run_of}
 use Rattle.run_scripts.specs.RunStatus.{run_status, status_of}
 use Rattle.run_scripts.proofs.ByRuns.{Headlines, ItGoesOn, RunsComplete}
-use Rattle.run_scripts.proofs.Keys.{RunLaws}
+use Rattle.run_scripts.specs.Keys.{RunLaws}
 
 pub it_goes_on : RunLaws → ItGoesOn
 it_goes_on law words plan session s rows before old a =

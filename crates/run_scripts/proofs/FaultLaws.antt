@@ -7,7 +7,7 @@ use Rattle.cvm_outside.specs.Told.{IsCutOff, retold}
 use Rattle.cvm_outside.specs.Numbering.{called}
 use Rattle.cvm_outside.specs.Outside.{Outside, Output, Drive, counts}
 use Rattle.cvm_outside.specs.Script.{Call, Who, TheSink, TheDisk, TheShelf, Performs, disk_calls, sectors_after}
-use Rattle.cvm_outside.specs.ScriptLaws.{ScriptsTell, ScriptsStore, ScriptsBlame, ScriptsCount}
+use Rattle.cvm_outside.specs.ScriptLaws.{ScriptsBlame, ScriptsCount}
 use Rattle.cvm_outside.proofs.Parts.{append_known-nil}
 use Rattle.kernel_linker.specs.Accept.{ImageSystem}
 use Rattle.schedule_file.specs.Rows.{Rows}
@@ -25,7 +25,7 @@ use Rattle.run_scripts.specs.Saves.{saved_row}
 use Rattle.run_scripts.specs.SessionRuns.{run_of, pages_loaded}
 use Rattle.boot_run.specs.RunScript.{run_script}
 use Rattle.run_scripts.specs.RunStatus.{run_status, status_of, save_script, saved_bytes}
-use Rattle.run_scripts.specs.Ends.{Does, done, no_file, no_memory, IsNotGot, RunAsks, SaveAsks, SomeRunAsks, SomeSaveAsks, load_of, answered}
+use Rattle.run_scripts.specs.Ends.{Does, done, no_file, no_memory, IsNotGot, RunAsks, SomeRunAsks, SomeSaveAsks, load_of, answered}
 use Rattle.run_scripts.specs.Served.{files_of}
 use Rattle.run_scripts.specs.Headline.{Asked, ended_text, text_at, whole_text}
 use Rattle.run_scripts.specs.Faults.{PrintedWithin, Stand, CalledBy, AfterSink, AfterBy, After, FaultsLeave, IsLeft, IsReported, UnsavedBy, SaveFaultsLeave}
@@ -34,7 +34,8 @@ use Rattle.run_scripts.proofs.Broken.{AllOf}
 use Rattle.run_scripts.proofs.Calls.{plain_load}
 use Rattle.run_scripts.proofs.Causes.{mid_disk}
 use Rattle.run_scripts.proofs.Joins.{got_keeps}
-use Rattle.run_scripts.proofs.Keys.{RunLaws, known, loads_store_the_start, sectors_behind_stay}
+use Rattle.run_scripts.specs.Keys.{ScriptLaws}
+use Rattle.run_scripts.proofs.Keys.{known, loads_store_the_start, sectors_behind_stay}
 use Rattle.run_scripts.proofs.OneCommand.{one_command}
 use Rattle.run_scripts.proofs.Pasts.{Known}
 use Rattle.run_scripts.proofs.Refusals.{plan_asks}
@@ -99,7 +100,7 @@ called_by blame count old mid disk a at q =
     }
 
 -- OF A RUN that words ask for, from where its files were got
-module _ (tell : ScriptsTell) (store : ScriptsStore) (law : RunLaws) (words : List (List ℕ)) (plan : Plan) (session : Session) (s : ImageSystem) (rows : Rows) (before : List (List ℕ)) (old mid : Outside)
+module _ (law : ScriptLaws) (words : List (List ℕ)) (plan : Plan) (session : Session) (s : ImageSystem) (rows : Rows) (before : List (List ℕ)) (old mid : Outside)
     (a : Asked words plan session s rows before old) (disk : mid.disk ≡ old.disk) (sink : mid.sink ≡ old.sink) where
   abbrev r : Run
   r = run_of session s rows old.disk.size before
@@ -108,7 +109,7 @@ module _ (tell : ScriptsTell) (store : ScriptsStore) (law : RunLaws) (words : Li
   held = sectors_needed session s rows
 
   k : Known r
-  k = known law words plan session s rows before old a
+  k = known law.runs words plan session s rows before old a
 
   stood : Stands old mid [] before
   stood = record {
@@ -123,15 +124,15 @@ module _ (tell : ScriptsTell) (store : ScriptsStore) (law : RunLaws) (words : Li
   calls_disk = load_calls_disk (pages_loaded session.start (booted s rows)) (sectors_needed session s rows)
 
   makes : sectors_after (load_of session s rows) before ≡ r.first.device.sectors
-  makes = loads_store_the_start law words plan session s rows before old a
+  makes = loads_store_the_start law.runs words plan session s rows before old a
 
   stays : (t : ℕ) → t ≤ steps_made r → Beyond held before (state_at r t).device.sectors
-  stays = sectors_behind_stay law words plan session s rows before old a
+  stays = sectors_behind_stay law.runs words plan session s rows before old a
 
   torn_stays : (t : ℕ) (now : List (List ℕ)) → (state_at r t).off ≡ None → Torn r.around (state_at r t) now → Beyond held before now
   torn_stays t now on torn =
-      let w = law.start words plan session s rows before old a in
-      let m = law.machines s.unit _ _ _ w.late _ w.starts in
+      let w = law.runs.start words plan session s rows before old a in
+      let m = law.runs.machines s.unit _ _ _ w.late _ w.starts in
       λ q few. m.torn t now on torn q few ∙ w.beyond q few
 
   -- A BOOT
@@ -141,16 +142,16 @@ module _ (tell : ScriptsTell) (store : ScriptsStore) (law : RunLaws) (words : Li
 
     begun : (new : Outside) (whom : Who) → Performs (run_script r (load_of session s rows) p) mid new (Some whom) → PrintedWithin old new [] (whole_text r p)
     begun new whom q =
-        broken_within tell store old (run_script r (load_of session s rows) p) mid new whom [] [] [] (whole_text r p) [] (whole_text r p) stood.text_is q tells refl (sym (append-nil (whole_text r p)))
+        broken_within law.tell law.store old (run_script r (load_of session s rows) p) mid new whom [] [] [] (whole_text r p) [] (whole_text r p) stood.text_is q tells refl (sym (append-nil (whole_text r p)))
 
     abbrev Left : Status → Outside → Type 0
     Left status new = After r held before new (λ o. AfterBy (has_ended r ≡ true) status r (load_of session s rows) o old new × PrintedWithin old new [] (whole_text r o))
 
-    boot_left : ((a : List Call) (at : Outside) → Performs a mid at None → CalledBy a old at) → (new : Outside) (status due : Status) (b : Option Who) → due ≡ run_status r p → status ≡ answered due b → Three status → Performs (run_script r (load_of session s rows) p) mid new b → Left status new
-    boot_left counted new status due None d e w q =
+    boot_left : (new : Outside) (status due : Status) (b : Option Who) → due ≡ run_status r p → status ≡ answered due b → Three status → Performs (run_script r (load_of session s rows) p) mid new b → Left status new
+    boot_left new status due None d e w q =
         let h = spent (has_ended r) (cvm_at r p (steps_made r)).status status (e ∙ d) (of_three status w) in
-        let all = more tell store old (run_script r (load_of session s rows) p) mid new [] (whole_text r p) before (state_at r (steps_made r)).device.sectors stood q tells
-        (run_leaves law.count r (load_of session s rows) p before makes) in
+        let all = more law.tell law.store old (run_script r (load_of session s rows) p) mid new [] (whole_text r p) before (state_at r (steps_made r)).device.sectors stood q tells
+        (run_leaves law.runs.count r (load_of session s rows) p before makes) in
         let text : whole_text r p ≡ text_at r p (steps_made r) = ap (λ (b : Bool). if b then ended_text r.view r p (steps_made r) else text_at r p (steps_made r)) h.0 in
         subst (λ (st : Status). Left st new) (sym h.1)
         (record {
@@ -160,35 +161,35 @@ module _ (tell : ScriptsTell) (store : ScriptsStore) (law : RunLaws) (words : Li
             (h.0, all.text_is ∙ ap (append_known old.sink.text) text, all.are),
             record { count = length (whole_text r p); printed = all.text_is ∙ ap (append_known old.sink.text) (sym (take_all (length (whole_text r p)) (whole_text r p) (omega arith))); holds = refl },
           );
-          behind = stand_behind law.count r held before stays (steps_made r) new (omega arith) all.are;
+          behind = stand_behind law.runs.count r held before stays (steps_made r) new (omega arith) all.are;
         })
-    boot_left counted new status due (Some TheSink) d e w q =
-        let h = run_unsaid r k p is tell store old (load_of session s rows) before calls_disk mute makes mid new stood q in
+    boot_left new status due (Some TheSink) d e w q =
+        let h = run_unsaid r k p is law.tell law.store old (load_of session s rows) before calls_disk mute makes mid new stood q in
         subst (λ (st : Status). Left st new) (sym e)
-        (record { past = p; is_past = is; by = (h, begun new TheSink q); behind = sink_behind law.count r held before stays (has_ended r ≡ true) p old new h })
-    boot_left counted new status due (Some TheDisk) d e w q =
-        let h = run_undone r k p is tell store old (load_of session s rows) before calls_disk mute makes mid new counted disk stood q in
+        (record { past = p; is_past = is; by = (h, begun new TheSink q); behind = sink_behind law.runs.count r held before stays (has_ended r ≡ true) p old new h })
+    boot_left new status due (Some TheDisk) d e w q =
+        let h = run_undone r k p is law.tell law.store old (load_of session s rows) before calls_disk mute makes mid new (called_by law.blame law.calls old mid disk) disk stood q in
         subst (λ (st : Status). Left st new) (sym e)
         (record {
           past = p;
           is_past = is;
           by = (h, begun new TheDisk q);
-          behind = disk_behind law.count r held before stays (pages_loaded session.start (booted s rows)) torn_stays (has_ended r ≡ true) p old new a.sectors h;
+          behind = disk_behind law.runs.count r held before stays (pages_loaded session.start (booted s rows)) torn_stays (has_ended r ≡ true) p old new a.sectors h;
         })
-    boot_left counted new status due (Some TheShelf) d e w q = absurd (not_shelf (subst Three e w))
+    boot_left new status due (Some TheShelf) d e w q = absurd (not_shelf (subst Three e w))
 
-pub faults_leave : ScriptsBlame → ScriptsTell → ScriptsStore → ScriptsCount → RunLaws → FaultsLeave
-faults_leave blame tell store count law words session s rows before old new status a w (done _ h) =
-    let two = mid_disk blame words old new status h in
-    let t = told_asks words (boots session s rows) session s rows before old h.mid (λ size ss. RunAsks (run_of session s rows size ss) (load_of session s rows)) (SomeRunAsks (load_of session s rows))
-    h.script h.due a two.0 (plan_asks blame words old new status h (boots session s rows) a.files a.is_plan) in
-    boot_left tell store law words (boots session s rows) session s rows before old h.mid a two.0 two.1 t.past t.is_past (called_by blame count old h.mid two.0) new status h.due h.blamed t.status_is h.status_is w
+pub faults_leave : ScriptLaws → FaultsLeave
+faults_leave law words session s rows before old new status a w (done _ h) =
+    let two = mid_disk law.blame words old new status h in
+    let t = told_asks words (boots session s rows) session s rows before old h.mid (λ size ss. RunAsks (run_of session s rows size ss) (λ r. run_script r (load_of session s rows))) (SomeRunAsks (load_of session s rows))
+    h.script h.due a two.0 (plan_asks law.blame words old new status h (boots session s rows) a.files a.is_plan) in
+    boot_left law words (boots session s rows) session s rows before old h.mid a two.0 two.1 t.past t.is_past new status h.due h.blamed t.status_is h.status_is w
     (subst (λ (c : List Call). Performs c h.mid new h.blamed) t.script_is h.performs)
-faults_leave blame tell store count law words session s rows before old new status a w (no_file c i f) = absurd (not_shelf w)
-faults_leave blame tell store count law words session s rows before old new status a w (no_memory c i m) = absurd (not_memory (of_three Memory w))
+faults_leave law words session s rows before old new status a w (no_file c i f) = absurd (not_shelf w)
+faults_leave law words session s rows before old new status a w (no_memory c i m) = absurd (not_memory (of_three Memory w))
 
 -- A SAVE
-module _ (blame : ScriptsBlame) (tell : ScriptsTell) (store : ScriptsStore) (count : ScriptsCount) (law : RunLaws) (words : List (List ℕ)) (c : Save) (s : ImageSystem) (rows : Rows) (before : List (List ℕ)) (old new : Outside) (status : Status)
+module _ (law : ScriptLaws) (words : List (List ℕ)) (c : Save) (s : ImageSystem) (rows : Rows) (before : List (List ℕ)) (old new : Outside) (status : Status)
     (is : IsSave words c) (a : Asked words (saves (save_session c) s rows c.file) (save_session c) s rows before old) (w : Four status) (h : Does words old new status) where
   abbrev session : Session
   session = save_session c
@@ -197,14 +198,14 @@ module _ (blame : ScriptsBlame) (tell : ScriptsTell) (store : ScriptsStore) (cou
   run = run_of (save_session c) s rows old.disk.size before
 
   two : (h.mid.disk ≡ old.disk) × (h.mid.sink ≡ old.sink)
-  two = mid_disk blame words old new status h
+  two = mid_disk law.blame words old new status h
 
   files : (n : List ℕ) → h.mid.shelf.file n ≡ old.shelf.file n
   files = (got_keeps _ _ _ _ _ old h.mid (h.gets.0 (save c) is) h.files).files
 
-  t : SaveAsks c.file (run_of (save_session c) s rows old.disk.size before) (load_of (save_session c) s rows) h.script h.due
-  t = told_asks words (saves (save_session c) s rows c.file) (save_session c) s rows before old h.mid (λ size ss. SaveAsks c.file (run_of (save_session c) s rows size ss) (load_of (save_session c) s rows))
-      (SomeSaveAsks c.file (load_of (save_session c) s rows)) h.script h.due a two.0 (plan_asks blame words old new status h (saves (save_session c) s rows c.file) a.files a.is_plan)
+  t : RunAsks (run_of (save_session c) s rows old.disk.size before) (λ r. save_script c.file r (load_of (save_session c) s rows)) h.script h.due
+  t = told_asks words (saves (save_session c) s rows c.file) (save_session c) s rows before old h.mid (λ size ss. RunAsks (run_of (save_session c) s rows size ss) (λ r. save_script c.file r (load_of (save_session c) s rows)))
+      (SomeSaveAsks c.file (load_of (save_session c) s rows)) h.script h.due a two.0 (plan_asks law.blame words old new status h (saves (save_session c) s rows c.file) a.files a.is_plan)
 
   abbrev plan : Plan
   plan = saves (save_session c) s rows c.file
@@ -213,22 +214,22 @@ module _ (blame : ScriptsBlame) (tell : ScriptsTell) (store : ScriptsStore) (cou
   load = load_of (save_session c) s rows
 
   known_run : Known run
-  known_run = k tell store law words plan session s rows before old h.mid a two.0 two.1
+  known_run = k law words plan session s rows before old h.mid a two.0 two.1
 
   start : Stands old h.mid [] before
-  start = stood tell store law words plan session s rows before old h.mid a two.0 two.1
+  start = stood law words plan session s rows before old h.mid a two.0 two.1
 
   disk : AllOf TheDisk load
-  disk = calls_disk tell store law words plan session s rows before old h.mid a two.0 two.1
+  disk = calls_disk law words plan session s rows before old h.mid a two.0 two.1
 
   silent : Tells load [] []
-  silent = mute tell store law words plan session s rows before old h.mid a two.0 two.1
+  silent = mute law words plan session s rows before old h.mid a two.0 two.1
 
   made : sectors_after load before ≡ run.first.device.sectors
-  made = makes tell store law words plan session s rows before old h.mid a two.0 two.1
+  made = makes law words plan session s rows before old h.mid a two.0 two.1
 
   behind : (t : ℕ) → t ≤ steps_made run → Beyond (sectors_needed session s rows) before (state_at run t).device.sectors
-  behind = stays tell store law words plan session s rows before old h.mid a two.0 two.1
+  behind = stays law words plan session s rows before old h.mid a two.0 two.1
 
   abbrev SaveLeft : Status → Type 0
   SaveLeft st = After run (sectors_needed session s rows) before new (λ p. UnsavedBy st c run load p old new)
@@ -243,52 +244,52 @@ module _ (blame : ScriptsBlame) (tell : ScriptsTell) (store : ScriptsStore) (cou
     past = t.past;
     is_past = t.is_past;
     by = inl (g.0, g.1 c.file ∙ files c.file);
-    behind = sink_behind law.count run (sectors_needed session s rows) before behind (IsReported run t.past) t.past old new g.0;
+    behind = sink_behind law.runs.count run (sectors_needed session s rows) before behind (IsReported run t.past) t.past old new g.0;
   }
   unsaid (inr g) = record {
     past = t.past;
     is_past = t.is_past;
     by = inr (g.0, g.1, g.2, g.3 ∙ ap (λ (f : Option (List ℕ)). retold f (saved_bytes run t.past)) (files c.file));
-    behind = stand_behind law.count run (sectors_needed session s rows) before behind (steps_made run) new (omega arith) g.2;
+    behind = stand_behind law.runs.count run (sectors_needed session s rows) before behind (steps_made run) new (omega arith) g.2;
   }
 
   save_left : (b : Option Who) → status ≡ answered h.due b → Performs (save_script c.file run load t.past) h.mid new b → SaveLeft status
   save_left None e q =
       let n = spent (has_ended run) (cvm_at run t.past (steps_made run)).status status (e ∙ t.status_is) w in
-      let g = save_spent run known_run t.past t.is_past tell store old load before disk silent made refl (plain_load session s rows) c.file h.mid start new n.0 q in
+      let g = save_spent run known_run t.past t.is_past law.tell law.store old load before disk silent made refl (plain_load session s rows) c.file h.mid start new n.0 q in
       subst SaveLeft (sym n.1)
       (record {
         past = t.past;
         is_past = t.is_past;
         by = ((n.0, g.0.text_is, g.0.are), g.1 c.file ∙ files c.file);
-        behind = stand_behind law.count run (sectors_needed session s rows) before behind (steps_made run) new (omega arith) g.0.are;
+        behind = stand_behind law.runs.count run (sectors_needed session s rows) before behind (steps_made run) new (omega arith) g.0.are;
       })
   save_left (Some TheSink) e q =
-      subst SaveLeft (sym e) (unsaid (save_unsaid run known_run t.past t.is_past tell store old load before disk silent made refl (plain_load session s rows) c.file h.mid start new q))
+      subst SaveLeft (sym e) (unsaid (save_unsaid run known_run t.past t.is_past law.tell law.store old load before disk silent made refl (plain_load session s rows) c.file h.mid start new q))
   save_left (Some TheDisk) e q =
-      let g = save_undone run known_run t.past t.is_past tell store old load before disk silent made refl (plain_load session s rows) c.file h.mid start new (called_by blame count old h.mid two.0) two.0 q in
+      let g = save_undone run known_run t.past t.is_past law.tell law.store old load before disk silent made refl (plain_load session s rows) c.file h.mid start new (called_by law.blame law.calls old h.mid two.0) two.0 q in
       subst SaveLeft (sym e)
       (record {
         past = t.past;
         is_past = t.is_past;
         by = (g.0, g.1 c.file ∙ files c.file);
-        behind = disk_behind law.count run (sectors_needed session s rows) before behind (pages_loaded session.start (booted s rows))
-            (torn_stays tell store law words plan session s rows before old h.mid a two.0 two.1) (IsReported run t.past) t.past old new a.sectors g.0;
+        behind = disk_behind law.runs.count run (sectors_needed session s rows) before behind (pages_loaded session.start (booted s rows))
+            (torn_stays law words plan session s rows before old h.mid a two.0 two.1) (IsReported run t.past) t.past old new a.sectors g.0;
       })
   save_left (Some TheShelf) e q =
-      let g = save_unput run known_run t.past t.is_past tell store old load before disk silent made refl (plain_load session s rows) c.file h.mid start new q in
+      let g = save_unput run known_run t.past t.is_past law.tell law.store old load before disk silent made refl (plain_load session s rows) c.file h.mid start new q in
       subst SaveLeft (sym e)
       (record {
         past = t.past;
         is_past = t.is_past;
         by = (g.0, g.1, g.2, subst (λ (f : Option (List ℕ)). IsCutOff f (saved_bytes run t.past) (new.shelf.file c.file)) (files c.file) g.3);
-        behind = stand_behind law.count run (sectors_needed session s rows) before behind (steps_made run) new (omega arith) g.2;
+        behind = stand_behind law.runs.count run (sectors_needed session s rows) before behind (steps_made run) new (omega arith) g.2;
       })
 
-pub save_faults_leave : ScriptsBlame → ScriptsTell → ScriptsStore → ScriptsCount → RunLaws → SaveFaultsLeave
-save_faults_leave blame tell store count law words c s rows before old new status is a w (done _ h) =
-    inr (save_left blame tell store count law words c s rows before old new status is a w h h.blamed h.status_is
-    (subst (λ (x : List Call). Performs x h.mid new h.blamed) (t blame tell store count law words c s rows before old new status is a w h).script_is h.performs))
-save_faults_leave blame tell store count law words c s rows before old new status is a w (no_file d i f) =
+pub save_faults_leave : ScriptLaws → SaveFaultsLeave
+save_faults_leave law words c s rows before old new status is a w (done _ h) =
+    inr (save_left law words c s rows before old new status is a w h h.blamed h.status_is
+    (subst (λ (x : List Call). Performs x h.mid new h.blamed) (t law words c s rows before old new status is a w h).script_is h.performs))
+save_faults_leave law words c s rows before old new status is a w (no_file d i f) =
     inl (refl, subst (λ (e : Command). IsNotGot (files_of e) old new) (one_command words d (save c) i is) f)
-save_faults_leave blame tell store count law words c s rows before old new status is a w (no_memory d i m) = absurd (not_memory w)
+save_faults_leave law words c s rows before old new status is a w (no_memory d i m) = absurd (not_memory w)

@@ -19,7 +19,7 @@ use Rattle.boot_run.specs.Closing.{opening_script, closing_script}
 use Rattle.run_scripts.specs.SessionRuns.{run_of, pages_loaded}
 use Rattle.boot_run.specs.RunScript.{run_script}
 use Rattle.run_scripts.specs.RunStatus.{save_script, leaving_script, saved_bytes}
-use Rattle.run_scripts.specs.Ends.{done, no_file, no_memory, SaveAsks, SomeSaveAsks, load_of}
+use Rattle.run_scripts.specs.Ends.{done, no_file, no_memory, RunAsks, SomeSaveAsks, load_of}
 use Rattle.run_scripts.specs.Headline.{Asked, text_at, ended_text, whole_text}
 use Rattle.run_scripts.specs.Faults.{IsLeft}
 use Rattle.run_scripts.proofs.ByRuns.{IsSaved, IsUnsaved, SavesHold}
@@ -31,7 +31,8 @@ use Rattle.run_scripts.proofs.Joins.{got_keeps}
 use Rattle.run_scripts.proofs.Keys.{known, ends_are_over, loads_store_the_start, scripts_store_the_sectors, sectors_behind_stay}
 use Rattle.run_scripts.proofs.MadeOf.{of_run, of_steps}
 use Rattle.run_scripts.proofs.Pasts.{Known}
-use Rattle.run_scripts.proofs.Performed.{ScriptLaws, says_text, leaves_sectors, file_then_row}
+use Rattle.run_scripts.specs.Keys.{ScriptLaws}
+use Rattle.run_scripts.proofs.Performed.{says_text, leaves_sectors, file_then_row}
 use Rattle.run_scripts.proofs.Reports.{run_tells}
 use Rattle.run_scripts.proofs.Refusals.{none_blamed, status_due, plan_asks, no_file_failed}
 use Rattle.run_scripts.proofs.SavedMachines.{FileLaws, file_fits}
@@ -182,7 +183,7 @@ saves_hold law files words c s rows before old new status is a f (done _ h) m =
     let r : Run = run_of (save_session c) s rows old.disk.size before in
     let asks = plan_asks law.blame words old new status h (saves (save_session c) s rows c.file) a.files a.is_plan in
     let k = mid_disk law.blame words old new status h in
-    let t = told_asks words _ (save_session c) s rows before old h.mid (λ size ss. SaveAsks c.file (run_of (save_session c) s rows size ss) (load_of (save_session c) s rows))
+    let t = told_asks words _ (save_session c) s rows before old h.mid (λ size ss. RunAsks (run_of (save_session c) s rows size ss) (λ r. save_script c.file r (load_of (save_session c) s rows)))
     (SomeSaveAsks c.file (load_of (save_session c) s rows)) h.script h.due a k.0 asks in
     let n = none_blamed law.blame words old new status h f in
     let p : Performs (save_script c.file r (load_of (save_session c) s rows) t.past) h.mid new None =

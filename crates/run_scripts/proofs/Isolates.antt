@@ -17,7 +17,8 @@ use Rattle.boot_turns.specs.TurnEnds.{first_of}
 use Rattle.boot_run.specs.RunEnds.{SeesUser}
 use Rattle.run_scripts.specs.SessionRuns.{run_of}
 use Rattle.run_scripts.proofs.ByRuns.{TracesIsolate}
-use Rattle.run_scripts.proofs.Keys.{RunLaws, known}
+use Rattle.run_scripts.specs.Keys.{RunLaws}
+use Rattle.run_scripts.proofs.Keys.{known}
 use Rattle.boot_run.proofs.AbstractRuns.{not_ended}
 use Rattle.run_scripts.proofs.Pasts.{Known}
 

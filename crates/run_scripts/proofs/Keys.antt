@@ -3,12 +3,7 @@ use Rattle.std.specs.Prelude.{Some}
 use Rattle.std.proofs.Common.{ℕ, List, [], sym, ap, ◌∙◌, arith}
 use Rattle.schedule_file.specs.Rows.{Rows}
 use Rattle.mips_table.specs.Turns.{TurnLaws}
-use Rattle.c0_tree.specs.Tree.{CUnit}
-use Rattle.c0_meaning.specs.TypedState.{IsTypedState}
 use Rattle.cvm_model.specs.Cvm.{UnitsDontMatter}
-use Rattle.boot_turns.specs.Entries.{TracesGrow}
-use Rattle.boot_turns.specs.JournalText.{RowsFollow}
-use Rattle.boot_turns.specs.RunMachines.{MachinesRun}
 use Rattle.kernel_linker.specs.Accept.{ImageSystem}
 use Rattle.run_scripts.specs.declared.session.Session.{Session}
 use Rattle.run_scripts.specs.Plan.{Plan}
@@ -18,7 +13,7 @@ use Rattle.run_scripts.specs.Boot.{booted, sectors_needed}
 use Rattle.run_scripts.specs.SessionRuns.{pages_loaded, run_of}
 use Rattle.run_scripts.specs.Ends.{load_of}
 use Rattle.run_scripts.specs.Headline.{Asked}
-use Rattle.run_scripts.specs.Keys.{RunsStart, EndsAreOver}
+use Rattle.run_scripts.specs.Keys.{EndsAreOver, RunLaws}
 use Rattle.run_scripts.proofs.ByRuns.{PastsAgree, ScriptsTellTheText, ScriptsStoreTheSectors, LoadsStoreTheStart, SectorsBehindStay}
 use Rattle.boot_run.proofs.AbstractRuns.{turns_up_to}
 use Rattle.run_scripts.proofs.Pasts.{Known}
@@ -31,14 +26,6 @@ pub pasts_agree : UnitsDontMatter → TurnLaws → PastsAgree
 pasts_agree one count r p o laws is other t le =
     let few = turns_up_to count r t (steps_made r) le in
     one r.system (lines_met r) (turns_at r t) (cvm_at r p t) (cvm_at r o t) laws (is.turns (turns_at r t) few) (other.turns (turns_at r t) few)
-
--- what the laws say of runs
-pub record RunLaws : Type 0 where
-  pub start : RunsStart
-  pub machines : (u : CUnit) → MachinesRun (IsTypedState u)
-  pub traces : (u : CUnit) → TracesGrow (IsTypedState u)
-  pub count : TurnLaws
-  pub rows : RowsFollow
 
 module _ (law : RunLaws) where
   pub known : (words : List (List ℕ)) (plan : Plan) (session : Session) (s : ImageSystem) (rows : Rows) (before : List (List ℕ)) (old : Outside) → Asked words plan session s rows before old →

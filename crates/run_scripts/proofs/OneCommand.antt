@@ -1,11 +1,13 @@
 -- The words of a command tell which it is, so they are those of one: as in cvm_shell, whose lemmas are its own.
-use Rattle.std.proofs.Common.{◌≡◌, ℕ, ◌<◌, ◌^◌, List, [], ◌∷◌, drop, get_or, refl, sym, ap, ◌∙◌, arith}
-use Rattle.std.specs.Prelude.{decimal, slice_index, ◌==◌, if◌then◌else◌}
+use Rattle.std.proofs.Common.{◌≡◌, ℕ, ◌<◌, ◌^◌, List, [], ◌∷◌, drop, get_or, refl, sym, ap, ◌∙◌, subst, arith}
+use Rattle.std.specs.Prelude.{Option, decimal, slice_index, ◌==◌, if◌then◌else◌}
 use Rattle.std.specs.Str.Parse.{digits_value}
 use Rattle.std.proofs.lemmas.Fmt.{decimal_is_IsNumeral}
 use Rattle.run_scripts.specs.declared.session.StartPoint.{StartPoint}
 use Rattle.run_scripts.specs.declared.session.StartPoint.TheVariants.{Loaded, Rom}
 use Rattle.run_scripts.specs.Command.{Boot, Trace, Save, Command, boot, trace, save, resume, compile_user, compile_kernel, compile_program, link, migrate, sample, IsCommand, start_word, check}
+use Rattle.run_scripts.specs.Plan.{Plan, CommandPlan, PlanComesTo, no_command, by_command}
+use Rattle.real_layer.specs.Image.{layer_image}
 
 -- what stands at a place
 abbrev at : List (List ℕ) → ℕ → List ℕ
@@ -100,3 +102,8 @@ is_meant words (check c) is =
 -- THE WORDS of a command are those of one
 pub one_command : (words : List (List ℕ)) (c d : Command) → IsCommand words c → IsCommand words d → c ≡ d
 one_command words c d is other = sym (is_meant words c is) ∙ is_meant words d other
+
+-- and so are their plans
+pub its_plan : (words : List (List ℕ)) (file : List ℕ → Option (List ℕ)) (c : Command) (p : Plan) → IsCommand words c → PlanComesTo words file p → CommandPlan layer_image file c p
+its_plan words file c p is (no_command n) = absurd (n c is)
+its_plan words file c p is (by_command d _ k g) = subst (λ (x : Command). CommandPlan layer_image file x p) (one_command words d c k is) g

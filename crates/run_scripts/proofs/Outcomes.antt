@@ -27,7 +27,7 @@ use Rattle.run_scripts.specs.declared.session.Session.{Session}
 use Rattle.run_scripts.specs.Check.{Told, TellsObject, no_object as check_no_object, has_object as check_has_object, TellsOpened}
 use Rattle.run_scripts.specs.Command.{Boot, Save, Command, boot, trace, save, resume, compile_user, compile_kernel, compile_program, link, migrate, sample, check, IsCommand, IsNoCommand, IsSave, IsResume, boot_session, trace_session, save_session, sample_session}
 use Rattle.run_scripts.specs.Refusal.{Refusal, bad_text, bad_source, bad_program, bad_object, bad_file, unlinked, unaccepted, bad_schedule, bad_save, small_disk, no_such_user, too_long}
-use Rattle.run_scripts.specs.Plan.{Plan, bad_words, refuses, puts, boots, saves, resumes, prints as tells, Got, long, whole, GotAll, AfterFiles, BootPlan, accepted_plan, saved_plan, wanted_by, taken_plan, taken_up, most_bytes, AfterText, no_words, assembles, AfterCode, unread, mistyped, compiles, AfterParts, unfit, answered, AfterUsers, AfterParams, AfterSystem, no_object, has_object, linked_plan, renewed_plan, AfterLinking, AfterSource, PartsPlan, told_plan, PlanComesTo, no_command, boot_plan, trace_plan, save_plan, resume_plan, user_plan, kernel_plan, image_plan, link_plan, migrate_plan, sample_plan, check_plan}
+use Rattle.run_scripts.specs.Plan.{Plan, bad_words, refuses, puts, boots, saves, resumes, prints as tells, Got, long, whole, GotAll, AfterFiles, BootPlan, accepted_plan, saved_plan, wanted_by, taken_plan, taken_up, most_bytes, AfterText, no_words, assembles, planned, AfterCode, AfterParts, unfit, answered, AfterUsers, AfterParams, AfterSystem, no_object, has_object, linked_plan, renewed_plan, AfterLinking, AfterSource, PartsPlan, told_plan, PlanComesTo, no_command, by_command}
 use Rattle.run_scripts.specs.Shapes.{Loads}
 use Rattle.run_scripts.specs.Served.{file_put}
 
@@ -116,9 +116,11 @@ module _ (words : List (List ℕ)) where
     of_text name text p e (assembles ws w) = is_put c is name _ e
 
     of_code : (program : Program) (due : CUnit → Plan) (source : List ℕ) (p : Plan) → ((u : CUnit) → Outcome words (due u)) → AfterCode program due source p → Outcome words p
-    of_code program due source p f (unread fault n w) = refused (bad_source _) tt
-    of_code program due source p f (mistyped fault n l w) = refused (bad_source _) tt
-    of_code program due source p f (compiles u l w) = f u
+    of_code program due source p f (front, is, e) = subst (Outcome words) (sym e) (by front)
+      where
+        by : (r : Result CUnit SourceFault) → Outcome words (planned bad_source due r)
+        by (Ok u) = f u
+        by (Err fault) = refused (bad_source fault) tt
 
     of_link : (name : List ℕ) (a : Result Image LinkFault) → file_put c ≡ Some name → Outcome words (linked_plan name a)
     of_link name (Ok i) e = is_put c is name _ e
@@ -161,22 +163,22 @@ module _ (words : List (List ℕ)) where
   -- WHAT WORDS AND FILES COME TO
   pub outcome : (file : List ℕ → Option (List ℕ)) (p : Plan) → PlanComesTo words file p → Outcome words p
   outcome file p (no_command n) = is_none n
-  outcome file p (boot_plan b _ k g) = of_boot (boot b) k tt (boot_session b) p (boot_or file b (boot_session b) p g)
-  outcome file p (trace_plan b _ k g) = of_boot (trace b) k tt (trace_session b) p (boot_or file b.boot (trace_session b) p g)
-  outcome file p (save_plan c _ k g) = subst (Outcome words) (sym g.2) (of_save c k g.0 (boot_or file c.boot (save_session c) g.0 g.1))
-  outcome file p (resume_plan c _ k g) =
+  outcome file p (by_command (boot b) _ k g) = of_boot (boot b) k tt (boot_session b) p (boot_or file b (boot_session b) p g)
+  outcome file p (by_command (trace b) _ k g) = of_boot (trace b) k tt (trace_session b) p (boot_or file b.boot (trace_session b) p g)
+  outcome file p (by_command (save c) _ k g) = subst (Outcome words) (sym g.2) (of_save c k g.0 (boot_or file c.boot (save_session c) g.0 g.1))
+  outcome file p (by_command (resume c) _ k g) =
       let refuse = refused (resume c) k in
       got (Outcome words) refuse (file c.boot.image) _ p (λ image q n. got (Outcome words) refuse (file c.boot.schedule) _ q (λ text z m. got (Outcome words) refuse (file c.file) _ z
       (λ bytes x l. subst (Outcome words) (sym l.2) (of_taken c k bytes l.0 (files_or (save_session c) image text l.0 l.1))) m) n) g
-  outcome file p (user_plan c _ k g) = got (Outcome words) (refused (compile_user c) k) _ _ p (λ b q n. of_text (compile_user c) k c.image b q refl n) g
-  outcome file p (kernel_plan c _ k g) = got (Outcome words) (refused (compile_kernel c) k) _ _ p (λ b q n. of_code (compile_kernel c) k _ _ b q (λ u. is_put (compile_kernel c) k c.object _ refl) n) g
-  outcome file p (image_plan c _ k g) =
+  outcome file p (by_command (compile_user c) _ k g) = got (Outcome words) (refused (compile_user c) k) _ _ p (λ b q n. of_text (compile_user c) k c.image b q refl n) g
+  outcome file p (by_command (compile_kernel c) _ k g) = got (Outcome words) (refused (compile_kernel c) k) _ _ p (λ b q n. of_code (compile_kernel c) k _ _ b q (λ u. is_put (compile_kernel c) k c.object _ refl) n) g
+  outcome file p (by_command (compile_program c) _ k g) =
       got (Outcome words) (refused (compile_program c) k) _ _ p (λ b q n. of_code (compile_program c) k _ _ b q (λ u. of_program (compile_program c) k _ (bad_program _) c.image _ tt refl) n) g
-  outcome file p (link_plan l _ k g) =
+  outcome file p (by_command (link l) _ k g) =
       let refuse = refused (link l) k in
       got (Outcome words) refuse (file l.object) _ p (λ object q n. got (Outcome words) refuse (file l.params) _ q (λ params z m. got_all (Outcome words) refuse file l.users _ z
       (λ users x h. of_system (link l) k l.image object params users x refl h) m) n) g
-  outcome file p (migrate_plan m _ k g) =
+  outcome file p (by_command (migrate m) _ k g) =
       got (Outcome words) (refused (migrate m) k) _ _ p (λ b q n. subst (Outcome words) (sym n.2) (of_renewed (migrate m) k m.image n.0 refl)) g
-  outcome file p (sample_plan x _ k g) = of_boot (sample x) k tt sample_session p (parts_or sample_session (sample_of x.number) p g)
-  outcome file p (check_plan c _ k g) = got (Outcome words) (refused (check c) k) _ _ p (λ b q n. subst (Outcome words) (sym n.2) (of_told (check c) k c.stack b n.0 n.1)) g
+  outcome file p (by_command (sample x) _ k g) = of_boot (sample x) k tt sample_session p (parts_or sample_session (sample_of x.number) p g)
+  outcome file p (by_command (check c) _ k g) = got (Outcome words) (refused (check c) k) _ _ p (λ b q n. subst (Outcome words) (sym n.2) (of_told (check c) k c.stack b n.0 n.1)) g

@@ -6,16 +6,8 @@ use Rattle.std.proofs.Common.{◌≡◌, ℕ, List, [], ◌∷◌, ◌++◌, ap,
 use Rattle.cvm_outside.specs.Told.{retold}
 use Rattle.cvm_outside.specs.Outside.{Outside, Drive, Output}
 use Rattle.cvm_outside.specs.Script.{Call, Printed, Stored, Performs, done as all_done, goes_on, sectors_after}
-use Rattle.cvm_outside.specs.ScriptLaws.{ScriptsBlame, ScriptsTell, ScriptsStore, PrintedBy}
-use Rattle.run_scripts.proofs.Keys.{RunLaws}
+use Rattle.cvm_outside.specs.ScriptLaws.{ScriptsTell, ScriptsStore, PrintedBy}
 use Rattle.run_scripts.proofs.Tells.{Tells}
-
--- what the laws say of what scripts leave, and of runs
-pub record ScriptLaws : Type 0 where
-  pub blame : ScriptsBlame
-  pub tell : ScriptsTell
-  pub store : ScriptsStore
-  pub runs : RunLaws
 
 -- the text that goes on from what stood before
 pub record Says (before after : List ℕ) (old new : Outside) : Type 0 where

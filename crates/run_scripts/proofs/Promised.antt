@@ -1,9 +1,9 @@
 -- The promises of a run, from the laws: its premises ask for the run, and no call failed.
 use Rattle.std.specs.Prelude.{Option, Some, IfSome, if◌then◌else◌}
 use Rattle.std.specs.Option.{option_map}
-use Rattle.std.proofs.Common.{◌≡◌, ◌≢◌, ◌⊎◌, inl, inr, ℕ, Bool, true, false, List, [], ◌∷◌, refl, sym, ap, ◌∙◌, subst, arith}
+use Rattle.std.proofs.Common.{◌≡◌, ◌≢◌, ◌⊎◌, inl, inr, ℕ, Bool, true, false, List, refl, sym, ap, ◌∙◌, subst, arith}
 use Rattle.cvm_outside.specs.Outside.{Outside}
-use Rattle.cvm_outside.specs.ScriptLaws.{ScriptsBlame, GetsGiven}
+use Rattle.cvm_outside.specs.ScriptLaws.{ScriptsBlame}
 use Rattle.schedule_file.specs.Rows.{Rows}
 use Rattle.mips_table.specs.Flat.{Flat}
 use Rattle.cvm_model.specs.Cvm.{Cvm, Status as CvmStatus, Running, Halted, Faulted}
@@ -30,14 +30,14 @@ use Rattle.run_scripts.specs.RunStatus.{run_status, status_of}
 use Rattle.run_scripts.specs.SessionRuns.{run_of}
 use Rattle.run_scripts.specs.Headline.{Asked, booted_so, IsOver, text_by, ended_text, whole_text}
 use Rattle.run_scripts.proofs.ByRuns.{Headline, Isolated, Sectors}
-use Rattle.run_scripts.specs.Served.{NoneFailed, ShelfServes, AreGiven, gets}
+use Rattle.run_scripts.specs.Served.{NoneFailed, ShelfServes, AreGiven}
 use Rattle.run_scripts.specs.Promises.{HeadlinesHold, RunsAreComplete, TracesAreIsolated}
 use Rattle.run_scripts.proofs.Asking.{asked_plan}
 use Rattle.run_scripts.proofs.Refusals.{no_file_failed}
 use Rattle.cvm_model.specs.KernelMeaning.{UnitsReplay}
 use Rattle.run_scripts.proofs.Completes.{it_goes_on, runs_complete}
 use Rattle.run_scripts.proofs.Isolates.{traces_isolate}
-use Rattle.run_scripts.proofs.Performed.{ScriptLaws}
+use Rattle.run_scripts.specs.Keys.{ScriptLaws}
 use Rattle.run_scripts.proofs.Whole.{headlines}
 use Rattle.cvm_outside.specs.Causes.{Rose}
 use Rattle.run_scripts.specs.Command.{Command, IsCommand, boot, trace, sample}
@@ -146,19 +146,15 @@ headline_told session s rows before old new status h goes =
     }
 
 -- NO CALL of its command fails
-pub given_gets : (gives : List ℕ → Bool) (names : List (List ℕ)) → AreGiven gives names → GetsGiven gives (gets names)
-given_gets gives [] h = tt
-given_gets gives (name ∷ names) h = (h.0, given_gets gives names h.1)
-
 serves : (words : List (List ℕ)) (old new : Outside) (session : Session) (s : ImageSystem) (rows : Rows) (a : AskFor words old.shelf.file session s rows) →
     AreGiven old.shelf.gives (files_needed a) ⊎ (Rose old.shelf.faults new.shelf.faults → ⊥) → (c : Command) → IsCommand words c → ShelfServes c old new
 serves words old new session s rows a (inr none) c also = inr none
 serves words old new session s rows (by_boot b is same files) (inl given) c also =
-    subst (λ (x : Command). ShelfServes x old new) (one_command words (boot b) c is also) (inl (given_gets old.shelf.gives (b.image ∷ b.schedule ∷ []) given, refl))
+    subst (λ (x : Command). ShelfServes x old new) (one_command words (boot b) c is also) (inl (given, refl))
 serves words old new session s rows (by_trace t is same files) (inl given) c also =
-    subst (λ (x : Command). ShelfServes x old new) (one_command words (trace t) c is also) (inl (given_gets old.shelf.gives (t.boot.image ∷ t.boot.schedule ∷ []) given, refl))
+    subst (λ (x : Command). ShelfServes x old new) (one_command words (trace t) c is also) (inl (given, refl))
 serves words old new session s rows (by_sample x is same parts) (inl given) c also =
-    subst (λ (y : Command). ShelfServes y old new) (one_command words (sample x) c is also) (inl (given_gets old.shelf.gives ([]) given, refl))
+    subst (λ (y : Command). ShelfServes y old new) (one_command words (sample x) c is also) (inl (given, refl))
 
 no_call_failed : (words : List (List ℕ)) (session : Session) (s : ImageSystem) (rows : Rows) (before : List (List ℕ)) (old new : Outside) → IsHonest words session s rows before old new → NoneFailed words old new
 no_call_failed words session s rows before old new h =

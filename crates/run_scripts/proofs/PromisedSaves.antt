@@ -36,16 +36,17 @@ use Rattle.run_scripts.specs.Saves.{SaveHolds, as_boot, is_saved, IsHonestSave, 
 use Rattle.run_scripts.specs.SessionRuns.{run_of}
 use Rattle.run_scripts.specs.Headline.{Asked, saved_so, resumed_so, IsOver, text_at, whole_text}
 use Rattle.run_scripts.proofs.ByRuns.{ItGoesOn, IsSaved, IsUnsaved, SavedSo}
+use Rattle.run_scripts.specs.Keys.{RunLaws, ScriptLaws}
 use Rattle.run_scripts.specs.Served.{NoneFailed, ShelfServes, AreGiven}
 use Rattle.run_scripts.specs.Promises.{SavesAreHeld, SavesAreComplete, ResumesAreHeld, ResumesAreComplete}
 use Rattle.run_scripts.proofs.Asking.{asked_save, asked_resume}
 use Rattle.run_scripts.proofs.Causes.{mid_disk}
 use Rattle.run_scripts.proofs.Completes.{run_done, it_goes_on}
 use Rattle.run_scripts.proofs.Joins.{saved_joins}
-use Rattle.run_scripts.proofs.Keys.{RunLaws, known, ends_are_over, sectors_behind_stay}
+use Rattle.run_scripts.proofs.Keys.{known, ends_are_over, sectors_behind_stay}
 use Rattle.run_scripts.proofs.Pasts.{Known, founded}
-use Rattle.run_scripts.proofs.Performed.{ScriptLaws, Says, says_text, leaves_sectors}
-use Rattle.run_scripts.proofs.Promised.{told_disk, was_done, plan_finds, status_as, ran, headline_told, given_gets}
+use Rattle.run_scripts.proofs.Performed.{Says, says_text, leaves_sectors}
+use Rattle.run_scripts.proofs.Promised.{told_disk, was_done, plan_finds, status_as, ran, headline_told}
 use Rattle.run_scripts.proofs.Refusals.{none_blamed}
 use Rattle.run_scripts.proofs.Rejoining.{with_disk, other_disk}
 use Rattle.run_scripts.proofs.Reports.{rest_tells}
@@ -360,7 +361,7 @@ no_resume_failed words c s rows machine left old new h = record {
 }
   where
     by : AreGiven old.shelf.gives (c.boot.image ∷ c.boot.schedule ∷ c.file ∷ []) ⊎ (Rose old.shelf.faults new.shelf.faults → ⊥) → ShelfServes (resume c) old new
-    by (inl given) = inl (given_gets old.shelf.gives (c.boot.image ∷ c.boot.schedule ∷ c.file ∷ []) given, refl)
+    by (inl given) = inl (given, refl)
     by (inr none) = inr none
 
 pub resumes_are_held : ScriptLaws → AnswersAreResumable machine_of → SavedOnce → ResumesAreHeld

@@ -17,7 +17,7 @@ use Rattle.cvm_outside.proofs.Follow.{given}
 use Rattle.run_scripts.specs.Boot.{sectors_needed}
 use Rattle.boot_run.specs.Closing.{says}
 use Rattle.run_scripts.specs.Ends.{Does, done, no_file, no_memory, GetsFor, all, up_to, IsNotGot, behind, within, wants, PlanAsks, SessionAsks, no_user, small, over_told, over_untold, answered}
-use Rattle.run_scripts.specs.Served.{files_of, gets, NoneFailed, ShelfServes}
+use Rattle.run_scripts.specs.Served.{files_of, gets, NoneFailed, ShelfServes, AreGiven}
 use Rattle.run_scripts.specs.Headline.{IsOf, booted_so, saved_so, resumed_so}
 use Rattle.run_scripts.specs.Shapes.{gets_in, puts_in, NamedBy}
 use Rattle.run_scripts.specs.Causes.{FilesAreRefused, HasNoUser, MissingUsersAreRefused, SmallDisksAreRefused, LongFilesAreRefused, RefusedAsLong, WorkCompletes, IsWork}
@@ -38,7 +38,7 @@ given_quiet gives (Wrote q ws ∷ rest) g p = given_quiet gives rest g p
 given_quiet gives (Got n ∷ rest) g p = absurd (let e : n ∷ gets_in rest ≡ [] = g in cc)
 given_quiet gives (Stored n bytes ∷ rest) g p = absurd (let e : n ∷ puts_in rest ≡ [] = p in cc)
 
-given_front : (gives : List ℕ → Bool) (before after : List (List ℕ)) (name : List ℕ) → GetsGiven gives (gets (before ++ name ∷ after)) → GetsGiven gives (gets (before ++ name ∷ []))
+given_front : (gives : List ℕ → Bool) (before after : List (List ℕ)) (name : List ℕ) → AreGiven gives (before ++ name ∷ after) → GetsGiven gives (gets (before ++ name ∷ []))
 given_front gives [] after name h = (h.0, tt)
 given_front gives (n ∷ before) after name h = (h.0, given_front gives before after name h.1)
 
@@ -109,7 +109,7 @@ module _ (blame : ScriptsBlame) where
       by : ShelfServes c old new → ⊥
       by (inl (got, put)) =
           let front : GetsGiven old.shelf.gives (gets (g.before ++ g.name ∷ [])) =
-          given_front old.shelf.gives g.before g.after g.name (subst (λ (names : List (List ℕ)). GetsGiven old.shelf.gives (gets names)) (sym g.all) got) in
+          given_front old.shelf.gives g.before g.after g.name (subst (AreGiven old.shelf.gives) (sym g.all) got) in
           (given (gets (g.before ++ g.name ∷ [])) old new (Some TheShelf) g.performs).sure front refl
       by (inr none) = none ((of_no_file blame (files_of c) old new g TheShelf).rose refl).rose
 

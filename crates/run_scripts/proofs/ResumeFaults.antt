@@ -29,6 +29,7 @@ use Rattle.run_scripts.specs.RunStatus.{run_status}
 use Rattle.run_scripts.specs.SessionRuns.{run_of}
 use Rattle.run_scripts.specs.Faults.{Stand, PrintedBehind, BeginsBehind, AfterRest, in_step, in_report, AfterResume, ResumeFaultsLeave}
 use Rattle.run_scripts.specs.Headline.{Asked, ended_text, text_at, whole_text}
+use Rattle.run_scripts.specs.Keys.{ScriptLaws}
 use Rattle.run_scripts.specs.Saving.{GoesOnAsBoot}
 use Rattle.run_scripts.proofs.Broken.{Broken, in_first, in_second, part, within, not_none, blames}
 use Rattle.run_scripts.proofs.FaultLaws.{Three, Four, of_three, not_shelf, not_memory, spent}
@@ -36,7 +37,7 @@ use Rattle.run_scripts.proofs.Joins.{resumes_join}
 use Rattle.run_scripts.proofs.Keys.{known}
 use Rattle.run_scripts.proofs.MadeOf.{of_report, of_rows}
 use Rattle.run_scripts.proofs.Pasts.{Known}
-use Rattle.run_scripts.proofs.Performed.{ScriptLaws, says_text}
+use Rattle.run_scripts.proofs.Performed.{says_text}
 use Rattle.run_scripts.proofs.Rejoining.{with_disk, other_disk}
 use Rattle.run_scripts.proofs.Reports.{rest_tells}
 use Rattle.run_scripts.proofs.RunFaults.{disk_due}
@@ -136,7 +137,7 @@ module _ (law : ScriptLaws) (read : AnswersAreResumable machine_of) (words : Lis
   -- it had no more turns than the resume is given, and so no more steps than the boot makes
   few_turns : turns_at r made ≤ d.boot.turns
   few_turns =
-      let b = some_bytes (old.shelf.file d.file) (a.files (resume d) is).2 in
+      let b = some_bytes (old.shelf.file d.file) (a.files (resume d) is).1.1.0 in
       subst (λ (n : ℕ). n ≤ d.boot.turns) (ap (λ (ws : List ℕ). slice_index ws 5) w.words_are)
       (read (wanted_by s rows d.boot.turns) b.0 machine (machine_is_read words old.shelf.file d s rows machine b.0 is a.is_plan b.1)).turns
 

@@ -14,12 +14,13 @@ use Rattle.cvm_outside.specs.Script.{Call}
 use Rattle.boot_turns.specs.Runs.{Run}
 use Rattle.run_scripts.specs.Boot.{sectors_needed}
 use Rattle.run_scripts.specs.SessionRuns.{run_of}
-use Rattle.run_scripts.specs.Ends.{done, no_file, no_memory, SessionAsks, no_user, small, over_told, over_untold, SaveAsks, SomeSaveAsks, load_of}
+use Rattle.run_scripts.specs.RunStatus.{save_script}
+use Rattle.run_scripts.specs.Ends.{done, no_file, no_memory, SessionAsks, no_user, small, over_told, over_untold, RunAsks, SomeSaveAsks, load_of}
 use Rattle.run_scripts.specs.Headline.{Asked}
 use Rattle.run_scripts.proofs.ByRuns.{SavesComplete}
 use Rattle.run_scripts.proofs.Causes.{mid_disk}
 use Rattle.run_scripts.proofs.Completes.{run_done}
-use Rattle.run_scripts.proofs.Keys.{RunLaws}
+use Rattle.run_scripts.specs.Keys.{RunLaws}
 use Rattle.run_scripts.proofs.Refusals.{none_blamed, status_due, plan_asks, no_file_failed}
 
 same_some : (a b : List (List ℕ)) → Some a ≡ Some b → a ≡ b
@@ -48,7 +49,7 @@ saves_complete blame law words c s rows before old new status is a f (done _ h) 
     let w = law.start words _ (save_session c) s rows before old a in
     let runs = law.machines s.unit _ _ _ w.late _ w.starts in
     let asks = plan_asks blame words old new status h (saves (save_session c) s rows c.file) a.files a.is_plan in
-    let t = told_asks words _ (save_session c) s rows before old h.mid (λ size ss. SaveAsks c.file (run_of (save_session c) s rows size ss) (load_of (save_session c) s rows))
+    let t = told_asks words _ (save_session c) s rows before old h.mid (λ size ss. RunAsks (run_of (save_session c) s rows size ss) (λ r. save_script c.file r (load_of (save_session c) s rows)))
     (SomeSaveAsks c.file (load_of (save_session c) s rows)) h.script h.due a (mid_disk blame words old new status h).0 asks in
     let g = runs.goes_on r.turns enough.last enough.defined in
     let le = g.2 in

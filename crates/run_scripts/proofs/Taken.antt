@@ -1,6 +1,6 @@
 -- What a resume's words and files come to: the machine that it goes on with is what the bytes of its file are read as.
 use Rattle.std.specs.Prelude.{Option, Some, Result, Ok, Err}
-use Rattle.std.proofs.Common.{◌≡◌, ◌≢◌, ℕ, List, refl, sym, ap, subst}
+use Rattle.std.proofs.Common.{◌≡◌, ◌≢◌, ℕ, List, refl, sym, subst}
 use Rattle.cvm_outside.specs.Told.{Tells}
 use Rattle.kernel_linker.specs.Accept.{ImageSystem}
 use Rattle.kernel_linker.specs.declared.fault.AcceptFault.{AcceptFault}
@@ -11,29 +11,10 @@ use Rattle.schedule_file.specs.Rows.{Rows}
 use Rattle.schedule_file.specs.Schedule.{schedule_of}
 use Rattle.schedule_file.specs.declared.fault.ScheduleFault.{ScheduleFault}
 use Rattle.run_scripts.specs.declared.session.Session.{Session}
-use Rattle.run_scripts.specs.Command.{Save, Command, IsResume, boot, trace, save, resume, compile_user, compile_kernel, compile_program, link, migrate, sample, check, save_session}
-use Rattle.run_scripts.specs.Plan.{Plan, refuses, resumes, wanted_by, Got, long, whole, AfterFiles, AfterThree, ResumePlan, accepted_plan, taken_plan, taken_up, PlanComesTo, no_command, boot_plan, trace_plan, save_plan, resume_plan, user_plan, kernel_plan, image_plan, link_plan, migrate_plan, sample_plan, check_plan}
+use Rattle.run_scripts.specs.Command.{Save, IsResume, resume, save_session}
+use Rattle.run_scripts.specs.Plan.{Plan, refuses, resumes, wanted_by, Got, long, whole, AfterFiles, AfterThree, accepted_plan, taken_plan, taken_up, PlanComesTo}
 use Rattle.run_scripts.specs.Refusal.{too_long}
-use Rattle.run_scripts.proofs.OneCommand.{one_command}
-
--- THE PLAN is that of a resume
-abbrev saves_in : Save → Command → Save
-saves_in d (resume c) = c
-saves_in d other = d
-
-resumed : (words : List (List ℕ)) (file : List ℕ → Option (List ℕ)) (d : Save) (p : Plan) → IsResume words d → PlanComesTo words file p → ResumePlan layer_image file d p
-resumed words file d p is (no_command n) = absurd (n (resume d) is)
-resumed words file d p is (boot_plan c _ k g) = absurd (let e : resume d ≡ boot c = one_command words (resume d) (boot c) is k in cc)
-resumed words file d p is (trace_plan c _ k g) = absurd (let e : resume d ≡ trace c = one_command words (resume d) (trace c) is k in cc)
-resumed words file d p is (save_plan c _ k g) = absurd (let e : resume d ≡ save c = one_command words (resume d) (save c) is k in cc)
-resumed words file d p is (resume_plan c _ k g) = subst (λ (x : Save). ResumePlan layer_image file x p) (ap (saves_in d) (one_command words (resume c) (resume d) k is)) g
-resumed words file d p is (user_plan c _ k g) = absurd (let e : resume d ≡ compile_user c = one_command words (resume d) (compile_user c) is k in cc)
-resumed words file d p is (kernel_plan c _ k g) = absurd (let e : resume d ≡ compile_kernel c = one_command words (resume d) (compile_kernel c) is k in cc)
-resumed words file d p is (image_plan c _ k g) = absurd (let e : resume d ≡ compile_program c = one_command words (resume d) (compile_program c) is k in cc)
-resumed words file d p is (link_plan c _ k g) = absurd (let e : resume d ≡ link c = one_command words (resume d) (link c) is k in cc)
-resumed words file d p is (migrate_plan c _ k g) = absurd (let e : resume d ≡ migrate c = one_command words (resume d) (migrate c) is k in cc)
-resumed words file d p is (sample_plan c _ k g) = absurd (let e : resume d ≡ sample c = one_command words (resume d) (sample c) is k in cc)
-resumed words file d p is (check_plan c _ k g) = absurd (let e : resume d ≡ check c = one_command words (resume d) (check c) is k in cc)
+use Rattle.run_scripts.proofs.OneCommand.{its_plan}
 
 -- ITS MACHINE is what these bytes are read as
 abbrev IsRead : List ℕ → Plan → Type 0
@@ -69,7 +50,7 @@ pub machine_is_read : (words : List (List ℕ)) (file : List ℕ → Option (Lis
 machine_is_read words file d s rows machine bytes is comes told =
     let p : Plan = resumes (save_session d) s rows machine in
     let other = no_refusal (save_session d) s rows machine in
-    let image = got (file d.boot.image) _ p other (resumed words file d p is comes) in
+    let image = got (file d.boot.image) _ p other (its_plan words file (resume d) p is comes) in
     let schedule = got (file d.boot.schedule) _ p other image.2 in
     let saved = got (file d.file) _ p other schedule.2 in
     let same : saved.0 ≡ bytes = subst (λ (o : Option (List ℕ)). Tells o saved.0) told saved.1 in

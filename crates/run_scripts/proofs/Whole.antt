@@ -11,7 +11,8 @@ use Rattle.run_scripts.specs.SessionRuns.{run_of}
 use Rattle.run_scripts.proofs.ByRuns.{Headlines}
 use Rattle.run_scripts.specs.Headline.{whole_text}
 use Rattle.run_scripts.proofs.Causes.{mid_disk}
-use Rattle.run_scripts.proofs.Performed.{says_text, leaves_sectors, ScriptLaws}
+use Rattle.run_scripts.proofs.Performed.{says_text, leaves_sectors}
+use Rattle.run_scripts.specs.Keys.{ScriptLaws}
 use Rattle.run_scripts.proofs.Refusals.{none_blamed, status_due, plan_asks, no_file_failed}
 use Rattle.run_scripts.proofs.Saves.{told_asks}
 use Rattle.run_scripts.proofs.Tells.{Tells}
@@ -23,7 +24,7 @@ headlines law words session s rows before old new status a f (done _ h) m =
     let load : List Call = load_of session s rows in
     let asks = plan_asks law.blame words old new status h (boots session s rows) a.files a.is_plan in
     let k = mid_disk law.blame words old new status h in
-    let t = told_asks words _ session s rows before old h.mid (λ size ss. RunAsks (run_of session s rows size ss) (load_of session s rows)) (SomeRunAsks (load_of session s rows)) h.script h.due a k.0 asks in
+    let t = told_asks words _ session s rows before old h.mid (λ size ss. RunAsks (run_of session s rows size ss) (λ r. run_script r (load_of session s rows))) (SomeRunAsks (load_of session s rows)) h.script h.due a k.0 asks in
     let n = none_blamed law.blame words old new status h f in
     let p : Performs (run_script r load t.past) h.mid new None =
     subst (λ (x : List Call). Performs x h.mid new None) t.script_is (subst (λ (b : Option Who). Performs h.script h.mid new b) n h.performs) in

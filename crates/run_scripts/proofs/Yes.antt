@@ -31,11 +31,11 @@ use Rattle.kernel_linker.specs.Laws.{OpenedUnitsAreTheirSources}
 use Rattle.kernel_linker.specs.declared.fault.AcceptFault.{AcceptFault}
 use Rattle.kernel_linker.specs.declared.fault.LinkFault.{LinkFault}
 use Rattle.run_scripts.specs.declared.exit_status.Status.{Status}
-use Rattle.run_scripts.specs.Check.{Check, IsCheck, Told, TellsUnit, has_longest, has_loop, TellsOpened, TellsObject, no_object, has_object}
-use Rattle.run_scripts.specs.Command.{Command, IsCommand, boot, trace, save, resume, compile_user, compile_kernel, compile_program, link, migrate, sample, check}
+use Rattle.run_scripts.specs.Check.{Told, TellsUnit, has_longest, has_loop, TellsOpened, TellsObject, no_object, has_object}
+use Rattle.run_scripts.specs.Command.{check}
 use Rattle.run_scripts.specs.Refusal as refusal
 use Rattle.run_scripts.specs.Refusal.{Refusal, refusal_text}
-use Rattle.run_scripts.specs.Plan.{Plan, Got, long, whole, told_plan, AfterChecked, CheckPlan, PlanComesTo, no_command, boot_plan, trace_plan, save_plan, resume_plan, user_plan, kernel_plan, image_plan, link_plan, migrate_plan, sample_plan, check_plan}
+use Rattle.run_scripts.specs.Plan.{Plan, Got, long, whole, told_plan, AfterChecked}
 use Rattle.run_scripts.specs.Boot.{booted}
 use Rattle.run_scripts.specs.Suffices.{HasStack, SaysYes, NeverOut}
 use Rattle.boot_run.specs.Closing.{says}
@@ -45,7 +45,7 @@ use Rattle.run_scripts.specs.Promises.{YesIsEnough}
 use Rattle.run_scripts.proofs.Broken.{nothing_moves}
 use Rattle.run_scripts.proofs.Causes.{mid_disk}
 use Rattle.run_scripts.proofs.Keeps.{wanted}
-use Rattle.run_scripts.proofs.OneCommand.{one_command}
+use Rattle.run_scripts.proofs.OneCommand.{its_plan}
 
 -- that a source, and an object's bytes, have one answer
 abbrev pub OneAnswer : Type 0
@@ -137,28 +137,6 @@ told_room read law stack bytes o told text rest is e yes_there (has_object p fro
 told_bytes : (file : Option (List ℕ)) (bytes other : List ℕ) → file ≡ Some bytes → Tells file other → other ≡ bytes
 told_bytes file bytes other e h = let P : Option (List ℕ) → Type 0 = λ o. Tells o other in subst P e h
 
--- THE PLAN of a check
-same_check : (a b : Check) → check a ≡ check b → a ≡ b
-same_check a b e = cc
-
-module _ (words : List (List ℕ)) (file : List ℕ → Option (List ℕ)) (c : Check) (is : IsCheck words c) where
-  its : (d : Command) → IsCommand words d → d ≡ check c
-  its d k = one_command words d (check c) k is
-
-  its_plan : (p : Plan) → PlanComesTo words file p → CheckPlan file c p
-  its_plan p (no_command n) = absurd (n (check c) is)
-  its_plan p (boot_plan d _ k g) = absurd (let e = its (boot d) k in cc)
-  its_plan p (trace_plan d _ k g) = absurd (let e = its (trace d) k in cc)
-  its_plan p (save_plan d _ k g) = absurd (let e = its (save d) k in cc)
-  its_plan p (resume_plan d _ k g) = absurd (let e = its (resume d) k in cc)
-  its_plan p (user_plan d _ k g) = absurd (let e = its (compile_user d) k in cc)
-  its_plan p (kernel_plan d _ k g) = absurd (let e = its (compile_kernel d) k in cc)
-  its_plan p (image_plan d _ k g) = absurd (let e = its (compile_program d) k in cc)
-  its_plan p (link_plan d _ k g) = absurd (let e = its (link d) k in cc)
-  its_plan p (migrate_plan d _ k g) = absurd (let e = its (migrate d) k in cc)
-  its_plan p (sample_plan d _ k g) = absurd (let e = its (sample d) k in cc)
-  its_plan p (check_plan d _ k g) = subst (λ (x : Check). CheckPlan file x p) (same_check d c (its (check d) k)) g
-
 -- it tells a text that begins so
 record Begun (told : Told) : Type 0 where
   text : List ℕ
@@ -219,7 +197,7 @@ gets_print (name ∷ names) old new b (goes_on c rest _ mid _ _ d p) = gets_prin
 pub yes_is_enough : ScriptsBlame → OneAnswer → OneObject → OpenedUnitsAreTheirSources → LongestIsKept → YesIsEnough
 yes_is_enough blame one read opened law words old new status (done _ h) source stack s y has =
     let (u, is, room) = room_of read opened words source stack old new h.mid y h.plan h.script h.due h.blamed (mid_disk blame words old new status h).1
-    (its_plan words old.shelf.file y.check y.asked h.plan h.is_plan.comes) h.asks h.performs in
+    (its_plan words old.shelf.file (check y.check) h.plan y.asked h.is_plan.comes) h.asks h.performs in
     let enough : y.check.stack ≤ s.params.stack = subst (λ (n : ℕ). n ≤ s.params.stack) y.stack_is has.enough in
     never_out law y.check.stack u s room (system_unit one source stack s u (subst (λ (x : List ℕ). IsFrontAnswer x (Ok u)) (sym y.source_is) is) has) enough
 yes_is_enough blame one read opened law words old new status (no_file c i f) source stack s y has =

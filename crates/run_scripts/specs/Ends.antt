@@ -37,18 +37,11 @@ use Rattle.run_scripts.specs.Served.{files_of, gets}
 abbrev pub load_of : Session → ImageSystem → Rows → List Call
 load_of session s rows = load_script (pages_loaded session.start (booted s rows)) (sectors_needed session s rows)
 
--- WHAT A RUN IS TO DO: its script, and its status where no call fails, by what the abstract machine says of it
-pub record RunAsks (r : Run) (load : List Call) (script : List Call) (status : Status) : Type 0 where
+-- WHAT A RUN IS TO DO, to its end or to be saved: its script, and its status where no call fails, by what the abstract machine says of it
+pub record RunAsks (r : Run) (scripted : Run → Past → List Call) (script : List Call) (status : Status) : Type 0 where
   pub past : Past
   pub is_past : IsPast r past
-  pub script_is : script ≡ run_script r load past
-  pub status_is : status ≡ run_status r past
-
--- what a save is to do
-pub record SaveAsks (name : List ℕ) (r : Run) (load : List Call) (script : List Call) (status : Status) : Type 0 where
-  pub past : Past
-  pub is_past : IsPast r past
-  pub script_is : script ≡ save_script name r load past
+  pub script_is : script ≡ scripted r past
   pub status_is : status ≡ run_status r past
 
 -- the run that goes on from the machine that words name, over a disk with these sectors, for the turns and the steps that are left
@@ -106,10 +99,10 @@ PlanAsks (refuses r) old script status = (script ≡ says (refusal_text r)) × (
 PlanAsks (puts name bytes) old script status = (script ≡ Stored name bytes ∷ []) × (status ≡ Done)
 PlanAsks (tells text) old script status = (script ≡ says text) × (status ≡ Done)
 PlanAsks (boots session s rows) old script status =
-    SessionAsks session s rows old (λ sectors. RunAsks (run_of session s rows old.disk.size sectors) (load_of session s rows))
+    SessionAsks session s rows old (λ sectors. RunAsks (run_of session s rows old.disk.size sectors) (λ r. run_script r (load_of session s rows)))
     (SomeRunAsks (load_of session s rows)) script status
 PlanAsks (saves session s rows name) old script status =
-    SessionAsks session s rows old (λ sectors. SaveAsks name (run_of session s rows old.disk.size sectors) (load_of session s rows))
+    SessionAsks session s rows old (λ sectors. RunAsks (run_of session s rows old.disk.size sectors) (λ r. save_script name r (load_of session s rows)))
     (SomeSaveAsks name (load_of session s rows)) script status
 PlanAsks (resumes session s rows words) old script status =
     SessionAsks session s rows old (ResumeAsks session s rows words old.disk.size) (SomeRunAsks []) script status

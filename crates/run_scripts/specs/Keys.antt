@@ -1,14 +1,20 @@
--- THE KEYS to the laws: what is so of each run that words ask for, whether a call fails or not.
+-- THE KEYS to the laws: what is so of each run that words ask for, whether a call fails or not; and the laws of the crates below that most laws take.
 use Rattle.std.specs.Prelude.{ℕ, ◌+◌, ◌≤◌, List}
 use Rattle.schedule_file.specs.Rows.{Rows}
+use Rattle.mips_table.specs.Turns.{TurnLaws}
+use Rattle.c0_tree.specs.Tree.{CUnit}
 use Rattle.c0_meaning.specs.TypedState.{IsTypedState}
 use Rattle.layer_contract.specs.Starts.{Beyond}
 use Rattle.boot_turns.specs.Premises.{StartsFrom}
+use Rattle.boot_turns.specs.Entries.{TracesGrow}
+use Rattle.boot_turns.specs.JournalText.{RowsFollow}
+use Rattle.boot_turns.specs.RunMachines.{MachinesRun}
 use Rattle.kernel_linker.specs.Accept.{ImageSystem}
 use Rattle.run_scripts.specs.declared.session.Session.{Session}
 use Rattle.run_scripts.specs.Plan.{Plan}
 use Rattle.cvm_outside.specs.Script.{Call}
 use Rattle.cvm_outside.specs.Outside.{Outside}
+use Rattle.cvm_outside.specs.ScriptLaws.{ScriptsBlame, ScriptsTell, ScriptsStore, ScriptsCount}
 use Rattle.boot_turns.specs.Runs.{Run, Past, IsPast}
 use Rattle.run_scripts.specs.Boot.{booted, sectors_needed, steps_before}
 use Rattle.run_scripts.specs.SessionRuns.{run_of}
@@ -36,3 +42,19 @@ RunsStart = (words : List (List ℕ)) (plan : Plan) (session : Session) (s : Ima
 -- and its end, where it comes to one, is one of the abstract run
 abbrev pub EndsAreOver : Type 0
 EndsAreOver = OfRuns (λ r load before held. (p : Past) → IsPast r p → IsOver r p)
+
+-- WHAT THE LAWS SAY of runs
+pub record RunLaws : Type 0 where
+  pub start : RunsStart
+  pub machines : (u : CUnit) → MachinesRun (IsTypedState u)
+  pub traces : (u : CUnit) → TracesGrow (IsTypedState u)
+  pub count : TurnLaws
+  pub rows : RowsFollow
+
+-- and of what scripts leave
+pub record ScriptLaws : Type 0 where
+  pub blame : ScriptsBlame
+  pub tell : ScriptsTell
+  pub store : ScriptsStore
+  pub calls : ScriptsCount
+  pub runs : RunLaws

@@ -1,5 +1,5 @@
 -- What words and the files that they name come to, before anything is put or run: stage by stage, in the order of work.
-use Rattle.std.specs.Prelude.{◌≡◌, ◌≢◌, ⊤, ℕ, suc, nat_eq, nat_lt, ◌%◌, ◌*◌, ◌<◌, ◌≤◌, List, [], ◌∷◌, length, flat_map, Option, Result, Ok, Err, if◌then◌else◌}
+use Rattle.std.specs.Prelude.{◌≡◌, ⊤, ℕ, suc, nat_eq, nat_lt, ◌%◌, ◌*◌, ◌<◌, ◌≤◌, List, [], ◌∷◌, length, flat_map, Option, Result, Ok, Err, if◌then◌else◌}
 use Rattle.std.specs.Int.{to_le_bytes, w32}
 use Rattle.std.specs.Option.{IsSome}
 use Rattle.cvm_outside.specs.Told.{TOO_LONG, Tells}
@@ -8,13 +8,7 @@ use Rattle.mips_asm.specs.declared.fault.AsmFault.{AsmFault}
 use Rattle.c0_tree.specs.declared.primitive.Program.{Program}
 use Rattle.c0_tree.specs.declared.primitive.Program.TheVariants.{Kernel, User}
 use Rattle.c0_tree.specs.Tree.{CUnit as Unit}
-use Rattle.c0_parser.specs.Faults.{FaultIs}
-use Rattle.c0_parser.specs.declared.fault.ReadFault.{ReadFault}
-use Rattle.c0_parser.specs.declared.fault.ReadFault.TheVariants as read
-use Rattle.c0_types.specs.declared.fault.TypeFault.{TypeFault}
-use Rattle.c0_types.specs.declared.fault.TypeFault.TheVariants as typing
-use Rattle.c0_types.specs.Front.{IsUnitOf, IsUnitAs, IsMistypedAs, IsFrontAnswer}
-use Rattle.c0_types.specs.declared.source_fault.SourceFault.TheVariants.{Reading as BadReading, Typing as BadTyping}
+use Rattle.c0_types.specs.Front.{IsUnitOf, IsAnswerAs, IsFrontAnswer}
 use Rattle.object_file.specs.Format.{spelling}
 use Rattle.kernel_linker.specs.Object.{object_of}
 use Rattle.kernel_linker.specs.Link.{fitting, link_answer}
@@ -54,9 +48,9 @@ use Rattle.c0_types.specs.declared.source_fault.SourceFault.{SourceFault}
 use Rattle.sample_maker.specs.Parts.{SampleParts as Sampled}
 use Rattle.sample_maker.specs.Sample.{sample_of}
 use Rattle.run_scripts.specs.declared.session.Session.{Session}
-use Rattle.run_scripts.specs.CompileProgram.{CompileProgram, IsCompileProgram}
-use Rattle.run_scripts.specs.Command.{Boot, Trace, Save, CompileUser, CompileKernel, Link, Migrate, Sample, Command, boot, trace, save, resume, compile_user, compile_kernel, compile_program, link, migrate, sample, check, IsBoot, IsTrace, IsSave, IsResume, IsCompileUser, IsCompileKernel, IsLink, IsMigrate, IsSample, IsCommand, IsNoCommand, boot_session, trace_session, save_session, sample_session}
-use Rattle.run_scripts.specs.Check.{Check, IsCheck, Told, TellsObject}
+use Rattle.run_scripts.specs.Command.{Boot, Command, boot, trace, save, resume, compile_user, compile_kernel, compile_program, link, migrate, sample, check, IsCommand, IsNoCommand, boot_session, trace_session, save_session, sample_session}
+use Rattle.run_scripts.specs.Served.{files_of}
+use Rattle.run_scripts.specs.Check.{Told, TellsObject}
 use Rattle.run_scripts.specs.Refusal.{Refusal, bad_text, bad_source, bad_object, bad_file, bad_program, unlinked, unaccepted, bad_schedule, bad_save, too_long}
 
 -- what is to be done
@@ -81,6 +75,11 @@ pub data Got (told : Option (List ℕ)) (next : List ℕ → Plan → Type 0) : 
   long : (bytes : List ℕ) → Tells told bytes → TOO_LONG ≤ length bytes → Got told next (refuses too_long)
   whole : (bytes : List ℕ) (p : Plan) → Tells told bytes → length bytes < TOO_LONG → next bytes p → Got told next p
 
+-- WHAT AN ANSWER COMES TO: what is due of it, or the refusal of its fault
+abbrev pub planned : {A F : Type 0} → (refusal : F → Refusal) → (due : A → Plan) → Result A F → Plan
+planned refusal due (Ok a) = due a
+planned refusal due (Err f) = refuses (refusal f)
+
 -- WHAT IS ANSWERED of the image that bytes are: their fault, or what is due by what its own source is answered by
 abbrev pub Answered : {A : Type 0} → (due : Image → Result Unit SourceFault → Result A AcceptFault) → Result Image ImageFault → Result A AcceptFault → Type 0
 Answered due (Err f) answer = answer ≡ Err (accept_file_fault f)
@@ -96,12 +95,10 @@ Renews layer old answer = Answered (migrate_answer layer) old answer
 
 -- AFTER THE IMAGE the schedule is read
 abbrev pub scheduled_plan : Session → ImageSystem → Result Rows ScheduleFault → Plan
-scheduled_plan session s (Ok rows) = boots session s rows
-scheduled_plan session s (Err f) = refuses (bad_schedule f)
+scheduled_plan session s rows = planned bad_schedule (boots session s) rows
 
 abbrev pub accepted_plan : Session → Result Rows ScheduleFault → Result ImageSystem AcceptFault → Plan
-accepted_plan session rows (Ok s) = scheduled_plan session s rows
-accepted_plan session rows (Err f) = refuses (unaccepted f)
+accepted_plan session rows answer = planned unaccepted (λ s. scheduled_plan session s rows) answer
 
 -- AFTER THE FILES of a boot or a trace the image is accepted
 abbrev pub AfterFiles : (layer : Map → List ℕ → List ℕ) → Session → (image schedule : List ℕ) → Plan → Type 0
@@ -125,10 +122,6 @@ abbrev pub saved_plan : (name : List ℕ) → Plan → Plan
 saved_plan name (boots session s rows) = if nat_lt FILE_ROOM (most_bytes s) then refuses (bad_save (FileTooLarge (most_bytes s))) else saves session s rows name
 saved_plan name other = other
 
--- save IMAGE SCHEDULE TURNS STEPS FILE gets what its boot gets
-abbrev pub SavePlan : (layer : Map → List ℕ → List ℕ) → (List ℕ → Option (List ℕ)) → Save → Plan → Type 0
-SavePlan layer file c p = (q : Plan) × BootPlan layer file c.boot (save_session c) q × (p ≡ saved_plan c.file q)
-
 -- what a saved machine has to fit to be taken up as this system's, under this schedule, for so many turns
 abbrev pub wanted_by : ImageSystem → Rows → (turns : ℕ) → Wanted
 wanted_by s rows turns =
@@ -136,8 +129,7 @@ wanted_by s rows turns =
 
 -- AFTER THE FILE of a saved machine it is taken up
 abbrev pub taken_plan : Session → ImageSystem → Rows → Result (List ℕ) SaveFault → Plan
-taken_plan session s rows (Ok words) = resumes session s rows words
-taken_plan session s rows (Err f) = refuses (bad_save f)
+taken_plan session s rows answer = planned bad_save (resumes session s rows) answer
 
 -- WHAT WOULD BE BOOTED is taken up; what is refused of the image and the schedule is refused here, too
 abbrev pub taken_up : (bytes : List ℕ) → Plan → Plan
@@ -148,11 +140,6 @@ taken_up bytes other = other
 abbrev pub AfterThree : (layer : Map → List ℕ → List ℕ) → Session → (image schedule bytes : List ℕ) → Plan → Type 0
 AfterThree layer session image schedule bytes p = (q : Plan) × AfterFiles layer session image schedule q × (p ≡ taken_up bytes q)
 
--- resume IMAGE SCHEDULE TURNS STEPS FILE gets the image, then the schedule, then the file, before it looks at any
-abbrev pub ResumePlan : (layer : Map → List ℕ → List ℕ) → (List ℕ → Option (List ℕ)) → Save → Plan → Type 0
-ResumePlan layer file c p =
-    Got (file c.boot.image) (λ image. Got (file c.boot.schedule) (λ schedule. Got (file c.file) (AfterThree layer (save_session c) image schedule))) p
-
 -- the bytes of a user's image: its words, each as four bytes with the lowest first, and nothing else
 abbrev pub bytes_of : List ℕ → List ℕ
 bytes_of words = flat_map (to_le_bytes w32) words
@@ -162,20 +149,9 @@ pub data AfterText (name text : List ℕ) : Plan → Type 0 where
   no_words : (f : AsmFault) → assembled text ≡ Err f → AfterText name text (refuses (bad_text f))
   assembles : (words : List ℕ) → assembled text ≡ Ok words → AfterText name text (puts name (bytes_of words))
 
--- compile user ASM IMG gets the text
-abbrev pub UserPlan : (List ℕ → Option (List ℕ)) → CompileUser → Plan → Type 0
-UserPlan file c p = Got (file c.text) (AfterText c.image) p
-
--- the most bytes that a kernel's source has
-abbrev pub MOST_SOURCE : ℕ
-MOST_SOURCE = 1048576
-
--- AFTER THE SOURCE of a kernel or a user program it is read, its tree is checked, and its unit is compiled, which comes to this
-pub data AfterCode (program : Program) (due : Unit → Plan) (source : List ℕ) : Plan → Type 0 where
-  unread : (f : ReadFault) → f ≢ read.Memory → FaultIs source f → AfterCode program due source (refuses (bad_source (BadReading f)))
-  mistyped : (f : TypeFault) → f ≢ typing.Memory → length source ≤ MOST_SOURCE → IsMistypedAs program source f
-      → AfterCode program due source (refuses (bad_source (BadTyping f)))
-  compiles : (u : Unit) → length source ≤ MOST_SOURCE → IsUnitAs program source u → AfterCode program due source (due u)
+-- AFTER THE SOURCE of a kernel or a user program it is answered by its checked unit, which comes to this, or by its first fault
+abbrev pub AfterCode : (program : Program) → (due : Unit → Plan) → (source : List ℕ) → Plan → Type 0
+AfterCode program due source p = (front : Result Unit SourceFault) × IsAnswerAs program source front × (p ≡ planned bad_source due front)
 
 -- the object of a kernel is put
 abbrev pub object_plan : (name source : List ℕ) → Unit → Plan
@@ -191,14 +167,6 @@ program_plan name u =
 
 abbrev pub AfterProgram : (name source : List ℕ) → Plan → Type 0
 AfterProgram name source = AfterCode User (program_plan name) source
-
--- compile kernel SRC OBJ gets the source
-abbrev pub KernelPlan : (List ℕ → Option (List ℕ)) → CompileKernel → Plan → Type 0
-KernelPlan file c p = Got (file c.source) (AfterKernel c.object) p
-
--- compile program SRC IMG gets the source
-abbrev pub ProgramPlan : (List ℕ → Option (List ℕ)) → CompileProgram → Plan → Type 0
-ProgramPlan file c p = Got (file c.source) (AfterProgram c.image) p
 
 -- FILES ARE GOT one after the other: the first that is too long is refused, else the bytes of all go on
 abbrev pub GotAll : (List ℕ → Option (List ℕ)) → List (List ℕ) → (List (List ℕ) → Plan → Type 0) → Plan → Type 0
@@ -217,8 +185,7 @@ words_from user (bytes ∷ rest) =
 
 -- what is linked is put
 abbrev pub linked_plan : (name : List ℕ) → Result Image LinkFault → Plan
-linked_plan name (Ok image) = puts name (image_bytes image)
-linked_plan name (Err f) = refuses (unlinked f)
+linked_plan name answer = planned unlinked (λ image. puts name (image_bytes image)) answer
 
 -- AFTER THE PARTS of a system they are linked: users or parameters that don't fit are refused, whatever the source is
 pub data AfterParts (layer : Map → List ℕ → List ℕ) (name : List ℕ) (o : Object) (params : Params) (users : List (List ℕ)) : Plan → Type 0 where
@@ -242,22 +209,13 @@ pub data AfterSystem (layer : Map → List ℕ → List ℕ) (name object params
   has_object : (o : Object) (p : Plan) → IsObject object (Ok o) → AfterParams layer name o users (params_of params) p →
       AfterSystem layer name object params users p
 
--- link OBJ PARAMS OUT USER.. gets the object, then the parameters, then the users
-abbrev pub LinkPlan : (layer : Map → List ℕ → List ℕ) → (List ℕ → Option (List ℕ)) → Link → Plan → Type 0
-LinkPlan layer file l p = Got (file l.object) (λ object. Got (file l.params) (λ params. GotAll file l.users (AfterSystem layer l.image object params))) p
-
 -- what is made anew is put
 abbrev pub renewed_plan : (name : List ℕ) → Result Image AcceptFault → Plan
-renewed_plan name (Ok image) = puts name (image_bytes image)
-renewed_plan name (Err f) = refuses (unaccepted f)
+renewed_plan name answer = planned unaccepted (λ image. puts name (image_bytes image)) answer
 
 -- AFTER THE OLD IMAGE it is made anew
 abbrev pub AfterOld : (layer : Map → List ℕ → List ℕ) → (name old : List ℕ) → Plan → Type 0
 AfterOld layer name old p = (answer : Result Image AcceptFault) × Renews layer (old_image_of old) answer × (p ≡ renewed_plan name answer)
-
--- migrate IMAGE OUT gets the old image
-abbrev pub MigratePlan : (layer : Map → List ℕ → List ℕ) → (List ℕ → Option (List ℕ)) → Migrate → Plan → Type 0
-MigratePlan layer file m p = Got (file m.old) (AfterOld layer m.image) p
 
 -- AFTER LINKING the parts of a sample their image is booted under its schedule, as that of a file is
 abbrev pub AfterLinking : (layer : Map → List ℕ → List ℕ) → Session → (schedule : List ℕ) → Result Image LinkFault → Plan → Type 0
@@ -273,59 +231,43 @@ AfterSource layer session parts (Err f) p = p ≡ refuses (bad_source f)
 abbrev pub PartsPlan : (layer : Map → List ℕ → List ℕ) → Session → Sampled → Plan → Type 0
 PartsPlan layer session parts p = (front : Result Unit SourceFault) × IsFrontAnswer parts.source front × AfterSource layer session parts front p
 
--- sample N gets no file
-abbrev pub SamplePlan : (layer : Map → List ℕ → List ℕ) → (number : ℕ) → Plan → Type 0
-SamplePlan layer number p = PartsPlan layer sample_session (sample_of number) p
-
 -- what a check tells is printed
 abbrev pub told_plan : Told → Plan
-told_plan (Ok text) = prints text
-told_plan (Err r) = refuses r
+told_plan told = planned (λ r. r) prints told
 
 -- AFTER THE OBJECT of a check its kernel's stack is told
 abbrev pub AfterChecked : (stack : ℕ) → (bytes : List ℕ) → Plan → Type 0
 AfterChecked stack bytes p = (told : Told) × TellsObject stack bytes told × (p ≡ told_plan told)
 
--- check OBJ STACK gets the object
-abbrev pub CheckPlan : (List ℕ → Option (List ℕ)) → Check → Plan → Type 0
-CheckPlan file c p = Got (file c.object) (AfterChecked c.stack) p
+-- WHAT A COMMAND COMES TO: it gets its files, each in its turn, before it looks at any; a save gets what its boot gets, and a sample none
+abbrev pub CommandPlan : (layer : Map → List ℕ → List ℕ) → (List ℕ → Option (List ℕ)) → Command → Plan → Type 0
+CommandPlan layer file (boot b) p = BootPlan layer file b (boot_session b) p
+CommandPlan layer file (trace t) p = BootPlan layer file t.boot (trace_session t) p
+CommandPlan layer file (save c) p = (q : Plan) × BootPlan layer file c.boot (save_session c) q × (p ≡ saved_plan c.file q)
+CommandPlan layer file (resume c) p =
+    Got (file c.boot.image) (λ image. Got (file c.boot.schedule) (λ schedule. Got (file c.file) (AfterThree layer (save_session c) image schedule))) p
+CommandPlan layer file (compile_user c) p = Got (file c.text) (AfterText c.image) p
+CommandPlan layer file (compile_kernel c) p = Got (file c.source) (AfterKernel c.object) p
+CommandPlan layer file (compile_program c) p = Got (file c.source) (AfterProgram c.image) p
+CommandPlan layer file (link l) p =
+    Got (file l.object) (λ object. Got (file l.params) (λ params. GotAll file l.users (AfterSystem layer l.image object params))) p
+CommandPlan layer file (migrate m) p = Got (file m.old) (AfterOld layer m.image) p
+CommandPlan layer file (sample x) p = PartsPlan layer sample_session (sample_of x.number) p
+CommandPlan layer file (check c) p = Got (file c.object) (AfterChecked c.stack) p
 
 -- THE PLAN that words and files come to
 pub data PlanComesTo (words : List (List ℕ)) (file : List ℕ → Option (List ℕ)) : Plan → Type 0 where
   no_command : IsNoCommand words → PlanComesTo words file bad_words
-  boot_plan : (b : Boot) (p : Plan) → IsBoot words b → BootPlan layer_image file b (boot_session b) p → PlanComesTo words file p
-  trace_plan : (t : Trace) (p : Plan) → IsTrace words t → BootPlan layer_image file t.boot (trace_session t) p → PlanComesTo words file p
-  save_plan : (c : Save) (p : Plan) → IsSave words c → SavePlan layer_image file c p → PlanComesTo words file p
-  resume_plan : (c : Save) (p : Plan) → IsResume words c → ResumePlan layer_image file c p → PlanComesTo words file p
-  user_plan : (c : CompileUser) (p : Plan) → IsCompileUser words c → UserPlan file c p → PlanComesTo words file p
-  kernel_plan : (c : CompileKernel) (p : Plan) → IsCompileKernel words c → KernelPlan file c p → PlanComesTo words file p
-  image_plan : (c : CompileProgram) (p : Plan) → IsCompileProgram words c → ProgramPlan file c p → PlanComesTo words file p
-  link_plan : (l : Link) (p : Plan) → IsLink words l → LinkPlan layer_image file l p → PlanComesTo words file p
-  migrate_plan : (m : Migrate) (p : Plan) → IsMigrate words m → MigratePlan layer_image file m p → PlanComesTo words file p
-  sample_plan : (x : Sample) (p : Plan) → IsSample words x → SamplePlan layer_image x.number p → PlanComesTo words file p
-  check_plan : (c : Check) (p : Plan) → IsCheck words c → CheckPlan file c p → PlanComesTo words file p
+  by_command : (c : Command) (p : Plan) → IsCommand words c → CommandPlan layer_image file c p → PlanComesTo words file p
 
 -- files are told
 abbrev pub AreTold : (List ℕ → Option (List ℕ)) → List (List ℕ) → Type 0
 AreTold file [] = ⊤
 AreTold file (name ∷ rest) = IsSome (file name) × AreTold file rest
 
--- the files that a command gets are told
-abbrev pub GetsTold : (List ℕ → Option (List ℕ)) → Command → Type 0
-GetsTold file (boot b) = IsSome (file b.image) × IsSome (file b.schedule)
-GetsTold file (trace t) = IsSome (file t.boot.image) × IsSome (file t.boot.schedule)
-GetsTold file (save c) = IsSome (file c.boot.image) × IsSome (file c.boot.schedule)
-GetsTold file (resume c) = IsSome (file c.boot.image) × IsSome (file c.boot.schedule) × IsSome (file c.file)
-GetsTold file (compile_user c) = IsSome (file c.text)
-GetsTold file (compile_kernel c) = IsSome (file c.source)
-GetsTold file (compile_program c) = IsSome (file c.source)
-GetsTold file (link l) = IsSome (file l.object) × IsSome (file l.params) × AreTold file l.users
-GetsTold file (migrate m) = IsSome (file m.old)
-GetsTold file (sample x) = ⊤
-GetsTold file (check c) = IsSome (file c.object)
-
+-- the files that the words' command gets are told
 abbrev pub AllTold : List (List ℕ) → (List ℕ → Option (List ℕ)) → Type 0
-AllTold words file = (c : Command) → IsCommand words c → GetsTold file c
+AllTold words file = (c : Command) → IsCommand words c → AreTold file (files_of c)
 
 -- bytes are the image that a sample's parts are linked to
 pub record IsLinkedTo (layer : Map → List ℕ → List ℕ) (parts : Sampled) (bytes : List ℕ) : Type 0 where

@@ -4,7 +4,6 @@ use Rattle.run_scripts.specs.Command.{Command, boot, trace, save, resume, compil
 use Rattle.cvm_outside.specs.Script.{Call, Got}
 use Rattle.cvm_outside.specs.Causes.{Rose}
 use Rattle.cvm_outside.specs.Outside.{Outside}
-use Rattle.cvm_outside.specs.ScriptLaws.{GetsGiven}
 
 -- THE FILES that a command gets, in order
 abbrev pub files_of : Command → List (List ℕ)
@@ -52,7 +51,7 @@ pub record IsServed (names : List (List ℕ)) (old new : Outside) : Type 0 where
 
 -- the shelf surely gives the files that a command gets, which puts none; or it counted no fault
 abbrev pub ShelfServes : Command → (old new : Outside) → Type 0
-ShelfServes c old new = (GetsGiven old.shelf.gives (gets (files_of c)) × (file_put c ≡ None)) ⊎ (Rose old.shelf.faults new.shelf.faults → ⊥)
+ShelfServes c old new = (AreGiven old.shelf.gives (files_of c) × (file_put c ≡ None)) ⊎ (Rose old.shelf.faults new.shelf.faults → ⊥)
 
 -- so it is of the command that the words are: the shelf serves it, and neither sink nor disk counted a fault
 pub record NoneFailed (words : List (List ℕ)) (old new : Outside) : Type 0 where

@@ -1,6 +1,6 @@
 // Laws of how commands end, each the contract of a function that does nothing.
 ghost use Rattle.run_scripts.specs.Headline.{MemoryKeeps};
-ghost use Rattle.run_scripts.specs.Keys.{RunsStart, EndsAreOver};
+ghost use Rattle.run_scripts.specs.Keys.{RunsStart, EndsAreOver, ScriptLaws};
 ghost use Rattle.run_scripts.specs.Causes.{StatusesAreCaused, WordsAreRefused, FilesAreRefused, MissingUsersAreRefused, SmallDisksAreRefused, LongFilesAreRefused, StepsAreSpent, WorkCompletes};
 ghost use Rattle.run_scripts.specs.Shapes.{PlansHaveShape, OthersStay, NothingIsLoaded, GetsComeFirst, ShelfIsCalled};
 ghost use Rattle.run_scripts.specs.Saving.{ScriptsJoin, ResumesJoin};
@@ -67,15 +67,26 @@ pub fn runs_start()
     the_rom_starts();
 }
 
-/// A law: where a run came to its end its turns are complete or the abstract run is over.
-pub fn ends_are_over()
-    ensures { EndsAreOver }
+/// What most laws here take: the laws of the crates below, of scripts and of runs, in one record.
+fn laws_below()
+    ensures { ScriptLaws }
 {
+    scripts_blame();
+    scripts_tell();
+    scripts_store();
+    scripts_count();
     runs_start();
     machines_run();
     traces_grow();
     turns_are_counted();
     journal_rows_follow();
+}
+
+/// A law: where a run came to its end its turns are complete or the abstract run is over.
+pub fn ends_are_over()
+    ensures { EndsAreOver }
+{
+    laws_below();
 }
 
 /// A law: the counts of faults say why a status is what it is.
@@ -185,44 +196,21 @@ pub fn stack_out_is_not_met()
 pub fn faults_leave()
     ensures { FaultsLeave }
 {
-    runs_start();
-    machines_run();
-    traces_grow();
-    turns_are_counted();
-    journal_rows_follow();
-    scripts_blame();
-    scripts_tell();
-    scripts_store();
-    scripts_count();
+    laws_below();
 }
 
 /// A law: and what a save leaves, with its file.
 pub fn save_faults_leave()
     ensures { SaveFaultsLeave }
 {
-    runs_start();
-    machines_run();
-    traces_grow();
-    turns_are_counted();
-    journal_rows_follow();
-    scripts_blame();
-    scripts_tell();
-    scripts_store();
-    scripts_count();
+    laws_below();
 }
 
 /// A law: and what a resume of a saved run leaves, behind what was shown before.
 pub fn resume_faults_leave()
     ensures { ResumeFaultsLeave }
 {
-    scripts_blame();
-    scripts_tell();
-    scripts_store();
-    runs_start();
-    machines_run();
-    traces_grow();
-    turns_are_counted();
-    journal_rows_follow();
+    laws_below();
     resumable_words_are_answered();
 }
 
@@ -230,42 +218,21 @@ pub fn resume_faults_leave()
 pub fn headlines_hold()
     ensures { HeadlinesHold }
 {
-    scripts_blame();
-    scripts_tell();
-    scripts_store();
-    runs_start();
-    machines_run();
-    traces_grow();
-    turns_are_counted();
-    journal_rows_follow();
+    laws_below();
 }
 
 /// A law: with enough steps such a command is done, or its kernel faulted.
 pub fn runs_are_complete()
     ensures { RunsAreComplete }
 {
-    scripts_blame();
-    scripts_tell();
-    scripts_store();
-    runs_start();
-    machines_run();
-    traces_grow();
-    turns_are_counted();
-    journal_rows_follow();
+    laws_below();
 }
 
 /// A law: what a trace that is done, or whose kernel faulted, prints of its user is the text of the user's journal.
 pub fn traces_are_isolated()
     ensures { TracesAreIsolated }
 {
-    scripts_blame();
-    scripts_tell();
-    scripts_store();
-    runs_start();
-    machines_run();
-    traces_grow();
-    turns_are_counted();
-    journal_rows_follow();
+    laws_below();
     users_are_isolated();
     units_replay();
 }
@@ -285,14 +252,7 @@ pub fn yes_is_enough()
 pub fn saves_are_held()
     ensures { SavesAreHeld }
 {
-    scripts_blame();
-    scripts_tell();
-    scripts_store();
-    runs_start();
-    machines_run();
-    traces_grow();
-    turns_are_counted();
-    journal_rows_follow();
+    laws_below();
     runs_are_taken_up();
     a_new_machine_is_steady();
     machines_stay_steady();
@@ -306,28 +266,14 @@ pub fn saves_are_held()
 pub fn saves_are_complete()
     ensures { SavesAreComplete }
 {
-    scripts_blame();
-    scripts_tell();
-    scripts_store();
-    runs_start();
-    machines_run();
-    traces_grow();
-    turns_are_counted();
-    journal_rows_follow();
+    laws_below();
 }
 
 /// A law: a resume with no failed call goes on as the machine that its file names, and of a saved run as its boot.
 pub fn resumes_are_held()
     ensures { ResumesAreHeld }
 {
-    scripts_blame();
-    scripts_tell();
-    scripts_store();
-    runs_start();
-    machines_run();
-    traces_grow();
-    turns_are_counted();
-    journal_rows_follow();
+    laws_below();
     resumable_words_are_answered();
     saved_machines_differ();
 }
@@ -336,13 +282,6 @@ pub fn resumes_are_held()
 pub fn resumes_are_complete()
     ensures { ResumesAreComplete }
 {
-    scripts_blame();
-    scripts_tell();
-    scripts_store();
-    runs_start();
-    machines_run();
-    traces_grow();
-    turns_are_counted();
-    journal_rows_follow();
+    laws_below();
     resumable_words_are_answered();
 }

@@ -5,5 +5,5 @@ use Rattle.boot_turns.proofs.Advancing.{advances}
 use Rattle.boot_turns.proofs.loops_advance.Goals as goal
 
 pub returns : goal.returns
-returns c = λ count traced old new told retold budget left most result ends. λ u.
-    advances (IsTypedState u) (c.machines_run.ensures u) (outside_of old.rows count) traced (state_seen told old) (state_seen retold new) budget left most result ends
+returns c = λ count old new told retold budget left most result ends. λ u.
+    advances (IsTypedState u) (c.machines_run.ensures u) (outside_of old.rows count) (state_seen told old) (state_seen retold new) budget left most result ends

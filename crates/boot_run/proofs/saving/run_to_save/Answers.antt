@@ -10,7 +10,7 @@ use Rattle.boot_run.specs.LoadEnds.{pages_needed}
 use Rattle.boot_run.specs.Loaded.{boot_load}
 use Rattle.boot_run.specs.Whole.{WholeStopped}
 use Rattle.boot_run.proofs.Loads.{needed_is}
-use Rattle.boot_run.proofs.Booting.{load_refused, load_stopped, refused}
+use Rattle.boot_run.proofs.Booting.{load_refused, load_stopped}
 use Rattle.boot_run.proofs.ToSave.{saves_so}
 use Rattle.boot_run.specs.LoadScript.{load_script}
 use Rattle.boot_run.proofs.SaveScripts.{save_refused, save_made}
@@ -24,17 +24,17 @@ returns-in_err-run-clause-stops g c =
 pub returns-in_err-run-clause-loads : goal.returns-in_err-run-clause-loads
 returns-in_err-run-clause-loads g c =
     let w = err_from_is_err_and c.from_residual.result c.from_residual.ensures.1 in
-    rw (w.1, w.2) (load_refused g.D.Sectors.size g.D.Sectors.sectors g.D.Sectors.faults g.D.Sectors.calls c.args.boot Boot (pages_needed c.args.boot) (boot_load c.args.boot c.args.schedule) (WholeStopped c.args.boot c.args.schedule) c.args.disk.now c.load.new.disk c.args.out.now c.in_err-run.field-0.0
-    (load_stopped (loaded (system_of c.args.boot c.args.schedule)) (pages_needed c.args.boot) (user_sectors (system_of c.args.boot c.args.schedule)) (user_pages (system_of c.args.boot c.args.schedule)).live (g.D.Sectors.sectors c.args.disk.now) (g.D.Sectors.sectors c.load.new.disk)
-    (tally g.D.Sectors.faults g.D.Sectors.calls c.args.disk.now) (tally g.D.Sectors.faults g.D.Sectors.calls c.load.new.disk) (sym (needed_is c.args.boot c.args.schedule)))
+    rw (w.1, w.2) (load_refused g.D.Sectors.size g.D.Sectors.sectors g.D.Sectors.faults g.D.Sectors.calls c.args.setup.boot Boot (pages_needed c.args.setup.boot) (boot_load c.args.setup.boot c.args.setup.schedule) (WholeStopped c.args.setup.boot c.args.setup.schedule) c.args.disk.now c.load.new.disk c.args.out.now c.in_err-run.field-0.0
+    (load_stopped (loaded (system_of c.args.setup.boot c.args.setup.schedule)) (pages_needed c.args.setup.boot) (user_sectors (system_of c.args.setup.boot c.args.setup.schedule)) (user_pages (system_of c.args.setup.boot c.args.setup.schedule)).live (g.D.Sectors.sectors c.args.disk.now) (g.D.Sectors.sectors c.load.new.disk)
+    (tally g.D.Sectors.faults g.D.Sectors.calls c.args.disk.now) (tally g.D.Sectors.faults g.D.Sectors.calls c.load.new.disk) (sym (needed_is c.args.setup.boot c.args.setup.schedule)))
     c.in_err-run.ensures.leaves)
 
 pub returns-clause-stops : goal.returns-clause-stops
 returns-clause-stops g c =
-    saves_so c.args.layer c.args.boot c.args.schedule (pages_needed c.args.boot) (g.D.Sectors.size c.args.disk.now) (g.D.Sectors.size c.load.new.disk) c.args.turns c.args.steps
+    saves_so c.args.setup.layer c.args.setup.boot c.args.setup.schedule (pages_needed c.args.setup.boot) (g.D.Sectors.size c.args.disk.now) (g.D.Sectors.size c.load.new.disk) c.args.limits.turns c.args.limits.steps
     (g.D.Sectors.sectors c.args.disk.now) (g.D.Sectors.sectors c.load.new.disk) (g.D.Sectors.sectors c.run_to_stop-end.new.disk) (g.O.Sink.text c.args.out.now)
     c.in_ok-run.run' c.run_to_stop-end.new.run c.run_to_stop-end.result c.in_ok-run.ensures.loaded.fresh c.in_ok-run.ensures.leaves.same_size c.requires.some
-    (λ old is. c.premises_hold.ensures old is c.in_ok-run.ensures.loaded.fresh.has_room.room) c.in_ok-run.ensures.loaded.ready
+    (λ old is. c.premises_hold.ensures.loaded old is c.in_ok-run.ensures.loaded.fresh.has_room.room) c.in_ok-run.ensures.loaded.ready
     c.run_to_stop-end.ensures.stops
 
 pub returns-clause-loads : goal.returns-clause-loads
@@ -48,12 +48,12 @@ returns-clause-loads g c = record {
 pub returns-in_err-run-clause-script : goal.returns-in_err-run-clause-script
 returns-in_err-run-clause-script g c =
     let w = err_from_is_err_and c.from_residual.result c.from_residual.ensures.1 in
-    rw (w.1, w.2) (save_refused g.O.Sink g.D.Sectors (system_of c.args.boot c.args.schedule) c.args.schedule (loaded (system_of c.args.boot c.args.schedule)) c.args.turns c.args.steps
-    (load_script (user_pages (system_of c.args.boot c.args.schedule)) (pages_needed c.args.boot)) c.args.out.now c.args.disk.now c.load.new.disk c.in_err-run.field-0.0 c.in_err-run.ensures.script)
+    rw (w.1, w.2) (save_refused g.O.Sink g.D.Sectors (system_of c.args.setup.boot c.args.setup.schedule) c.args.setup.schedule (loaded (system_of c.args.setup.boot c.args.setup.schedule)) c.args.limits.turns c.args.limits.steps
+    (load_script (user_pages (system_of c.args.setup.boot c.args.setup.schedule)) (pages_needed c.args.setup.boot)) c.args.out.now c.args.disk.now c.load.new.disk c.in_err-run.field-0.0 c.in_err-run.ensures.script)
 
 pub returns-clause-script : goal.returns-clause-script
 returns-clause-script g c =
-    save_made g.O.Sink g.D.Sectors c.args.layer c.args.boot c.args.schedule (loaded (system_of c.args.boot c.args.schedule)) (user_sectors (system_of c.args.boot c.args.schedule)) (pages_needed c.args.boot) c.args.turns c.args.steps
-    (load_script (user_pages (system_of c.args.boot c.args.schedule)) (pages_needed c.args.boot)) c.args.out.now c.run_to_stop-end.new.out c.args.disk.now c.load.new.disk c.run_to_stop-end.new.disk c.in_ok-run.run' c.run_to_stop-end.new.run c.run_to_stop-end.result
-    c.in_ok-run.ensures.loaded.fresh c.in_ok-run.ensures.leaves.same_size c.requires.some (λ old is. (1, c.premises_hold.ensures old is c.in_ok-run.ensures.loaded.fresh.has_room.room)) c.in_ok-run.ensures.loaded.ready
+    save_made g.O.Sink g.D.Sectors c.args.setup.layer c.args.setup.boot c.args.setup.schedule (loaded (system_of c.args.setup.boot c.args.setup.schedule)) (user_sectors (system_of c.args.setup.boot c.args.setup.schedule)) (pages_needed c.args.setup.boot) c.args.limits.turns c.args.limits.steps
+    (load_script (user_pages (system_of c.args.setup.boot c.args.setup.schedule)) (pages_needed c.args.setup.boot)) c.args.out.now c.run_to_stop-end.new.out c.args.disk.now c.load.new.disk c.run_to_stop-end.new.disk c.in_ok-run.run' c.run_to_stop-end.new.run c.run_to_stop-end.result
+    c.in_ok-run.ensures.loaded.fresh c.in_ok-run.ensures.leaves.same_size c.requires.some (λ old is. (1, c.premises_hold.ensures.loaded old is c.in_ok-run.ensures.loaded.fresh.has_room.room)) c.in_ok-run.ensures.loaded.ready
     c.in_ok-run.ensures.script c.run_to_stop-end.ensures.script

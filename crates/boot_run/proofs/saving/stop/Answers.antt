@@ -1,11 +1,18 @@
-use Rattle.std.proofs.Common.{◌≡◌, true, false, refl, sym, ap, ◌∙◌}
+use Rattle.std.proofs.Common.{◌≡◌, true, false, refl, sym, ap, ◌∙◌, subst}
 use Rattle.std.specs.Prelude.{is_some}
+use Rattle.boot_run.specs.RunEnds.{EndsUnsaved}
 use Rattle.boot_run.proofs.Stopping.{none_ended}
 use Rattle.boot_run.proofs.SaveScripts.{stop_closed, stop_on}
 use Rattle.boot_run.proofs.saving.stop.Goals as goal
 
+pub returns-then-over-clause-stays : goal.returns-then-over-clause-stays
+returns-then-over-clause-stays g c = λ is. absurd (subst EndsUnsaved is c.close.ensures.ends)
+
+pub returns-then-over-clause-unput : goal.returns-then-over-clause-unput
+returns-then-over-clause-unput g c = λ is. subst EndsUnsaved is c.close.ensures.ends
+
 pub returns-clause-stays : goal.returns-clause-stays
-returns-clause-stays g c =
+returns-clause-stays g c = λ _.
     let over : is_some c.args.run.now.ended ≡ false = ap is_some (sym c.ended.ensures) ∙ sym c.is_some-over.ensures ∙ c.if-over.false in
     (none_ended c.args.run.now.ended over, refl, refl, refl)
 

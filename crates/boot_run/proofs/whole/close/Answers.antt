@@ -3,7 +3,7 @@ use Rattle.boot_turns.specs.declared.answers.RunFault.{RunFault}
 use Rattle.boot_turns.specs.declared.answers.RunFault.TheVariants.{StepLimit}
 use Rattle.boot_run.specs.Shown.{has_faulted}
 use Rattle.boot_run.specs.AnyRun.{is_faulted}
-use Rattle.boot_run.proofs.AnyEnding.{fault_is}
+use Rattle.boot_run.proofs.AnyEnding.{fault_is, fault_unsaved}
 use Rattle.boot_run.proofs.EndScripts.{closed_none, closed_done, closed_fails}
 use Rattle.boot_run.proofs.whole.close.Goals as goal
 
@@ -11,6 +11,9 @@ pub returns-in-Err-clause-faulted : goal.returns-in-Err-clause-faulted
 returns-in-Err-clause-faulted g c =
     let other : has_faulted c.args.run.now.ended ≡ false = ap has_faulted (sym c.ended.ensures) ∙ sym c.has_faulted.ensures ∙ c.if-has_faulted.false in
     other ∙ sym (ap is_faulted c.end_at.ensures ∙ fault_is c.in-Err.fault)
+
+pub returns-in-Err-clause-ends : goal.returns-in-Err-clause-ends
+returns-in-Err-clause-ends g c = fault_unsaved c.in-Err.fault c.end_at.result c.end_at.ensures
 
 -- the calls
 pub returns-then-has_faulted-clause-script : goal.returns-then-has_faulted-clause-script

@@ -1,30 +1,34 @@
 use Rattle.std.proofs.Common.{sym, subst}
 use Rattle.boot_run.specs.RunCalls.{RestCalls}
+use Rattle.boot_run.proofs.AnyEnding.{fault_unsaved}
 use Rattle.boot_run.proofs.EndScripts.{rest_fails, rest_closes}
 use Rattle.boot_run.specs.AnyScripts.{RestUntold}
 use Rattle.boot_run.proofs.UntoldEnds.{rest_broken, rest_closed}
 use Rattle.boot_run.proofs.whole.run_to_end.Goals as goal
 
+pub returns-in-Err-clause-ends : goal.returns-in-Err-clause-ends
+returns-in-Err-clause-ends g c = fault_unsaved c.in-Err.fault c.end_at.result c.end_at.ensures
+
 -- the calls
 pub returns-in-Ok-clause-script : goal.returns-in-Ok-clause-script
 returns-in-Ok-clause-script g c =
-    rest_closes g.O.Sink g.D.Sectors c.args.run.now c.go.new.run c.args.out.now c.go.new.out c.close.new.out c.args.disk.now c.go.new.disk c.close.new.disk c.args.turns c.args.steps c.go.new.budget c.machines_run.ensures c.turns_are_counted.ensures c.close.result
+    rest_closes g.O.Sink g.D.Sectors c.args.run.now c.go.new.run c.args.out.now c.go.new.out c.close.new.out c.args.disk.now c.go.new.disk c.close.new.disk c.args.limits.turns c.args.limits.steps c.go.new.budget c.machines_run.ensures c.turns_are_counted.ensures c.close.result
     c.in-Ok.ensures.kept c.in-Ok.ensures.size c.in-Ok.ensures.ends c.in-Ok.ensures.script c.close.ensures.script
 
 pub returns-in-Err-clause-script : goal.returns-in-Err-clause-script
 returns-in-Err-clause-script g c =
-    subst (RestCalls g.O.Sink g.D.Sectors c.args.run.now c.args.turns c.args.steps (c.args.out.now, c.args.disk.now) (c.go.new.out, c.go.new.disk)) (sym c.end_at.ensures)
-    (rest_fails {T = Unit {0}} g.O.Sink g.D.Sectors c.args.run.now c.go.new.run c.args.out.now c.go.new.out c.args.disk.now c.go.new.disk c.args.turns c.args.steps c.go.new.budget c.machines_run.ensures c.turns_are_counted.ensures c.in-Err.fault
+    subst (RestCalls g.O.Sink g.D.Sectors c.args.run.now c.args.limits.turns c.args.limits.steps (c.args.out.now, c.args.disk.now) (c.go.new.out, c.go.new.disk)) (sym c.end_at.ensures)
+    (rest_fails {T = Unit {0}} g.O.Sink g.D.Sectors c.args.run.now c.go.new.run c.args.out.now c.go.new.out c.args.disk.now c.go.new.disk c.args.limits.turns c.args.limits.steps c.go.new.budget c.machines_run.ensures c.turns_are_counted.ensures c.in-Err.fault
     c.in-Err.ensures.ends c.in-Err.ensures.script)
 
 -- of any run
 pub returns-in-Ok-clause-untold : goal.returns-in-Ok-clause-untold
 returns-in-Ok-clause-untold g c =
-    rest_closed g.O.Sink g.D.Sectors c.args.run.now c.go.new.run c.args.out.now c.go.new.out c.close.new.out c.args.disk.now c.go.new.disk c.close.new.disk c.args.turns c.args.steps c.go.new.budget c.turns_are_counted.ensures c.close.result
-    c.in-Ok.ensures.any c.in-Ok.ensures.untold c.close.ensures.script c.close.ensures.faulted c.close.ensures.in_steps
+    rest_closed g.O.Sink g.D.Sectors c.args.run.now c.go.new.run c.args.out.now c.go.new.out c.close.new.out c.args.disk.now c.go.new.disk c.close.new.disk c.args.limits.turns c.args.limits.steps c.go.new.budget c.turns_are_counted.ensures c.close.result
+    c.in-Ok.ensures.any c.in-Ok.ensures.untold c.close.ensures.script c.close.ensures.faulted c.close.ensures.in_steps c.close.ensures.ends
 
 pub returns-in-Err-clause-untold : goal.returns-in-Err-clause-untold
 returns-in-Err-clause-untold g c =
-    subst (RestUntold g.O.Sink g.D.Sectors c.args.run.now c.args.turns c.args.steps (c.args.out.now, c.args.disk.now) (c.go.new.out, c.go.new.disk)) (sym c.end_at.ensures)
-    (rest_broken (Unit {0}) g.O.Sink g.D.Sectors c.args.run.now c.go.new.run c.args.out.now c.go.new.out c.args.disk.now c.go.new.disk c.args.turns c.args.steps c.go.new.budget c.turns_are_counted.ensures c.in-Err.fault
+    subst (RestUntold g.O.Sink g.D.Sectors c.args.run.now c.args.limits.turns c.args.limits.steps (c.args.out.now, c.args.disk.now) (c.go.new.out, c.go.new.disk)) (sym c.end_at.ensures)
+    (rest_broken (Unit {0}) g.O.Sink g.D.Sectors c.args.run.now c.go.new.run c.args.out.now c.go.new.out c.args.disk.now c.go.new.disk c.args.limits.turns c.args.limits.steps c.go.new.budget c.turns_are_counted.ensures c.in-Err.fault
     c.in-Err.ensures.any c.in-Err.ensures.untold)

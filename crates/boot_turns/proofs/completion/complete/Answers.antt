@@ -1,6 +1,6 @@
 use Rattle.std.proofs.lemmas.Result.{err_from_is_err_and}
 use Rattle.std.specs.Prelude.{is_some, not, IsSome, IfSome, length}
-use Rattle.std.proofs.Common.{ℕ, ◌+◌, ◌-◌, ◌≤◌, Bool, true, false, Option, Some, Result, Ok, Err, suc, ◌≡◌, ◌<◌, inl, inr, None, List, refl, sym, ap, ap₂, ◌∙◌, subst, ⊎_elim, arith, rules}
+use Rattle.std.proofs.Common.{ℕ, ◌+◌, ◌-◌, ◌≤◌, Bool, true, false, Option, Some, Ok, Err, suc, ◌≡◌, ◌<◌, inl, inr, None, List, refl, sym, ap, ap₂, ◌∙◌, subst, ⊎_elim, arith}
 use Rattle.std.specs.Option.{option_map}
 use Rattle.std.proofs.lemmas.Bool.{cases_lt}
 use Rattle.mips_table.specs.Device.{Environment}
@@ -10,20 +10,15 @@ use Rattle.mips_machine.specs.Quiet.{Stretch}
 use Rattle.mips_machine.specs.Steps.{outside_of}
 use Rattle.boot_turns.specs.declared.completion.Stepped.{Stepped}
 use Rattle.boot_turns.specs.declared.completion.Stepped.TheVariants.{Kept}
-use Rattle.boot_turns.specs.declared.answers.RunFault.{RunFault}
-use Rattle.boot_turns.specs.declared.answers.RunFault.TheVariants.{Disk, Sink}
 use Rattle.boot_turns.specs.declared.tracer.Tracer.{Tracer}
 use Rattle.boot_turns.proofs.Events.{told_as_some}
 use Rattle.boot_turns.proofs.Stepping.{off_rests}
 use Rattle.boot_turns.specs.declared.completion.Begun.{Begun}
 use Rattle.mips_table.specs.Turns.{rests}
-use Rattle.boot_turns.specs.Completes.{state_seen, PassesQuietly, Skips, StepFaults, Open, Progress, turn_began, KeptUser, StepBegan}
+use Rattle.boot_turns.specs.Completes.{state_seen, PassesQuietly, Skips, Open, Progress, turn_began, KeptUser, StepBegan}
 use Rattle.boot_turns.specs.Tracing.{Tracing, CanTrace, tracer_at, tracing}
 use Rattle.layer_map.specs.Map.{Map}
-use Rattle.cvm_outside.specs.Numbering.{tally}
-use Rattle.boot_turns.specs.Steps.{StepCalls}
 use Rattle.mips_table.specs.Fits.{NamesSector}
-use Rattle.boot_turns.proofs.CallCounts.{steps_join, steps_ports, steps_stay}
 use Rattle.boot_turns.proofs.QuietStretches.{progress_passed}
 use Rattle.boot_turns.proofs.LoopSteps.{seen_more, one_step, step_stops, skips_more, skips_passed, Opened, seen_rests, seen_note}
 use Rattle.boot_turns.proofs.StepMakes.{no_steps, as_made, stretch_then, at_made, one_more}
@@ -49,17 +44,6 @@ none_begun : (x : Environment) (s : State) (t u w : ℕ) (b : Option Begun) → 
 none_begun x s t u w None p off = p
 none_begun x s t u w (Some b) p off = absurd (true_false (rests (run x s u)) (off_rests (run x s u) w off) p.1)
 
--- a user is traced as before
-same_some : (a b : Option Tracer) → option_map (λ (k : Tracer). k.user) a ≡ option_map (λ (k : Tracer). k.user) b → is_some a ≡ is_some b
-same_some None None e = refl
-same_some None (Some k) e = absurd (cc)
-same_some (Some k) None e = absurd (cc)
-same_some (Some k) (Some l) e = refl
-
--- an answer is no fault
-is_done : (stepped : Stepped) (f : RunFault) → ◌≡◌ {A = Result Stepped RunFault} (Ok stepped) (Err f) → ⊥
-is_done stepped f e = cc
-
 -- the machine is on where it was found so, and was before
 here_on : (told : Option (List (List ℕ))) (held : Held) (v : State) → state_seen told held ≡ Some v → held.hardware.off ≡ None → v.off ≡ None
 here_on told held v is on = let w = told_as_some told held v is in ap (λ (z : State). z.off) (sym w.2) ∙ on
@@ -79,13 +63,6 @@ tracked g c =
     c.loop-begun.invariant.tracks (outside_of c.loop-begun.machine.rows (g.D.Sectors.size c.loop-begun.disk)) (ap₂ outside_of c.loop-begun.invariant.rows c.loop-begun.invariant.size)
     (tracing c.step_traced.new.tracer (g.O.Sink.text c.step_traced.new.out) (c.loop-begun.budget - 1)) (omega (arith, p))
     c.step_traced.new.machine (g.D.Sectors.sectors c.step_traced.new.disk) c.in_ok-stepped.stepped c.in_ok-stepped.ensures.traced c.in_ok-stepped.ensures.ends.ran
-
--- the disk was called once for each command through the step
-calls_kept : (g : Over) (c : In_ok-stepped g) → StepCalls c.args.machine.now c.step_traced.new.machine c.args.tracer.now c.step_traced.new.tracer (tally g.D.Sectors.faults g.D.Sectors.calls c.args.disk.now) (tally g.D.Sectors.faults g.D.Sectors.calls c.step_traced.new.disk)
-calls_kept g c =
-    steps_join c.args.machine.now c.loop-begun.machine c.step_traced.new.machine c.args.tracer.now c.loop-begun.tracer c.step_traced.new.tracer
-    (tally g.D.Sectors.faults g.D.Sectors.calls c.args.disk.now) (tally g.D.Sectors.faults g.D.Sectors.calls c.loop-begun.disk) (tally g.D.Sectors.faults g.D.Sectors.calls c.step_traced.new.disk)
-    c.loop-begun.invariant.faults c.loop-begun.invariant.calls c.in_ok-stepped.ensures.leaves.calls
 
 -- the step is the next of a run, and what is noted then says how far the turn is
 opened : (g : Over) (c : After-note g) (s : State) (t u : ℕ) → t ≤ u →
@@ -149,7 +126,6 @@ loop-begun-init g c = record {
   memory = refl;
   sector = c.requires.can.sector;
   size = refl;
-  faults = refl;
   time = refl;
   few = let e = c.requires.some in omega (arith, e);
   limit = let e = c.requires.some in omega (arith, e);
@@ -158,8 +134,6 @@ loop-begun-init g c = record {
   can = c.requires.can.trace;
   user = refl;
   untraced = λ e. (e, refl);
-  calls = steps_stay c.args.machine.now c.args.tracer.now (tally g.D.Sectors.faults g.D.Sectors.calls c.args.disk.now);
-  sink_faults = refl;
   less = omega arith;
   script = as_made (outside_of c.args.machine.now.rows (g.D.Sectors.size c.args.disk.now)) g.O.Sink g.D.Sectors c.args.map.now c.args.machine.now c.args.tracer.now c.args.out.now c.args.disk.now {R = Unit {0}} {T = Unit {0}} (Ok tt) (Ok tt) c.args.out.now c.args.disk.now
       0 (c.args.budget.now - c.args.budget.now) (omega arith) refl (no_steps (outside_of c.args.machine.now.rows (g.D.Sectors.size c.args.disk.now)) g.O.Sink g.D.Sectors c.args.map.now c.args.machine.now c.args.tracer.now c.args.out.now c.args.disk.now);
@@ -170,8 +144,7 @@ loop-begun-init g c = record {
 pub returns-then-budget-eq0-clause-traced : goal.returns-then-budget-eq0-clause-traced
 returns-then-budget-eq0-clause-traced g c =
     tracks_limit (g.D.Sectors.size c.args.disk.now) c.args.map.now c.args.machine.now c.loop-begun.machine (g.D.Sectors.sectors c.args.disk.now) (g.D.Sectors.sectors c.loop-begun.disk)
-    (tracing c.args.tracer.now (g.O.Sink.text c.args.out.now) c.args.budget.now) (tracing c.loop-begun.tracer (g.O.Sink.text c.loop-begun.out) c.loop-begun.budget)
-    c.loop-begun.invariant.tracks c.loop-begun.machine (g.D.Sectors.sectors c.loop-begun.disk)
+    (tracing c.args.tracer.now (g.O.Sink.text c.args.out.now) c.args.budget.now) (tracing c.loop-begun.tracer (g.O.Sink.text c.loop-begun.out) c.loop-begun.budget) c.loop-begun.invariant.tracks
 
 pub returns-then-budget-eq0-clause-ends : goal.returns-then-budget-eq0-clause-ends
 returns-then-budget-eq0-clause-ends g c = λ s t h.
@@ -193,7 +166,7 @@ pub returns-clause-traced : goal.returns-clause-traced
 returns-clause-traced g c =
     tracks_whole (g.D.Sectors.size c.args.disk.now) c.args.map.now c.args.machine.now c.loop-begun.machine (g.D.Sectors.sectors c.args.disk.now) (g.D.Sectors.sectors c.loop-begun.disk)
     (tracing c.args.tracer.now (g.O.Sink.text c.args.out.now) c.args.budget.now) (tracing c.loop-begun.tracer (g.O.Sink.text c.loop-begun.out) c.loop-begun.budget)
-    c.loop-begun.invariant.tracks c.loop-begun.machine (g.D.Sectors.sectors c.loop-begun.disk) (c.loop-begun.skipped, c.begun_now.result)
+    c.loop-begun.invariant.tracks (c.loop-begun.skipped, c.begun_now.result)
 
 pub returns-clause-ends : goal.returns-clause-ends
 returns-clause-ends g c = λ s t h.
@@ -233,7 +206,6 @@ returns-in_err-stepped-clause-ends g c = λ s t h.
     let w = err_from_is_err_and c.from_residual.result c.from_residual.ensures.1 in
     let i = c.loop-begun.invariant.ran s t h in
     let x = outside_of c.args.machine.now.rows (g.D.Sectors.size c.args.disk.now) in
-    let same : outside_of c.loop-begun.machine.rows (g.D.Sectors.size c.loop-begun.disk) ≡ x = ap₂ outside_of c.loop-begun.invariant.rows c.loop-begun.invariant.size in
     let n : ℕ = c.loop-begun.skipped in
     let le = i.1 in
     let b = i.2 in
@@ -244,23 +216,15 @@ returns-in_err-stepped-clause-ends g c = λ s t h.
       c.loop-begun.invariant.few,
       small,
       i.5,
-      rw (w.1, w.2) (step_stops (g.D.Sectors.size c.loop-begun.disk) x s (t + n) i.0 (c.args.budget.now - n) (c.loop-begun.budget - 1) (g.D.Sectors.sectors c.loop-begun.disk) (g.D.Sectors.sectors c.step_traced.new.disk)
-          c.loop-begun.machine c.step_traced.new.machine (is_some c.args.tracer.now) c.loop-begun.begun c.in_err-stepped.field-0.0 same i.1 spent i.3 i.4 (here_on (g.D.Sectors.sectors c.loop-begun.disk) c.loop-begun.machine (run x s i.0) i.3 (off_none _ _ _ c.off.ensures c.is_none.ensures c.loop-begun-test.true))
-          (subst (λ (b : Bool). StepFaults (g.D.Sectors.size c.loop-begun.disk) c.loop-begun.machine c.step_traced.new.machine (g.D.Sectors.sectors c.loop-begun.disk) (g.D.Sectors.sectors c.step_traced.new.disk) b c.in_err-stepped.field-0.0)
-          (same_some c.loop-begun.tracer c.args.tracer.now c.loop-begun.invariant.user) c.in_err-stepped.ensures.ends)),
+      rw (w.1, w.2) (step_stops x s (t + n) i.0 (c.args.budget.now - n) (c.loop-begun.budget - 1) (state_seen (g.D.Sectors.sectors c.step_traced.new.disk) c.step_traced.new.machine)
+          c.loop-begun.begun c.in_err-stepped.field-0.0 (λ e. c.in_err-stepped.ensures.no_limit (ap (λ f. Err f) e)) i.1 spent i.4 (here_on (g.D.Sectors.sectors c.loop-begun.disk) c.loop-begun.machine (run x s i.0) i.3 (off_none _ _ _ c.off.ensures c.is_none.ensures c.loop-begun-test.true))),
     )
 
 pub returns-in_err-stepped-clause-traced : goal.returns-in_err-stepped-clause-traced
 returns-in_err-stepped-clause-traced g c =
     let w = err_from_is_err_and c.from_residual.result c.from_residual.ensures.1 in
-    let p = c.if-budget-eq0.false in
-    let same : outside_of c.loop-begun.machine.rows (g.D.Sectors.size c.loop-begun.disk) ≡ outside_of c.args.machine.now.rows (g.D.Sectors.size c.args.disk.now) = ap₂ outside_of c.loop-begun.invariant.rows c.loop-begun.invariant.size in
-    rw (w.1, w.2) (tracks_stop (g.D.Sectors.size c.args.disk.now) c.args.map.now c.args.machine.now c.loop-begun.machine (g.D.Sectors.sectors c.args.disk.now) (g.D.Sectors.sectors c.loop-begun.disk)
-    (tracing c.args.tracer.now (g.O.Sink.text c.args.out.now) c.args.budget.now) (tracing c.loop-begun.tracer (g.O.Sink.text c.loop-begun.out) c.loop-begun.budget)
-    c.loop-begun.invariant.tracks (outside_of c.loop-begun.machine.rows (g.D.Sectors.size c.loop-begun.disk)) same
-    (tracing c.step_traced.new.tracer (g.O.Sink.text c.step_traced.new.out) (c.loop-begun.budget - 1)) (omega (arith, p))
-    c.step_traced.new.machine (g.D.Sectors.sectors c.step_traced.new.disk) c.in_err-stepped.field-0.0 c.in_err-stepped.ensures.traced
-    (λ e. subst (StepFaults (g.D.Sectors.size c.loop-begun.disk) c.loop-begun.machine c.step_traced.new.machine (g.D.Sectors.sectors c.loop-begun.disk) (g.D.Sectors.sectors c.step_traced.new.disk) (is_some c.loop-begun.tracer)) e c.in_err-stepped.ensures.ends))
+    rw (w.1, w.2) (tracks_stop (g.D.Sectors.size c.args.disk.now) c.args.map.now c.args.machine.now (g.D.Sectors.sectors c.args.disk.now) (tracing c.args.tracer.now (g.O.Sink.text c.args.out.now) c.args.budget.now)
+    (tracing c.step_traced.new.tracer (g.O.Sink.text c.step_traced.new.out) (c.loop-begun.budget - 1)) c.in_err-stepped.field-0.0 (λ e. c.in_err-stepped.ensures.no_limit (ap (λ f. Err f) e)))
 
 pub returns-in-Some-clause-ends : goal.returns-in-Some-clause-ends
 returns-in-Some-clause-ends g c = λ s t h.
@@ -284,25 +248,7 @@ returns-in-Some-clause-ends g c = λ s t h.
 pub returns-in-Some-clause-traced : goal.returns-in-Some-clause-traced
 returns-in-Some-clause-traced g c =
     tracks_whole (g.D.Sectors.size c.args.disk.now) c.args.map.now c.args.machine.now c.step_traced.new.machine (g.D.Sectors.sectors c.args.disk.now) (g.D.Sectors.sectors c.step_traced.new.disk) _ _
-    (tracked g (goal.at.returns-in-Some-clause-traced g c).In_ok-stepped) c.step_traced.new.machine (g.D.Sectors.sectors c.step_traced.new.disk) (c.loop-begun.skipped, c.in-Some.b)
-
-pub returns-in-Some-clause-leaves : goal.returns-in-Some-clause-leaves
-returns-in-Some-clause-leaves g c = record {
-  stays = search rules;
-  trace = search rules;
-  blame = search rules;
-  calls = calls_kept g (goal.at.returns-in-Some-clause-leaves g c).In_ok-stepped;
-}
-
-pub returns-in_err-stepped-clause-leaves : goal.returns-in_err-stepped-clause-leaves
-returns-in_err-stepped-clause-leaves g c = record {
-  stays = search rules;
-  trace = search rules;
-  blame = search rules;
-  calls = steps_join c.args.machine.now c.loop-begun.machine c.step_traced.new.machine c.args.tracer.now c.loop-begun.tracer c.step_traced.new.tracer
-      (tally g.D.Sectors.faults g.D.Sectors.calls c.args.disk.now) (tally g.D.Sectors.faults g.D.Sectors.calls c.loop-begun.disk) (tally g.D.Sectors.faults g.D.Sectors.calls c.step_traced.new.disk)
-      c.loop-begun.invariant.faults c.loop-begun.invariant.calls c.in_err-stepped.ensures.leaves.calls;
-}
+    (tracked g (goal.at.returns-in-Some-clause-traced g c).In_ok-stepped) (c.loop-begun.skipped, c.in-Some.b)
 
 pub loop-begun-preserved : goal.loop-begun-preserved
 loop-begun-preserved g c = record {
@@ -312,7 +258,6 @@ loop-begun-preserved g c = record {
   memory = c.in_ok-stepped.ensures.leaves.stays.memory ∙ c.loop-begun.invariant.memory;
   sector = c.in_ok-stepped.ensures.leaves.stays.sector;
   size = c.in_ok-stepped.ensures.leaves.stays.size ∙ c.loop-begun.invariant.size;
-  faults = c.in_ok-stepped.ensures.leaves.blame.disk_same (is_done c.in_ok-stepped.stepped Disk) ∙ c.loop-begun.invariant.faults;
   time = let a = c.in_ok-stepped.ensures.time in let b = c.loop-begun.invariant.time in let p = c.if-budget-eq0.false in omega (arith, a, b, p);
   few = c.loop-begun.invariant.few;
   limit = let e = c.loop-begun.invariant.limit in omega (arith, e);
@@ -330,8 +275,6 @@ loop-begun-preserved g c = record {
   can = c.in_ok-stepped.ensures.leaves.trace.can;
   user = c.in_ok-stepped.ensures.leaves.trace.user ∙ c.loop-begun.invariant.user;
   untraced = λ e. let i = c.loop-begun.invariant.untraced e in let n = c.in_ok-stepped.ensures.leaves.trace.untraced i.0 in (n.0, n.1 ∙ i.1);
-  calls = calls_kept g (goal.at.loop-begun-preserved g c).In_ok-stepped;
-  sink_faults = c.in_ok-stepped.ensures.leaves.blame.sink_same (is_done c.in_ok-stepped.stepped Sink) ∙ c.loop-begun.invariant.sink_faults;
   tracks = tracked g (goal.at.loop-begun-preserved g c).In_ok-stepped;
 }
 
@@ -358,7 +301,6 @@ can_pass m words time words2 time2 count n (Some k) e f h = record {
   some = h.some;
   user = h.user;
   few = let a = h.few in omega (arith, a, f);
-  read = let a = h.read in omega (arith, a, f);
   pages = h.pages;
   memory = let a = h.memory in omega (arith, a, e);
   small = h.small;
@@ -386,7 +328,6 @@ loop-begun-preserved-then-skipped-limit g c =
       memory = c.pass-skipped.ensures.memory ∙ c.in_ok-stepped.ensures.leaves.stays.memory ∙ c.loop-begun.invariant.memory;
       sector = subst (λ (h : Held). NamesSector (g.D.Sectors.size c.step_traced.new.disk) h.hardware.ports.pending) (sym rest) c.in_ok-stepped.ensures.leaves.stays.sector;
       size = c.in_ok-stepped.ensures.leaves.stays.size ∙ c.loop-begun.invariant.size;
-      faults = c.in_ok-stepped.ensures.leaves.blame.disk_same (is_done c.in_ok-stepped.stepped Disk) ∙ c.loop-begun.invariant.faults;
       time = let a = c.in_ok-stepped.ensures.time in let b = c.loop-begun.invariant.time in let d = ap (λ (h : Held). h.time) rest in omega (arith, a, b, p, d, spent);
       few = let e = c.loop-begun.invariant.limit in omega (arith, e, less, few);
       limit = c.loop-begun.invariant.limit;
@@ -416,9 +357,6 @@ loop-begun-preserved-then-skipped-limit g c =
           c.step_traced.new.tracer c.pass-skipped.ensures.memory (ap (λ (h : Held). h.time) rest) c.in_ok-stepped.ensures.leaves.trace.can;
       user = c.in_ok-stepped.ensures.leaves.trace.user ∙ c.loop-begun.invariant.user;
       untraced = λ e. let i = c.loop-begun.invariant.untraced e in let n = c.in_ok-stepped.ensures.leaves.trace.untraced i.0 in (n.0, n.1 ∙ i.1);
-      calls = steps_ports c.args.machine.now c.step_traced.new.machine c.pass-skipped.new.machine c.args.tracer.now c.step_traced.new.tracer (tally g.D.Sectors.faults g.D.Sectors.calls c.args.disk.now) (tally g.D.Sectors.faults g.D.Sectors.calls c.step_traced.new.disk) (ap (λ (h : Held). h.hardware.ports) rest)
-          (calls_kept g (goal.at.loop-begun-preserved-then-skipped-limit g c).In_ok-stepped);
-      sink_faults = c.in_ok-stepped.ensures.leaves.blame.sink_same (is_done c.in_ok-stepped.stepped Sink) ∙ c.loop-begun.invariant.sink_faults;
       tracks = tracks_passed (outside_of c.args.machine.now.rows (g.D.Sectors.size c.args.disk.now)) c.args.map.now (state_seen (g.D.Sectors.sectors c.args.disk.now) c.args.machine.now)
           (tracing c.args.tracer.now (g.O.Sink.text c.args.out.now) c.args.budget.now) (g.D.Sectors.sectors c.step_traced.new.disk) c.step_traced.new.machine c.pass-skipped.new.machine c.step_traced.new.tracer c.args.tracer.now (g.O.Sink.text c.step_traced.new.out)
           (c.loop-begun.budget - 1) c.pass-skipped.new.budget c.pass-skipped.result (c.in_ok-stepped.ensures.leaves.trace.user ∙ c.loop-begun.invariant.user) refl c.pass-skipped.ensures.traced spent
@@ -443,7 +381,6 @@ loop-begun-preserved-then-not-at_rest g c =
       memory = c.pass.ensures.memory ∙ c.in_ok-stepped.ensures.leaves.stays.memory ∙ c.loop-begun.invariant.memory;
       sector = subst (λ (h : Held). NamesSector (g.D.Sectors.size c.step_traced.new.disk) h.hardware.ports.pending) (sym rest) c.in_ok-stepped.ensures.leaves.stays.sector;
       size = c.in_ok-stepped.ensures.leaves.stays.size ∙ c.loop-begun.invariant.size;
-      faults = c.in_ok-stepped.ensures.leaves.blame.disk_same (is_done c.in_ok-stepped.stepped Disk) ∙ c.loop-begun.invariant.faults;
       time = let a = c.in_ok-stepped.ensures.time in let b = c.loop-begun.invariant.time in let d = ap (λ (h : Held). h.time) rest in omega (arith, a, b, p, d, less);
       few = c.loop-begun.invariant.few;
       limit = let e = c.loop-begun.invariant.limit in omega (arith, e);
@@ -466,9 +403,6 @@ loop-begun-preserved-then-not-at_rest g c =
           c.step_traced.new.tracer c.pass.ensures.memory (ap (λ (h : Held). h.time) rest) c.in_ok-stepped.ensures.leaves.trace.can;
       user = c.in_ok-stepped.ensures.leaves.trace.user ∙ c.loop-begun.invariant.user;
       untraced = λ e. let i = c.loop-begun.invariant.untraced e in let n = c.in_ok-stepped.ensures.leaves.trace.untraced i.0 in (n.0, n.1 ∙ i.1);
-      calls = steps_ports c.args.machine.now c.step_traced.new.machine c.pass.new.machine c.args.tracer.now c.step_traced.new.tracer (tally g.D.Sectors.faults g.D.Sectors.calls c.args.disk.now) (tally g.D.Sectors.faults g.D.Sectors.calls c.step_traced.new.disk) (ap (λ (h : Held). h.hardware.ports) rest)
-          (calls_kept g (goal.at.loop-begun-preserved-then-not-at_rest g c).In_ok-stepped);
-      sink_faults = c.in_ok-stepped.ensures.leaves.blame.sink_same (is_done c.in_ok-stepped.stepped Sink) ∙ c.loop-begun.invariant.sink_faults;
       tracks = tracks_passed (outside_of c.args.machine.now.rows (g.D.Sectors.size c.args.disk.now)) c.args.map.now (state_seen (g.D.Sectors.sectors c.args.disk.now) c.args.machine.now)
           (tracing c.args.tracer.now (g.O.Sink.text c.args.out.now) c.args.budget.now) (g.D.Sectors.sectors c.step_traced.new.disk) c.step_traced.new.machine c.pass.new.machine c.step_traced.new.tracer c.args.tracer.now (g.O.Sink.text c.step_traced.new.out)
           (c.loop-begun.budget - 1) c.pass.new.budget m (c.in_ok-stepped.ensures.leaves.trace.user ∙ c.loop-begun.invariant.user) refl

@@ -1,12 +1,10 @@
 use Rattle.std.proofs.Common.{◌≡◌, ℕ, ◌+◌, ◌-◌, ◌<◌, ◌≤◌, Some, None, Ok}
 use Rattle.std.specs.Prelude.{length, IfSome}
 use Rattle.std.specs.Option.{option_map}
-use Rattle.cvm_outside.specs.Numbering.{tally}
 use Rattle.mips_table.specs.Fits.{NamesSector}
 use Rattle.mips_table.specs.Machine.{State, run}
 use Rattle.mips_machine.specs.Steps.{outside_of}
 use Rattle.boot_turns.specs.Completes.{state_seen, Progress, Skips}
-use Rattle.boot_turns.specs.Steps.{StepCalls}
 use Rattle.boot_turns.specs.Tracing.{CanTrace}
 use Rattle.boot_turns.specs.LoopScripts.{StepsCall}
 use Rattle.boot_turns.proofs.Tracking.{Tracks}
@@ -18,7 +16,6 @@ invariant-loop-begun g l = record {
   memory : length l.machine.hardware.memory ≡ length l.fn.machine.hardware.memory;
   sector : NamesSector (g.D.Sectors.size l.disk) l.machine.hardware.ports.pending;
   size : g.D.Sectors.size l.disk ≡ g.D.Sectors.size l.fn.disk;
-  faults : g.D.Sectors.faults l.disk ≡ g.D.Sectors.faults l.fn.disk;
   time : l.machine.time + l.budget ≡ l.fn.machine.time + l.fn.budget;
   few : l.skipped < l.fn.most;
   limit : l.limit < l.fn.most;
@@ -31,8 +28,6 @@ invariant-loop-begun g l = record {
   can : IfSome l.tracer (CanTrace l.map (length l.machine.hardware.memory) l.machine.time (g.D.Sectors.size l.disk));
   user : option_map (λ k. k.user) l.tracer ≡ option_map (λ k. k.user) l.fn.tracer;
   untraced : l.fn.tracer ≡ None → (l.tracer ≡ None) × (l.out ≡ l.fn.out);
-  calls : StepCalls l.fn.machine l.machine l.fn.tracer l.tracer (tally g.D.Sectors.faults g.D.Sectors.calls l.fn.disk) (tally g.D.Sectors.faults g.D.Sectors.calls l.disk);
-  sink_faults : g.O.Sink.faults l.out ≡ g.O.Sink.faults l.fn.out;
   tracks : Tracks (outside_of l.fn.machine.rows (g.D.Sectors.size l.fn.disk)) l.map (state_seen (g.D.Sectors.sectors l.fn.disk) l.fn.machine) (state_seen (g.D.Sectors.sectors l.disk) l.machine)
       (record { tracer = l.fn.tracer; text = g.O.Sink.text l.fn.out; budget = l.fn.budget }) (record { tracer = l.tracer; text = g.O.Sink.text l.out; budget = l.budget });
   less : l.budget ≤ l.fn.budget;

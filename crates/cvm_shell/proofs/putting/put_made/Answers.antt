@@ -10,7 +10,8 @@ pub returns-in-Err : goal.returns-in-Err
 returns-in-Err g c = λ words d first disk is gets plan.
     let sink = output g.O.Sink c.args.out.now in
     let P : Result (Vec ℕ) Stop → Type 0 = StageMade d c.args.name.now sink disk (told_files g.S.Shelf first) (told_files g.S.Shelf c.args.shelf.now) in
-    stop_done g.O.Sink words d c.args.name.now disk _ _ c.in-Err.stop _ _ _ is (subst P c.in-Err.is (record { gets = gets sink disk; plan = plan })) c.say_stop.ensures
+    let h = subst P c.in-Err.is (record { gets = gets sink disk; plan = plan }) in
+    stop_done g.O.Sink words d disk _ _ c.in-Err.stop _ _ _ is h.gets h.plan c.say_stop.ensures
 
 pub returns-in-Ok-put : goal.returns-in-Ok-put
 returns-in-Ok-put g c = λ words d first disk is gets plan.

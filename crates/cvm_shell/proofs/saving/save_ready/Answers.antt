@@ -1,13 +1,14 @@
 use Rattle.std.proofs.Common.{refl}
 use Rattle.run_scripts.specs.Command.{save_session}
 use Rattle.cvm_shell.specs.Views.{save_view}
-use Rattle.cvm_shell.proofs.StartAnswers.{unput_err}
+use Rattle.cvm_shell.proofs.StartAnswers.{unput_err, loaded_answers}
 use Rattle.cvm_shell.proofs.SystemCalls.{loaded_pasts}
 use Rattle.cvm_shell.proofs.SavedCalls.{ready_calls}
 use Rattle.cvm_shell.proofs.saving.save_ready.Goals as goal
 
-pub returns-clause-is : goal.returns-clause-is
-returns-clause-is g c = record { refused = c.save_run.ensures.loads.leaves.refused; loaded = c.save_run.ensures.loads.loaded }
+pub returns-clause-answers : goal.returns-clause-answers
+returns-clause-answers g c =
+    loaded_answers c.args.saveable.ready (save_session (save_view c.args.save.now)) c.save_run.result _ _ refl c.save_run.ensures.loads.leaves.refused c.save_run.ensures.loads.loaded
 
 pub returns-clause-unput : goal.returns-clause-unput
 returns-clause-unput g c = unput_err c.save_run.result _ c.save_run.ensures.unput

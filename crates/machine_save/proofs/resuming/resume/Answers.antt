@@ -1,17 +1,17 @@
 use Rattle.std.proofs.Common.{ℕ, subst}
-use Rattle.boot_run.specs.Saving.{AreBoots}
+use Rattle.boot_run.specs.Pieces.{AreBoots}
 use Rattle.saved_file.specs.Resumable.{wanted}
 use Rattle.machine_save.proofs.Asked.{is_wanted, room_is, taken}
 use Rattle.machine_save.proofs.resuming.resume.Goals as goal
 
 pub returns-clause-is : goal.returns-clause-is
 returns-clause-is g c =
-    taken c.args.layer c.args.boot c.args.schedule c.args.turns (g.D.Sectors.size c.args.disk.now) c.count-have.result c.args.bytes.now c.in_ok-words.words.items c.deref-2.result.now
-    (wanted c.in_ok-sizes.sizes c.inputs.result.now c.deref.result.now c.args.turns) c.in_ok-resumed.field-0
-    (is_wanted c.args.boot c.args.schedule c.args.turns c.in_ok-sizes.sizes c.inputs.result.now c.deref.result.now c.in_ok-sizes.ensures.frames c.in_ok-sizes.ensures.users c.in_ok-sizes.ensures.pages c.inputs.ensures.words c.deref.ensures.value)
+    taken c.args.setup.layer c.args.setup.boot c.args.setup.schedule c.args.turns (g.D.Sectors.size c.args.disk.now) c.count-have.result c.args.bytes.now c.in_ok-words.words.items c.deref-2.result.now
+    (wanted c.sizes_of-sizes.result c.inputs-inputs.result.now c.deref.result.now c.args.turns) c.in_ok-resumed.field-0
+    (is_wanted c.args.setup.boot c.args.setup.schedule c.args.turns c.sizes_of-sizes.result c.inputs-inputs.result.now c.deref.result.now c.sizes_of-sizes.ensures.frames c.sizes_of-sizes.ensures.users c.sizes_of-sizes.ensures.pages c.inputs-inputs.ensures.words c.deref.ensures.value)
     c.in_ok-words.ensures.is c.in_ok-words.ensures.spelled c.in_ok-words.ensures.resumable
-    (room_is c.args.boot c.in_ok-sizes.sizes c.count-have.result (g.D.Sectors.size c.args.disk.now) c.in_ok-sizes.ensures.users c.in_ok-sizes.ensures.pages c.count-have.ensures c.if-have-need.false)
+    (room_is c.args.setup.boot c.sizes_of-sizes.result c.count-have.result (g.D.Sectors.size c.args.disk.now) c.sizes_of-sizes.ensures.users c.sizes_of-sizes.ensures.pages c.count-have.ensures c.in_ok-check_room.ensures.ok)
     c.count-have.ensures c.deref-2.ensures.value c.in_ok-resumed.ensures.taken_up
 
 pub returns-clause-boots : goal.returns-clause-boots
-returns-clause-boots g c = subst (λ (n : ℕ). AreBoots c.args.boot c.args.schedule n) c.count-have.ensures c.resumed.ensures.boots
+returns-clause-boots g c = subst (λ (n : ℕ). AreBoots c.args.setup.boot c.args.setup.schedule n) c.count-have.ensures c.resumed.ensures.boots

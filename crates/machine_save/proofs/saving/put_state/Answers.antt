@@ -2,7 +2,7 @@ use Rattle.std.proofs.Common.{[], ◌∷◌, ◌∙◌, Some}
 use Rattle.std.specs.Prelude.{codes}
 use Rattle.cvm_outside.specs.Outside.{files, output}
 use Rattle.cvm_outside.specs.Script.{Printed, Stored, breaks, goes_on}
-use Rattle.machine_save.specs.SaveCalls.{of_put}
+use Rattle.boot_run.specs.RunCalls.{of_end}
 use Rattle.machine_save.proofs.SaveCalls.{put_does, put_fails}
 use Rattle.machine_save.proofs.saving.put_state.Goals as goal
 
@@ -11,8 +11,8 @@ returns-in-Ok-clause-script g c =
     let e = c.in-Ok.ensures in (
       c.bytes.result.now,
       λ few bits. c.bytes.ensures ∙ c.fill.ensures.file few bits,
-      λ disk. goes_on (Stored c.args.name.now c.bytes.result.now) (Printed (Some (codes "saved\n")) ∷ []) _ _ _ (of_put c.put_row.result)
-          (put_does c.args.name.now c.bytes.result.now (output g.O.Sink c.args.out.now) disk (files g.S.Shelf c.args.shelf.now) (files g.S.Shelf c.put.new.self)
+      λ disk. goes_on (Stored c.args.place.name.now c.bytes.result.now) (Printed (Some (codes "saved\n")) ∷ []) _ _ _ (of_end c.put_row.result)
+          (put_does c.args.place.name.now c.bytes.result.now (output g.O.Sink c.args.out.now) disk (files g.S.Shelf c.args.shelf.now) (files g.S.Shelf c.put.new.self)
           (record { others = e.others; whole = e.bytes; part = e.part; few = e.few; taken = e.taken; count = e.count; called = record { calls = e.called; gives = e.given } }))
           (c.put_row.ensures.script (files g.S.Shelf c.put.new.self) disk),
     )
@@ -22,7 +22,7 @@ returns-clause-script g c =
     let e = c.in-Err.ensures in (
       c.bytes.result.now,
       λ few bits. c.bytes.ensures ∙ c.fill.ensures.file few bits,
-      λ disk. breaks (Stored c.args.name.now c.bytes.result.now) (Printed (Some (codes "saved\n")) ∷ []) _ _
-          (put_fails c.args.name.now c.bytes.result.now (output g.O.Sink c.args.out.now) disk (files g.S.Shelf c.args.shelf.now) (files g.S.Shelf c.put.new.self) c.in-Err.field-0
+      λ disk. breaks (Stored c.args.place.name.now c.bytes.result.now) (Printed (Some (codes "saved\n")) ∷ []) _ _
+          (put_fails c.args.place.name.now c.bytes.result.now (output g.O.Sink c.args.out.now) disk (files g.S.Shelf c.args.shelf.now) (files g.S.Shelf c.put.new.self) c.in-Err.field-0
           (record { others = e.others; whole = e.bytes; part = e.part; few = e.few; taken = e.taken; count = e.count; called = record { calls = e.called; gives = e.given } })),
     )

@@ -1,3 +1,4 @@
+use Rattle.std.proofs.Common.{refl}
 use Rattle.std.proofs.lemmas.Result.{err_from_is_err_and}
 use Rattle.boot_turns.specs.declared.answers.View.TheVariants.{Boot}
 use Rattle.layer_contract.specs.Follows.{loaded}
@@ -6,49 +7,52 @@ use Rattle.boot_run.specs.LoadScript.{load_script}
 use Rattle.boot_run.specs.LoadedPages.{user_pages}
 use Rattle.boot_run.specs.Loading.{system_of}
 use Rattle.boot_run.specs.Whole.{WholeStopped}
-use Rattle.machine_save.specs.declared.saving.SavedEnd.TheVariants.{Ended}
-use Rattle.machine_save.proofs.Stopped.{ran_loads, refused_loads, was_put}
+use Rattle.machine_save.proofs.Stopped.{ran_loads, refused_loads, was_put, was_unput}
 use Rattle.machine_save.proofs.SaveCalls.{save_refused, save_stopped, save_ended, save_told, stopped_words}
 use Rattle.machine_save.proofs.saving.save_run.Goals as goal
 
 pub returns-in_err-run-clause-loads : goal.returns-in_err-run-clause-loads
 returns-in_err-run-clause-loads g c =
     let w = err_from_is_err_and c.from_residual.result c.from_residual.ensures.1 in
-    rw (w.1, w.2) (refused_loads g.D.Sectors.size g.D.Sectors.sectors g.D.Sectors.faults g.D.Sectors.calls c.args.boot Boot (pages_needed c.args.boot) (WholeStopped c.args.boot c.args.schedule) c.args.disk.now c.args.out.now c.run_to_save.new.disk c.run_to_save.new.out c.in_err-run.field-0.0 c.in_err-run.ensures.loads)
+    rw (w.1, w.2) (refused_loads g.D.Sectors.size g.D.Sectors.sectors g.D.Sectors.faults g.D.Sectors.calls c.args.setup.boot Boot (pages_needed c.args.setup.boot) (WholeStopped c.args.setup.boot c.args.setup.schedule) c.args.disk.now c.args.out.now c.run_to_save.new.disk c.run_to_save.new.out c.in_err-run.field-0.0 c.in_err-run.ensures.loads)
 
 pub returns-in-Stopped-clause-unput : goal.returns-in-Stopped-clause-unput
 returns-in-Stopped-clause-unput g c = was_put _ _ c.put_state.result _ c.put_state.ensures.shows
 
 pub returns-in-Stopped-clause-loads : goal.returns-in-Stopped-clause-loads
 returns-in-Stopped-clause-loads g c =
-    ran_loads g.D.Sectors.size g.D.Sectors.sectors g.D.Sectors.faults g.D.Sectors.calls c.args.boot Boot (pages_needed c.args.boot) (WholeStopped c.args.boot c.args.schedule) c.args.disk.now c.args.out.now c.run_to_save.new.disk c.run_to_save.new.out
+    ran_loads g.D.Sectors.size g.D.Sectors.sectors g.D.Sectors.faults g.D.Sectors.calls c.args.setup.boot Boot (pages_needed c.args.setup.boot) (WholeStopped c.args.setup.boot c.args.setup.schedule) c.args.disk.now c.args.out.now c.run_to_save.new.disk c.run_to_save.new.out
     (c.in_ok-run.run', c.in_ok-run.end) c.put_state.result c.put_state.new.out c.in_ok-run.ensures.loads
 
-pub returns-in-Ended-clause-loads : goal.returns-in-Ended-clause-loads
-returns-in-Ended-clause-loads g c =
-    ran_loads g.D.Sectors.size g.D.Sectors.sectors g.D.Sectors.faults g.D.Sectors.calls c.args.boot Boot (pages_needed c.args.boot) (WholeStopped c.args.boot c.args.schedule) c.args.disk.now c.args.out.now c.run_to_save.new.disk c.run_to_save.new.out
-    (c.in_ok-run.run', c.in_ok-run.end) (Ended c.in-Ended.end) c.run_to_save.new.out c.in_ok-run.ensures.loads
+pub returns-clause-unput : goal.returns-clause-unput
+returns-clause-unput g c = was_unput c.in_ok-run.end _ refl
+
+pub returns-clause-loads : goal.returns-clause-loads
+returns-clause-loads g c =
+    ran_loads g.D.Sectors.size g.D.Sectors.sectors g.D.Sectors.faults g.D.Sectors.calls c.args.setup.boot Boot (pages_needed c.args.setup.boot) (WholeStopped c.args.setup.boot c.args.setup.schedule) c.args.disk.now c.args.out.now c.run_to_save.new.disk c.run_to_save.new.out
+    (c.in_ok-run.run', c.in_ok-run.end) c.in_ok-run.end c.run_to_save.new.out c.in_ok-run.ensures.loads
 
 -- the calls
 pub returns-in_err-run-clause-script : goal.returns-in_err-run-clause-script
 returns-in_err-run-clause-script g c =
     let w = err_from_is_err_and c.from_residual.result c.from_residual.ensures.1 in
-    rw (w.1, w.2) (save_refused g.S.Shelf g.O.Sink g.D.Sectors (system_of c.args.boot c.args.schedule) c.args.schedule (loaded (system_of c.args.boot c.args.schedule)) c.args.turns c.args.steps
-    (load_script (user_pages (system_of c.args.boot c.args.schedule)) (pages_needed c.args.boot)) c.args.name.now c.args.shelf.now c.args.out.now c.run_to_save.new.out c.args.disk.now c.run_to_save.new.disk c.in_err-run.field-0.0 c.in_err-run.ensures.script)
+    rw (w.1, w.2) (save_refused g.S.Shelf g.O.Sink g.D.Sectors (system_of c.args.setup.boot c.args.setup.schedule) c.args.setup.schedule (loaded (system_of c.args.setup.boot c.args.setup.schedule)) c.args.limits.turns c.args.limits.steps
+    (load_script (user_pages (system_of c.args.setup.boot c.args.setup.schedule)) (pages_needed c.args.setup.boot)) c.args.place.name.now c.args.shelf.now c.args.out.now c.run_to_save.new.out c.args.disk.now c.run_to_save.new.disk c.in_err-run.field-0.0 c.in_err-run.ensures.script)
 
 pub returns-in-Stopped-clause-script : goal.returns-in-Stopped-clause-script
 returns-in-Stopped-clause-script g c =
-    save_stopped g.S.Shelf g.O.Sink g.D.Sectors (system_of c.args.boot c.args.schedule) c.args.schedule (loaded (system_of c.args.boot c.args.schedule)) c.args.turns c.args.steps c.args.room.words
-    (load_script (user_pages (system_of c.args.boot c.args.schedule)) (pages_needed c.args.boot)) c.args.name.now c.args.shelf.now c.put_state.new.shelf c.args.out.now c.run_to_save.new.out c.put_state.new.out c.args.disk.now c.run_to_save.new.disk c.in_ok-run.run' c.in_ok-run.end c.put_state.result c.in-Stopped.is c.in_ok-run.ensures.script
-    (stopped_words c.args.boot c.args.schedule (g.D.Sectors.size c.args.disk.now) c.args.turns c.args.steps c.args.room.words (g.D.Sectors.sectors c.args.disk.now) (g.D.Sectors.sectors c.run_to_save.new.disk)
+    save_stopped g.S.Shelf g.O.Sink g.D.Sectors (system_of c.args.setup.boot c.args.setup.schedule) c.args.setup.schedule (loaded (system_of c.args.setup.boot c.args.setup.schedule)) c.args.limits.turns c.args.limits.steps c.args.place.room.words
+    (load_script (user_pages (system_of c.args.setup.boot c.args.setup.schedule)) (pages_needed c.args.setup.boot)) c.args.place.name.now c.args.shelf.now c.put_state.new.shelf c.args.out.now c.run_to_save.new.out c.put_state.new.out c.args.disk.now c.run_to_save.new.disk c.in_ok-run.run' c.in_ok-run.end c.put_state.result c.in-Stopped.is c.in_ok-run.ensures.script
+    (stopped_words c.args.setup.boot c.args.setup.schedule (g.D.Sectors.size c.args.disk.now) c.args.limits.turns c.args.limits.steps c.args.place.room.words (g.D.Sectors.sectors c.args.disk.now) (g.D.Sectors.sectors c.run_to_save.new.disk)
     c.in_ok-run.run' c.in_ok-run.end c.in-Stopped.is c.in_ok-run.ensures.stops
-    (save_told g.O.Sink g.D.Sectors (system_of c.args.boot c.args.schedule) c.args.schedule (loaded (system_of c.args.boot c.args.schedule)) c.args.turns c.args.steps
-    (load_script (user_pages (system_of c.args.boot c.args.schedule)) (pages_needed c.args.boot)) c.args.out.now c.run_to_save.new.out c.args.disk.now c.run_to_save.new.disk c.in_ok-run.run' c.in_ok-run.end c.in_ok-run.ensures.script)
+    (save_told g.O.Sink g.D.Sectors (system_of c.args.setup.boot c.args.setup.schedule) c.args.setup.schedule (loaded (system_of c.args.setup.boot c.args.setup.schedule)) c.args.limits.turns c.args.limits.steps
+    (load_script (user_pages (system_of c.args.setup.boot c.args.setup.schedule)) (pages_needed c.args.setup.boot)) c.args.out.now c.run_to_save.new.out c.args.disk.now c.run_to_save.new.disk c.in_ok-run.run' c.in_ok-run.end c.in_ok-run.ensures.script)
     c.boots_hold.ensures.taken_up c.in_ok-run.ensures.loads.loaded.room c.boots_hold.ensures.disk
-    c.requires.some c.ranges.turns.fits c.ranges.steps.fits c.requires.room c.boots_hold.ensures.boots c.machines_run.ensures c.turns_are_counted.ensures)
+    c.requires.some c.are_in_range.ensures.turns c.are_in_range.ensures.steps c.requires.room c.boots_hold.ensures.boots c.machines_run.ensures c.turns_are_counted.ensures)
     c.put_state.ensures.shows c.put_state.ensures.script
 
-pub returns-in-Ended-clause-script : goal.returns-in-Ended-clause-script
-returns-in-Ended-clause-script g c =
-    save_ended g.S.Shelf g.O.Sink g.D.Sectors (system_of c.args.boot c.args.schedule) c.args.schedule (loaded (system_of c.args.boot c.args.schedule)) c.args.turns c.args.steps
-    (load_script (user_pages (system_of c.args.boot c.args.schedule)) (pages_needed c.args.boot)) c.args.name.now c.args.shelf.now c.args.out.now c.run_to_save.new.out c.args.disk.now c.run_to_save.new.disk c.in_ok-run.run' c.in_ok-run.end c.in-Ended.end c.in-Ended.is c.in_ok-run.ensures.script
+pub returns-clause-script : goal.returns-clause-script
+returns-clause-script g c =
+    save_ended g.S.Shelf g.O.Sink g.D.Sectors (system_of c.args.setup.boot c.args.setup.schedule) c.args.setup.schedule (loaded (system_of c.args.setup.boot c.args.setup.schedule)) c.args.limits.turns c.args.limits.steps
+    (load_script (user_pages (system_of c.args.setup.boot c.args.setup.schedule)) (pages_needed c.args.setup.boot)) c.args.place.name.now c.args.shelf.now c.args.out.now c.run_to_save.new.out c.args.disk.now c.run_to_save.new.disk c.in_ok-run.run' c.in_ok-run.end
+    c.in_default.not-Stopped c.in_ok-run.ensures.unput c.in_ok-run.ensures.script

@@ -2,15 +2,4 @@ use Rattle.run_scripts.proofs.Promised.{headlines_hold}
 use Rattle.run_scripts.proofs.laws.headlines_hold.Goals as goal
 
 pub returns : goal.returns
-returns c = headlines_hold (record {
-  blame = c.scripts_blame.ensures;
-  tell = c.scripts_tell.ensures;
-  store = c.scripts_store.ensures;
-  runs = record {
-    start = c.runs_start.ensures;
-    machines = c.machines_run.ensures;
-    traces = c.traces_grow.ensures;
-    count = c.turns_are_counted.ensures;
-    rows = c.journal_rows_follow.ensures;
-  };
-})
+returns c = headlines_hold c.laws_below.ensures

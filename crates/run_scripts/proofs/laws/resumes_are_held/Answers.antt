@@ -2,15 +2,4 @@ use Rattle.run_scripts.proofs.PromisedSaves.{resumes_are_held}
 use Rattle.run_scripts.proofs.laws.resumes_are_held.Goals as goal
 
 pub returns : goal.returns
-returns c = resumes_are_held (record {
-  blame = c.scripts_blame.ensures;
-  tell = c.scripts_tell.ensures;
-  store = c.scripts_store.ensures;
-  runs = record {
-    start = c.runs_start.ensures;
-    machines = c.machines_run.ensures;
-    traces = c.traces_grow.ensures;
-    count = c.turns_are_counted.ensures;
-    rows = c.journal_rows_follow.ensures;
-  };
-}) c.resumable_words_are_answered.ensures.resumable c.saved_machines_differ.ensures
+returns c = resumes_are_held c.laws_below.ensures c.resumable_words_are_answered.ensures.resumable c.saved_machines_differ.ensures

@@ -2,18 +2,7 @@ use Rattle.run_scripts.proofs.PromisedSaves.{saves_are_held}
 use Rattle.run_scripts.proofs.laws.saves_are_held.Goals as goal
 
 pub returns : goal.returns
-returns c = saves_are_held (record {
-  blame = c.scripts_blame.ensures;
-  tell = c.scripts_tell.ensures;
-  store = c.scripts_store.ensures;
-  runs = record {
-    start = c.runs_start.ensures;
-    machines = c.machines_run.ensures;
-    traces = c.traces_grow.ensures;
-    count = c.turns_are_counted.ensures;
-    rows = c.journal_rows_follow.ensures;
-  };
-}) (record {
+returns c = saves_are_held c.laws_below.ensures (record {
   machines = record {
     begins = c.a_new_machine_is_steady.ensures;
     stays = c.machines_stay_steady.ensures;

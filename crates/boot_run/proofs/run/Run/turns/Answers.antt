@@ -1,7 +1,5 @@
 use Rattle.std.proofs.Common.{ℕ, arith, ◌-◌, Some, Ok, Err, rules, ap, sym, ◌∙◌, subst}
 use Rattle.std.specs.Prelude.{IsSome}
-use Rattle.cvm_outside.specs.Numbering.{tally}
-use Rattle.boot_turns.proofs.CallCounts.{steps_stay}
 use Rattle.boot_turns.specs.declared.answers.Turn.{Turn}
 use Rattle.boot_turns.specs.declared.answers.Turn.TheVariants.{Over}
 use Rattle.boot_run.specs.LoadEnds.{Kept}
@@ -19,7 +17,6 @@ returns-in-Some g c = record {
     leaves = search rules;
     ends = search rules;
     any = search rules;
-    calls = steps_stay c.args.self.now.machine c.args.self.now.tracer (tally g.D.Sectors.faults g.D.Sectors.calls c.args.disk.now);
   };
   script = faulted_calls g.O.Sink g.D.Sectors c.args.self.now c.args.out.now c.args.out.now c.args.disk.now c.args.disk.now c.args.budget.now (c.args.budget.now - c.args.budget.now) (Err c.in-Some.fault)
       c.in-Some.fault (ap (λ (q : Kept _). q.fault) (sym c.self.view_is) ∙ c.in-Some.is);
@@ -35,7 +32,6 @@ returns-then-is_some g c = record {
     leaves = search rules;
     ends = search rules;
     any = search rules;
-    calls = steps_stay c.args.self.now.machine c.args.self.now.tracer (tally g.D.Sectors.faults g.D.Sectors.calls c.args.disk.now);
   };
   script = over_calls g.O.Sink g.D.Sectors c.args.self.now c.args.out.now c.args.disk.now c.args.budget.now (c.args.budget.now - c.args.budget.now) (0, Over)
       (subst (λ (q : Kept _). IsSome q.ended) c.self.view_is (sym c.is_some.ensures ∙ c.if-is_some.true));
@@ -51,7 +47,6 @@ returns-in-Ok g c = record {
     leaves = search rules;
     ends = λ f e. c.in-Ok.ensures.ends f;
     any = c.in-Ok.ensures.any;
-    calls = c.proceed.ensures.calls;
   };
   script = c.in-Ok.ensures.script;
   untold = c.in-Ok.ensures.untold;
@@ -69,7 +64,6 @@ returns-in-Err g c = record {
     any = λ f e.
         any_kept _ _ c.self-2.view_is (g.D.Sectors.size c.args.disk.now) c.args.self.now c.args.most (around c.args.self.now (g.D.Sectors.sectors c.args.disk.now) c.args.budget.now (g.O.Sink.text c.args.out.now))
         (g.D.Sectors.sectors c.proceed.new.disk) c.proceed.new.budget (g.O.Sink.text c.proceed.new.out) c.in-Err.fault (c.in-Err.ensures.any f e);
-    calls = search rules;
   };
   script = c.in-Err.ensures.script;
   untold = c.in-Err.ensures.untold;

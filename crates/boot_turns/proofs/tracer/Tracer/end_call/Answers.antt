@@ -1,6 +1,6 @@
 -- The row of a primitive that is no copy is that of its entry.
-use Rattle.std.proofs.Common.{List, ℕ, ◌∙◌, subst, rules}
-use Rattle.boot_report.specs.Leaves.{PutsRows}
+use Rattle.std.proofs.Common.{◌∙◌, rules}
+use Rattle.cvm_outside.proofs.Putting.{puts_same}
 use Rattle.boot_turns.proofs.JournalRows.{set_rows, size_rows, put_rows}
 use Rattle.boot_turns.proofs.EntryRows.{on_any_err, set_is, size_is, put_is, put_text}
 use Rattle.boot_turns.proofs.tracer.Tracer.end_call.Goals as goal
@@ -29,7 +29,7 @@ pub returns-then-call-eq-VM_PUT-clause-prints : goal.returns-then-call-eq-VM_PUT
 returns-then-call-eq-VM_PUT-clause-prints g c =
     record {
       put =
-          subst (λ (rows : List ℕ). PutsRows g.O.Sink.text g.O.Sink.faults c.args.out.now c.put-then-call-eq-VM_PUT.new.out rows c.put-then-call-eq-VM_PUT.result)
+          puts_same _ _ _ _ _
           (put_text c.args.self.now.user c.args.self.now.steps c.args.call.now c.args.answer c.as_bytes-then-call-eq-VM_PUT.result.now
           (put_is c.args.self.now.user c.args.call.now c.args.answer c.if-answer-ne1.false c.if-user-self.false c.if-call-eq-VM_PUT.true)
           (c.as_bytes-then-call-eq-VM_PUT.ensures.value ∙ c.as_str-then-call-eq-VM_PUT.ensures.value ∙ c.put_row.ensures))
