@@ -63,7 +63,7 @@ is_off (Some power) h e = cc
 module _ {L : Type 0} (r new : Kept L) (count most : ℕ) (told retold : Option (List (List ℕ))) (budget left : ℕ) (text mid late retext : Option (List ℕ)) where
   -- the first row couldn't be printed
   pub any_cut_before : AnyTurnsRun count r most (around r told budget text) (around r told budget retext) (Err Sink)
-  any_cut_before = λ s k t c on is none. (t, omega arith, sooner_than (outside_of r.machine.rows count) s k (k + most) t (omega arith) c.sooner, refl)
+  any_cut_before = λ s k t c on is none. (t, omega arith, sooner_than (outside_of r.machine.rows count) s k (k + most) t (omega arith) c.sooner, refl, is)
 
   -- the turns were broken off
   pub any_broke_off : (f : RunFault) → Moved count r new most told retold mid late budget left (Err f) → AnyTurnsRun count r most (around r told budget text) (around new retold left retext) (Err f)
@@ -92,7 +92,7 @@ module _ {L : Type 0} (r new : Kept L) (count most : ℕ) (told retold : Option 
     pub any_cut_after : made ≤ most → AnyTurnsRun count r most (around r told budget text) (around new retold left retext) (Err Sink)
     any_cut_after few = λ s k t c on is none.
         let d = came s k t c on is in
-        (d.at, no_earlier (outside_of r.machine.rows count) s k t made d.at c d.comes, sooner_than (outside_of r.machine.rows count) s (k + made) (k + most) d.at (omega (arith, few)) d.comes.sooner, d.spent)
+        (d.at, no_earlier (outside_of r.machine.rows count) s k t made d.at c d.comes, sooner_than (outside_of r.machine.rows count) s (k + made) (k + most) d.at (omega (arith, few)) d.comes.sooner, d.spent, d.state)
 
 -- a fault that is passed on
 pub any_passed : {L : Type 0} (count : ℕ) (r : Kept L) (most : ℕ) (before after : Around) (f e : RunFault) (result : Result (ℕ × Turn) RunFault) → result ≡ Err e → f ≡ e → AnyTurnsRun count r most before after (Err f) → AnyTurnsRun count r most before after result
@@ -127,8 +127,8 @@ cut_later : (x : Environment) (s : State) (k t u : ℕ) (now : Option State) (bu
 cut_later x s k t u now budget mid left le sum StepLimit (none, sooner, is) =
     let at : u + mid ≡ t + budget = omega (arith, sum) in
     (none, subst (λ i. NoSooner x s k (suc i)) at sooner, subst (λ i. now ≡ Some (run x s i)) at is)
-cut_later x s k t u now budget mid left le sum Disk (at, from, sooner, spent) = (at, omega (arith, le, from), sooner, omega (arith, spent, sum))
-cut_later x s k t u now budget mid left le sum Sink (at, from, sooner, spent) = (at, omega (arith, le, from), sooner, omega (arith, spent, sum))
+cut_later x s k t u now budget mid left le sum Disk (at, from, sooner, spent, is) = (at, omega (arith, le, from), sooner, omega (arith, spent, sum), is)
+cut_later x s k t u now budget mid left le sum Sink (at, from, sooner, spent, is) = (at, omega (arith, le, from), sooner, omega (arith, spent, sum), is)
 
 -- after i turns of a run that was found as r
 abbrev pub AnyGoing : {L : Type 0} → (count : ℕ) → Kept L → (before : Around) → ℕ → Around → Type 0

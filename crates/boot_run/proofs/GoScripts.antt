@@ -244,8 +244,8 @@ broken_on counts x y s v turns steps p k t n le old new whom made = ⊎_elim
 
 -- HOW FAR TURNS CAME THAT FAILED: to no later step than the headline's, and where they are out of steps just to that
 module _ (counts : TurnLaws) (x : device.Environment) (y : System) (s : State) (v : View) (base : Base) (turns steps i t : ℕ) (c : Cvm) (most : ℕ) (before after : Around) (room : i + most ≤ turns) (g : Going x y s v base steps i t c before) where
-  fail_within : Broken x s t (i + most) before after → after.steps ≤ end_within x s turns steps
-  fail_within w =
+  fail_within : (f : RunFault) → Broken x y s t (i + most) before after f → after.steps ≤ end_within x s turns steps
+  fail_within f w =
       let spent = g.came.spent in
       let within = w.most in
       no_sooner counts x s turns steps after.steps (omega (arith, spent, within)) (λ j h. ⊎_elim
@@ -263,8 +263,8 @@ module _ (counts : TurnLaws) (x : device.Environment) (y : System) (s : State) (
       goes_on_to counts x y s v base turns steps (i + n) (t + n) w.after (record before { budget = before.budget - n }) after (omega (arith, room, lt)) came j (λ ge. fails.between j ge (omega (arith, h, here))) (fails.on j (omega (arith, h, here))) in
       let end : end_within x s turns steps ≡ steps = (counts.none x s turns steps (none (end_within x s turns steps) (let h = end_most x s turns steps in omega (arith, h)))).0 in
       (λ _. omega (arith, time, here, end), omega (arith, time, here, end))
-  fail_end Disk w = (λ e. absurd (let h = e in cc), fail_within w)
-  fail_end Sink w = (λ e. absurd (let h = e in cc), fail_within w)
+  fail_end Disk w = (λ e. absurd (let h = e in cc), fail_within Disk w)
+  fail_end Sink w = (λ e. absurd (let h = e in cc), fail_within Sink w)
 
 -- THE LOOP FAILED
 module _ {L O D : Type 0} (text : sink_of.Ghosts O) (told : sectors_of.Ghosts D) (r now new : Kept L) (o o1 o2 : O) (d d1 d2 : D) (budget middle left i turns : ℕ) (kept : KeepsLoad r now) (size : told.size d1 ≡ told.size d) (law : (u : CUnit) → MachinesRun (IsTypedState u)) (counts : TurnLaws)

@@ -1,6 +1,6 @@
 -- One turn of a run as its code has it, from what the call that steps the machine says.
 -- It serves `Run::make_turn` alone.
-use Rattle.std.proofs.Common.{◌≡◌, ℕ, ◌+◌, Bool, true, false, not, Option, List, Result, Ok, Err, refl, sym, ap, ◌∙◌, subst}
+use Rattle.std.proofs.Common.{◌≡◌, ◌≢◌, ℕ, ◌+◌, Bool, true, false, not, Option, None, List, Result, Ok, Err, refl, sym, ap, ◌∙◌, subst}
 use Rattle.std.specs.Prelude.{if◌then◌else◌}
 use Rattle.layer_map.specs.Map.{Map}
 use Rattle.cvm_model.specs.Cvm.{map_of}
@@ -14,6 +14,7 @@ use Rattle.boot_turns.specs.declared.completion.Begun.{Begun}
 use Rattle.boot_turns.specs.declared.answers.Turn.{Turn}
 use Rattle.boot_turns.specs.declared.answers.Turn.TheVariants.{Step, Dispatch}
 use Rattle.boot_turns.specs.declared.answers.RunFault.{RunFault}
+use Rattle.boot_turns.specs.declared.answers.RunFault.TheVariants.{Sink}
 use Rattle.boot_run.specs.LoadEnds.{Kept}
 use Rattle.boot_run.specs.TurnParts.{answer_of, Counted, MakesTurn, Moved}
 
@@ -38,23 +39,24 @@ row_is k turn user b n next count same e =
 -- of the run as the call found it
 module _ {L : Type 0} (advance : LoopsAdvance) (make : LoopsMakeTurns) (now r : Kept L) (same : r ≡ now) (count : ℕ) (new : Kept L) (most : ℕ) (told retold : Option (List (List ℕ))) (text retext : Option (List ℕ)) (budget left : ℕ) (m : Map) (placed : m ≡ map_of (boot_of r.boot)) where
   moved : (result : Result (ℕ × Begun) RunFault) → Completes count r.machine new.machine told retold budget left most result →
-      TraceRuns count m r.machine told (record { tracer = r.tracer; text = text; budget = budget }) (record { tracer = new.tracer; text = retext; budget = left }) result →
+      TraceRuns count m r.machine told (record { tracer = r.tracer; text = text; budget = budget }) (record { tracer = new.tracer; text = retext; budget = left }) result → (r.tracer ≡ None → result ≢ Err Sink) →
       Moved count now new most told retold text retext budget left result
-  moved result a t = subst (λ (q : Kept L). Moved count q new most told retold text retext budget left result) same
+  moved result a t silent = subst (λ (q : Kept L). Moved count q new most told retold text retext budget left result) same
       (record {
         advances = advance count r.machine new.machine told retold budget left most result a;
         anyhow = make count r.machine new.machine told retold budget left most result a;
         traces = subst (λ (m : Map). TraceRuns count m r.machine told (record { tracer = r.tracer; text = text; budget = budget }) (record { tracer = new.tracer; text = retext; budget = left }) result) placed t;
+        silent = silent;
       })
 
   pub made_err : (f e : RunFault) (result : Result (ℕ × Turn) RunFault) → result ≡ Err e → f ≡ e → Completes count r.machine new.machine told retold budget left most (Err f) →
-      TraceRuns count m r.machine told (record { tracer = r.tracer; text = text; budget = budget }) (record { tracer = new.tracer; text = retext; budget = left }) (Err f) → new.ended ≡ r.ended →
+      TraceRuns count m r.machine told (record { tracer = r.tracer; text = text; budget = budget }) (record { tracer = new.tracer; text = retext; budget = left }) (Err f) → (r.tracer ≡ None → ◌≢◌ {A = Result (ℕ × Begun) RunFault} (Err f) (Err Sink)) → new.ended ≡ r.ended →
       MakesTurn count now new most told retold text retext budget left result
-  made_err f e result is fault a t ended =
+  made_err f e result is fault a t silent ended =
       subst (λ (q : Result (ℕ × Turn) RunFault). MakesTurn count now new most told retold text retext budget left q) (ap (λ g. Err g) fault ∙ sym is)
-      (moved (Err f) a t, ended ∙ ap (λ (q : Kept L). q.ended) same)
+      (moved (Err f) a t silent, ended ∙ ap (λ (q : Kept L). q.ended) same)
 
   pub made : (skipped number : ℕ) (b : Begun) (answer : Turn) → Completes count r.machine new.machine told retold budget left most (Ok (skipped, b)) →
       TraceRuns count m r.machine told (record { tracer = r.tracer; text = text; budget = budget }) (record { tracer = new.tracer; text = retext; budget = left }) (Ok (skipped, b)) →
       number ≡ skipped + 1 → Counted r new skipped b answer → MakesTurn count now new most told retold text retext budget left (Ok (number, answer))
-  made skipped number b answer a t is c = (skipped, b, is, moved (Ok (skipped, b)) a t, subst (λ (q : Kept L). Counted q new skipped b answer) same c)
+  made skipped number b answer a t is c = (skipped, b, is, moved (Ok (skipped, b)) a t (λ _ e. absurd (cc)), subst (λ (q : Kept L). Counted q new skipped b answer) same c)

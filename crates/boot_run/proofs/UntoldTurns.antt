@@ -184,9 +184,9 @@ module _ {L O D : Type 0} (text : sink_of.Ghosts O) (told : sectors_of.Ghosts D)
           let last : end_within x s wanted steps ≡ steps = end.1 in
           let many : budget - left ≡ end_within x s wanted steps - t = omega (arith, last, spent, sum) in
           subst (λ q. Performs (untold_script x s t q) (at text told shelf o d) (at text told shelf o1 d1) None) many p
-      by Disk x s t wanted steps (u, from, sooner, spent) sum shelf p =
+      by Disk x s t wanted steps (u, from, sooner, spent, is) sum shelf p =
           let last = no_sooner counts x s wanted steps u (omega (arith, spent, sum)) (no_end_before x s wanted u sooner) in
           more_steps x s t (budget - left) (end_within x s wanted steps - t) (omega (arith, last, from, spent)) (at text told shelf o d) (at text told shelf o1 d1) TheDisk p
-      by Sink x s t wanted steps (u, from, sooner, spent) sum shelf p =
+      by Sink x s t wanted steps (u, from, sooner, spent, is) sum shelf p =
           let last = no_sooner counts x s wanted steps u (omega (arith, spent, sum)) (no_end_before x s wanted u sooner) in
           more_steps x s t (budget - left) (end_within x s wanted steps - t) (omega (arith, last, from, spent)) (at text told shelf o d) (at text told shelf o1 d1) TheSink p

@@ -1,5 +1,5 @@
 -- The parts of a call of `turns`: what is printed before the machine goes on, the turn itself, and what is printed after it.
-use Rattle.std.specs.Prelude.{◌≡◌, ℕ, zero, suc, ◌+◌, ◌-◌, ◌≤◌, ◌^◌, min, All, if◌then◌else◌, Option, Some, None, List, [], ◌++◌, length, map, slice_index}
+use Rattle.std.specs.Prelude.{◌≡◌, ◌≢◌, ℕ, zero, suc, ◌+◌, ◌-◌, ◌≤◌, ◌^◌, min, All, if◌then◌else◌, Option, Some, None, List, [], ◌++◌, length, map, slice_index}
 use Rattle.std.specs.Prelude.{Result, Ok, Err, MatchResult}
 use Rattle.mips_table.specs.Flat.{Flat}
 use Rattle.mips_machine.specs.Machine.{Held}
@@ -17,6 +17,7 @@ use Rattle.boot_turns.specs.declared.tracer.Tracer.{Tracer}
 use Rattle.boot_turns.specs.declared.answers.Turn.{Turn}
 use Rattle.boot_turns.specs.declared.answers.Turn.TheVariants.{Step, Dispatch}
 use Rattle.boot_turns.specs.declared.answers.RunFault.{RunFault}
+use Rattle.boot_turns.specs.declared.answers.RunFault.TheVariants.{Sink}
 use Rattle.boot_turns.specs.Advances.{Advances}
 use Rattle.boot_turns.specs.AnyTurns.{AnyTurns}
 use Rattle.boot_turns.specs.Tracing.{TraceRuns}
@@ -75,13 +76,14 @@ pub record Counted {L : Type 0} (old new : Kept L) (skipped : ℕ) (b : Begun) (
   pub ended : new.ended ≡ end_of_next (next_of_held new.machine)
   pub is : answer ≡ answer_of (count_on old.turns skipped) old.current b (next_of_held new.machine)
 
--- what the machine did, and what a trace printed, over a disk of so many sectors, with these texts and budgets
+-- what the machine did, and what a trace printed, over a disk of so many sectors, with these texts and budgets; a boot prints nothing yet
 pub record Moved {L : Type 0} (count : ℕ) (old new : Kept L) (most : ℕ) (told retold : Option (List (List ℕ))) (text retext : Option (List ℕ)) (budget left : ℕ)
     (result : Result (ℕ × Begun) RunFault) : Type 0 where
   pub advances : Advances count old.machine new.machine told retold budget left most result
   pub anyhow : AnyTurns count old.machine new.machine told retold budget left most result
   pub traces : TraceRuns count (map_of (boot_of old.boot)) old.machine told
       (record { tracer = old.tracer; text = text; budget = budget }) (record { tracer = new.tracer; text = retext; budget = left }) result
+  pub silent : old.tracer ≡ None → result ≢ Err Sink
 
 -- THE TURNS: the last is complete and all are counted, or it was broken off
 abbrev pub MakesTurn : {L : Type 0} → (count : ℕ) → (old new : Kept L) → (most : ℕ) → (told retold : Option (List (List ℕ))) → (text retext : Option (List ℕ)) →

@@ -45,8 +45,8 @@ stopped x y s late held m k t c st r now budget left StepLimit (u, le, spent, is
     let g = goes x y s late held m k t u c p.0 le st r p.1 in
     let at : u ≡ t + budget = omega (arith, spent, none) in
     record { spent = none; state = subst (λ i. now ≡ Some (run x s i)) at is; goes = subst (StillGoes x y s k t) at g }
-stopped x y s late held m k t c st r now budget left Disk d = record { at = d.0; from = d.1; spent = d.2; goes = goes x y s late held m k t d.0 c d.3.0 d.1 st r d.3.1 }
-stopped x y s late held m k t c st r now budget left Sink d = record { at = d.0; from = d.1; spent = d.2; goes = goes x y s late held m k t d.0 c d.3.0 d.1 st r d.3.1 }
+stopped x y s late held m k t c st r now budget left Disk d = record { at = d.0; from = d.1; spent = d.2; goes = goes x y s late held m k t d.0 c d.3.0 d.1 st r d.3.1; state = d.5 }
+stopped x y s late held m k t c st r now budget left Sink d = record { at = d.0; from = d.1; spent = d.2; goes = goes x y s late held m k t d.0 c d.3.0 d.1 st r d.3.1; state = d.5 }
 
 -- THE TURNS THAT ARE PASSED
 -- where k turns are complete at t, and the run goes on, the machine is on

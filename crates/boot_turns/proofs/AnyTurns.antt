@@ -223,16 +223,16 @@ any_err : (x : Environment) (s : State) (k t : ℕ) → ComesTo x s k t → (run
 any_err x s k t c on now budget left StepLimit (u, le, spent, is, none, here, p) =
     let at : u ≡ t + budget = omega (arith, spent, none) in
     (none, subst (λ i. NoSooner x s (suc k) (suc i)) at (not_yet x s k t c on u p.0 p.1 here), subst (λ i. now ≡ Some (run x s i)) at is)
-any_err x s k t c on now budget left Disk (u, le, spent, p, here) = let sum : left + suc u ≡ budget + t = omega (arith, spent) in (suc u, omega (arith, le), not_yet x s k t c on u p.0 p.1 here, sum)
-any_err x s k t c on now budget left Sink (u, le, spent, p, here) = let sum : left + suc u ≡ budget + t = omega (arith, spent) in (suc u, omega (arith, le), not_yet x s k t c on u p.0 p.1 here, sum)
+any_err x s k t c on now budget left Disk (u, le, spent, p, here, is) = let sum : left + suc u ≡ budget + t = omega (arith, spent) in (suc u, omega (arith, le), not_yet x s k t c on u p.0 p.1 here, sum, is)
+any_err x s k t c on now budget left Sink (u, le, spent, p, here, is) = let sum : left + suc u ≡ budget + t = omega (arith, spent) in (suc u, omega (arith, le), not_yet x s k t c on u p.0 p.1 here, sum, is)
 
 -- behind turns that were passed, of so many at most
 broke_later : (x : Environment) (s : State) (k m t n : ℕ) (now : Option State) (budget left : ℕ) → k ≤ m → n ≤ budget → (f : RunFault) → BrokeOff x s k (t + n) now (budget - n) left f → BrokeOff x s m t now budget left f
 broke_later x s k m t n now budget left le few StepLimit (none, sooner, is) =
     let at : t + n + (budget - n) ≡ t + budget = omega (arith, few) in
     (none, subst (λ i. NoSooner x s m (suc i)) at (sooner_than x s k m (suc (t + n + (budget - n))) (suc (t + n + (budget - n))) le (omega arith) sooner), subst (λ i. now ≡ Some (run x s i)) at is)
-broke_later x s k m t n now budget left le few Disk (at, from, sooner, spent) = (at, omega (arith, from), sooner_than x s k m at at le (omega arith) sooner, omega (arith, spent, few))
-broke_later x s k m t n now budget left le few Sink (at, from, sooner, spent) = (at, omega (arith, from), sooner_than x s k m at at le (omega arith) sooner, omega (arith, spent, few))
+broke_later x s k m t n now budget left le few Disk (at, from, sooner, spent, is) = (at, omega (arith, from), sooner_than x s k m at at le (omega arith) sooner, omega (arith, spent, few), is)
+broke_later x s k m t n now budget left le few Sink (at, from, sooner, spent, is) = (at, omega (arith, from), sooner_than x s k m at at le (omega arith) sooner, omega (arith, spent, few), is)
 
 by_result : (x : Environment) (s : State) (k t : ℕ) → ComesTo x s k t → (run x s t).off ≡ None → (now : Option State) (budget left most : ℕ) (result : Result (ℕ × Begun) RunFault) → CompleteEnds x now budget left s t most result →
     MatchResult result (λ r. Came x s (k + suc r.0) t now budget left) (BrokeOff x s (k + most) t now budget left)

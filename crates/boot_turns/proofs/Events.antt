@@ -1,11 +1,11 @@
 -- What a step was, and the special registers after it, say whether it began a turn.
-use Rattle.std.proofs.Common.{◌≡◌, ℕ, ◌+◌, ◌&&◌, ◌||◌, not, Bool, true, false, Option, Some, None, List, [], refl, sym, ap, ap₂, ◌∙◌, subst, slice_index, ◌/◌}
+use Rattle.std.proofs.Common.{◌≡◌, ℕ, zero, suc, ◌+◌, ◌&&◌, ◌||◌, not, Bool, true, false, Option, Some, None, List, [], refl, sym, ap, ap₂, ◌∙◌, subst, slice_index, ◌/◌}
 use Rattle.std.specs.Prelude.{IfSome, is_some, nat_lt, ◌==◌}
 use Rattle.std.specs.Option.{option_map}
 use Rattle.std.proofs.lemmas.Bool.{cond_both}
 use Rattle.mips_table.specs.declared.cause.Cause.{Cause}
 use Rattle.mips_table.specs.declared.cause.Cause.TheVariants as causes
-use Rattle.mips_table.specs.Device.{Environment}
+use Rattle.mips_table.specs.Device.{Device, Environment, Pending, Idle, Reading, Writing}
 use Rattle.mips_table.specs.declared.special.TheConstants.{SR, MODE, PTL, ECA, EDATA}
 use Rattle.mips_table.specs.Machine.{State, cause_number, Coming, Interrupt, Done, coming, latched, come_to, step_ended, if_on, step}
 use Rattle.mips_table.specs.Turns.{in_user, is_handled, handled, begins_turn}
@@ -13,8 +13,11 @@ use Rattle.mips_machine.specs.declared.event.Event.{Event}
 use Rattle.mips_machine.specs.declared.event.Event.TheVariants.{Ran, Taken, Off, Power}
 use Rattle.mips_machine.specs.Hardware.{told_as, event_by}
 use Rattle.mips_machine.specs.Machine.{Held, state_of}
-use Rattle.mips_machine.specs.Steps.{outside_of, event_if, event_of, after_step, StepDone, StepFailed}
-use Rattle.boot_turns.specs.Completes.{state_seen, was_off, was_taken, begun_at}
+use Rattle.mips_machine.specs.Steps.{outside_of, event_if, event_of, before_count, after_step, StepDone, StepFailed}
+use Rattle.sector_disk.specs.Ports.{TransferFails}
+use Rattle.boot_turns.specs.declared.answers.RunFault.{RunFault}
+use Rattle.boot_turns.specs.declared.answers.RunFault.TheVariants.{StepLimit, Disk, Sink}
+use Rattle.boot_turns.specs.Completes.{state_seen, was_off, was_taken, begun_at, but_disk, StepRan, StepLeft}
 use Rattle.boot_turns.proofs.Stepping.{on_time, instruction, Plain, instruction_plain}
 
 -- by the event as a whole
@@ -249,3 +252,25 @@ untaken_begins reset user pages edata (Power word) hu ht hr = neither reset user
 pub told_as_some : (told : Option (List (List ℕ))) (held : Held) (v : State) → state_seen told held ≡ Some v → (ss : List (List ℕ)) × (told ≡ Some ss) × (state_of held ss ≡ v)
 told_as_some None held v h = absurd (let f : ◌≡◌ {A = Option State} None (Some v) = h in cc)
 told_as_some (Some ss) held v h = (ss, refl, cc)
+
+-- WHAT A FAULT LEFT: where the sectors were told they are told where a transfer failed
+retold_by : (p : Pending) (buffer after : List ℕ) (ss : List (List ℕ)) (retold : Option (List (List ℕ))) → TransferFails p buffer after (Some ss) retold → (now : List (List ℕ)) × (retold ≡ Some now)
+retold_by Idle buffer after ss retold h = absurd h
+retold_by (Reading zero sector) buffer after ss retold h = (ss, h)
+retold_by (Reading (suc left) sector) buffer after ss retold h = absurd h
+retold_by (Writing zero sector) buffer after ss retold h = let w = h.1 in (_, w.1)
+retold_by (Writing (suc left) sector) buffer after ss retold h = absurd h
+
+pub fails_left : (count : ℕ) (old new : Held) (told retold : Option (List (List ℕ))) → StepFailed count old new told retold → StepLeft count old new told retold Disk
+fails_left count old new None retold h = tt
+fails_left count old new (Some ss) retold h =
+    let d : Device = before_count (outside_of old.rows count) (state_of old ss) in
+    let w = retold_by d.pending d.buffer new.hardware.buffer ss retold (h.disk ss) in
+    ap (λ (r : Option (List (List ℕ))). option_map but_disk (state_seen r new)) w.1 ∙ ap (λ (s : State). Some (but_disk s)) (h.state ss)
+
+-- where the step was done all of it is left
+pub ran_left : (count : ℕ) (old new : Held) (told retold : Option (List (List ℕ))) (f : RunFault) → StepRan count old new told retold → StepLeft count old new told retold f
+ran_left count old new None retold f ran = tt
+ran_left count old new (Some ss) retold StepLimit ran = ran
+ran_left count old new (Some ss) retold Disk ran = ap (option_map but_disk) ran
+ran_left count old new (Some ss) retold Sink ran = ran

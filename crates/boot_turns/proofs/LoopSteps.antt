@@ -9,7 +9,7 @@ use Rattle.mips_table.specs.Machine.{State, run, step}
 use Rattle.mips_table.specs.Turns.{begins_turn, rests, in_user}
 use Rattle.mips_machine.specs.Machine.{Held, state_of}
 use Rattle.mips_machine.specs.Steps.{outside_of}
-use Rattle.boot_turns.specs.Completes.{state_seen, note, shown, noted, is_at_rest, Open, Progress, Skips, CompleteErr, PassesQuietly}
+use Rattle.boot_turns.specs.Completes.{state_seen, note, shown, noted, is_at_rest, Open, Progress, Skips, LeftBy, StepLeft, CompleteErr, PassesQuietly}
 use Rattle.boot_turns.specs.declared.completion.Begun.{Begun}
 use Rattle.boot_turns.specs.declared.answers.RunFault.{RunFault}
 use Rattle.boot_turns.specs.declared.answers.RunFault.TheVariants.{StepLimit, Disk, Sink}
@@ -83,12 +83,18 @@ one_step x y s t u told retold old new b out began same le is p ran bg note_is =
     let there : state_seen retold new ≡ Some (run x s (suc u)) = seen_more x _ _ _ ran2 is in
     (there, subst (Opened x s t (suc u)) (sym note_is) (opened_more x s t u b began (shown new) le p bg2 (seen_note retold new _ there)))
 
+-- what a fault left of the step of a run
+pub left_at : (count : ℕ) (x : Environment) (v : State) (told retold : Option (List (List ℕ))) (old new : Held) (f : RunFault) → outside_of old.rows count ≡ x → state_seen told old ≡ Some v → StepLeft count old new told retold f →
+    LeftBy f (state_seen retold new) (step x v)
+left_at count x v told retold old new f same is h =
+    subst (λ (z : Environment). LeftBy f (state_seen retold new) (step z v)) same (subst (λ (o : Option State). IfSome o (λ s. LeftBy f (state_seen retold new) (step (outside_of old.rows count) s))) is h)
+
 -- the step at u failed, or its rows
 pub step_stops : (x : Environment) (s : State) (t u before after : ℕ) (new : Option State) (b : Option Begun) (f : RunFault) → (f ≡ StepLimit → ⊥) → t ≤ u → after + (u + 1) ≡ before + t → Progress x s t u b → (run x s u).off ≡ None →
-    CompleteErr x new before after s t f
-step_stops x s t u before after new b StepLimit limit le spent p on = absurd (limit refl)
-step_stops x s t u before after new b Disk limit le spent p on = (u, le, spent, (b, p), on)
-step_stops x s t u before after new b Sink limit le spent p on = (u, le, spent, (b, p), on)
+    LeftBy f new (run x s (suc u)) → CompleteErr x new before after s t f
+step_stops x s t u before after new b StepLimit limit le spent p on left = absurd (limit refl)
+step_stops x s t u before after new b Disk limit le spent p on left = (u, le, spent, (b, p), on, left)
+step_stops x s t u before after new b Sink limit le spent p on left = (u, le, spent, (b, p), on, left)
 
 -- a turn that is passed: the step at u, after n of them, began it and kept user mode
 pub skips_more : (x y : Environment) (s : State) (t n m u : ℕ) (told retold : Option (List (List ℕ))) (old new : Held) → y ≡ x → u ≡ t + n → m ≡ n + 1 → Skips x s t n →

@@ -1,6 +1,6 @@
 -- What is shown of a user grows by the entries of a step, in a run from a start.
 -- It serves `traces_grow` alone.
-use Rattle.std.proofs.Common.{◌≡◌, ◌≢◌, ◌⊎◌, inl, inr, ℕ, zero, suc, ◌+◌, ◌-◌, ◌*◌, ◌^◌, ◌<◌, ◌≤◌, ◌||◌, Bool, true, false, not, cond, All, Option, Some, None, List, [], ◌∷◌, ◌++◌, length, slice_index, refl, sym, ap, ap₂, ◌∙◌, subst, ⊎_elim, arith, append-nil, eq-eqb, lt-ltb, le-ltb}
+use Rattle.std.proofs.Common.{◌≡◌, ◌≢◌, ◌⊎◌, inl, inr, ℕ, zero, suc, ◌+◌, ◌-◌, ◌*◌, ◌^◌, ◌<◌, ◌≤◌, ◌||◌, Bool, true, false, not, cond, All, Option, Some, None, List, [], ◌∷◌, ◌++◌, length, slice_index, refl, sym, ap, ap₂, ◌∙◌, subst, subst₂, ⊎_elim, arith, append-nil, eq-eqb, lt-ltb, le-ltb}
 use Rattle.std.specs.Prelude.{◌==◌, nat_lt, bit_or, pos, ℤ, is_some, slice_get}
 use Rattle.std.proofs.lemmas.Bool.{cases_lt, cond-true, cond-false}
 use Rattle.std.proofs.lemmas.List.Elements.{All-head, All-tail}
@@ -25,7 +25,7 @@ use Rattle.boot_turns.specs.Completes.{note, ShownAs}
 use Rattle.boot_turns.specs.Trace.{ended_at_begin, ended_since, Shown}
 use Rattle.boot_turns.specs.TurnEnds.{Stood}
 use Rattle.boot_turns.specs.declared.tracer.Entered.{Entered}
-use Rattle.boot_turns.specs.Entries.{IsPlaced, turn_begins, call_ends, return_entries, WordsAt, ShowsMore, TraceGrows}
+use Rattle.boot_turns.specs.Entries.{IsPlaced, turn_begins, call_ends, return_entries, WordsAt, HasRows, ShowsMore, TraceGrows}
 use Rattle.boot_turns.specs.Returns.{noted_call, returned}
 use Rattle.boot_turns.proofs.Stepping.{both_right, inside_begins, inside_rests, user_rests}
 use Rattle.boot_turns.proofs.Entering.{entered_none, entered_user, entered_off, not_system}
@@ -720,9 +720,44 @@ module _ (x : Environment) (y : System) (s : State) (late held : ℕ) (Typed : C
         by true r = let h = here t on in at_rest r h (quiet_at t t (omega arith) h)
         by false r = let h = here (suc t) (not_rests_on _ r) in inside_on h (quiet_at (suc t) (suc t) (omega arith) h) (early r h)
 
+    -- a step that has rows completes no turn
+    busy : (t : ℕ) → (run x s t).off ≡ None → HasRows (run x s (suc t)) (noted_call x s t) (begins_turn x (run x s t)) → rests (run x s (suc t)) ≡ false
+    busy t on rows = by (rests (run x s (suc t))) refl
+      where
+        none_there : begins_turn x (run x s t) ≡ false → noted_call x s t ≡ None → ⊥
+        none_there b n = true_false false (subst₂ (HasRows (run x s (suc t))) n b rows) refl
+
+        dispatched : begins_turn x (run x s t) ≡ true → (note (run x s (suc t))).dispatched ≡ true
+        dispatched b = let h : HasRows (run x s (suc t)) (noted_call x s t) true = subst (HasRows (run x s (suc t)) (noted_call x s t)) b rows in h
+
+        at_begin : (h : Here t) → t ≡ h.turn.beginning.start → rests (run x s (suc t)) ≡ true → ⊥
+        at_begin h e r = ⊎_elim
+            (λ (z : Single h.k h.c h.turn.beginning.start).
+            let user : in_user (run x s (suc t)) ≡ true = subst (λ i. in_user (run x s (suc i)) ≡ true) (sym e) (both_right (is_on (run x s (suc h.turn.beginning.start))) (in_user (run x s (suc h.turn.beginning.start))) z.user) in
+            let begun : begins_turn x (run x s t) ≡ true = subst (λ i. begins_turn x (run x s i) ≡ true) (sym e) h.turn.beginning.begin_here in
+            true_false _ (dispatched begun) (ap not user))
+            (λ (d : Dispatch h.k h.c h.turn.beginning.start). let f = d.from in not_inside (suc t) r (d.inside (suc t) (omega (arith, e)) (omega (arith, e, f))))
+            (kind h.at h.k h.c h.turn)
+
+        resting : (h : Here t) → under_way x s h.at ≡ None → rests (run x s (suc t)) ≡ true → ⊥
+        resting h q r = ⊎_elim
+            (λ (lt : t < h.turn.beginning.start). none_there (h.turn.beginning.none t h.from lt) (noted_none x s t (calm h.at h.k h.c h.turn q t h.from (omega (arith, lt))).0))
+            (λ (ge : h.turn.beginning.start ≤ t). ⊎_elim
+            (λ (gt : h.turn.beginning.start < t).
+            let o = goes_at t h gt in
+            none_there (inside_begins x _ (o.inside t gt (omega arith))) (noted_none x s t (over h.at h.k h.c h.turn q t o r (cvm_closes h.at h.k h.c h.turn t o r)).under))
+            (λ (le : t ≤ h.turn.beginning.start). at_begin h (omega (arith, ge, le)) r)
+            (cases_lt h.turn.beginning.start t))
+            (cases_lt t h.turn.beginning.start)
+
+        by : (r : Bool) → rests (run x s (suc t)) ≡ r → r ≡ false
+        by true r = let h = here t on in absurd (resting h (quiet_at t t (omega arith) h) r)
+        by false r = refl
+
     pub trace_grows : 1 ≤ u → u ≤ length y.boot.users → TraceGrows x y s u
     trace_grows low high = record {
       one = one_shown;
       none = record { units = 0; past = first_cvm y; cvm = refl; enough = λ lt. absurd (omega (arith, lt)); is = refl };
       more = grows low high;
+      busy = busy;
     }

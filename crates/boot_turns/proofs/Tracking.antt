@@ -1,12 +1,12 @@
 -- What the loop has printed of a trace: what one step adds to it, and how far it is at each step of the loop.
-use Rattle.std.proofs.Common.{◌≡◌, ℕ, suc, ◌+◌, ◌≤◌, Bool, Option, Some, None, Result, Ok, Err, List, [], ◌++◌, length, slice_index, refl, sym, ap, ap₂, ◌∙◌, subst, arith}
-use Rattle.std.specs.Prelude.{IfSome, OnOk, false}
+use Rattle.std.proofs.Common.{◌≡◌, ℕ, suc, ◌+◌, ◌≤◌, Bool, Option, Some, None, Result, Ok, Err, List, [], ◌++◌, length, slice_index, refl, sym, ap, ap₂, ◌∙◌, subst, subst₂, arith}
+use Rattle.std.specs.Prelude.{IfSome, MatchResult, true, false}
 use Rattle.std.specs.Option.{option_map}
 use Rattle.std.specs.Io.KnownBytes.{append_known}
 use Rattle.cvm_outside.proofs.Parts.{puts-both}
 use Rattle.mips_table.specs.Device.{Environment}
 use Rattle.mips_table.specs.Machine.{State, run, step}
-use Rattle.mips_table.specs.Turns.{begins_turn}
+use Rattle.mips_table.specs.Turns.{begins_turn, rests}
 use Rattle.mips_machine.specs.Machine.{Held, state_of}
 use Rattle.mips_machine.specs.Steps.{outside_of, script_of_step}
 use Rattle.layer_map.specs.Map.{Map, MapInRange, current_at}
@@ -25,10 +25,10 @@ use Rattle.boot_turns.specs.declared.answers.RunFault.{RunFault}
 use Rattle.boot_turns.specs.declared.answers.RunFault.TheVariants.{StepLimit, Disk, Sink}
 use Rattle.boot_turns.specs.Completes.{state_seen}
 use Rattle.boot_turns.specs.Premises.{StartsFrom}
-use Rattle.boot_turns.specs.Entries.{step_entries, WordsAt, ShowsMore, TracesGrow}
+use Rattle.boot_turns.specs.Entries.{step_entries, WordsAt, HasRows, ShowsMore, TracesGrow}
 use Rattle.boot_turns.specs.Returns.{noted_call, notes_on, returned}
 use Rattle.boot_turns.specs.JournalText.{steps_after, pending_steps, RowsFollow}
-use Rattle.boot_turns.specs.Tracing.{followed, kept_after, ReturnTold, tracer_at, Traced, TracedOn, Tracing, TraceRuns, UnlessFailed}
+use Rattle.boot_turns.specs.Tracing.{followed, kept_after, ReturnTold, tracer_at, Traced, TracedOn, CutAt, Tracing, TraceRuns, UnlessFailed}
 use Rattle.boot_turns.specs.Trace.{Shown}
 use Rattle.boot_turns.specs.TraceSteps.{StepTraces}
 use Rattle.boot_turns.specs.Runs.{Run, Past}
@@ -102,13 +102,19 @@ pub record Booted (x : Environment) (m : Map) (now : Option State) (kept : Optio
 
 -- the clause on a step is of each such run
 pub each_step : (x : Environment) (m : Map) (held : Held) (told : Option (List (List ℕ))) (before after : Option Tracer) (text retext : Option (List ℕ)) (result : Result Stepped RunFault) →
-    ((b : Booted x m (state_seen told held) before text) → OnOk result (Traced x b.y b.s b.u (suc b.t) b.base after retext)) → StepTraces x m held told before after text retext result
+    ((b : Booted x m (state_seen told held) before text) → MatchResult result (λ _. Traced x b.y b.s b.u (suc b.t) b.base after retext) (λ fault. fault ≡ Sink → rests (run x b.s (suc b.t)) ≡ false)) → StepTraces x m held told before after text retext result
 each_step x m held told before after text retext result f = λ unit y s late limit u t base from map_is low high at traced.
     f (record { unit = unit; y = y; s = s; late = late; held = limit; u = u; t = t; base = base; from = from; map_is = map_is; low = low; high = high; at = at; traced = traced })
 
--- where a call failed there is nothing to be said
-pub step_broke : (x : Environment) (m : Map) (held : Held) (told : Option (List (List ℕ))) (before after : Option Tracer) (text retext : Option (List ℕ)) (result : Result Stepped RunFault) (e : RunFault) → result ≡ Err e → StepTraces x m held told before after text retext result
-step_broke x m held told before after text retext result e is = rw is (each_step x m held told before after text retext (Err e) (λ b. tt))
+-- a fault of the disk, of which nothing is to be said
+pub step_broke : (x : Environment) (m : Map) (held : Held) (told : Option (List (List ℕ))) (before after : Option Tracer) (text retext : Option (List ℕ)) (result : Result Stepped RunFault) (e : RunFault) → result ≡ Err e → (e ≡ Sink → ⊥) → StepTraces x m held told before after text retext result
+step_broke x m held told before after text retext result e is disk = rw is (each_step x m held told before after text retext (Err e) (λ b sink. absurd (disk sink)))
+
+-- rows hang on no sector
+rows_seen : (a : Held) (ss : List (List ℕ)) (noted : Option Entered) (began : Bool) → HasRows (state_of a []) noted began → HasRows (state_of a ss) noted began
+rows_seen a ss noted true h = h
+rows_seen a ss None false h = h
+rows_seen a ss (Some e) false h = h
 
 same_some : {A : Type 0} (a b : A) → Some a ≡ Some b → a ≡ b
 same_some a b h = cc
@@ -142,6 +148,14 @@ module _ (grow : (c : CUnit) → TracesGrow (IsTypedState c)) (f : RowsFollow) (
 
     call_at : (b : Here) → k.call ≡ noted_call x b.s b.t
     call_at b = ap (λ (k : Tracer). k.call) (keeps_at b)
+
+    -- a step in whose rows a call failed completes no turn
+    pub step_cut : (before after : Option Tracer) (retext : Option (List ℕ)) (result : Result Stepped RunFault) (e : RunFault) → before ≡ Some k → result ≡ Err e → HasRows (state_of mid []) k.call began → StepTraces x m held told before after text retext result
+    step_cut before after retext result e hb is rows = rw (hb, is) (each_step x m held told (Some k) after text retext (Err e) (λ (b : Here) sink.
+        let w = told_as_some told held (run x b.s b.t) b.at in
+        let is_on : (run x b.s b.t).off ≡ None = ap (λ (s : State). s.off) (sym w.2) ∙ on in
+        let seen_there : HasRows (run x b.s (suc b.t)) k.call began = subst (λ z. HasRows z k.call began) (told_at b).2 (rows_seen mid (told_at b).0 k.call began rows) in
+        (grow b.unit x b.y b.s b.late b.held b.u b.from b.low b.high).busy b.t is_on (subst₂ (HasRows (run x b.s (suc b.t))) (call_at b) (begun_at b) seen_there)))
 
     returns_at : (b : Here) → ReturnTold m (state_of mid (told_at b).0) k.user (more_at b).words (returned (state_of mid (told_at b).0) k.call)
     returns_at b =
@@ -234,7 +248,7 @@ Tracks x m start now before after = (b : Booted x m start before.tracer before.t
 -- the clause on a loop is of each run
 each_run : (count : ℕ) (m : Map) (held : Held) (told : Option (List (List ℕ))) (before after : Tracing) (result : Result (ℕ × Begun) RunFault) →
     ((b : Booted (outside_of held.rows count) m (state_seen told held) before.tracer before.text) →
-    UnlessFailed result (TracedOn (outside_of held.rows count) b.y b.s b.u b.t b.base before.budget after.budget after.tracer after.text)) → TraceRuns count m held told before after result
+    UnlessFailed result (TracedOn (outside_of held.rows count) b.y b.s b.u b.t b.base before.budget after.budget after.tracer after.text) (CutAt (outside_of held.rows count) b.s b.t before.budget after.budget)) → TraceRuns count m held told before after result
 each_run count m held told before after result f = λ unit y s late limit u t base from map_is low high at traced.
     f (record { unit = unit; y = y; s = s; late = late; held = limit; u = u; t = t; base = base; from = from; map_is = map_is; low = low; high = high; at = at; traced = traced })
 
@@ -273,8 +287,12 @@ module _ (count : ℕ) (m : Map) (held mid : Held) (told midtold : Option (List 
           traced = of_x b.unit b.y b.s b.late b.held b.u w.at b.base b.from b.map_is b.low b.high here w.traced;
         }
 
--- or a call failed
-pub tracks_stop : (count : ℕ) (m : Map) (held : Held) (told : Option (List (List ℕ))) (before after : Tracing) (fault : RunFault) → (fault ≡ StepLimit → ⊥) → TraceRuns count m held told before after (Err fault)
-tracks_stop count m held told before after StepLimit limit = absurd (limit refl)
-tracks_stop count m held told before after Disk limit = each_run count m held told before after (Err Disk) (λ b. tt)
-tracks_stop count m held told before after Sink limit = each_run count m held told before after (Err Sink) (λ b. tt)
+    -- or a call failed in it
+    pub tracks_stop : (fault : RunFault) → (fault ≡ StepLimit → ⊥) → StepTraces z m mid midtold now.tracer after.tracer now.text after.text (Err fault) → TraceRuns count m held told before after (Err fault)
+    tracks_stop StepLimit limit cut = absurd (limit refl)
+    tracks_stop Disk limit cut = each_run count m held told before after (Err Disk) (λ b. tt)
+    tracks_stop Sink limit cut = each_run count m held told before after (Err Sink) (λ b.
+        let w = so_far b in
+        let spent = w.spent in
+        let of_x : StepTraces (outside_of held.rows count) m mid midtold now.tracer after.tracer now.text after.text (Err Sink) = subst (λ (z : Environment). StepTraces z m mid midtold now.tracer after.tracer now.text after.text (Err Sink)) same cut in
+        (w.at, omega (arith, spent, less), of_x b.unit b.y b.s b.late b.held b.u w.at b.base b.from b.map_is b.low b.high w.state w.traced refl))

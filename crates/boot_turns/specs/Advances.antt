@@ -11,7 +11,7 @@ use Rattle.c0_meaning.specs.State.{C0State}
 use Rattle.cvm_model.specs.Cvm.{System, Running, Cvm}
 use Rattle.boot_turns.specs.TurnEnds.{Stood}
 use Rattle.boot_turns.specs.Ahead.{Ahead}
-use Rattle.boot_turns.specs.Completes.{state_seen, note, Skips, Completes}
+use Rattle.boot_turns.specs.Completes.{state_seen, note, LeftBy, Skips, Completes}
 use Rattle.boot_turns.specs.Premises.{StartsFrom}
 use Rattle.boot_turns.specs.declared.completion.Begun.{Begun}
 use Rattle.boot_turns.specs.declared.answers.RunFault.{RunFault}
@@ -36,16 +36,17 @@ pub record BudgetStops (x : Environment) (y : System) (s : State) (k t : ℕ) (n
   pub goes : StillGoes x y s k t (t + budget)
 
 -- the disk or the sink failed in step number `at`, or in its rows
-pub record FaultStops (x : Environment) (y : System) (s : State) (k t : ℕ) (budget left : ℕ) : Type 0 where
+pub record FaultStops (x : Environment) (y : System) (s : State) (k t : ℕ) (now : Option State) (budget left : ℕ) (fault : RunFault) : Type 0 where
   pub at : ℕ
   pub from : t ≤ at
   pub spent : left + (at + 1) ≡ budget + t
   pub goes : StillGoes x y s k t at
+  pub state : LeftBy fault now (run x s (suc at))
 
 -- by the fault
 abbrev pub Stops : Environment → System → State → (k t : ℕ) → Option State → (budget left : ℕ) → RunFault → Type 0
 Stops x y s k t now budget left StepLimit = BudgetStops x y s k t now budget left
-Stops x y s k t now budget left other = FaultStops x y s k t budget left
+Stops x y s k t now budget left other = FaultStops x y s k t now budget left other
 
 -- turns k to k + n - 1, from step t on, were untrapped steps of the current user, one step each
 pub record Skipped (x : Environment) (y : System) (s : State) (k t : ℕ) (c : Cvm) (n : ℕ) : Type 0 where

@@ -4,7 +4,7 @@ use Rattle.mips_table.specs.Device.{Environment}
 use Rattle.mips_table.specs.Machine.{State, run}
 use Rattle.mips_machine.specs.Machine.{Held}
 use Rattle.mips_machine.specs.Steps.{outside_of}
-use Rattle.boot_turns.specs.Completes.{state_seen, Completes}
+use Rattle.boot_turns.specs.Completes.{state_seen, LeftBy, Completes}
 use Rattle.boot_turns.specs.declared.completion.Begun.{Begun}
 use Rattle.boot_turns.specs.declared.answers.RunFault.{RunFault}
 use Rattle.boot_turns.specs.declared.answers.RunFault.TheVariants.{StepLimit}
@@ -17,7 +17,7 @@ Came x s k t now budget left = (at : ℕ) × ComesTo x s k at × (now ≡ Some (
 -- or it was broken off before k turns were complete: the budget was spent; or the disk or the sink failed after `at` steps, t at least
 abbrev pub BrokeOff : Environment → State → (k t : ℕ) → Option State → (budget left : ℕ) → RunFault → Type 0
 BrokeOff x s k t now budget left StepLimit = (left ≡ 0) × NoSooner x s k (suc (t + budget)) × (now ≡ Some (run x s (t + budget)))
-BrokeOff x s k t now budget left other = (at : ℕ) × (t ≤ at) × NoSooner x s k at × (left + at ≡ budget + t)
+BrokeOff x s k t now budget left other = (at : ℕ) × (t ≤ at) × NoSooner x s k at × (left + at ≡ budget + t) × LeftBy other now (run x s at)
 
 -- TURNS OF ANY RUN, over a disk of so many sectors: so many at most, from any step of it in which the machine stands, is on, and k turns are complete
 abbrev pub AnyTurns : (count : ℕ) → (old new : Held) → (told retold : Option (List (List ℕ))) → (budget left most : ℕ) →

@@ -18,7 +18,7 @@ use Rattle.boot_turns.specs.declared.completion.Begun.{Begun}
 use Rattle.boot_turns.specs.declared.completion.Stepped.{Stepped}
 use Rattle.boot_turns.specs.declared.completion.Stepped.TheVariants.{Kept, Began, On}
 use Rattle.boot_turns.specs.declared.answers.RunFault.{RunFault}
-use Rattle.boot_turns.specs.declared.answers.RunFault.TheVariants.{StepLimit}
+use Rattle.boot_turns.specs.declared.answers.RunFault.TheVariants.{StepLimit, Disk}
 
 -- the state of a machine with the sectors of its disk, where they are told
 abbrev pub state_seen : Option (List (List ℕ)) → Held → Option State
@@ -27,6 +27,20 @@ state_seen told held = option_map (state_of held) told
 -- over a disk of so many sectors the machine made one step
 abbrev pub StepRan : (count : ℕ) → (old new : Held) → (told retold : Option (List (List ℕ))) → Type 0
 StepRan count old new told retold = state_seen retold new ≡ option_map (step (outside_of old.rows count)) (state_seen told old)
+
+-- a state but for the buffer and the sectors of its disk
+abbrev pub but_disk : State → State
+but_disk s = record s { device = record s.device { buffer = []; sectors = [] } }
+
+-- what a fault leaves of the state behind a step: one of the disk all but that buffer and those sectors, one of the sink all of it
+abbrev pub LeftBy : RunFault → Option State → State → Type 0
+LeftBy Disk now s = option_map but_disk now ≡ Some (but_disk s)
+LeftBy other now s = now ≡ Some s
+
+-- over a disk of so many sectors this fault left the machine so, in a step or in its rows
+abbrev pub StepLeft : (count : ℕ) → (old new : Held) → (told retold : Option (List (List ℕ))) → RunFault → Type 0
+StepLeft count old new told retold fault =
+    IfSome (state_seen told old) (λ s. LeftBy fault (state_seen retold new) (step (outside_of old.rows count) s))
 
 -- the answer is whether that step begins a turn
 abbrev pub StepBegan : (count : ℕ) → Held → Option (List (List ℕ)) → Bool → Type 0
@@ -124,12 +138,12 @@ pub record WentOff (x : Environment) (s : State) (t u : ℕ) (b : Begun) : Type 
 abbrev pub CompleteOk : Environment → Option State → ℕ → ℕ → State → ℕ → Begun → Type 0
 CompleteOk x new before after s t b = (u : ℕ) × (Completed x s t u b ⊎ WentOff x s t u b) × (new ≡ Some (run x s u)) × (after + u ≡ before + t)
 
--- the machine is on, and the budget was spent; or the disk or the sink failed in step number u or in its rows
+-- the machine is on, and the budget was spent; or the disk or the sink failed in step number u or in its rows, and left this of that step
 abbrev pub CompleteErr : Environment → Option State → ℕ → ℕ → State → ℕ → RunFault → Type 0
 CompleteErr x new before after s t StepLimit = (u : ℕ) × (t ≤ u) × (after + u ≡ before + t) × (new ≡ Some (run x s u))
     × (after ≡ 0) × ((run x s u).off ≡ None) × ((b : Option Begun) × Progress x s t u b)
 CompleteErr x new before after s t other = (u : ℕ) × (t ≤ u) × (after + (u + 1) ≡ before + t) × ((b : Option Begun) × Progress x s t u b)
-    × ((run x s u).off ≡ None)
+    × ((run x s u).off ≡ None) × LeftBy other new (run x s (suc u))
 
 -- over any disk the machine made so many steps in which nothing comes from outside, and only the processor, the memory and the time changed
 pub record PassesQuietly (old new : Held) (n : ℕ) : Type 0 where

@@ -1,9 +1,9 @@
 -- The entries that a step of the machine adds to what is shown of a user, by what the machine shows.
 use Rattle.std.specs.Prelude.{◌≡◌, ◌≢◌, ℕ, suc, ◌+◌, ◌/◌, ◌≤◌, ◌&&◌, ◌==◌, nat_lt, if◌then◌else◌, List, [], ◌∷◌, ◌++◌, length, take, drop}
-use Rattle.std.specs.Prelude.{slice_index, Option, Some, None}
+use Rattle.std.specs.Prelude.{slice_index, Bool, true, false, Option, Some, None, IsSome}
 use Rattle.mips_table.specs.Device.{Environment}
 use Rattle.mips_table.specs.Machine.{State, run}
-use Rattle.mips_table.specs.Turns.{begins_turn}
+use Rattle.mips_table.specs.Turns.{begins_turn, rests}
 use Rattle.layer_map.specs.Map.{current_at}
 use Rattle.c0_meaning.specs.State.{C0State}
 use Rattle.cvm_model.specs.Kernel.{Core, JournalEntry, Stepped, Trapped, Set, Size, Put}
@@ -60,6 +60,11 @@ WordsAt x y u s words None = Unit {0}
 WordsAt x y u s words (Some e) = (core : Core) × RunningRelation x (site_of y.boot) s Running core × (words ≡ (user_of core.users u).words)
     × IsPlaced u e (slice_index s.cpu.regs ANSWER) words
 
+-- a step that led to s has rows: it began a turn with a dispatch, or a primitive returned
+abbrev pub HasRows : State → (noted : Option Entered) → (began : Bool) → Type 0
+HasRows s noted true = (note s).dispatched ≡ true
+HasRows s noted false = IsSome (returned s noted)
+
 -- what is shown after step number t, where j was shown before it
 pub record ShowsMore (x : Environment) (y : System) (s : State) (u t : ℕ) (j : List JournalEntry) : Type 0 where
   pub words : List ℕ
@@ -71,6 +76,8 @@ pub record TraceGrows (x : Environment) (y : System) (s : State) (u : ℕ) : Typ
   pub one : (t : ℕ) (i j : List JournalEntry) → Shown x s y u t i → Shown x s y u t j → i ≡ j
   pub none : Shown x s y u 0 []
   pub more : (t : ℕ) (j : List JournalEntry) → (run x s t).off ≡ None → Shown x s y u t j → ShowsMore x y s u t j
+  -- and a step that has rows completes no turn
+  pub busy : (t : ℕ) → (run x s t).off ≡ None → HasRows (run x s (suc t)) (noted_call x s t) (begins_turn x (run x s t)) → rests (run x s (suc t)) ≡ false
 
 -- from each start, of each user
 abbrev pub TracesGrow : (C0State → Type 0) → Type 0

@@ -1,7 +1,8 @@
 -- What one step of a loop does to a trace.
-use Rattle.std.specs.Prelude.{◌≡◌, ℕ, suc, ◌≤◌, Option, Some, List, length, Result, OnOk}
+use Rattle.std.specs.Prelude.{◌≡◌, ℕ, suc, ◌≤◌, false, Option, Some, List, length, Result, MatchResult}
 use Rattle.mips_table.specs.Device.{Environment}
 use Rattle.mips_table.specs.Machine.{State, run}
+use Rattle.mips_table.specs.Turns.{rests}
 use Rattle.mips_machine.specs.Machine.{Held}
 use Rattle.mips_machine.specs.Steps.{outside_of}
 use Rattle.layer_map.specs.Map.{Map}
@@ -12,17 +13,18 @@ use Rattle.layer_contract.specs.Follows.{site_of}
 use Rattle.boot_turns.specs.declared.completion.Stepped.{Stepped}
 use Rattle.boot_turns.specs.declared.tracer.Tracer.{Tracer}
 use Rattle.boot_turns.specs.declared.answers.RunFault.{RunFault}
+use Rattle.boot_turns.specs.declared.answers.RunFault.TheVariants.{Sink}
 use Rattle.boot_turns.specs.Completes.{state_seen}
 use Rattle.boot_turns.specs.Premises.{StartsFrom}
 use Rattle.boot_turns.specs.Tracing.{Traced}
 
--- ONE STEP OF A TRACE that no call of the outside failed in: for every run from a start that stands there, of one of its users
+-- ONE STEP OF A TRACE, for every run from a start that stands there, of one of its users; a step in whose rows the sink failed completes no turn
 abbrev pub StepTraces : Environment → Map → Held → (told : Option (List (List ℕ))) → (before after : Option Tracer) → (text retext : Option (List ℕ)) →
     Result Stepped RunFault → Type 0
 StepTraces x m held told before after text retext result =
     (c : CUnit) (y : System) (s : State) (late limit u t : ℕ) (base : Option (List ℕ)) → StartsFrom (IsTypedState c) x y s late limit →
     m ≡ (site_of y.boot).map → 1 ≤ u → u ≤ length y.boot.users → state_seen told held ≡ Some (run x s t) → Traced x y s u t base before text →
-    OnOk result (Traced x y s u (suc t) base after retext)
+    MatchResult result (λ _. Traced x y s u (suc t) base after retext) (λ fault. fault ≡ Sink → rests (run x s (suc t)) ≡ false)
 
 -- over a disk of so many sectors
 abbrev pub StepTracesOver : (count : ℕ) → Map → Held → (told : Option (List (List ℕ))) → (before after : Option Tracer) → (text retext : Option (List ℕ)) →

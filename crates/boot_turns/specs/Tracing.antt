@@ -1,9 +1,10 @@
 -- What a trace has printed, and what is kept of it, while the machine steps.
-use Rattle.std.specs.Prelude.{◌≡◌, ℕ, ◌+◌, ◌*◌, ◌≤◌, ◌==◌, Bool, false, if◌then◌else◌}
+use Rattle.std.specs.Prelude.{◌≡◌, ℕ, suc, ◌+◌, ◌*◌, ◌≤◌, ◌==◌, Bool, false, if◌then◌else◌}
 use Rattle.std.specs.Prelude.{⊤, Option, Some, None, List, length, slice_index, Result, Ok, Err}
 use Rattle.std.specs.Io.KnownBytes.{append_known}
 use Rattle.mips_table.specs.Device.{Environment}
 use Rattle.mips_table.specs.Machine.{State, run}
+use Rattle.mips_table.specs.Turns.{rests}
 use Rattle.mips_machine.specs.Machine.{Held, state_of}
 use Rattle.mips_machine.specs.Steps.{outside_of}
 use Rattle.layer_map.specs.Map.{Map, memory_words}
@@ -19,7 +20,7 @@ use Rattle.boot_turns.specs.declared.completion.Begun.{Begun}
 use Rattle.boot_turns.specs.declared.tracer.Entered.{Entered}
 use Rattle.boot_turns.specs.declared.tracer.Tracer.{Tracer}
 use Rattle.boot_turns.specs.declared.answers.RunFault.{RunFault}
-use Rattle.boot_turns.specs.declared.answers.RunFault.TheVariants.{StepLimit}
+use Rattle.boot_turns.specs.declared.answers.RunFault.TheVariants.{StepLimit, Disk, Sink}
 use Rattle.boot_turns.specs.Completes.{state_seen, note}
 use Rattle.boot_turns.specs.Entries.{turn_begins, call_ends, return_entries, IsPlaced}
 use Rattle.boot_turns.specs.Returns.{noted_call, notes_on, returned}
@@ -106,11 +107,16 @@ pub record Tracing : Type 0 where
 abbrev pub tracing : Option Tracer → Option (List ℕ) → ℕ → Tracing
 tracing tracer text budget = record { tracer = tracer; text = text; budget = budget }
 
--- P, unless a call of the outside failed: where turns were made, or the budget was spent
-abbrev pub UnlessFailed : {T : Type 0} → Result T RunFault → Type 0 → Type 0
-UnlessFailed (Ok v) P = P
-UnlessFailed (Err StepLimit) P = P
-UnlessFailed (Err other) P = ⊤
+-- or they were broken off in a step that completes no turn
+abbrev pub CutAt : Environment → State → (t : ℕ) → (before after : ℕ) → Type 0
+CutAt x s t before after = (at : ℕ) × (after + suc at ≡ before + t) × (rests (run x s (suc at)) ≡ false)
+
+-- P where turns were made, or the budget was spent; Q where the sink failed
+abbrev pub UnlessFailed : {T : Type 0} → Result T RunFault → (P Q : Type 0) → Type 0
+UnlessFailed (Ok v) P Q = P
+UnlessFailed (Err StepLimit) P Q = P
+UnlessFailed (Err Disk) P Q = ⊤
+UnlessFailed (Err Sink) P Q = Q
 
 -- THE TRACE OF A LOOP that steps a machine, over a disk of so many sectors: for every run from a start that stands there, of
 -- one of its users
@@ -120,3 +126,4 @@ TraceRuns count m held told before after result =
     StartsFrom (IsTypedState c) (outside_of held.rows count) y s late limit → m ≡ (site_of y.boot).map → 1 ≤ u → u ≤ length y.boot.users →
     state_seen told held ≡ Some (run (outside_of held.rows count) s t) → Traced (outside_of held.rows count) y s u t base before.tracer before.text →
     UnlessFailed result (TracedOn (outside_of held.rows count) y s u t base before.budget after.budget after.tracer after.text)
+    (CutAt (outside_of held.rows count) s t before.budget after.budget)

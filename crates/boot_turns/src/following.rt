@@ -1,7 +1,8 @@
 // The rows of one step of a trace, and what is kept after it.
-ghost use Rattle.std.specs.Prelude.{◌≡◌, ◌<◌, ◌-◌, ◌^◌, [], length, Some};
+ghost use Rattle.std.specs.Prelude.{◌≡◌, ◌<◌, ◌-◌, ◌^◌, [], length, Some, OnErr};
 ghost use Rattle.mips_machine.specs.Machine.{state_of};
 ghost use Rattle.boot_turns.specs.Completes.{shown};
+ghost use Rattle.boot_turns.specs.Entries.{HasRows};
 ghost use Rattle.boot_turns.specs.Returns.{notes_on, returned};
 ghost use Rattle.boot_turns.specs.RowScripts.{MakesRows, ended_script, followed_script};
 ghost use Rattle.boot_turns.specs.StepRows.{EndPrints, FollowPrints};
@@ -144,6 +145,7 @@ impl Tracer {
     ) -> Result<(), RunFault>
         requires can { CanFollow map.now machine.now self.old (D.size disk.old) }
         ensures prints { FollowPrints (D.sectors disk.old) machine.now map.now self.old self.new current began (O.text out.old) (O.text out.new) result }
+        ensures rows { OnErr result (HasRows (state_of machine.now []) self.old.call began) }
         ensures user { self.new.user ≡ self.old.user }
         ensures can { CanTrace map.now (length machine.now.hardware.memory) machine.now.time (D.size disk.new) self.new }
         ensures leaves { RowsLeave D.sectors D.size disk.old disk.new result }

@@ -1,5 +1,5 @@
 // What a trace keeps between two steps, and the rows that it prints.
-ghost use Rattle.std.specs.Prelude.{◌≡◌, ◌*◌, ◌/◌, ◌≤◌, length, ◌+◌, ◌-◌, ◌<◌, ◌^◌, ◌++◌, [], OnOk};
+ghost use Rattle.std.specs.Prelude.{◌≡◌, ◌*◌, ◌/◌, ◌≤◌, length, ◌+◌, ◌-◌, ◌<◌, ◌^◌, ◌++◌, [], true, OnOk, OnErr};
 ghost use Rattle.cvm_outside.specs.Script.{Prints};
 ghost use Rattle.mips_machine.specs.Machine.{state_of};
 ghost use Rattle.cvm_model.specs.Text.{steps_row as steps_text};
@@ -89,6 +89,7 @@ impl Tracer {
     ) -> Result<(), SinkFault>
         requires few { self.old.steps < 2 ^ 64 - 1 }
         ensures prints { PutsEntries O.Sink out.old out.new self.old self.new (turn_begins self.old.user current begun.now) result }
+        ensures puts { OnErr result (begun.now.dispatched ≡ true) }
         ensures user { self.new.user ≡ self.old.user }
         ensures few { self.new.steps ≤ self.old.steps + 1 }
     {

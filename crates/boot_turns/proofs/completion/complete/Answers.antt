@@ -1,6 +1,6 @@
 use Rattle.std.proofs.lemmas.Result.{err_from_is_err_and}
 use Rattle.std.specs.Prelude.{is_some, not, IsSome, IfSome, length}
-use Rattle.std.proofs.Common.{ℕ, ◌+◌, ◌-◌, ◌≤◌, Bool, true, false, Option, Some, Ok, Err, suc, ◌≡◌, ◌<◌, inl, inr, None, List, refl, sym, ap, ap₂, ◌∙◌, subst, ⊎_elim, arith}
+use Rattle.std.proofs.Common.{ℕ, ◌+◌, ◌-◌, ◌≤◌, Bool, true, false, Option, Some, Result, Ok, Err, suc, ◌≡◌, ◌<◌, inl, inr, None, List, refl, sym, ap, ap₂, ◌∙◌, subst, ⊎_elim, arith}
 use Rattle.std.specs.Option.{option_map}
 use Rattle.std.proofs.lemmas.Bool.{cases_lt}
 use Rattle.mips_table.specs.Device.{Environment}
@@ -14,13 +14,14 @@ use Rattle.boot_turns.specs.declared.tracer.Tracer.{Tracer}
 use Rattle.boot_turns.proofs.Events.{told_as_some}
 use Rattle.boot_turns.proofs.Stepping.{off_rests}
 use Rattle.boot_turns.specs.declared.completion.Begun.{Begun}
+use Rattle.boot_turns.specs.declared.answers.RunFault.{RunFault}
 use Rattle.mips_table.specs.Turns.{rests}
 use Rattle.boot_turns.specs.Completes.{state_seen, PassesQuietly, Skips, Open, Progress, turn_began, KeptUser, StepBegan}
 use Rattle.boot_turns.specs.Tracing.{Tracing, CanTrace, tracer_at, tracing}
 use Rattle.layer_map.specs.Map.{Map}
 use Rattle.mips_table.specs.Fits.{NamesSector}
 use Rattle.boot_turns.proofs.QuietStretches.{progress_passed}
-use Rattle.boot_turns.proofs.LoopSteps.{seen_more, one_step, step_stops, skips_more, skips_passed, Opened, seen_rests, seen_note}
+use Rattle.boot_turns.proofs.LoopSteps.{seen_more, one_step, left_at, step_stops, skips_more, skips_passed, Opened, seen_rests, seen_note}
 use Rattle.boot_turns.proofs.StepMakes.{no_steps, as_made, stretch_then, at_made, one_more}
 use Rattle.boot_turns.specs.LoopScripts.{StepsCall}
 use Rattle.boot_turns.proofs.Tracking.{Tracks, tracks_none, tracks_limit, tracks_whole, tracks_more, tracks_stop}
@@ -35,6 +36,9 @@ off_none (Some w) r b e f h = absurd (let g : true ≡ false = f ∙ ap not h in
 off_some : (o r : Option ℕ) (b : Bool) → o ≡ r → is_some o ≡ not b → b ≡ false → (w : ℕ) × (r ≡ Some w)
 off_some None r b e f h = absurd (let g : false ≡ true = f ∙ ap not h in cc)
 off_some (Some w) r b e f h = (w, sym e)
+
+same_err : {a b : RunFault} → ◌≡◌ {A = Result (ℕ × Begun) RunFault} (Err a) (Err b) → a ≡ b
+same_err e = cc
 
 true_false : (b : Bool) → b ≡ true → b ≡ false → ⊥
 true_false b e f = cc
@@ -217,14 +221,26 @@ returns-in_err-stepped-clause-ends g c = λ s t h.
       small,
       i.5,
       rw (w.1, w.2) (step_stops x s (t + n) i.0 (c.args.budget.now - n) (c.loop-begun.budget - 1) (state_seen (g.D.Sectors.sectors c.step_traced.new.disk) c.step_traced.new.machine)
-          c.loop-begun.begun c.in_err-stepped.field-0.0 (λ e. c.in_err-stepped.ensures.no_limit (ap (λ f. Err f) e)) i.1 spent i.4 (here_on (g.D.Sectors.sectors c.loop-begun.disk) c.loop-begun.machine (run x s i.0) i.3 (off_none _ _ _ c.off.ensures c.is_none.ensures c.loop-begun-test.true))),
+          c.loop-begun.begun c.in_err-stepped.field-0.0 (λ e. c.in_err-stepped.ensures.no_limit (ap (λ f. Err f) e)) i.1 spent i.4 (here_on (g.D.Sectors.sectors c.loop-begun.disk) c.loop-begun.machine (run x s i.0) i.3 (off_none _ _ _ c.off.ensures c.is_none.ensures c.loop-begun-test.true))
+          (left_at (g.D.Sectors.size c.loop-begun.disk) x (run x s i.0) (g.D.Sectors.sectors c.loop-begun.disk) (g.D.Sectors.sectors c.step_traced.new.disk) c.loop-begun.machine c.step_traced.new.machine c.in_err-stepped.field-0.0
+          (ap₂ outside_of c.loop-begun.invariant.rows c.loop-begun.invariant.size) i.3 c.in_err-stepped.ensures.left)),
     )
 
 pub returns-in_err-stepped-clause-traced : goal.returns-in_err-stepped-clause-traced
 returns-in_err-stepped-clause-traced g c =
     let w = err_from_is_err_and c.from_residual.result c.from_residual.ensures.1 in
-    rw (w.1, w.2) (tracks_stop (g.D.Sectors.size c.args.disk.now) c.args.map.now c.args.machine.now (g.D.Sectors.sectors c.args.disk.now) (tracing c.args.tracer.now (g.O.Sink.text c.args.out.now) c.args.budget.now)
-    (tracing c.step_traced.new.tracer (g.O.Sink.text c.step_traced.new.out) (c.loop-begun.budget - 1)) c.in_err-stepped.field-0.0 (λ e. c.in_err-stepped.ensures.no_limit (ap (λ f. Err f) e)))
+    let p = c.if-budget-eq0.false in
+    rw (w.1, w.2) (tracks_stop (g.D.Sectors.size c.args.disk.now) c.args.map.now c.args.machine.now c.loop-begun.machine (g.D.Sectors.sectors c.args.disk.now) (g.D.Sectors.sectors c.loop-begun.disk)
+    (tracing c.args.tracer.now (g.O.Sink.text c.args.out.now) c.args.budget.now) (tracing c.loop-begun.tracer (g.O.Sink.text c.loop-begun.out) c.loop-begun.budget)
+    c.loop-begun.invariant.tracks (outside_of c.loop-begun.machine.rows (g.D.Sectors.size c.loop-begun.disk)) (ap₂ outside_of c.loop-begun.invariant.rows c.loop-begun.invariant.size)
+    (tracing c.step_traced.new.tracer (g.O.Sink.text c.step_traced.new.out) (c.loop-begun.budget - 1)) (omega (arith, p))
+    c.in_err-stepped.field-0.0 (λ e. c.in_err-stepped.ensures.no_limit (ap (λ f. Err f) e)) c.in_err-stepped.ensures.traced)
+
+-- where no user is traced the sink isn't called
+pub returns-in_err-stepped-clause-silent : goal.returns-in_err-stepped-clause-silent
+returns-in_err-stepped-clause-silent g c =
+    let w = err_from_is_err_and c.from_residual.result c.from_residual.ensures.1 in
+    λ none sink. c.in_err-stepped.ensures.silent (c.loop-begun.invariant.untraced none).0 (ap (λ f. Err f) (sym w.2 ∙ same_err (sym w.1 ∙ sink)))
 
 pub returns-in-Some-clause-ends : goal.returns-in-Some-clause-ends
 returns-in-Some-clause-ends g c = λ s t h.

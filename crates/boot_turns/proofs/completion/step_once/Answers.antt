@@ -1,7 +1,8 @@
 use Rattle.std.proofs.Common.{◌≡◌, Bool, true, false, slice_index, refl, sym, ap, ◌∙◌, subst, eq-eqb, ne_eqb, rules}
 use Rattle.std.specs.Prelude.{◌==◌}
 use Rattle.boot_turns.specs.Completes.{turn_began, stepped_as, StepBegan}
-use Rattle.boot_turns.proofs.Events.{event_told, event_told_at, user_begins, untaken_begins, steps_reset, steps_on, steps_seen, steps_time, fails_time}
+use Rattle.boot_turns.proofs.Events.{event_told, event_told_at, user_begins, untaken_begins, steps_reset, steps_on, steps_seen, steps_time, fails_time, fails_left}
+use Rattle.std.proofs.lemmas.Result.{err_from_is_err_and}
 use Rattle.boot_turns.proofs.completion.step_once.Goals as goal
 
 as_told : (b : Bool) → turn_began (stepped_as b) ≡ b
@@ -64,3 +65,8 @@ returns-then-not-taken-clause-ends g c = record {
       (sym c.was_taken-taken.ensures ∙ c.if-not-taken.true) (steps_reset (g.D.Sectors.size c.args.disk.now) c.args.machine.now c.step.new.self (g.D.Sectors.sectors c.args.disk.now) (g.D.Sectors.sectors c.step.new.disk) c.in_ok-event.event c.in_ok-event.ensures.ok));
   kept = tt;
 }
+
+pub returns-in_err-event-clause-left : goal.returns-in_err-event-clause-left
+returns-in_err-event-clause-left g c =
+    let w = err_from_is_err_and c.from_residual.result c.from_residual.ensures.1 in
+    rw w.1 (fails_left (g.D.Sectors.size c.args.disk.now) c.args.machine.now c.step.new.self (g.D.Sectors.sectors c.args.disk.now) (g.D.Sectors.sectors c.step.new.disk) c.in_err-event.ensures.fault)

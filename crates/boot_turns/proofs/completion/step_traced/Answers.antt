@@ -1,15 +1,18 @@
-use Rattle.std.proofs.Common.{◌≡◌, Option, Some, None, sym, ◌∙◌, subst, Bool, true, Ok, Err}
+use Rattle.std.proofs.Common.{◌≡◌, ℕ, List, Option, Some, None, sym, ap, ◌∙◌, subst, Bool, true, Result, Ok, Err}
 use Rattle.std.specs.Prelude.{IfSome}
 use Rattle.boot_turns.specs.declared.completion.Stepped.{Stepped}
 use Rattle.boot_turns.specs.declared.completion.Stepped.TheVariants.{Kept}
-use Rattle.boot_turns.specs.Completes.{KeptUser, StepBegan, turn_began}
+use Rattle.boot_turns.specs.Completes.{state_seen, KeptUser, StepBegan, turn_began}
 use Rattle.boot_turns.proofs.Counted.{step_counted}
+use Rattle.boot_turns.proofs.Events.{ran_left}
 use Rattle.boot_turns.proofs.StepMakes.{step_broken, step_plain, step_follows, step_counts}
 use Rattle.cvm_outside.specs.Outside.{output}
 use Rattle.std.proofs.lemmas.Result.{err_from_is_err_and}
 use Rattle.mips_machine.specs.Steps.{outside_of}
 use Rattle.boot_turns.specs.declared.tracer.Tracer.{Tracer}
-use Rattle.boot_turns.proofs.Tracking.{step_broke, step_goes}
+use Rattle.boot_turns.specs.declared.answers.RunFault.{RunFault}
+use Rattle.boot_turns.specs.declared.answers.RunFault.TheVariants.{Disk, Sink}
+use Rattle.boot_turns.proofs.Tracking.{step_broke, step_cut, step_goes}
 use Rattle.boot_turns.proofs.completion.step_traced.Given.{Over}
 use Rattle.boot_turns.proofs.completion.step_traced.Goals.{In-Some, in-Kept+else-counts, in_default}
 use Rattle.boot_turns.proofs.completion.step_traced.Goals as goal
@@ -18,6 +21,12 @@ use Rattle.boot_turns.proofs.completion.step_traced.Goals as goal
 if_traced : (o : Option Tracer) (P : Type 0) → P → IfSome o (λ _. P)
 if_traced None P h = tt
 if_traced (Some k) P h = h
+
+disk_sink : Disk ≡ Sink → ⊥
+disk_sink e = absurd (cc)
+
+same_err : {a b : RunFault} → ◌≡◌ {A = Result Stepped RunFault} (Err a) (Err b) → a ≡ b
+same_err e = cc
 
 -- what is kept is still what was kept before the step
 here : (g : Over) (c : In-Some g) → c.args.tracer.now ≡ Some c.in-Some.kept
@@ -34,13 +43,23 @@ pub returns-in_err-stepped-clause-traced : goal.returns-in_err-stepped-clause-tr
 returns-in_err-stepped-clause-traced g c =
     let w = err_from_is_err_and c.from_residual.result c.from_residual.ensures.1 in
     step_broke (outside_of c.args.machine.now.rows (g.D.Sectors.size c.args.disk.now)) c.args.map.now c.args.machine.now (g.D.Sectors.sectors c.args.disk.now) c.args.tracer.now c.args.tracer.now (g.O.Sink.text c.args.out.now) (g.O.Sink.text c.args.out.now)
-    c.from_residual.result w.0 w.1
+    c.from_residual.result w.0 w.1 (λ sink. disk_sink (sym w.2 ∙ sink))
 
 pub returns-in_err-follow-clause-traced : goal.returns-in_err-follow-clause-traced
 returns-in_err-follow-clause-traced g c =
     let w = err_from_is_err_and c.from_residual-in_err-follow.result c.from_residual-in_err-follow.ensures.1 in
-    step_broke (outside_of c.args.machine.now.rows (g.D.Sectors.size c.args.disk.now)) c.args.map.now c.args.machine.now (g.D.Sectors.sectors c.args.disk.now) c.args.tracer.now (Some c.follow.new.self) (g.O.Sink.text c.args.out.now) (g.O.Sink.text c.follow.new.out)
-    c.from_residual-in_err-follow.result w.0 w.1
+    step_cut c.traces_grow.ensures c.journal_rows_follow.ensures c.the_words_tell.ensures (outside_of c.args.machine.now.rows (g.D.Sectors.size c.args.disk.now)) c.args.map.now c.args.machine.now (g.D.Sectors.sectors c.args.disk.now) c.in-Some.kept (g.O.Sink.text c.args.out.now) c.requires.on
+    c.step_once.new.machine (g.D.Sectors.sectors c.step_once.new.disk) c.in_ok-stepped.ensures.ends.ran c.current_user-current.result c.current_user-current.ensures c.began-began.result (began g (goal.at.returns-in_err-follow-clause-traced g c).In-Some)
+    c.args.tracer.now (Some c.follow.new.self) (g.O.Sink.text c.follow.new.out) c.from_residual-in_err-follow.result w.0 (here g (goal.at.returns-in_err-follow-clause-traced g c).In-Some) w.1 c.in_err-follow.ensures.rows
+
+-- where no user is traced the sink isn't called
+pub returns-in_err-stepped-clause-silent : goal.returns-in_err-stepped-clause-silent
+returns-in_err-stepped-clause-silent g c =
+    let w = err_from_is_err_and c.from_residual.result c.from_residual.ensures.1 in
+    λ none sink. disk_sink (sym w.2 ∙ same_err (sym w.1 ∙ sink))
+
+pub returns-in_err-follow-clause-silent : goal.returns-in_err-follow-clause-silent
+returns-in_err-follow-clause-silent g c = λ none sink. absurd (let e : ◌≡◌ {A = Option Tracer} None (Some c.in-Some.kept) = sym none ∙ here g (goal.at.returns-in_err-follow-clause-silent g c).In-Some in cc)
 
 pub returns-in-Some-clause-traced : goal.returns-in-Some-clause-traced
 returns-in-Some-clause-traced g c =
@@ -58,6 +77,19 @@ returns-then-counts-clause-traced g c =
     step_counted c.traces_grow.ensures c.journal_rows_follow.ensures c.the_words_tell.ensures x c.args.map.now c.args.machine.now (g.D.Sectors.sectors c.args.disk.now) c.args.tracer.now c.counts.new.tracer (g.O.Sink.text c.args.out.now)
     c.requires.on c.step_once.new.machine (g.D.Sectors.sectors c.step_once.new.disk) c.in_ok-stepped.ensures.ends.ran c.current_user-current.result (if_traced c.args.tracer.now _ c.current_user-current.ensures) began kept.0 (c.counts.ensures.free c.if-counts.true)
     (c.counts.ensures.counted c.if-counts.true) Kept
+
+-- what a fault left
+pub returns-in_err-stepped-clause-left : goal.returns-in_err-stepped-clause-left
+returns-in_err-stepped-clause-left g c =
+    let w = err_from_is_err_and c.from_residual.result c.from_residual.ensures.1 in
+    rw (w.1, w.2) c.in_err-stepped.ensures.left
+
+pub returns-in_err-follow-clause-left : goal.returns-in_err-follow-clause-left
+returns-in_err-follow-clause-left g c =
+    let w = err_from_is_err_and c.from_residual-in_err-follow.result c.from_residual-in_err-follow.ensures.1 in
+    let sectors = c.in_err-follow.ensures.leaves.sectors in
+    rw w.1 (ran_left (g.D.Sectors.size c.args.disk.now) c.args.machine.now c.step_once.new.machine (g.D.Sectors.sectors c.args.disk.now) (g.D.Sectors.sectors c.follow.new.disk) w.0
+    (ap (λ (r : Option (List (List ℕ))). state_seen r c.step_once.new.machine) sectors ∙ c.in_ok-stepped.ensures.ends.ran))
 
 -- THE CALLS of the step
 pub returns-in_err-stepped-clause-script : goal.returns-in_err-stepped-clause-script

@@ -12,7 +12,7 @@ pub returns-in_err-skipped-clause-ends : goal.returns-in_err-skipped-clause-ends
 returns-in_err-skipped-clause-ends g c =
     let h = err_from_is_err_and c.from_residual.result c.from_residual.ensures.1 in
     made_err c.loops_advance.ensures c.loops_make_turns.ensures c.args.self.now _ c.self.view_is (g.D.Sectors.size c.args.disk.now) _ c.args.most (g.D.Sectors.sectors c.args.disk.now) (g.D.Sectors.sectors c.complete.new.disk) (g.O.Sink.text c.args.out.now) (g.O.Sink.text c.complete.new.out) c.args.budget.now c.complete.new.budget
-    c.self.inside.places.map c.self.invariant.2.map c.in_err-skipped.field-0.0 h.0 c.from_residual.result h.1 (sym h.2) c.in_err-skipped.ensures.ends c.in_err-skipped.ensures.traced refl
+    c.self.inside.places.map c.self.invariant.2.map c.in_err-skipped.field-0.0 h.0 c.from_residual.result h.1 (sym h.2) c.in_err-skipped.ensures.ends c.in_err-skipped.ensures.traced c.in_err-skipped.ensures.silent refl
 
 pub returns-then-not-begun-clause-ends : goal.returns-then-not-begun-clause-ends
 returns-then-not-begun-clause-ends g c =

@@ -1,5 +1,6 @@
 -- What a step adds is what its branch prints: a turn of the user, a turn of another, a primitive that returned, or nothing.
-use Rattle.std.proofs.Common.{◌≡◌, ℕ, List, [], false, Option, None, sym, ap, ◌∙◌}
+use Rattle.std.proofs.Common.{◌≡◌, ℕ, List, [], Bool, true, false, Option, Some, None, refl, sym, ap, ◌∙◌, subst}
+use Rattle.std.specs.Prelude.{IsSome}
 use Rattle.std.specs.Io.KnownBytes.{append_known}
 use Rattle.cvm_outside.proofs.Parts.{append_known-nil}
 use Rattle.cvm_outside.proofs.Putting.{same_script}
@@ -11,8 +12,10 @@ use Rattle.mips_table.specs.Machine.{State}
 use Rattle.mips_machine.specs.Machine.{Held, state_of}
 use Rattle.boot_turns.specs.declared.tracer.Entered.{Entered}
 use Rattle.boot_turns.specs.declared.tracer.Tracer.{Tracer}
-use Rattle.boot_turns.specs.Entries.{turn_begins}
-use Rattle.boot_turns.specs.Returns.{notes_on}
+use Rattle.boot_turns.specs.declared.completion.Begun.{Begun}
+use Rattle.boot_turns.specs.Completes.{shown}
+use Rattle.boot_turns.specs.Entries.{turn_begins, HasRows}
+use Rattle.boot_turns.specs.Returns.{notes_on, returned}
 use Rattle.std.proofs.lemmas.Result.{err_from_is_err_and}
 use Rattle.boot_turns.proofs.Followed.{own_turn, other_turn, none_returned, rows_put, kept_then, call_put, call_kept}
 use Rattle.boot_turns.proofs.tracer.Tracer.follow.Goals.{then-began+then-current-self+else-prove+in_ok-begin, then-began+else-current-self, else-began+in-Some+in_ok-end, else-began+in_default}
@@ -75,6 +78,23 @@ returns-clause-prints g c = record {
             )
       ];
 }
+
+-- a turn that begins with rows is a dispatch, and else a primitive has returned
+rows_begun : (a : Held) (noted : Option Entered) (b : Begun) (began : Bool) → began ≡ true → b ≡ shown a → b.dispatched ≡ true → HasRows (state_of a []) noted began
+rows_begun a noted b began is same d = rw is (ap (λ (n : Begun). n.dispatched) (sym same) ∙ d)
+
+returned_rows : (a : Held) (noted o : Option Entered) (e : Entered) (began : Bool) → began ≡ false → o ≡ returned (state_of a []) noted → o ≡ Some e → HasRows (state_of a []) noted began
+returned_rows a noted o e began is same some = rw is (subst IsSome (sym some ∙ same) refl)
+
+pub returns-in_err-begin-clause-rows : goal.returns-in_err-begin-clause-rows
+returns-in_err-begin-clause-rows g c =
+    let h = err_from_is_err_and c.from_residual.result c.from_residual.ensures.1 in
+    rw h.1 (rows_begun c.args.machine.now c.args.self.now.call c.begun_now.result c.args.began c.if-began.true c.begun_now.ensures c.in_err-begin.ensures.puts)
+
+pub returns-in_err-end-clause-rows : goal.returns-in_err-end-clause-rows
+returns-in_err-end-clause-rows g c =
+    let h = err_from_is_err_and c.from_residual-in_err-end.result c.from_residual-in_err-end.ensures.1 in
+    rw h.1 (returned_rows c.args.machine.now c.args.self.now.call c.returned_call.result c.in-Some.call c.args.began c.if-began.false c.returned_call.ensures c.in-Some.is)
 
 -- THE SCRIPT of what follows
 pub returns-in_err-begin-clause-script : goal.returns-in_err-begin-clause-script
