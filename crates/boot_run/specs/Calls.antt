@@ -25,7 +25,7 @@ module _ {D O : Type 0} (size : D → ℕ) (sectors : D → Option (List (List �
   ProceedsAnyhow most run disk budget out new retold left printed result = run.fault ≡ None → run.ended ≡ None →
       AnyTurnsRun (size disk) run most (around run (sectors disk) budget (text out)) (around new (sectors retold) left (text printed)) result
 
-  -- and of one that hasn't ended, either
+  -- as `Proceeds`, of a run that hasn't ended either
   abbrev pub TakesTurns : {L : Type 0} → (most : ℕ) → Kept L → D → ℕ → O → Kept L → D → ℕ → O → Result (ℕ × Turn) RunFault → Type 0
   TakesTurns most run disk budget out new retold left printed result = run.fault ≡ None → run.ended ≡ None →
       TurnsRun (size disk) run most (around run (sectors disk) budget (text out)) (around new (sectors retold) left (text printed)) result

@@ -1,4 +1,4 @@
--- What the pieces of a whole run come to, from which its end is put together: the premises, the loop over turns, what closes a run, and a run to its end.
+-- The pieces of a whole run: its premises, what the loop over turns comes to, and how a run ends in which a call fails.
 use Rattle.std.specs.Prelude.{⊤, ◌≡◌, ℕ, suc, ◌+◌, ◌≤◌, false, Option, Some, List, Result, MatchResult}
 use Rattle.mips_table.specs.Device.{Environment}
 use Rattle.mips_table.specs.Machine.{State, run}

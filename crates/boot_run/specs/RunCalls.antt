@@ -88,10 +88,11 @@ ReportPerforms text told run (out, disk) new result =
     Makes text told (out, disk) new
     (report_script run.view (run_at (outside_of run.machine.rows (told.size disk)) y s run.view turns steps) p t c.status) of_run result
 
--- so it is; and where it kept no fault some calls are made over any disk that only read, and print
+-- some calls that only read, and print
 abbrev pub SomeRead : {O D T : Type 0} → sink_of.Ghosts O → sectors_of.Ghosts D → (old new : O × D) → Result T RunFault → Type 0
 SomeRead text told old new result = (script : List Call) × AreReads script × Makes text told old new script of_run result
 
+-- so it is; and where it kept no fault some such calls are made over any disk
 pub record ReportCalls {O D L T : Type 0} (text : sink_of.Ghosts O) (told : sectors_of.Ghosts D) (run : Kept L) (old new : O × D)
     (result : Result T RunFault) : Type 0 where
   pub exact : ReportPerforms text told run old new result
@@ -154,6 +155,7 @@ GoPerforms text told run turns budget (out, disk) new result =
     Makes text told (out, disk) new (turns_script (run_at (outside_of run.machine.rows (told.size disk)) y s run.view wanted steps) p k t
     (steps_made (run_at (outside_of run.machine.rows (told.size disk)) y s run.view wanted steps) - t)) of_run result
 
+-- so it is; and some calls of a run are made over any disk
 pub record GoCalls {O D L T : Type 0} (text : sink_of.Ghosts O) (told : sectors_of.Ghosts D) (run : Kept L) (turns budget : ℕ) (old new : O × D)
     (result : Result T RunFault) : Type 0 where
   pub exact : GoPerforms text told run turns budget old new result
@@ -193,6 +195,7 @@ pub record CloseCalls {O D L : Type 0} (text : sink_of.Ghosts O) (told : sectors
 abbrev pub SomeMade : {O D : Type 0} → sink_of.Ghosts O → sectors_of.Ghosts D → (old new : O × D) → Option Who → Type 0
 SomeMade text told old new blamed = (script : List Call) × AreOfRun script × Made text told old new script blamed
 
+-- so it is; and some are made over any disk
 pub record RestCalls {O D L : Type 0} (text : sink_of.Ghosts O) (told : sectors_of.Ghosts D) (run : Kept L) (turns budget : ℕ) (old new : O × D)
     (end : RunEnd) : Type 0 where
   pub exact : RestPerforms text told run turns budget old new end

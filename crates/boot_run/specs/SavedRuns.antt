@@ -1,4 +1,4 @@
--- What a saved run leaves, and how one that is taken up from there ends.
+-- What a saved run leaves, what is printed of one that is taken up from there, and which sectors are those of a disk.
 use Rattle.std.specs.Prelude.{◌≡◌, ℕ, ◌≤◌, Some, None, Option, List, length, drop, All}
 use Rattle.std.specs.Io.KnownBytes.{append_known}
 use Rattle.mips_table.specs.Device.{Environment}

@@ -1,4 +1,4 @@
--- What a run that is to be saved comes to, and what one that is taken up from saved words does.
+-- Where a run that is to be saved stops, and what a run is that was taken up from saved words.
 use Rattle.std.specs.Prelude.{⊤, ◌≡◌, ℕ, ◌+◌, ◌≤◌, Option, Some, None, List, [], Result, Ok, Err}
 use Rattle.mips_table.specs.Device.{Environment}
 use Rattle.mips_table.specs.Machine.{State, run}

@@ -1,4 +1,5 @@
-//! Loaded runs: `load`, `load_rom`, `turn`, `turns`, `report`, `ended` and `steps` over any layer.
+//! Loaded runs over any layer: what makes one (`load`, `load_rom`, `resumed`), its turns, its report and its words; whole boots and traces, a boot that is
+//! to be saved, and the rest of one that was taken up; and laws of them.
 #![tactic(auto)]
 
 mod laws;

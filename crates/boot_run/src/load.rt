@@ -1,4 +1,4 @@
-// The machine of a boot, loaded.
+// What a run is made of, why none is loaded, the tests of its user and its disk, and the loaded machine.
 ghost use Rattle.std.specs.Prelude.{◌≡◌, ◌+◌, ◌*◌, ◌/◌, ◌<◌, ◌≤◌};
 ghost use Rattle.std.specs.Prelude.{ℕ, length, map, IfOk, IfErr, OnOk, Err, Ok};
 ghost use Rattle.layer_map.specs.Map.{MapInRange, memory_frames};

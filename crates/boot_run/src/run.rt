@@ -100,8 +100,8 @@ impl<L: Layer + Drop> Run<L> {
     ///
     /// `NoSuchUser`, where the user of a trace is none of the users; else `SmallDisk`, where the disk has fewer sectors than the
     /// users' pages take; else `Memory`, for want of memory; else `Disk`, only where the disk's count of faults rose. The sectors before the one at
-    /// which the disk failed are written then, that one may hold anything, and the others are as before; as many calls of the disk were made as words
-    /// reach into pages of sectors up to that one.
+    /// which the disk failed are written then, that one may hold anything, and the others are as before; as many calls of the disk were made, where
+    /// it hadn't failed before, as sectors up to that one get a page.
     pub fn load<D: Sectors>(
         alloc: Global,
         layer: L,

@@ -9,7 +9,7 @@ use Rattle.layer_contract.specs.Starts.{user_sectors, Beyond}
 use Rattle.boot_turns.specs.declared.answers.View.{View}
 use Rattle.boot_turns.specs.TurnEnds.{TurnIsOver, Printed, Whole}
 
--- how a boot or a trace ends whose image is accepted
+-- how a run ends in which no call fails
 pub data Ending : Type 0 where
   Done : Ending
   KernelFaulted : Ending

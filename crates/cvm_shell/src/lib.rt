@@ -87,7 +87,7 @@ use std::alloc::Global;
 /// those of the users' pages of a `boot`, a `rom`, a `trace`, a `save`, a `resume` or a `sample`, and of the linked words of a `rom`. A
 /// `resume` that doesn't go on from what a `save` left, file and disk, changes sectors as the machine does whose state the file names.
 ///
-/// How it ends is said once, for every command, and exactly (`script`): by the script of calls that words and files ask for. What is promised of a run
+/// How it ends is said once, for every command (`script`): by the script of calls that words and files ask for. What is promised of a run
 /// follows from that, by laws of `run_scripts`: the headline, that enough steps are enough, isolation, what a `yes` means, and saves and resumes are clauses
 /// here; why a status is what it is, and what stands after a fault, are laws there.
 pub fn run<S: Shelf, O: Sink, D: Sectors>(

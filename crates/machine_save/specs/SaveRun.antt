@@ -1,4 +1,4 @@
--- What a call comes to that boots what is to be saved, puts the state to a file, and prints the row `saved`.
+-- What is printed where the state of a run that stopped is put to a file; and what is so where none was put.
 use Rattle.std.specs.Prelude.{◌≡◌, ℕ, Option, List, codes, Result, Ok, Err, ⊤}
 use Rattle.std.specs.Io.KnownBytes.{append_known}
 use Rattle.cvm_outside.specs.Told.{AppendsPart}

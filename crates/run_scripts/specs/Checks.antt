@@ -1,4 +1,4 @@
--- STACK THAT IS ENOUGH, as a law: no run of such a system meets want of stack. What a `yes` of a check means stands in Promises.
+-- STACK THAT IS ENOUGH, as a law: no run of such a system meets want of stack. What a `yes` of a check means stands in Suffices.
 use Rattle.std.specs.Prelude.{◌≢◌, ℕ, List}
 use Rattle.schedule_file.specs.Rows.{Rows}
 use Rattle.cvm_model.specs.declared.kernel_fault.KernelFault.TheVariants.{StackOut}

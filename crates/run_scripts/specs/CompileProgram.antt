@@ -1,4 +1,4 @@
--- Compiling a user program: its words, and what its unit comes to.
+-- Compiling a user program: its words.
 use Rattle.std.specs.Prelude.{◌≡◌, List, ℕ, [], ◌∷◌, codes}
 
 -- compile the source of a user program, and put the image that it gives
