@@ -1,5 +1,5 @@
 -- Where a run from a start stands between turns, and the text that is printed at a step. `s` is the state of step 0.
-use Rattle.std.specs.Prelude.{◌≡◌, ◌≢◌, ◌⊎◌, ◌≤◌, ℕ, zero, suc, List, ◌++◌, length, take}
+use Rattle.std.specs.Prelude.{◌≡◌, ◌≢◌, ◌⊎◌, ◌≤◌, ℕ, zero, suc, List, ◌++◌}
 use Rattle.mips_table.specs.Device.{Environment}
 use Rattle.mips_table.specs.Machine.{State, run}
 use Rattle.mips_table.specs.Turns.{turn_of, complete, gathered, lines_of_turn}
@@ -7,7 +7,7 @@ use Rattle.mips_table.specs.Flat.{Flat}
 use Rattle.cvm_model.specs.Kernel.{JournalEntry}
 use Rattle.cvm_model.specs.Primitives.{user_of}
 use Rattle.cvm_model.specs.Cvm.{System, Running, Cvm, first_core, IsCvm}
-use Rattle.cvm_model.specs.Text.{rows_text, boot_text, journal_rows, open_journal_rows, start_row, trace_text}
+use Rattle.cvm_model.specs.Text.{rows_text, boot_text, open_journal_rows, start_row, trace_text}
 use Rattle.cvm_model.specs.Stands.{SimulationRelation}
 use Rattle.layer_contract.specs.Layer.{Rests}
 use Rattle.layer_contract.specs.Follows.{site_of}
@@ -43,20 +43,9 @@ abbrev pub Printed : Environment → System → State → View → ℕ → List 
 Printed x y s Boot t text = (c : Cvm) × IsCvm y (lines_of_turn x s) (complete x s t) c × (text ≡ rows_text c.rows)
 Printed x y s (Trace u) t text = (j : List JournalEntry) × Shown x s y u t j × (text ≡ start_row u (first_of y u) ++ open_journal_rows j)
 
--- the rows that stand before the end row
-abbrev pub RowsAt : Environment → System → State → View → ℕ → List ℕ → Type 0
-RowsAt x y s Boot t text = Printed x y s Boot t text
-RowsAt x y s (Trace u) t text = (j : List JournalEntry) × Shown x s y u t j × (text ≡ start_row u (first_of y u) ++ journal_rows j)
-
 -- THE WHOLE TEXT, with the end and the report
 abbrev pub Whole : Environment → System → State → View → ℕ → List ℕ → Type 0
 Whole x y s Boot t text = (c : Cvm) × IsCvm y (lines_of_turn x s) (complete x s t) c × (text ≡ boot_text y c)
 Whole x y s (Trace u) t text = (c : Cvm) × (j : List JournalEntry) × IsCvm y (lines_of_turn x s) (complete x s t) c
     × Shown x s y u t j
     × (text ≡ trace_text u (first_of y u) j (user_of c.core.users u) c.status)
-
--- a prefix of the whole that holds a part
-pub record Prefix (part whole text : List ℕ) : Type 0 where
-  pub count : ℕ
-  pub is : text ≡ take count whole
-  pub holds : take (length part) text ≡ part
