@@ -14,9 +14,6 @@ pub data Ending : Type 0 where
   Done : Ending
   KernelFaulted : Ending
   OutOfSteps : Ending
-  DiskFault : Ending
-  SinkFault : Ending
-  NoMemory : Ending
 
 -- it is out of steps where the turns aren't complete within them and the machine is on; else it goes by the CVM run
 abbrev pub ending_of : Status → Ending

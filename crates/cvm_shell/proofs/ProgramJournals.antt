@@ -61,9 +61,6 @@ text_so_far : (x : Environment) (y : System) (s : State) (v : View) (t : ℕ) (e
 text_so_far x y s v t headline.Done text e h = absurd (cc)
 text_so_far x y s v t headline.KernelFaulted text e h = absurd (cc)
 text_so_far x y s v t headline.OutOfSteps text e h = h
-text_so_far x y s v t headline.DiskFault text e h = absurd (cc)
-text_so_far x y s v t headline.SinkFault text e h = absurd (cc)
-text_so_far x y s v t headline.NoMemory text e h = absurd (cc)
 
 pub spent_traces : JournalsReplay → SpentTracesTell
 spent_traces law session u s rows before old new h sees traced =

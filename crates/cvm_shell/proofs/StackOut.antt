@@ -41,9 +41,6 @@ module _ (x : Environment) (y : System) (s : State) (never : (k : ℕ) (c : Cvm)
   text_clean v t headline.Done text h = whole_clean v t text h
   text_clean v t headline.KernelFaulted text h = whole_clean v t text h
   text_clean v t headline.OutOfSteps text h = printed_clean v t text h
-  text_clean v t headline.DiskFault text h = whole_clean v t text h
-  text_clean v t headline.SinkFault text h = whole_clean v t text h
-  text_clean v t headline.NoMemory text h = whole_clean v t text h
 
 pub not_met : StackOutIsNotPrinted
 not_met words status ended old new before after source stack session s rows sectors enough says has h =

@@ -7,7 +7,7 @@ use Rattle.mips_table.specs.Device.{Environment, HasEightLines}
 use Rattle.mips_table.specs.Turns.{complete, end_within, lines_of_turn}
 use Rattle.mips_table.specs.Machine.{State}
 use Rattle.boot_turns.specs.declared.answers.View.TheVariants.{Boot}
-use Rattle.boot_turns.specs.Headline.{Ending, Done, KernelFaulted, OutOfSteps, DiskFault, SinkFault, NoMemory, ending_of, ending, TextAt, RanFrom}
+use Rattle.boot_turns.specs.Headline.{Ending, Done, KernelFaulted, OutOfSteps, ending_of, ending, TextAt, RanFrom}
 use Rattle.cvm_model.specs.Cvm.{System, Cvm, Status as CvmStatus, Running, Halted, Faulted, IsCvm}
 use Rattle.cvm_model.specs.Invariant.{HasEight, IsSafe, RunsAreLawful}
 use Rattle.cvm_model.specs.Text.{rows_text, boot_text}
@@ -50,9 +50,6 @@ other_status : (e : Ending) → NoFault e → OtherStatus (ended_as e)
 other_status Done h = tt
 other_status KernelFaulted h = h
 other_status OutOfSteps h = tt
-other_status DiskFault h = tt
-other_status SinkFault h = tt
-other_status NoMemory h = tt
 
 pub no_status : (e : Ending) → NoFault e → ended_as e ≢ KernelFault
 no_status e h eq = subst OtherStatus eq (other_status e h)
@@ -71,18 +68,12 @@ status_text : (y : System) (e : Ending) (c : Cvm) (text : List ℕ) → IsTextOf
 status_text y OutOfSteps c text h = h
 status_text y Done c text h = h
 status_text y KernelFaulted c text h = h
-status_text y DiskFault c text h = h
-status_text y SinkFault c text h = h
-status_text y NoMemory c text h = h
 
 module _ (x : Environment) (y : System) (one : RunsAreOne y) (s : State) (held : ℕ) (old now : List (List ℕ)) (turns steps : ℕ) where
   text_of : (t : ℕ) (e : Ending) (text : List ℕ) → TextAt x y s Boot t e text → (c : Cvm) × IsCvm y (lines_of_turn x s) (complete x s t) c × IsTextOf y e c text
   text_of t OutOfSteps text h = h
   text_of t Done text h = h
   text_of t KernelFaulted text h = h
-  text_of t DiskFault text h = h
-  text_of t SinkFault text h = h
-  text_of t NoMemory text h = h
 
   pub stands : (e : Ending) (text : List ℕ) → RanFrom x y s held old now Boot turns steps e text → StandsAt x y s turns steps (ended_as e) text
   stands e text h =

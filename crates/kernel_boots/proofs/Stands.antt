@@ -54,9 +54,6 @@ spent_text : (x : Environment) (y : System) (s : State) (v : View) (t : ℕ) (e 
 spent_text x y s v t OutOfSteps text e h = h
 spent_text x y s v t IsDone text e h = absurd (cc)
 spent_text x y s v t KernelFaulted text e h = absurd (cc)
-spent_text x y s v t headline.DiskFault text e h = absurd (cc)
-spent_text x y s v t headline.SinkFault text e h = absurd (cc)
-spent_text x y s v t headline.NoMemory text e h = absurd (cc)
 
 -- a status other than that has the whole text
 whole_text : (u : ℕ) (first : Flat) (entries more : List JournalEntry) (status : Status) (c : Cvm) (text : List ℕ) → status ≢ statuses.StepLimit → text ≡ trace_text u first entries (user_of c.core.users u) c.status

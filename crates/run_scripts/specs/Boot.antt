@@ -15,13 +15,13 @@ use Rattle.cvm_model.specs.KernelMeaning.{kernel_meaning}
 use Rattle.layer_contract.specs.Follows.{loaded}
 use Rattle.layer_contract.specs.Starts.{user_sectors}
 use Rattle.boot_turns.specs.declared.answers.View.TheVariants as view
-use Rattle.boot_turns.specs.Headline.{Ending, Done as IsDone, KernelFaulted, OutOfSteps, DiskFault, SinkFault, NoMemory, RanFrom}
+use Rattle.boot_turns.specs.Headline.{Ending, Done as IsDone, KernelFaulted, OutOfSteps, RanFrom}
 use Rattle.boot_turns.specs.GoesOn.{GoesOnWithin}
 use Rattle.boot_turns.specs.Rom.{own_rom, rom_loaded, rom_sectors, rom_steps}
 use Rattle.boot_run.specs.RunEnds.{SeesUser}
 use Rattle.kernel_linker.specs.Accept.{ImageSystem}
 use Rattle.run_scripts.specs.declared.exit_status.Status.{Status}
-use Rattle.run_scripts.specs.declared.exit_status.Status.TheVariants.{Done, KernelFault, StepLimit, Disk, Sink, Memory}
+use Rattle.run_scripts.specs.declared.exit_status.Status.TheVariants.{Done, KernelFault, StepLimit}
 use Rattle.run_scripts.specs.declared.session.Session.{Session}
 use Rattle.run_scripts.specs.declared.session.StartPoint.{StartPoint}
 use Rattle.run_scripts.specs.declared.session.StartPoint.TheVariants.{Loaded, Rom}
@@ -85,9 +85,6 @@ abbrev pub ended_as : Ending → Status
 ended_as IsDone = Done
 ended_as KernelFaulted = KernelFault
 ended_as OutOfSteps = StepLimit
-ended_as DiskFault = Disk
-ended_as SinkFault = Sink
-ended_as NoMemory = Memory
 
 -- THE HEADLINE, of a run with no failed call: the sectors are those of the machine that runs the image's words, and status and text are those of
 -- the abstract run of the image's own kernel, with each line at the turn where the machine met it
