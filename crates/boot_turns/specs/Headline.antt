@@ -1,11 +1,10 @@
--- How a run from a start ends, what is printed of it and which sectors stand; and the headline of a boot, which is that of the loaded machine.
-use Rattle.std.specs.Prelude.{◌≡◌, ℕ, ◌<◌, true, if◌then◌else◌, List, []}
+-- How a run from a start ends, what is printed of it and which sectors stand; and which do where the disk failed in the load.
+use Rattle.std.specs.Prelude.{◌≡◌, ℕ, ◌<◌, true, if◌then◌else◌, List}
 use Rattle.mips_table.specs.Device.{Environment, sector_of}
 use Rattle.mips_table.specs.Machine.{State, run}
 use Rattle.mips_table.specs.Turns.{complete, lines_of_turn, is_end, end_within}
 use Rattle.cvm_model.specs.Cvm.{System, Status, Faulted, Cvm, IsCvm}
-use Rattle.layer_contract.specs.Follows.{loaded}
-use Rattle.layer_contract.specs.Starts.{user_sectors, Beyond}
+use Rattle.layer_contract.specs.Starts.{Beyond}
 use Rattle.boot_turns.specs.declared.answers.View.{View}
 use Rattle.boot_turns.specs.TurnEnds.{TurnIsOver, Printed, Whole}
 
@@ -42,15 +41,10 @@ pub record RanFrom (x : Environment) (y : System) (s : State) (held : ℕ) (old 
   pub over : is_end x s turns (end_within x s turns steps) ≡ true → TurnIsOver x y s turns (end_within x s turns steps) past
   pub text_is : TextAt x y s v (end_within x s turns steps) e text
 
--- the disk failed in the load, before a step was made: the sectors before number `at` are those that were to be written, that one may hold anything,
--- the rest is as before, and nothing is printed
-pub record LoadBroken (s : State) (held : ℕ) (old now : List (List ℕ)) (text : List ℕ) : Type 0 where
-  pub none : text ≡ []
+-- the disk failed in the load, before a step was made: the sectors before number `at` are those that were to be written, that one may hold anything
+-- and the rest is as before
+pub record LoadBroken (s : State) (held : ℕ) (old now : List (List ℕ)) : Type 0 where
   pub at : ℕ
   pub less : at < held
   pub written : (q : ℕ) → q < at → sector_of now q ≡ sector_of s.device.sectors q
   pub rest : (q : ℕ) → at < q → sector_of now q ≡ sector_of old q
-
--- THE BOOT is the run of the loaded machine, with the users' sectors: one with no failed call
-abbrev pub BootRan : Environment → System → (old now : List (List ℕ)) → View → (turns steps : ℕ) → Ending → List ℕ → Type 0
-BootRan x y old now v turns steps e text = RanFrom x y (loaded y old) (user_sectors y) old now v turns steps e text

@@ -4,7 +4,8 @@ use Rattle.std.specs.List.{flat_map}
 use Rattle.cvm_words.specs.Bytes.{word}
 use Rattle.mips_machine.specs.Steps.{outside_of}
 use Rattle.layer_contract.specs.Follows.{loaded}
-use Rattle.boot_turns.specs.Headline.{BootRan as RanOf}
+use Rattle.layer_contract.specs.Starts.{user_sectors}
+use Rattle.boot_turns.specs.Headline.{RanFrom}
 use Rattle.boot_turns.specs.declared.answers.View.TheVariants as view
 use Rattle.boot_run.specs.SavedRuns.{IsDisk}
 use Rattle.boot_run.specs.SaveRoom.{FILE_ROOM}
@@ -40,6 +41,6 @@ saved_and_resumed c d s rows before first mid old new words status a clause aske
       sectors = whole.sectors;
       printed = whole.printed;
       status_is = whole.status_is;
-      ran = subst (λ (n : ℕ). RanOf (outside_of rows n) y before whole.after view.Boot d.boot.turns d.boot.steps whole.ending (a.shown ++ whole.text)) l.size whole.ran;
+      ran = subst (λ (n : ℕ). RanFrom (outside_of rows n) y (loaded y before) (user_sectors y) before whole.after view.Boot d.boot.turns d.boot.steps whole.ending (a.shown ++ whole.text)) l.size whole.ran;
       goes_on = a.goes_on;
     }
