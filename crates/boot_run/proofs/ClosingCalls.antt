@@ -169,7 +169,7 @@ module _ {L O D : Type 0} (text : sink_of.Ghosts O) (told : sectors_of.Ghosts D)
     last_is y s t p g shown traces =
         let j : List JournalEntry = traces.0 in
         let one : p.shown t ≡ j = g.one t (p.shown t) j shown traces.1 in
-        let steps : kept.steps ≡ pending_steps j = same_steps kept (tracer_at x y s kept.user t j) (sym tracer ∙ traces.2) in
+        let steps : kept.steps ≡ pending_steps j = same_steps kept (tracer_at x s kept.user t j) (sym tracer ∙ traces.2) in
         ap steps_row steps ∙ sym (ap (λ i. drop (length (open_journal_rows i)) (journal_rows i)) one ∙ ap (drop (length (open_journal_rows j))) (follow.end j) ∙ drop-append_seam (open_journal_rows j) (steps_row (pending_steps j)))
       where
         same_steps : (a b : Tracer) → Some a ≡ Some b → a.steps ≡ b.steps

@@ -233,7 +233,7 @@ module _ (f : RowsFollow) (x : Environment) (y : System) (s : State) (u t : ℕ)
   return_adds (Some e) told = end_adds e (slice_index after.cpu.regs ANSWER) told.0 told.1
 
   step_adds : ReturnTold m after u words (returned after (noted_call x s t)) →
-      followed_script m after (Some (paged_of m after)) (tracer_at x y s u t j) current (begins_turn x (run x s t))
+      followed_script m after (Some (paged_of m after)) (tracer_at x s u t j) current (begins_turn x (run x s t))
       ≡ adds (if begins_turn x (run x s t) then false else is_copy_to u after (returned after (noted_call x s t))) (step_entries x s u t words)
   step_adds told = by (begins_turn x (run x s t))
     where
@@ -245,19 +245,19 @@ module _ (f : RowsFollow) (x : Environment) (y : System) (s : State) (u t : ℕ)
 
   -- so they are the rows of the step
   rows_shown : (p : Past) (turns steps : ℕ) → p.shown t ≡ j → p.shown (suc t) ≡ j ++ step_entries x s u t words → ReturnTold m after u words (returned after (noted_call x s t)) →
-      followed_script m after (Some (paged_of m after)) (tracer_at x y s u t j) current (begins_turn x (run x s t)) ≡ rows_script (Trace u) (traced_run x y s u turns steps) p t
+      followed_script m after (Some (paged_of m after)) (tracer_at x s u t j) current (begins_turn x (run x s t)) ≡ rows_script (Trace u) (traced_run x y s u turns steps) p t
   rows_shown p turns steps before now told =
       step_adds told
       ∙ sym (all_added f (λ e. if (if begins_turn x (run x s t) then false else is_copy_to u after (returned after (noted_call x s t))) then entry_reads m after u e else []) j (step_entries x s u t words) (p.shown t) (p.shown (suc t)) before now)
 
   -- by what the machine shows and what is kept
-  pub rows_followed : (m' : Map) (z : State) (k : Tracer) (now : ℕ) (began : Bool) → m' ≡ m → z ≡ after → k ≡ tracer_at x y s u t j → now ≡ current → began ≡ begins_turn x (run x s t) →
+  pub rows_followed : (m' : Map) (z : State) (k : Tracer) (now : ℕ) (began : Bool) → m' ≡ m → z ≡ after → k ≡ tracer_at x s u t j → now ≡ current → began ≡ begins_turn x (run x s t) →
       (p : Past) (turns steps : ℕ) → p.shown t ≡ j → p.shown (suc t) ≡ j ++ step_entries x s u t words → ReturnTold m after u words (returned after (noted_call x s t)) →
       followed_script m' z (Some (paged_of m' z)) k now began ≡ rows_script (Trace u) (traced_run x y s u turns steps) p t
   rows_followed m' z k now began hm hz hk hc hb p turns steps before after_it told =
       ap₂ (λ (m' : Map) (z : State). followed_script m' z (Some (paged_of m' z)) k now began) hm hz
       ∙ ap₂ (λ (k : Tracer) (now : ℕ). followed_script m after (Some (paged_of m after)) k now began) hk hc
-      ∙ ap (followed_script m after (Some (paged_of m after)) (tracer_at x y s u t j) current) hb
+      ∙ ap (followed_script m after (Some (paged_of m after)) (tracer_at x s u t j) current) hb
       ∙ rows_shown p turns steps before after_it told
 
 -- what the code makes of a step is told by the memory alone, whatever the sectors hold

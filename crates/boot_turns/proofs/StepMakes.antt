@@ -107,7 +107,7 @@ module _ {O D : Type 0} (x : device.Environment) (text : sink_of.Ghosts O) (told
   step_plain v d1 untraced h = record {
     untraced = λ none s t at shelf. one_transfer x held (told.sectors d) (λ (l : List Call). Performs l (over text told shelf o d) (over text told shelf o d1) None) (λ ss. h ss shelf) s t at;
     traced = λ c y s late limit u t base from map_is low high at traced p turns steps shown shelf.
-        absurd (let e : ◌≡◌ {A = Option Tracer} None (Some (tracer_at x y s u t traced.journal)) = sym untraced ∙ traced.keeps in cc);
+        absurd (let e : ◌≡◌ {A = Option Tracer} None (Some (tracer_at x s u t traced.journal)) = sym untraced ∙ traced.keeps in cc);
     some = (untold (script_of_step x (state_of held [])), of_due x (state_of held []), λ shelf. made_untold (script_of_step x (state_of held [])) (over text told shelf o d) (over text told shelf o d1) None (h [] shelf));
   }
 

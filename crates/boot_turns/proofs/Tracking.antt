@@ -63,10 +63,10 @@ module _ (f : RowsFollow) (x : Environment) (y : System) (s : State) (u t : ℕ)
       record { journal = w.journal ++ entries; shown = more.shown; keeps = ap (λ (k : Tracer). Some k) is ∙ counted; printed = rows_done f base text w.journal entries w.printed retext h }
 
 -- what is followed are the entries of the step
-followed_is : (x : Environment) (y : System) (s : State) (u t : ℕ) (j : List JournalEntry) (k : Tracer) → k ≡ tracer_at x y s u t j → (now : State) → now ≡ run x s (suc t) →
+followed_is : (x : Environment) (y : System) (s : State) (u t : ℕ) (j : List JournalEntry) (k : Tracer) → k ≡ tracer_at x s u t j → (now : State) → now ≡ run x s (suc t) →
     (current : ℕ) → current ≡ slice_index (run x s t).memory current_at → (began : Bool) → began ≡ begins_turn x (run x s t) → (words : List ℕ) → followed now k current began words ≡ step_entries x s u t words
 followed_is x y s u t j k hk now hn current hc began hb words =
-    let k' : Tracer = tracer_at x y s u t j in
+    let k' : Tracer = tracer_at x s u t j in
     let z : State = run x s (suc t) in
     let e : ℕ = slice_index (run x s t).memory current_at in
     ap (λ (k : Tracer). followed now k current began words) hk
@@ -134,8 +134,8 @@ module _ (grow : (c : CUnit) → TracesGrow (IsTypedState c)) (f : RowsFollow) (
       let is_on : (run x b.s b.t).off ≡ None = ap (λ (s : State). s.off) (sym w.2) ∙ on in
       (grow b.unit x b.y b.s b.late b.held b.u b.from b.low b.high).more b.t b.traced.journal is_on b.traced.shown
 
-  keeps_at : (b : Here) → k ≡ tracer_at x b.y b.s b.u b.t b.traced.journal
-  keeps_at b = same_some k (tracer_at x b.y b.s b.u b.t b.traced.journal) b.traced.keeps
+  keeps_at : (b : Here) → k ≡ tracer_at x b.s b.u b.t b.traced.journal
+  keeps_at b = same_some k (tracer_at x b.s b.u b.t b.traced.journal) b.traced.keeps
 
   -- the step was done
   module _ (mid : Held) (midtold : Option (List (List ℕ))) (ran : state_seen midtold mid ≡ option_map (step x) (state_seen told held)) (current : ℕ) (current_is : current ≡ slice_index held.hardware.memory current_at)
@@ -162,7 +162,7 @@ module _ (grow : (c : CUnit) → TracesGrow (IsTypedState c)) (f : RowsFollow) (
         let ss : List (List ℕ) = (told_at b).0 in
         let words : List ℕ = (more_at b).words in
         let s : State = state_of mid ss in
-        let kt : Tracer = tracer_at x b.y b.s b.u b.t b.traced.journal in
+        let kt : Tracer = tracer_at x b.s b.u b.t b.traced.journal in
         let there : WordsAt x b.y b.u s words (returned s kt.call) = subst (λ (s : State). WordsAt x b.y b.u s words (returned s kt.call)) (sym (told_at b).2) (more_at b).there in
         let of_map : ReturnTold (site_of b.y.boot).map s kt.user words (returned s kt.call) = words_told x b.y tell b.from.boots.fits.range b.u b.low b.high mid ss words (returned s kt.call) there in
         let of_user : ReturnTold (site_of b.y.boot).map s k.user words (returned s k.call) = subst (λ (k : Tracer). ReturnTold (site_of b.y.boot).map s k.user words (returned s k.call)) (sym (keeps_at b)) of_map in
@@ -186,7 +186,7 @@ module _ (grow : (c : CUnit) → TracesGrow (IsTypedState c)) (f : RowsFollow) (
         ≡ tracer_of b.u (steps_after (pending_steps b.traced.journal) (step_entries x b.s b.u b.t (more_at b).words)) (notes_on (run x b.s (suc b.t)) (noted_call x b.s b.t))
     kept_at b =
         let s : State = state_of mid (told_at b).0 in
-        let kt : Tracer = tracer_at x b.y b.s b.u b.t b.traced.journal in
+        let kt : Tracer = tracer_at x b.s b.u b.t b.traced.journal in
         let entries : List JournalEntry = followed s k current began (more_at b).words in
         ap (λ (k : Tracer). tracer_of k.user (steps_after k.steps entries) (notes_on s k.call)) (keeps_at b)
         ∙ ap (λ (d : List JournalEntry). tracer_of kt.user (steps_after kt.steps d) (notes_on s kt.call)) (entries_at b)
@@ -232,7 +232,7 @@ module _ (grow : (c : CUnit) → TracesGrow (IsTypedState c)) (f : RowsFollow) (
 -- where none is printed there is nothing to be said
 pub step_untraced : (x : Environment) (m : Map) (held : Held) (told : Option (List (List ℕ))) (after : Option Tracer) (text retext : Option (List ℕ)) (result : Result Stepped RunFault) → StepTraces x m held told None after text retext result
 step_untraced x m held told after text retext result = each_step x m held told None after text retext result (λ (b : Booted x m (state_seen told held) None text).
-    absurd (let e : ◌≡◌ {A = Option Tracer} None (Some (tracer_at x b.y b.s b.u b.t b.traced.journal)) = b.traced.keeps in cc))
+    absurd (let e : ◌≡◌ {A = Option Tracer} None (Some (tracer_at x b.s b.u b.t b.traced.journal)) = b.traced.keeps in cc))
 
 -- THE LOOP: how far a run is whose trace goes on
 pub record Tracked (x : Environment) (y : System) (s : State) (u t : ℕ) (base : Option (List ℕ)) (now : Option State) (before after : ℕ) (kept : Option Tracer) (text : Option (List ℕ)) : Type 0 where

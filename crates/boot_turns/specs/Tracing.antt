@@ -79,15 +79,15 @@ abbrev pub ended_kept : Tracer → Entered → (answer : ℕ) → (words : List 
 ended_kept kept e answer words = record kept { steps = steps_after kept.steps (call_ends kept.user e answer words) }
 
 -- what is kept at step t, where j is shown
-abbrev pub tracer_at : Environment → System → State → (u t : ℕ) → List JournalEntry → Tracer
-tracer_at x y s u t j = record { user = u; steps = pending_steps j; call = noted_call x s t }
+abbrev pub tracer_at : Environment → State → (u t : ℕ) → List JournalEntry → Tracer
+tracer_at x s u t j = record { user = u; steps = pending_steps j; call = noted_call x s t }
 
 -- AT STEP t, over a sink that had `base` before the first row of the journal: the rows of what is shown are printed, but for a last row of steps
 pub record Traced (x : Environment) (y : System) (s : State) (u t : ℕ) (base : Option (List ℕ)) (kept : Option Tracer)
     (text : Option (List ℕ)) : Type 0 where
   pub journal : List JournalEntry
   pub shown : Shown x s y u t journal
-  pub keeps : kept ≡ Some (tracer_at x y s u t journal)
+  pub keeps : kept ≡ Some (tracer_at x s u t journal)
   pub printed : text ≡ append_known base (open_journal_rows journal)
 
 -- steps were made from step t on, each taken from the budget

@@ -296,7 +296,7 @@ loop-begun-preserved g c = record {
 
 -- with no user traced nothing is to be said of a trace
 none_traced : (x : Environment) (m : Map) (start now : Option State) (before after : Tracing) → before.tracer ≡ None → Tracks x m start now before after
-none_traced x m start now before after e = λ b. absurd (let h : ◌≡◌ {A = Option Tracer} None (Some (tracer_at x b.y b.s b.u b.t b.traced.journal)) = sym e ∙ b.traced.keeps in cc)
+none_traced x m start now before after e = λ b. absurd (let h : ◌≡◌ {A = Option Tracer} None (Some (tracer_at x b.s b.u b.t b.traced.journal)) = sym e ∙ b.traced.keeps in cc)
 
 -- what is kept of a trace stays through a stretch: none is made where a user is traced
 tracks_passed : (x : Environment) (m : Map) (start : Option State) (before : Tracing) (told : Option (List (List ℕ))) (mid new : Held) (tracer old : Option Tracer) (text : Option (List ℕ)) (budget left n : ℕ) →
