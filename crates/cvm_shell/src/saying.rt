@@ -1,5 +1,5 @@
 // What is said beside a status.
-ghost use Rattle.std.specs.Prelude.{◌≡◌, ◌≢◌, ◌⊎◌};
+ghost use Rattle.std.specs.Prelude.{◌≡◌, ◌≢◌};
 ghost use Rattle.cvm_shell.specs.Does.{SaysAs, SaysStop, SaysFault, SaysEnd};
 ghost use Rattle.cvm_shell.specs.Stages.{status_of_end};
 ghost use Rattle.cvm_shell.specs.Views.{stated_row, stated_status};
@@ -13,8 +13,7 @@ use run_scripts::Status;
 /// Prints a text beside a status. A sink that fails is `Sink`.
 pub fn say<O: Sink>(out: &mut O, text: &[u8], status: Status) -> Status
     requires { status ≢ Status.Sink }
-    ensures cases { (result ≡ status) ⊎ (result ≡ Status.Sink) }
-    ensures does { SaysAs O.Sink status text.now out.old out.new result }
+    ensures { SaysAs O.Sink status text.now out.old out.new result }
 {
     match out.put(text) {
         Ok(()) => status,
@@ -24,8 +23,7 @@ pub fn say<O: Sink>(out: &mut O, text: &[u8], status: Status) -> Status
 
 /// Prints the row of a refusal, beside its status. A sink that fails is `Sink`.
 pub fn refuse<O: Sink>(refusal: &Refusal, out: &mut O) -> Status
-    ensures cases { (result ≡ stated_status refusal.now) ⊎ (result ≡ Status.Sink) }
-    ensures does { SaysAs O.Sink (stated_status refusal.now) (stated_row refusal.now) out.old out.new result }
+    ensures { SaysAs O.Sink (stated_status refusal.now) (stated_row refusal.now) out.old out.new result }
 {
     let row = refusal.row();
     say(out, row.as_str().as_bytes(), refusal.status())

@@ -8,7 +8,7 @@ use Rattle.cvm_shell.proofs.Doing.{bad_words_done}
 use Rattle.cvm_shell.proofs.run_command.Goals as goal
 
 pub returns-in-None : goal.returns-in-None
-returns-in-None g c = bad_words_done _ _ _ _ c.in-None.ensures.none (c.say.ensures.does (told_files g.S.Shelf c.args.shelf.now) (told_drive g.D.Sectors c.args.disk.now))
+returns-in-None g c = bad_words_done _ _ _ _ c.in-None.ensures.none (c.say.ensures (told_files g.S.Shelf c.args.shelf.now) (told_drive g.D.Sectors c.args.disk.now))
 
 -- the words are those of the command that was read
 read_as : (words : List (String Global)) (x y : Command) → IsCommand (texts words) (command_view x) → x ≡ y → IsCommand (texts words) (command_view y)

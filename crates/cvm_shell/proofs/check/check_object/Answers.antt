@@ -18,4 +18,4 @@ returns-in-Ok g c = λ words disk is.
     let sink = output g.O.Sink c.args.out.now in
     let P : List ℕ → Type 0 = λ text. FilesPlan layer_image (g.S.Shelf.file c.args.shelf.now) (check (check_view c.args.check.now)) (prints text) in
     told_done words (check (check_view c.args.check.now)) c.deref.result.now _ _ _ _ is (subst P (sym c.deref.ensures.value) c.in-Ok.ensures.comes)
-    (c.in-Ok.ensures.gets sink disk) refl (c.say.ensures.does (told_files g.S.Shelf c.stack_text.new.shelf) disk)
+    (c.in-Ok.ensures.gets sink disk) refl (c.say.ensures (told_files g.S.Shelf c.stack_text.new.shelf) disk)
