@@ -33,7 +33,7 @@ reads_behind (Got name ∷ a) b h k = absurd h
 reads_behind (Stored name bytes ∷ a) b h k = absurd h
 
 -- they leave the disk's size and its sectors
-reads_quietly : (a : List Call) → AreReads a → WritesNoSector a
+pub reads_quietly : (a : List Call) → AreReads a → WritesNoSector a
 reads_quietly [] h = tt
 reads_quietly (Printed None ∷ a) h = reads_quietly a h
 reads_quietly (Printed (Some text) ∷ a) h = absurd h

@@ -1,5 +1,5 @@
 -- The plan that words and files come to, by the command.
-use Rattle.std.proofs.Common.{◌≡◌, ◌≢◌, ◌⊎◌, inl, inr, ℕ, List, refl, sym, subst}
+use Rattle.std.proofs.Common.{◌≡◌, ◌≢◌, ◌⊎◌, inl, inr, ℕ, List, refl}
 use Rattle.std.specs.Prelude.{Option}
 use Rattle.real_layer.specs.Image.{layer_image}
 use Rattle.cvm_shell.specs.declared.refusal.Refusal.{Refusal as ByCode}
@@ -9,16 +9,11 @@ use Rattle.boot_turns.specs.declared.answers.View.{View}
 use Rattle.boot_turns.specs.declared.answers.View.TheVariants as view
 use Rattle.run_scripts.specs.Command.{Boot, Command, boot, trace, save, resume, compile_user, compile_kernel, compile_program, link, migrate, sample, IsCommand, IsNoCommand, command_of, check}
 use Rattle.run_scripts.specs.Refusal.{Refusal, too_long}
-use Rattle.run_scripts.specs.Plan.{Plan, bad_words, refuses, CommandPlan, PlanComesTo, no_command, by_command, AreTold, AllTold, IsPlan}
+use Rattle.run_scripts.specs.Plan.{Plan, bad_words, refuses, PlanComesTo, no_command, by_command, AreTold, AllTold, IsPlan}
 use Rattle.run_scripts.specs.Served.{files_of}
 use Rattle.cvm_shell.specs.Stages.{GetsTold, FilesPlan, IsBootPlan}
 use Rattle.cvm_shell.specs.Views.{refusal_view}
-use Rattle.cvm_shell.proofs.OneCommand.{one_command}
-
--- what words and files come to is what the files of their command come to
-its_plan : (words : List (List ℕ)) (file : List ℕ → Option (List ℕ)) (c : Command) → IsCommand words c → (q : Plan) → PlanComesTo words file q → CommandPlan layer_image file c q
-its_plan words file c is q (no_command none) = absurd (none c is)
-its_plan words file c is q (by_command d _ other got) = subst (λ (x : Command). CommandPlan layer_image file x q) (sym (one_command words c d is other)) got
+use Rattle.run_scripts.proofs.OneCommand.{its_plan}
 
 pub only_none : (words : List (List ℕ)) (file : List ℕ → Option (List ℕ)) → IsNoCommand words → (q : Plan) → PlanComesTo words file q → q ≡ bad_words
 only_none words file none q (no_command also) = refl
@@ -40,7 +35,7 @@ told_of file (check c) h = h.0
 
 pub plan_of : (words : List (List ℕ)) (file : List ℕ → Option (List ℕ)) (c : Command) (p : Plan) → IsCommand words c → FilesPlan layer_image file c p → IsPlan (AllTold words file) (PlanComesTo words file) p
 plan_of words file c p is plan =
-    record { comes = by_command c p is plan.comes; only = λ told q comes. plan.only (told_of file c (told c is)) q (its_plan words file c is q comes) }
+    record { comes = by_command c p is plan.comes; only = λ told q comes. plan.only (told_of file c (told c is)) q (its_plan words file c q is comes) }
 
 -- a refusal is that of a file that is too long, or another
 pub which : (r : ByCode) → (r ≡ by.TooLong) ⊎ (refusal_view r ≢ too_long)

@@ -34,7 +34,7 @@ use Rattle.run_scripts.specs.Served.{files_of, gets}
 use Rattle.cvm_shell.specs.Does.{SaysStop, AreGot, StopGets, AnswerGets, Acts, DoesPlan, DoesOrWants}
 use Rattle.cvm_shell.proofs.CommandPlans.{plan_of, only_none, which, one_refusal}
 use Rattle.cvm_shell.proofs.GotCalls.{beside}
-use Rattle.cvm_shell.proofs.OneCommand.{one_command}
+use Rattle.run_scripts.proofs.OneCommand.{one_command}
 
 -- SAYING: one call of the sink
 pub said : {T : Type 0} (text : List ℕ) (due : Status) (shelf : Files) (disk : Drive) (old new : Output) (r : Result T SinkFault) → OnOk r (new.text ≡ append_known old.text text)

@@ -18,7 +18,6 @@ mod Isolating
 mod CodePlans
 mod LinkPlans
 mod MigratePlans
-mod OneCommand
 mod Plans
 mod ProgramPlans
 mod SamplePlans

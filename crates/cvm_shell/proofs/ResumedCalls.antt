@@ -18,19 +18,19 @@ use Rattle.boot_turns.specs.Runs.{Run, turns_at, state_at, steps_made, has_ended
 use Rattle.boot_turns.specs.declared.answers.View.TheVariants as view
 use Rattle.boot_turns.proofs.ShownRows.{scripts-same}
 use Rattle.boot_run.specs.declared.whole.RunEnd.{RunEnd}
-use Rattle.boot_run.specs.AnyScripts.{end_by_power, power_end, untold_script, IsReport}
+use Rattle.boot_run.specs.AnyScripts.{end_by_power, power_end, untold_script}
 use Rattle.boot_run.specs.Closing.{says}
 use Rattle.boot_run.specs.Loading.{system_of as loaded_system}
 use Rattle.boot_run.specs.LoadEnds.{pages_needed}
 use Rattle.boot_run.specs.RunCalls.{run_at, of_end, due_end}
-use Rattle.boot_run.specs.RunScript.{AreReads, untold_steps, rest_script}
+use Rattle.boot_run.specs.RunScript.{untold_steps, rest_script}
 use Rattle.boot_run.specs.SavedFiles.{wanted_of}
 use Rattle.machine_save.specs.ResumeCalls.{ResumeScript}
 use Rattle.machine_save.specs.ResumeRun.{ResumeAnswers}
 use Rattle.machine_save.specs.declared.resuming.ResumeFault.TheVariants as fault
 use Rattle.kernel_linker.specs.Accept.{ImageSystem, system_of}
 use Rattle.run_scripts.specs.declared.exit_status.Status.{Status}
-use Rattle.run_scripts.specs.declared.exit_status.Status.TheVariants.{Done, Refused, Disk, Memory}
+use Rattle.run_scripts.specs.declared.exit_status.Status.TheVariants.{Refused, Disk, Memory}
 use Rattle.cvm_shell.specs.declared.boot.Ready.{Ready}
 use Rattle.run_scripts.specs.declared.session.Session.{Session}
 use Rattle.cvm_shell.specs.declared.resuming.Resumable.{Resumable}
@@ -77,18 +77,6 @@ by_power false (Some (suc n)) = refl
 by_power true None = refl
 by_power true (Some zero) = refl
 by_power true (Some (suc n)) = refl
-
--- the report behind it
-no_reads : (report : List Call) → report ≡ [] → AreReads report
-no_reads report e = subst AreReads (sym e) tt
-
-reports : (ended : Bool) (off : Option ℕ) (report : List Call) → IsReport (end_by_power ended off) report → AreReads report × (power_status ended off ≢ Done → report ≡ [])
-reports false None report h = (no_reads report h, λ d. h)
-reports false (Some zero) report h = (no_reads report h, λ d. h)
-reports false (Some (suc n)) report h = (no_reads report h, λ d. h)
-reports true None report h = (h, λ d. absurd (d refl))
-reports true (Some zero) report h = (h, λ d. absurd (d refl))
-reports true (Some (suc n)) report h = (no_reads report h, λ d. h)
 
 -- the steps from the first on are all
 all_steps : (r : Run) → untold_script r.around r.first 0 (steps_made r - 0) ≡ untold_steps r
@@ -154,7 +142,7 @@ module _ {O D : Type 0} (text : sink_of.Ghosts O) (told : sectors_of.Ghosts D) (
               run = run;
               goes_on = record { machine = f.machine; done = f.finished; user = f.user; ready = f.named.ready; named = f.named.words_are; over = f.named.sectors_are; is = refl };
               report = f.ends.report;
-              is_report = reports (has_ended run) off f.ends.report f.ends.is_report;
+              is_report = f.ends.is_report;
               script_is = refl;
               status_is = refl;
             });

@@ -36,8 +36,7 @@ pub answers_so : {L : Type 0} (layer : L) (b : Booted) (rows : Rows) (turns coun
 answers_so layer b rows turns count bytes r e (words, is, spelled, can, room, up) = (words, is, spelled, can, room)
 
 pub refused_so : {L : Type 0} (layer : L) (b : Booted) (rows : Rows) (turns count : ℕ) (bytes : List ℕ) (fault : ResumeFault) → ResumesFile layer b rows turns count bytes (Err fault) → ResumeAnswers b rows turns count bytes (Err fault)
-refused_so layer b rows turns count bytes (Save e) h = h
-refused_so layer b rows turns count bytes (SmallDisk need have) h = h
+refused_so layer b rows turns count bytes fault h = h
 
 -- no more turns are complete than are wanted
 pub done_few : {L : Type 0} (layer : L) (b : Booted) (rows : Rows) (turns count : ℕ) (bytes : List ℕ) (r : Kept L) → ResumesFile layer b rows turns count bytes (Ok r) → r.turns ≤ turns

@@ -13,12 +13,16 @@ use Rattle.boot_run.specs.SavedFiles.{wanted_of}
 use Rattle.machine_save.specs.declared.resuming.ResumeFault.{ResumeFault}
 use Rattle.machine_save.specs.declared.resuming.ResumeFault.TheVariants.{Save, SmallDisk}
 
--- WHAT IS ANSWERED, for what is booted, the rows of a schedule, the turns that are wanted and a disk of so many sectors: the run of the words that the
--- bytes spell; what is wrong with the bytes; or, where nothing is, that the disk has too few sectors; or want of memory
+-- WHY NO RUN IS TAKEN UP, of what is booted, under these rows, for so many turns, over a disk of so many sectors: what is wrong with the bytes; or, where
+-- nothing is, that the disk has too few sectors; or want of memory
+abbrev pub NotResumed : Booted → Rows → (turns count : ℕ) → (bytes : List ℕ) → ResumeFault → Type 0
+NotResumed boot rows turns count bytes (Save e) = (e ≡ Memory) ⊎ (answer (wanted_of boot rows turns) bytes ≡ Err e)
+NotResumed boot rows turns count bytes (SmallDisk need have) =
+    (words : List ℕ) × (answer (wanted_of boot rows turns) bytes ≡ Ok words) × (need ≡ pages_needed boot) × (have ≡ count) × (have < need)
+
+-- WHAT IS ANSWERED: the run of the words that the bytes spell, or why there is none
 abbrev pub ResumesFile : {L : Type 0} → (layer : L) → Booted → Rows → (turns count : ℕ) → (bytes : List ℕ) → Result (Kept L) ResumeFault → Type 0
 ResumesFile layer boot rows turns count bytes (Ok r) =
     (words : List ℕ) × (answer (wanted_of boot rows turns) bytes ≡ Ok words) × (bytes ≡ flat_map word words) × CanBeResumed (wanted_of boot rows turns) words
     × (pages_needed boot ≤ count) × IsTakenUp layer boot rows count words r
-ResumesFile layer boot rows turns count bytes (Err (Save e)) = (e ≡ Memory) ⊎ (answer (wanted_of boot rows turns) bytes ≡ Err e)
-ResumesFile layer boot rows turns count bytes (Err (SmallDisk need have)) =
-    (words : List ℕ) × (answer (wanted_of boot rows turns) bytes ≡ Ok words) × (need ≡ pages_needed boot) × (have ≡ count) × (have < need)
+ResumesFile layer boot rows turns count bytes (Err fault) = NotResumed boot rows turns count bytes fault

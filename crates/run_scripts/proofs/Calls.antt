@@ -1,6 +1,6 @@
 -- Which calls scripts make, and what stays where they make none of a kind.
 use Rattle.std.specs.Prelude.{Option, Some, None, if◌then◌else◌}
-use Rattle.std.proofs.Common.{◌≡◌, ◌≢◌, ℕ, Bool, true, false, List, [], ◌∷◌, ◌++◌, refl, sym, ap, ap₂, ◌∙◌, subst, arith}
+use Rattle.std.proofs.Common.{◌≡◌, ◌≢◌, ℕ, zero, suc, Bool, true, false, List, [], ◌∷◌, ◌++◌, refl, sym, ap, ap₂, ◌∙◌, subst, arith}
 use Rattle.cvm_model.specs.Cvm.{Status as CvmStatus, Running, Halted, Faulted}
 use Rattle.kernel_linker.specs.Accept.{ImageSystem}
 use Rattle.schedule_file.specs.Rows.{Rows}
@@ -10,12 +10,13 @@ use Rattle.run_scripts.specs.Command.{Command, IsCommand, save, resume, save_ses
 use Rattle.run_scripts.specs.Plan.{Plan}
 use Rattle.cvm_outside.specs.Outside.{Outside}
 use Rattle.cvm_outside.specs.Script.{Call, Printed, Read, Wrote, Got, Stored, Who, Performs, done, breaks, goes_on, disk_calls}
-use Rattle.boot_turns.specs.Runs.{Run, Past, steps_made, has_ended, cvm_at}
+use Rattle.boot_turns.specs.Runs.{Run, Past, state_at, steps_made, has_ended, cvm_at}
 use Rattle.run_scripts.specs.Boot.{booted, sectors_needed}
 use Rattle.boot_turns.specs.StepScript.{steps_script}
 use Rattle.run_scripts.specs.Saves.{saved_row}
 use Rattle.run_scripts.specs.SessionRuns.{run_of, pages_loaded}
 use Rattle.boot_turns.specs.LoopScripts.{AreOfRun}
+use Rattle.boot_run.specs.AnyScripts.{end_by_power, IsReport}
 use Rattle.boot_run.specs.RunScript.{AreReads, untold_steps}
 use Rattle.run_scripts.specs.RunStatus.{leaving_script, save_script, saved_bytes}
 use Rattle.run_scripts.specs.Ends.{PlanAsks, SessionAsks, no_user, small, over_told, over_untold, SomeRunAsks, SomeSaveAsks, as_boot, is_saved, load_of}
@@ -75,6 +76,17 @@ plain_reads (Wrote q ws ∷ a) h = absurd h
 plain_reads (Printed (Some x) ∷ a) h = absurd h
 plain_reads (Got n ∷ a) h = absurd h
 plain_reads (Stored n bs ∷ a) h = absurd h
+
+-- a report of which no text is told only reads
+no_reads : (report : List Call) → report ≡ [] → AreReads report
+no_reads report e = subst AreReads (sym e) tt
+
+pub report_reads : (ended : Bool) (off : Option ℕ) (report : List Call) → IsReport (end_by_power ended off) report → AreReads report
+report_reads false None report h = no_reads report h
+report_reads false (Some n) report h = no_reads report h
+report_reads true None report h = h
+report_reads true (Some zero) report h = h
+report_reads true (Some (suc n)) report h = no_reads report h
 
 -- it gets none, and puts nothing but this file, once
 pub record PutsOnly (name : Option (List ℕ)) (a : List Call) : Type 0 where
@@ -140,7 +152,7 @@ shape_of words c p at script due is (saved_so d k s rows) a =
     (λ x st w. some_save_puts d.file (load_of (save_session d) s rows) x st (plain_load (save_session d) s rows) w) script due a)
 shape_of words c p at script due is (is_resumed d k s rows machine) a =
     session_puts (file_put c) (save_session d) s rows at _ _
-    (λ ss x st w. same_puts (file_put c) x _ w.script_is (plain_puts (file_put c) _ (plain_both (untold_steps w.run) w.report (of_untold Plain plain plain_write w.run) (plain_reads w.report w.is_report.0))))
+    (λ ss x st w. same_puts (file_put c) x _ w.script_is (plain_puts (file_put c) _ (plain_both (untold_steps w.run) w.report (of_untold Plain plain plain_write w.run) (plain_reads w.report (report_reads (has_ended w.run) (state_at w.run (steps_made w.run)).off w.report w.is_report)))))
     (λ x st w. some_puts (file_put c) [] x st (record { gets = refl; puts = refl }) w) script due a
 shape_of words c p at script due is (is_put d k name bytes e) a =
     same_puts (file_put c) script _ a.0 (record { gets = refl; puts = ap file_put (one_command words c d is k) ∙ e })

@@ -16,7 +16,7 @@ pub mod Stores
 pub mod StartSectors
 pub mod StoredRuns
 pub mod Keys
-mod OneCommand
+pub mod OneCommand
 pub mod Outcomes
 pub mod Calls
 pub mod Shapes

@@ -1,4 +1,4 @@
--- The words of a command tell which it is, so they are those of one: as in cvm_shell, whose lemmas are its own.
+-- The words of a command tell which it is, so they are those of one command.
 use Rattle.std.proofs.Common.{◌≡◌, ℕ, ◌<◌, ◌^◌, List, [], ◌∷◌, drop, get_or, refl, sym, ap, ◌∙◌, subst, arith}
 use Rattle.std.specs.Prelude.{Option, decimal, slice_index, ◌==◌, if◌then◌else◌}
 use Rattle.std.specs.Str.Parse.{digits_value}

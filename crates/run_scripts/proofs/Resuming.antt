@@ -10,15 +10,17 @@ use Rattle.schedule_file.specs.Rows.{Rows}
 use Rattle.run_scripts.specs.declared.session.Session.{Session}
 use Rattle.run_scripts.specs.Command.{resume, save_session}
 use Rattle.run_scripts.specs.Plan.{resumes}
-use Rattle.cvm_outside.specs.Script.{Call, Printed, Read, Wrote, Got, Stored, Who, Performs, WritesNoSector, sectors_after}
+use Rattle.cvm_outside.specs.Script.{Call, Printed, Who, Performs, sectors_after}
 use Rattle.cvm_outside.specs.ScriptLaws.{ScriptsBlame, ScriptsStore}
 use Rattle.boot_turns.specs.Runs.{Run, state_at, steps_made, has_ended}
 use Rattle.run_scripts.specs.SessionRuns.{run_of}
-use Rattle.boot_run.specs.RunScript.{AreReads, untold_steps}
+use Rattle.boot_run.specs.RunScript.{untold_steps}
 use Rattle.run_scripts.specs.Ends.{GoesOn, ResumeAsks, SomeRunAsks, done, no_file, no_memory}
 use Rattle.run_scripts.proofs.ByRuns.{ResumesGoOn}
+use Rattle.run_scripts.proofs.Calls.{report_reads}
 use Rattle.run_scripts.proofs.Causes.{mid_disk}
 use Rattle.boot_run.proofs.AbstractRuns.{on_before}
+use Rattle.boot_run.proofs.ReadingCalls.{reads_quietly}
 use Rattle.run_scripts.proofs.Performed.{leaves_sectors}
 use Rattle.run_scripts.proofs.Refusals.{none_blamed, status_due, plan_asks, no_file_failed}
 use Rattle.run_scripts.proofs.Saves.{told_asks}
@@ -34,15 +36,6 @@ one_run once session s rows words size sectors r q g h =
     h.is ∙ ap₂ made same.0 same.1 ∙ sym g.is
 
 -- ITS SCRIPT leaves the machine's sectors
-reads_quietly : (a : List Call) → AreReads a → WritesNoSector a
-reads_quietly [] h = tt
-reads_quietly (Read q ∷ a) h = reads_quietly a h
-reads_quietly (Printed None ∷ a) h = reads_quietly a h
-reads_quietly (Printed (Some x) ∷ a) h = absurd h
-reads_quietly (Wrote q ws ∷ a) h = absurd h
-reads_quietly (Got n ∷ a) h = absurd h
-reads_quietly (Stored n bs ∷ a) h = absurd h
-
 untold_leaves : TurnLaws → (r : Run) → sectors_after (untold_steps r) r.first.device.sectors ≡ (state_at r (steps_made r)).device.sectors
 untold_leaves count r =
     stored_scripts (λ t. script_of_step r.around (state_at r t) ++ Printed None ∷ []) (λ t. (state_at r t).device.sectors) (steps_made r)
@@ -70,7 +63,7 @@ resumes_go_on blame store count once words d s rows machine left old new status 
     subst (λ (x : List Call). Performs x h.mid new None) t.script_is (subst (λ (b : Option Who). Performs h.script h.mid new b) n h.performs) in
     let from : t.run.first.device.sectors ≡ left = ap (λ (q : Run). q.first.device.sectors) t.goes_on.is ∙ t.goes_on.over in
     let leaves : sectors_after (untold_steps t.run ++ t.report) left ≡ (state_at t.run (steps_made t.run)).device.sectors =
-    stored-append (untold_steps t.run) t.report left ∙ quiet_stores t.report (reads_quietly t.report t.is_report.0) (sectors_after (untold_steps t.run) left)
+    stored-append (untold_steps t.run) t.report left ∙ quiet_stores t.report (reads_quietly t.report (report_reads (has_ended t.run) (state_at t.run (steps_made t.run)).off t.report t.is_report)) (sectors_after (untold_steps t.run) left)
     ∙ ap (sectors_after (untold_steps t.run)) (sym from) ∙ untold_leaves count t.run in
     record {
       run = t.run;

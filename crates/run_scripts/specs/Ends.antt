@@ -29,7 +29,8 @@ use Rattle.boot_run.specs.SavedRuns.{IsDisk}
 use Rattle.run_scripts.specs.Saves.{saved_row}
 use Rattle.boot_run.specs.Closing.{says}
 use Rattle.run_scripts.specs.SessionRuns.{run_of, pages_loaded}
-use Rattle.boot_run.specs.RunScript.{run_script, rest_script, untold_steps, AreReads}
+use Rattle.boot_run.specs.AnyScripts.{power_end, IsReport}
+use Rattle.boot_run.specs.RunScript.{run_script, rest_script, untold_steps}
 use Rattle.run_scripts.specs.RunStatus.{run_status, save_script, power_status}
 use Rattle.run_scripts.specs.Served.{files_of, gets}
 
@@ -54,17 +55,13 @@ pub record GoesOn (session : Session) (s : ImageSystem) (rows : Rows) (words : L
   pub over : machine.device.sectors ≡ sectors
   pub is : r ≡ record (run_of session s rows size sectors) { first = machine; turns = session.turns - done; steps = session.steps - machine.time }
 
--- what the report of a machine of which nothing is known reads: any pages
-abbrev pub ReportAsks : Run → List Call → Type 0
-ReportAsks r report = AreReads report × (power_status (has_ended r) (state_at r (steps_made r)).off ≢ Done → report ≡ [])
-
 -- WHAT A RESUME IS TO DO, whatever its file holds: the machine's own transfers; of the text nothing is said
 pub record ResumeAsks (session : Session) (s : ImageSystem) (rows : Rows) (words : List ℕ) (size : ℕ) (sectors : List (List ℕ)) (script : List Call)
     (status : Status) : Type 0 where
   pub run : Run
   pub goes_on : GoesOn session s rows words size sectors run
   pub report : List Call
-  pub is_report : ReportAsks run report
+  pub is_report : IsReport (power_end run) report
   pub script_is : script ≡ untold_steps run ++ report
   pub status_is : status ≡ power_status (has_ended run) (state_at run (steps_made run)).off
 
