@@ -56,7 +56,7 @@ use Rattle.boot_run.specs.Shown.{has_faulted}
 use Rattle.boot_run.specs.Sink.{Base}
 use Rattle.boot_run.specs.TurnCalls.{ended_of, around, Ready, Traces}
 use Rattle.boot_run.proofs.TraceRoom.{user_there}
-use Rattle.boot_run.proofs.Reporting.{its_told, halting, told_rows, told_globals, user_called, users_called, users_are_those}
+use Rattle.boot_run.proofs.Reporting.{true_false, its_told, halting, told_rows, told_globals, user_called, users_called, users_are_those}
 use Rattle.boot_run.proofs.ReadingCalls.{reads_behind}
 use Rattle.boot_run.proofs.ScriptParts.{at}
 
@@ -108,13 +108,15 @@ faulted_report text told r o d v0 faulted = record {
       same_script [] (report_script r.view (run_at (outside_of r.machine.rows (told.size d)) y s r.view turns steps) p t c.status) (at text told shelf o d) (at text told shelf o d) None
       (sym (faulted_script r.view (run_at (outside_of r.machine.rows (told.size d)) y s r.view turns steps) p t c.status (ap has_faulted (sym ready.ended) ∙ faulted))) (done (at text told shelf o d));
   some = λ none. ([], tt, λ shelf. done (at text told shelf o d));
+  none = λ _. refl;
 }
 
 -- A CALL THAT KEPT A FAULT calls nothing
-pub kept_report : {L O D T : Type 0} (text : sink_of.Ghosts O) (told : sectors_of.Ghosts D) (r : Kept L) (o o1 : O) (d d1 : D) (result : Result T RunFault) (f : RunFault) → r.fault ≡ Some f → ReportCalls text told r (o, d) (o1, d1) result
-kept_report text told r o o1 d d1 result f is = record {
+pub kept_report : {L O D T : Type 0} (text : sink_of.Ghosts O) (told : sectors_of.Ghosts D) (r : Kept L) (o : O) (d : D) (result : Result T RunFault) (f : RunFault) → r.fault ≡ Some f → ReportCalls text told r (o, d) (o, d) result
+kept_report text told r o d result f is = record {
   exact = λ budget y s late held base k t c same lawful ready turns steps p tells shelf. absurd (let e : ◌≡◌ {A = Option RunFault} (Some f) None = sym is ∙ ready.fault in cc);
   some = λ none. absurd (let e : ◌≡◌ {A = Option RunFault} (Some f) None = sym is ∙ none in cc);
+  none = λ _. refl;
 }
 
 module _ {L O D : Type 0} (text : sink_of.Ghosts O) (told : sectors_of.Ghosts D) (r : Kept L) (o o1 : O) (d d1 : D) (fine : has_faulted r.ended ≡ false) (places : Places)
@@ -139,6 +141,7 @@ module _ {L O D : Type 0} (text : sink_of.Ghosts O) (told : sectors_of.Ghosts D)
     exact = λ budget y s late held base k t c same lawful ready turns steps p tells shelf.
         same_script calls (report_script r.view (run_at x y s r.view turns steps) p t c.status) (at text told shelf o d) (at text told shelf o1 d1) (blame of_run result) (is budget y s late held base k t c same lawful ready turns steps p tells) (made shelf);
     some = λ none. (untold calls, reads, λ shelf. made_untold calls (at text told shelf o d) (at text told shelf o1 d1) (blame of_run result) (made shelf));
+    none = λ e. absurd (true_false (has_faulted r.ended) e fine);
   }
 
   -- of a boot

@@ -92,11 +92,12 @@ ReportPerforms text told run (out, disk) new result =
 abbrev pub SomeRead : {O D T : Type 0} → sink_of.Ghosts O → sectors_of.Ghosts D → (old new : O × D) → Result T RunFault → Type 0
 SomeRead text told old new result = (script : List Call) × AreReads script × Makes text told old new script of_run result
 
--- so it is; and where it kept no fault some such calls are made over any disk
+-- so it is; and where it kept no fault some such calls are made over any disk: none where the kernel faulted
 pub record ReportCalls {O D L T : Type 0} (text : sink_of.Ghosts O) (told : sectors_of.Ghosts D) (run : Kept L) (old new : O × D)
     (result : Result T RunFault) : Type 0 where
   pub exact : ReportPerforms text told run old new result
   pub some : run.fault ≡ None → SomeRead text told old new result
+  pub none : has_faulted run.ended ≡ true → new ≡ old
 
 -- whom an answer of a load blames
 abbrev pub of_load : LoadFault → Option Who

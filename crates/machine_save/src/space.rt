@@ -52,11 +52,13 @@ impl Room {
         })
     }
 
-    /// Fills in the file of a run, and takes no memory. A run with more turns than a word tells, or with more words than fit, is not filled in: one of
-    /// an image has no more words where the room is that of its frames.
+    /// Fills in the file of a run, and takes no memory. A run with more turns than a word tells, or with more words than fit, is not filled in, and the
+    /// file stays: one of an image has no more words where the room is that of its frames.
     pub fn fill<L: Layer + Drop>(&mut self, run: &Run<L>)
         ensures room { self.new.words ≡ self.old.words }
         ensures file { length (saved_run run.now) ≤ self.old.words → run.now.turns < 2 ^ 32 → self.new.file ≡ flat_map word (saved_run run.now) }
+        ensures few { self.old.words < length (saved_run run.now) → self.new.file ≡ self.old.file }
+        ensures many { 2 ^ 32 ≤ run.now.turns → self.new.file ≡ self.old.file }
     {
         let tells = run.turns_done() <= u64::from(u32::MAX);
         if tells && self.words.len() as u64 >= run.state_words() {

@@ -15,7 +15,7 @@ use Rattle.run_scripts.specs.Refusal.{Refusal, small_disk, no_such_user, too_lon
 use Rattle.run_scripts.specs.Plan.{Plan, bad_words, refuses, boots, PlanComesTo, AllTold, IsPlan}
 use Rattle.cvm_outside.specs.ScriptLaws.{ScriptsBlame}
 use Rattle.cvm_outside.specs.Outside.{Outside, Drive}
-use Rattle.cvm_outside.specs.Script.{Call, Who, TheSink, TheDisk, TheShelf, Performs, done as all_done, breaks, goes_on, Rises, faults_of}
+use Rattle.cvm_outside.specs.Script.{Call, Who, TheSink, TheDisk, TheShelf, Performs, done as all_done, breaks, goes_on, Rises, faults_of, disk_calls}
 use Rattle.run_scripts.specs.Boot.{sectors_needed}
 use Rattle.boot_run.specs.RunEnds.{SeesUser}
 use Rattle.boot_run.specs.Closing.{says}
@@ -23,6 +23,7 @@ use Rattle.run_scripts.specs.RunStatus.{status_of, power_status}
 use Rattle.run_scripts.specs.Ends.{Does, done, no_file, no_memory, GetsFor, all, up_to, IsNotGot, Wants, behind, within, wants, PlanAsks, SessionAsks, no_user, small, over_told, over_untold, SomeSaveAsks, as_boot, is_saved, load_of, answered}
 use Rattle.run_scripts.specs.Served.{files_of, gets}
 use Rattle.run_scripts.specs.Causes.{Counts, NeedsMore, CausedBy, StatusesAreCaused, WordsAreRefused}
+use Rattle.run_scripts.specs.Shapes.{IsRefusal}
 use Rattle.run_scripts.proofs.Joins.{got_keeps}
 use Rattle.run_scripts.proofs.Outcomes.{IsOfFile, Outcome, is_none, is_refused, is_booted, is_saved as saves_so, is_resumed, is_put, is_told, outcome}
 
@@ -111,6 +112,32 @@ due_of words p at script due (is_resumed c is s rows machine) a =
     session_due p (save_session c) s rows at _ _ (λ u v. absurd (no_view u v)) (λ n. n) (λ ss x st w. same_due st _ w.status_is (of_power _ _)) (λ x st w. w.3) script due a
 due_of words p at script due (is_put c is name bytes e) a = by_run (inl a.1)
 due_of words p at script due (is_told c is text) a = by_run (inl a.1)
+
+-- what is refused calls no disk
+no_run : (st : Status) → IsRunStatus st → IsRefusal st → ⊥
+no_run st (inl e) h = subst IsRefusal e h
+no_run st (inr (inl e)) h = subst IsRefusal e h
+no_run st (inr (inr e)) h = subst IsRefusal e h
+
+session_quiet : (session : Session) (s : ImageSystem) (rows : Rows) (at : Outside) (Told : List (List ℕ) → List Call → Status → Type 0) (Some_ : List Call → Status → Type 0) →
+    ((ss : List (List ℕ)) (a : List Call) (st : Status) → Told ss a st → IsRunStatus st) → ((a : List Call) (st : Status) → Some_ a st → IsRunStatus st) →
+    (script : List Call) (due : Status) → SessionAsks session s rows at Told Some_ script due → IsRefusal due → disk_calls script ≡ 0
+session_quiet session s rows at T S t m script due (no_user u v n) h = refl
+session_quiet session s rows at T S t m script due (small v n) h = refl
+session_quiet session s rows at T S t m script due (over_told ss _ _ v n q a) h = absurd (no_run due (t ss script due a) h)
+session_quiet session s rows at T S t m script due (over_untold _ _ v n q a) h = absurd (no_run due (m script due a) h)
+
+pub refusal_quiet : (words : List (List ℕ)) (p : Plan) (at : Outside) (script : List Call) (due : Status) → Outcome words p → PlanAsks p at script due → IsRefusal due → disk_calls script ≡ 0
+refusal_quiet words p at script due (is_none n) a h = ap disk_calls a.0
+refusal_quiet words p at script due (is_refused c is r f) a h = ap disk_calls a.0
+refusal_quiet words p at script due (is_booted c is l session s rows) a h =
+    session_quiet session s rows at _ _ (λ ss x st w. same_due st _ w.status_is (of_status _ _)) (λ x st w. w.3) script due a h
+refusal_quiet words p at script due (saves_so c is s rows) a h =
+    session_quiet (save_session c) s rows at _ _ (λ ss x st w. same_due st _ w.status_is (of_status _ _)) (λ x st w. some_save c.file (load_of (save_session c) s rows) x st w) script due a h
+refusal_quiet words p at script due (is_resumed c is s rows machine) a h =
+    session_quiet (save_session c) s rows at _ _ (λ ss x st w. same_due st _ w.status_is (of_power _ _)) (λ x st w. w.3) script due a h
+refusal_quiet words p at script due (is_put c is name bytes e) a h = ap disk_calls a.0
+refusal_quiet words p at script due (is_told c is text) a h = ap disk_calls a.0
 
 -- COUNTS of what was got and done
 module _ (blame : ScriptsBlame) where

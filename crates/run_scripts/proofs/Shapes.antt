@@ -8,12 +8,13 @@ use Rattle.run_scripts.specs.Plan.{Plan, bad_words, refuses}
 use Rattle.cvm_outside.specs.Numbering.{called}
 use Rattle.cvm_outside.specs.Outside.{Outside, shelf_counts}
 use Rattle.cvm_outside.specs.Script.{Call, Printed, Read, Wrote, Got, Stored, Who, Performs, done as all_done, breaks, goes_on, disk_calls, shelf_calls}
-use Rattle.cvm_outside.specs.ScriptLaws.{MadeBy, ScriptsCountFiles}
+use Rattle.cvm_outside.specs.ScriptLaws.{MadeBy, ScriptsBlame, ScriptsCountFiles}
 use Rattle.cvm_outside.proofs.Follow.{both}
 use Rattle.run_scripts.specs.Ends.{done, no_file, no_memory, GetsFor, all, up_to, IsNotGot, Wants}
 use Rattle.run_scripts.specs.Served.{files_of, gets, file_put}
-use Rattle.run_scripts.specs.Shapes.{PlansHaveShape, OthersStay, NothingIsLoaded, GetsComeFirst, ShelfIsCalled, EndsLong, were_got, ungot, wanting, gets_in, puts_in}
+use Rattle.run_scripts.specs.Shapes.{PlansHaveShape, OthersStay, NothingIsLoaded, RefusalsKeepTheDisk, GetsComeFirst, ShelfIsCalled, EndsLong, were_got, ungot, wanting, gets_in, puts_in}
 use Rattle.run_scripts.proofs.Calls.{shape_of, files_stay, disk_stays, quiet_plan}
+use Rattle.run_scripts.proofs.Causes.{mid_disk, refusal_quiet}
 use Rattle.run_scripts.proofs.Joins.{got_keeps}
 use Rattle.run_scripts.proofs.Keeps.{wanted}
 use Rattle.run_scripts.proofs.OneCommand.{one_command}
@@ -86,6 +87,12 @@ nothing_is_loaded words old new status never (done _ h) = by h.plan refl (outcom
     by p e (is_told d k text) = of d k
 nothing_is_loaded words old new status never (no_file d k g) = disk_stays (gets (g.before ++ g.name ∷ [])) old new _ (gets_ask (g.before ++ g.name ∷ [])) g.performs
 nothing_is_loaded words old new status never (no_memory d k w) = (wanted _ old new w).disk
+
+pub refusals_keep_the_disk : ScriptsBlame → RefusalsKeepTheDisk
+refusals_keep_the_disk blame words old new status (done _ h) no =
+    disk_stays h.script h.mid new h.blamed (refusal_quiet words h.plan h.mid h.script h.due (outcome words old.shelf.file h.plan h.is_plan.comes) h.asks no) h.performs ∙ (mid_disk blame words old new status h).0
+refusals_keep_the_disk blame words old new status (no_file d k g) no = disk_stays (gets (g.before ++ g.name ∷ [])) old new _ (gets_ask (g.before ++ g.name ∷ [])) g.performs
+refusals_keep_the_disk blame words old new status (no_memory d k w) no = (wanted _ old new w).disk
 
 pub gets_come_first : GetsComeFirst
 gets_come_first words c old new status is (done _ h) =

@@ -1,16 +1,16 @@
 -- WHICH CALLS a command makes, as laws: its gets in their order and then no further one, at most one put, of the file that its words name, and no call of the
--- disk where it loads nothing.
+-- disk where it loads nothing, or is refused.
 use Rattle.std.specs.Prelude.{◌≡◌, ◌≢◌, ◌⊎◌, ℕ, ◌+◌, ⊤, List, [], ◌∷◌, ◌++◌, length, Option, Some, None}
 use Rattle.cvm_outside.specs.Told.{TOO_LONG}
 use Rattle.run_scripts.specs.declared.exit_status.Status.{Status}
-use Rattle.run_scripts.specs.declared.exit_status.Status.TheVariants.{Shelf, Memory}
+use Rattle.run_scripts.specs.declared.exit_status.Status.TheVariants.{Words, Refused, Disk, Shelf, Memory}
 use Rattle.run_scripts.specs.Command.{Command, IsCommand, boot, trace, save, resume, sample}
 use Rattle.run_scripts.specs.Refusal.{too_long}
 use Rattle.run_scripts.specs.Plan.{Plan, refuses, PlanComesTo}
 use Rattle.cvm_outside.specs.Script.{Call, Got, Stored, Who, Performs}
 use Rattle.cvm_outside.specs.Outside.{Outside, shelf_counts}
 use Rattle.cvm_outside.specs.Numbering.{called}
-use Rattle.run_scripts.specs.Ends.{Ends, Does, PlanAsks, IsNotGot, Wants, AreShort, MayBeLong, answered}
+use Rattle.run_scripts.specs.Ends.{Ends, done, no_file, no_memory, Does, PlanAsks, IsNotGot, Wants, AreShort, MayBeLong, answered}
 use Rattle.run_scripts.specs.Served.{files_of, gets, file_put}
 
 -- a command that loads a machine
@@ -56,6 +56,24 @@ OthersStay = (words : List (List ℕ)) (c : Command) (old new : Outside) (status
 abbrev pub NothingIsLoaded : Type 0
 NothingIsLoaded = (words : List (List ℕ)) (old new : Outside) (status : Status) → ((c : Command) → IsCommand words c → Loads c → ⊥) →
     Ends words old new status → new.disk ≡ old.disk
+
+-- the statuses of words that are bad and of what is refused: a file, a user, a disk that is too small, a file that is too long
+abbrev pub IsRefusal : Status → Type 0
+IsRefusal Words = ⊤
+IsRefusal Refused = ⊤
+IsRefusal Disk = ⊤
+IsRefusal Shelf = ⊤
+IsRefusal other = ⊥
+
+-- such a status was due, whether its row was printed or not; or a file could not be got, or memory was wanted
+abbrev pub CameToNothing : {words : List (List ℕ)} {old new : Outside} {status : Status} → Ends words old new status → Type 0
+CameToNothing (done status h) = IsRefusal h.due
+CameToNothing (no_file c is g) = ⊤
+CameToNothing (no_memory c is w) = ⊤
+
+-- the disk is as before then, whatever the command is
+abbrev pub RefusalsKeepTheDisk : Type 0
+RefusalsKeepTheDisk = (words : List (List ℕ)) (old new : Outside) (status : Status) (e : Ends words old new status) → CameToNothing e → new.disk ≡ old.disk
 
 -- the last of these files is the first that is too long, of which 67,108,865 bytes were taken
 pub record EndsLong (file : List ℕ → Option (List ℕ)) (made : List (List ℕ)) (taken : ℕ) : Type 0 where

@@ -2,7 +2,7 @@
 ghost use Rattle.run_scripts.specs.Headline.{MemoryKeeps};
 ghost use Rattle.run_scripts.specs.Keys.{RunsStart, EndsAreOver, ScriptLaws};
 ghost use Rattle.run_scripts.specs.Causes.{StatusesAreCaused, WordsAreRefused, FilesAreRefused, MissingUsersAreRefused, SmallDisksAreRefused, LongFilesAreRefused, StepsAreSpent, WorkCompletes};
-ghost use Rattle.run_scripts.specs.Shapes.{PlansHaveShape, OthersStay, NothingIsLoaded, GetsComeFirst, ShelfIsCalled};
+ghost use Rattle.run_scripts.specs.Shapes.{PlansHaveShape, OthersStay, NothingIsLoaded, RefusalsKeepTheDisk, GetsComeFirst, ShelfIsCalled};
 ghost use Rattle.run_scripts.specs.Saving.{ScriptsJoin, ResumesJoin};
 ghost use Rattle.run_scripts.specs.Checks.{StackOutIsNotMet};
 ghost use Rattle.run_scripts.specs.Faults.{FaultsLeave, SaveFaultsLeave, ResumeFaultsLeave};
@@ -159,6 +159,13 @@ pub fn others_stay()
 pub fn nothing_is_loaded()
     ensures { NothingIsLoaded }
 {}
+
+/// A law: where the words are bad, a file, a user or the disk is refused, or a file isn't got, every command leaves the disk as it was.
+pub fn refusals_keep_the_disk()
+    ensures { RefusalsKeepTheDisk }
+{
+    scripts_blame();
+}
 
 /// A law: the files are got in the order of the words, before all else: all of them, or those up to one that is too long; or a get failed, or found no
 /// memory, and nothing else is done.

@@ -23,7 +23,7 @@ returns-clause-rest g c =
 -- the calls
 pub returns-in-Some-clause-script : goal.returns-in-Some-clause-script
 returns-in-Some-clause-script g c =
-    kept_report {T = Unit {0}} g.O.Sink g.D.Sectors c.args.self.now c.args.out.now c.args.out.now c.args.disk.now c.args.disk.now (Err c.in-Some.fault) c.in-Some.fault (ap (λ (q : Kept _). q.fault) (sym c.self.view_is) ∙ c.in-Some.is)
+    kept_report {T = Unit {0}} g.O.Sink g.D.Sectors c.args.self.now c.args.out.now c.args.disk.now (Err c.in-Some.fault) c.in-Some.fault (ap (λ (q : Kept _). q.fault) (sym c.self.view_is) ∙ c.in-Some.is)
 
 pub returns-then-has_faulted-clause-script : goal.returns-then-has_faulted-clause-script
 returns-then-has_faulted-clause-script g c =
