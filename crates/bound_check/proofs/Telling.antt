@@ -2,8 +2,8 @@
 use Rattle.std.proofs.Common.{◌≡◌, ◌⊎◌, inl, inr, ℕ, zero, suc, ◌+◌, ◌*◌, ◌<◌, ◌≤◌, max, Bool, true, false, ◌&&◌, if◌then◌else◌, List, [], ◌∷◌, Vec, Global, map, length, take, get_or, refl, sym, ap, ◌∙◌, subst, arith}
 use Rattle.std.specs.Prelude.{slice_get}
 use Rattle.std.proofs.Math.ListN.{set}
-use Rattle.std.proofs.lemmas.Bool.{cases_lt, and_parts, false≢true}
-use Rattle.std.proofs.lemmas.List.{get_or_past, get_or-set_same, get_or-set_other, get_or-take, length-take-le, length-map, take_more}
+use Rattle.std.proofs.lemmas.Bool.{and_parts, false≢true}
+use Rattle.std.proofs.lemmas.List.{get_or-set_same, get_or-set_other, get_or-take, length-take-le, length-map, take_more}
 use Rattle.c0_tree.specs.Tree.{CFunction, CUnit}
 use Rattle.c0_meaning.specs.CallChain.{frame_at}
 use Rattle.bound_check.specs.declared.marks.Mark.{Mark}
@@ -11,15 +11,7 @@ use Rattle.bound_check.specs.declared.marks.Mark.TheVariants.{Unseen, Ends, Loop
 use Rattle.c0_struct_sizes.specs.Graph.{IsIn, Leads, by_edge, by_way, edges_in, IsOrder}
 use Rattle.bound_check.specs.Calls.{all_called, called_by, called_from, callees}
 use Rattle.bound_check.specs.Marks.{mark_of, told, most, is_end, all_end, mark_by, AreTold, IsGraph, IsKnown, IsToldOf, MAX_FRAME}
-use Rattle.c0_struct_sizes.proofs.GraphLemmas.{equal, in_at, in_parts, PlaceOf, place_of, leads_on}
-
--- a mark that was set stands in the list
-pub seen_below : (marks : List Mark) (v : ℕ) (k : Mark) → mark_of marks v ≡ k → (k ≡ Unseen → ⊥) → v < length marks
-seen_below marks v k e seen =
-    elim (cases_lt v (length marks)) [
-      | inl below ↦ below
-      | inr above ↦ absurd (seen (sym e ∙ get_or_past marks v Unseen above))
-    ]
+use Rattle.c0_struct_sizes.proofs.GraphLemmas.{seen_below, equal, in_at, in_parts, PlaceOf, place_of, leads_on}
 
 -- what is told of these numbers stays where their marks stay
 most_kept : (old new : List Mark) (ws : List ℕ) → ((w : ℕ) → IsIn ws w → mark_of new w ≡ mark_of old w) → most new ws ≡ most old ws
@@ -194,7 +186,7 @@ module _ (u : CUnit) (graph : IsGraph u) (nodes : List ℕ) (turning : List Bool
   known v lt = subst (λ (m : Mark). (m ≡ Loops) ⊎ ((n : ℕ) × (m ≡ Ends n))) (sym (is v lt)) (chosen_known (get_or turning v false) (all_end marks (callees u v)) (frame_at u v + most marks (callees u v)))
 
   below : (v : ℕ) (k : Mark) → mark_of marks v ≡ k → (k ≡ Unseen → ⊥) → v < length u.functions
-  below v k e seen = let lt : v < length marks = seen_below marks v k e seen in omega arith
+  below v k e seen = let lt : v < length marks = seen_below marks Unseen v k e seen in omega arith
 
   -- what leads to itself has an edge to such a one
   turning_next : {v x : ℕ} → Leads (callees u) v x → Leads (callees u) x v → (w : ℕ) × IsIn (callees u v) w × Leads (callees u) w w

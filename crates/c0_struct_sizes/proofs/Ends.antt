@@ -6,8 +6,7 @@ use Rattle.c0_struct_sizes.specs.declared.walk.Mark.{Mark}
 use Rattle.c0_struct_sizes.specs.declared.walk.Mark.TheVariants.{Unseen, Open, Done}
 use Rattle.c0_struct_sizes.specs.Graph.{IsIn, IsOrder}
 use Rattle.c0_struct_sizes.specs.Walk.{WalkState, mark_of, IsWalk, mark_work, unseen_work, numbers_below, walk_start}
-use Rattle.c0_struct_sizes.proofs.GraphLemmas.{in_left, in_right, in_parts, replicate_at}
-use Rattle.c0_struct_sizes.proofs.Finishing.{seen_below}
+use Rattle.c0_struct_sizes.proofs.GraphLemmas.{seen_below, in_left, in_right, in_parts, replicate_at}
 
 below_in : (n v : ℕ) → v < n → IsIn (numbers_below n) v
 below_in zero v lt = absurd (omega arith)
@@ -69,7 +68,7 @@ walk_ended edges count s w over = record {
   turns = λ v lt. w.done.turns v (done v lt);
   few = let le : length s.listed + length s.path + unseen_work (λ x. 1) 0 s.marks ≤ count = w.few in omega arith;
   all = λ v lt. (w.done.all v).0 (done v lt);
-  within = λ v i. let low : v < length s.marks = seen_below s.marks v Done ((w.done.all v).1 i) (λ f. cc) in let len : length s.marks ≡ count = w.marks in omega arith;
+  within = λ v i. let low : v < length s.marks = seen_below s.marks Unseen v Done ((w.done.all v).1 i) (λ f. cc) in let len : length s.marks ≡ count = w.marks in omega arith;
   first = w.done.first;
 }
   where

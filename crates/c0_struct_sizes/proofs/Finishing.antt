@@ -3,22 +3,14 @@ use Rattle.std.proofs.Common.{◌≡◌, ◌⊎◌, inl, inr, ℕ, suc, ◌+◌,
 use Rattle.std.specs.Prelude.{◌↔◌}
 use Rattle.std.proofs.Math.ListN.{get_or-append}
 use Rattle.std.proofs.lemmas.Bool.{cases_lt, false≢true}
-use Rattle.std.proofs.lemmas.List.{get_or-take, length-append, length-drop, length-take-le, drop_all, get_or_past, get_or-append_right, take-append-le, take_at}
+use Rattle.std.proofs.lemmas.List.{get_or-take, length-append, length-drop, length-take-le, drop_all, get_or-append_right, take-append-le, take_at}
 use Rattle.c0_struct_sizes.specs.declared.walk.Mark.{Mark}
 use Rattle.c0_struct_sizes.specs.declared.walk.Mark.TheVariants.{Unseen, Open, Done}
 use Rattle.c0_struct_sizes.specs.declared.walk.Group.{Group}
 use Rattle.c0_struct_sizes.specs.Graph.{IsIn, Leads, by_edge, by_way, Reaches}
 use Rattle.c0_struct_sizes.specs.Walk.{WalkState, mark_of, node_at, group_at, IsFollowed, is_done, is_open, is_left, IsGroup, IsBefore, IsWalk, unseen_work, set_all, last_of, last_start, start_node, finished, others_left}
-use Rattle.c0_struct_sizes.proofs.GraphLemmas.{PlaceOf, place_of, in_at, in_left, in_right, in_parts, in_drop, length-set_all, set_all_cases, reaches_leads, leads_reaches}
+use Rattle.c0_struct_sizes.proofs.GraphLemmas.{seen_below, PlaceOf, place_of, in_at, in_left, in_right, in_parts, in_drop, length-set_all, set_all_cases, reaches_leads, leads_reaches}
 use Rattle.c0_struct_sizes.proofs.Steps.{reach_last, followed_on, all_done}
-
--- a mark other than unseen is that of a number that has one
-pub seen_below : (marks : List Mark) (v : ℕ) (k : Mark) → mark_of marks v ≡ k → (k ≡ Unseen → ⊥) → v < length marks
-seen_below marks v k e seen =
-    elim (cases_lt v (length marks)) [
-      | inl below ↦ below
-      | inr above ↦ absurd (seen (sym e ∙ get_or_past marks v Unseen above))
-    ]
 
 -- an edge of a group of which no edge is left leads to what is done, or to the group or behind it
 abbrev Ends : List Mark → ℕ → ℕ → Type 0
@@ -69,7 +61,7 @@ module _ (edges : ℕ → List ℕ) (count : ℕ) where
       let p = place v h in
       (p.place, (subst (λ (x : ℕ). mark_of s.marks x ≡ Open p.place) p.at (w.path.opened p.place p.below).1, p.from)) in
       let not_here : (v : ℕ) → mark_of s.marks v ≡ Done → IsIn nodes v → ⊥ = λ v e h. let o = here_open v h in let f : mark_of s.marks v ≡ Open o.0 = o.1.0 in absurd cc in
-      let below : (v : ℕ) (k : Mark) → mark_of s.marks v ≡ k → (k ≡ Unseen → ⊥) → v < count = λ v k e seen. let h = seen_below s.marks v k e seen in omega arith in
+      let below : (v : ℕ) (k : Mark) → mark_of s.marks v ≡ k → (k ≡ Unseen → ⊥) → v < count = λ v k e seen. let h = seen_below s.marks Unseen v k e seen in omega arith in
       let kept_done : (v : ℕ) → mark_of s.marks v ≡ Done → mark_of marks v ≡ Done
       = λ v e. elim (mark_cases v (below v Done e (λ f. cc))) [ inl p ↦ p.1 | inr p ↦ p.1 ∙ e ] in
       let here_done : (v : ℕ) → IsIn nodes v → mark_of marks v ≡ Done
@@ -91,7 +83,7 @@ module _ (edges : ℕ → List ℕ) (count : ℕ) where
       = λ v h. elim h [ inl d ↦ kept_done v d | inr o ↦ now_done v o.0 o.1.0 o.1.1 ] in
       let new_cases : (v : ℕ) (k : Mark) → mark_of marks v ≡ k → (k ≡ Unseen → ⊥) → ((IsIn nodes v × (k ≡ Done)) ⊎ (mark_of s.marks v ≡ k))
       = λ v k e seen.
-      let lim : v < length marks = seen_below marks v k e seen in
+      let lim : v < length marks = seen_below marks Unseen v k e seen in
       elim (mark_cases v (omega arith)) [
         | inl c ↦ inl (c.0, sym e ∙ c.1)
         | inr c ↦ inr (sym c.1 ∙ e)

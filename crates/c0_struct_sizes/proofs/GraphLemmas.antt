@@ -61,6 +61,10 @@ in_drop [] (suc s) i le h = absurd (omega arith)
 in_drop (x ∷ xs) (suc s) zero le h = absurd (omega arith)
 in_drop (x ∷ xs) (suc s) (suc i) le h = in_drop xs s i (omega arith) (omega arith)
 
+-- what isn't the default stands in the list
+pub seen_below : {A : Type 0} (xs : List A) (d : A) (v : ℕ) (k : A) → get_or xs v d ≡ k → (k ≡ d → ⊥) → v < length xs
+seen_below xs d v k e seen = elim (cases_lt v (length xs)) [ inl below ↦ below | inr above ↦ absurd (seen (sym e ∙ get_or_past xs v d above)) ]
+
 -- each of many the same is the same
 pub replicate_at : {A : Type 0} (x : A) (n v : ℕ) → get_or (replicate n x) v x ≡ x
 replicate_at x n v =

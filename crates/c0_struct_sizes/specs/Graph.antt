@@ -23,14 +23,19 @@ edges_in lists v = get_or lists v []
 abbrev pub AreInside : List (List ℕ) → Type 0
 AreInside lists = (v w : ℕ) → IsIn (edges_in lists v) w → w < length lists
 
--- what is known of the numbers below a count: which of them lead to themselves, and an order in which each other stands behind all to which it has an edge
+-- in a list each number that doesn't lead to itself stands behind all to which it has an edge
+abbrev pub PartsFirst : (ℕ → List ℕ) → List ℕ → List Bool → Type 0
+PartsFirst edges nodes turning =
+    (i w : ℕ) → i < length nodes → get_or turning (get_or nodes i 0) false ≡ false → IsIn (edges (get_or nodes i 0)) w → IsIn (take i nodes) w
+
+-- the numbers below a count stand in an order, parts first, and it is known which of them lead to themselves
 pub record IsOrder (edges : ℕ → List ℕ) (count : ℕ) (nodes : List ℕ) (turning : List Bool) : Type 0 where
   pub flags : length turning ≡ count
   pub turns : (v : ℕ) → v < count → get_or turning v false ≡ true ↔ Leads edges v v
   pub few : length nodes ≤ count
   pub all : (v : ℕ) → v < count → IsIn nodes v
   pub within : (v : ℕ) → IsIn nodes v → v < count
-  pub first : (i w : ℕ) → i < length nodes → get_or turning (get_or nodes i 0) false ≡ false → IsIn (edges (get_or nodes i 0)) w → IsIn (take i nodes) w
+  pub first : PartsFirst edges nodes turning
 
 -- so it is of the numbers whose edges are listed
 abbrev pub IsOrderOf : List (List ℕ) → List ℕ → List Bool → Type 0

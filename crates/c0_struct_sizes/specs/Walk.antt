@@ -6,7 +6,7 @@ use Rattle.c0_struct_sizes.specs.declared.walk.Mark.{Mark}
 use Rattle.c0_struct_sizes.specs.declared.walk.Mark.TheVariants.{Unseen, Open, Done}
 use Rattle.c0_struct_sizes.specs.declared.walk.Group.{Group}
 use Rattle.c0_struct_sizes.specs.declared.walk.Walk.{Walk}
-use Rattle.c0_struct_sizes.specs.Graph.{IsIn, Leads, Reaches, edges_in}
+use Rattle.c0_struct_sizes.specs.Graph.{IsIn, Leads, Reaches, PartsFirst, edges_in}
 
 -- where a walk stands
 pub record WalkState : Type 0 where
@@ -19,7 +19,14 @@ pub record WalkState : Type 0 where
 
 -- where the walk stands that is kept so
 abbrev pub state_of : Walk → WalkState
-state_of w = record { marks = w.marks.items; path = w.path.items; todo = w.todo.items; groups = w.groups.items; turning = w.turning.items; listed = w.listed.items }
+state_of w = record {
+  marks = w.marks.items;
+  path = w.path.items;
+  todo = w.todo.items;
+  groups = w.groups.items;
+  turning = w.turning.items;
+  listed = w.listed.items;
+}
 
 -- the mark of a number
 abbrev pub mark_of : List Mark → ℕ → Mark
@@ -64,12 +71,12 @@ pub record IsPath (edges : ℕ → List ℕ) (count : ℕ) (marks : List Mark) (
   pub placed : (v q : ℕ) → mark_of marks v ≡ Open q → (q < length path) × (node_at path q ≡ v)
   pub leads : (i j : ℕ) → i < j → j < length path → Leads edges (node_at path i) (node_at path j)
 
--- the numbers that are done have edges to such alone, it is known of each whether it leads to itself, and they are listed, what has an edge behind all to which it has one
+-- the numbers that are done have edges to such alone, it is known which of them lead to themselves, and they are listed, parts first
 pub record AreDone (edges : ℕ → List ℕ) (marks : List Mark) (turning : List Bool) (listed : List ℕ) : Type 0 where
   pub closed : (v w : ℕ) → mark_of marks v ≡ Done → IsIn (edges v) w → mark_of marks w ≡ Done
   pub turns : (v : ℕ) → mark_of marks v ≡ Done → get_or turning v false ≡ true ↔ Leads edges v v
   pub all : (v : ℕ) → mark_of marks v ≡ Done ↔ IsIn listed v
-  pub first : (i w : ℕ) → i < length listed → get_or turning (get_or listed i 0) false ≡ false → IsIn (edges (get_or listed i 0)) w → IsIn (take i listed) w
+  pub first : PartsFirst edges listed turning
 
 -- the work of a mark, where meeting its number makes so much
 abbrev pub mark_work : Mark → ℕ → ℕ
