@@ -2,6 +2,7 @@
 use Rattle.std.specs.Prelude.{All, sum, slice_get, slice_index, Some}
 use Rattle.std.proofs.Common.{rules, Global, ◌≡◌, ℕ, zero, suc, ◌+◌, ◌*◌, ◌/◌, ◌^◌, ◌<◌, ◌≤◌, List, [], ◌∷◌, ◌++◌, length, refl, sym, ap, ◌∙◌, arith}
 use Rattle.std.proofs.lemmas.List.{length-map}
+use Rattle.std.proofs.lemmas.List.FromFn.{get_or-map-range_with_len}
 use Rattle.std.proofs.lemmas.Bool.{and_parts, ltb-true}
 use Rattle.c0_tree.specs.Plain.{is_short}
 use denote.RawPtr.{null_ptr}
@@ -9,6 +10,7 @@ use Rattle.std.proofs.lemmas.List.Elements.{All-append, All-cons, All-head, All-
 use Rattle.std.specs.declared.vec.Vec.{Vec}
 use Rattle.mips_table.specs.declared.inst.Inst.{Inst}
 use Rattle.mips_table.specs.Encoding.{InRange}
+use Rattle.layer_map.specs.Map.{primitives_at}
 use Rattle.masm.specs.declared.registers.Places.{Places}
 use Rattle.masm.specs.Places.{IsJumpTarget, ArePlaces}
 use Rattle.c0_tree.specs.declared.tree.Unit.{Unit as Source}
@@ -36,17 +38,7 @@ place_at (x ∷ xs) (suc n) h = place_at xs n (All-tail IsJumpTarget x xs h)
 
 -- the entries of primitives are words of the layer's, a word each
 entry_at : (n : ℕ) → n < 10 → slice_index primitive_entries n / 4 ≡ 2048 + n
-entry_at zero h = refl
-entry_at (suc zero) h = refl
-entry_at (suc (suc zero)) h = refl
-entry_at (suc (suc (suc zero))) h = refl
-entry_at (suc (suc (suc (suc zero)))) h = refl
-entry_at (suc (suc (suc (suc (suc zero))))) h = refl
-entry_at (suc (suc (suc (suc (suc (suc zero)))))) h = refl
-entry_at (suc (suc (suc (suc (suc (suc (suc zero))))))) h = refl
-entry_at (suc (suc (suc (suc (suc (suc (suc (suc zero)))))))) h = refl
-entry_at (suc (suc (suc (suc (suc (suc (suc (suc (suc zero))))))))) h = refl
-entry_at (suc (suc (suc (suc (suc (suc (suc (suc (suc (suc n)))))))))) h = absurd (omega (arith, h))
+entry_at n lt = let e = get_or-map-range_with_len (λ k. 4 * (primitives_at + k)) 0 10 n n 0 lt (omega arith) in omega (arith, e)
 
 -- number by number
 abbrev Each : (ℕ → Type 0) → List ℕ → Type 0

@@ -1,10 +1,12 @@
 -- The code of a unit: the entry, the routines, and the functions in source order. It stands behind the layer's words, and the globals stand from the
 -- next page on.
 use Rattle.std.specs.Prelude.{ℕ, ◌+◌, ◌*◌, ◌/◌, List, [], ◌∷◌, ◌++◌, length, map, sum, slice_index}
+use Rattle.std.specs.List.{range_with_len}
 use Rattle.mips_table.specs.declared.inst.Inst.{Inst}
 use Rattle.mips_table.specs.Encoding.{encoding}
 use Rattle.layer_map.specs.Map.{layer_words, primitives_at, exits_at, next_page}
 use Rattle.c0_tree.specs.declared.primitive.Program.TheVariants.{Kernel, User}
+use Rattle.c0_tree.specs.Primitives.{kernel_primitives}
 use Rattle.c0_tree.specs.Tree.{CFunction, CUnit}
 use Rattle.c0_meaning.specs.Limits.{words_of_frame, first_number}
 use Rattle.c0_meaning.specs.Sound.{shapes}
@@ -21,9 +23,7 @@ fault_exits = 4 * exits_at ∷ 4 * (exits_at + 1) ∷ 4 * (exits_at + 2) ∷ 4 *
 
 -- where the primitives are entered, by their numbers: a word each
 abbrev pub primitive_entries : List ℕ
-primitive_entries =
-    4 * primitives_at ∷ 4 * (primitives_at + 1) ∷ 4 * (primitives_at + 2) ∷ 4 * (primitives_at + 3) ∷ 4 * (primitives_at + 4) ∷ 4 * (primitives_at + 5) ∷
-    4 * (primitives_at + 6) ∷ 4 * (primitives_at + 7) ∷ 4 * (primitives_at + 8) ∷ 4 * (primitives_at + 9) ∷ []
+primitive_entries = map (λ k. 4 * (primitives_at + k)) (range_with_len 0 (length kernel_primitives))
 
 -- the first word of the routines, and of the functions
 abbrev pub routines_at : ℕ

@@ -7,6 +7,7 @@ ghost use Rattle.c0_unit.specs.Laws.{ArePlacedAt};
 
 use c0_runtime::entry::ENTRY_WORDS;
 use c0_runtime::runtime::{DIVIDE, MULTIPLY, NEW_OBJECT, REMAINDER};
+use c0_tree::primitives;
 use layer_map::{EXITS, LAYER_WORDS, PRIMITIVES};
 use masm::registers::Places;
 use std::alloc::{AllocError, Global};
@@ -14,20 +15,6 @@ use std::vec::Vec;
 
 // Where faults leave the kernel.
 const FAULT_EXITS: [u32; 4] = [EXITS, EXITS + 4, EXITS + 8, EXITS + 12];
-
-// Where the primitives are entered, by their numbers.
-const PRIMITIVE_ENTRIES: [u32; 10] = [
-    PRIMITIVES,
-    PRIMITIVES + 4,
-    PRIMITIVES + 8,
-    PRIMITIVES + 12,
-    PRIMITIVES + 16,
-    PRIMITIVES + 20,
-    PRIMITIVES + 24,
-    PRIMITIVES + 28,
-    PRIMITIVES + 32,
-    PRIMITIVES + 36,
-];
 
 // The address of a word of the routines.
 fn routine(word: u32) -> u32
@@ -37,6 +24,17 @@ fn routine(word: u32) -> u32
     4 * (LAYER_WORDS + ENTRY_WORDS + word)
 }
 
+// Where the primitives are entered, by their numbers.
+fn entries(alloc: Global) -> Result<Vec<u32>, AllocError>
+    ensures { IfOk result (λ v. v.items ≡ primitive_entries) }
+{
+    let mut entries = Vec::new(alloc);
+    for number in 0..primitives().len() as u32 {
+        entries.push(PRIMITIVES + 4 * number)?;
+    }
+    Ok(entries)
+}
+
 /// The places of code in which the functions begin at these addresses, and the globals at this one.
 pub fn placed_at(alloc: Global, functions: Vec<u32>, globals: u32) -> Result<Places, AllocError>
     requires functions { All IsJumpTarget functions.items }
@@ -44,7 +42,7 @@ pub fn placed_at(alloc: Global, functions: Vec<u32>, globals: u32) -> Result<Pla
     ensures placed { IfOk result (λ p. ArePlacedAt p functions.items globals) }
     ensures places { IfOk result ArePlaces }
 {
-    let primitives = Vec::from_slice(alloc, &PRIMITIVE_ENTRIES)?;
+    let primitives = entries(alloc)?;
     Ok(Places {
         globals,
         faults: FAULT_EXITS,
