@@ -26,8 +26,8 @@ use Rattle.kernel_theorems.specs.UserRuns.{after, told}
 use Rattle.kernel_theorems.proofs.Histories.{one_more}
 use Rattle.kernel_theorems.proofs.UserRuns.{goes_before, goes_next, its_step, put_in}
 use Rattle.mailing.specs.Tree.{kernel_tree}
-use Rattle.mailing.specs.Users.{Leg, before_trap, Place, Runs, Waits, Ended, machine_at, IsRunning, FollowsLegs}
-use Rattle.mailing.specs.Property.{Message, sends, receives, asks, prints, numbers, ints, AreSmall, Mails, data_of, held, number_in, IsFull, IsEmpty, calls_left, waits_by, over_of, status_of_places, Standing, stand, unsent, sent_by, sent, StandsSo, IsMailing, Mailing, MailIsKept, MailIsPrinted}
+use Rattle.mailing.specs.Users.{Leg, before_trap, UserProgress, Runs, Waits, Ended, machine_at, IsStillStepping, FollowsLegs}
+use Rattle.mailing.specs.Property.{Message, sends, receives, asks, prints, numbers, ints, AreSmall, Mails, data_of, held, number_in, IsFull, IsEmpty, calls_left, waits_by, over_of, status_of_users, MailState, stand, unsent, sent_by, sent, StandsSo, IsMailing, Mailing, MailIsKept, MailIsPrinted}
 use Rattle.mailing.proofs.Dispatching.{core_of, Gives, Code}
 use Rattle.mailing.proofs.Dispatching as code
 use Rattle.mailing.proofs.Following.{goes_on, is_answered, is_waiting, is_answered_late, is_over, TrapsSo, its_trap, IsThat, is_that}
@@ -109,7 +109,7 @@ module _ (y : System) (ms : List Message) (one two : ℕ) (r : Mails y ms one tw
   abbrev J : SystemProperty
   J = Mailing y ms one two F G
 
-  abbrev So : ℕ → List Dispatch → Core → Standing → Type 0
+  abbrev So : ℕ → List Dispatch → Core → MailState → Type 0
   So k past at s = StandsSo ms one two F G k past at s
 
   has_room : nat_lt y.boot.params.stack 11 ≡ false
@@ -119,16 +119,16 @@ module _ (y : System) (ms : List Message) (one two : ℕ) (r : Mails y ms one tw
   two_users = ap length r.users_are
 
   -- the state of a standing
-  abbrev at_place : Standing → Console → ℕ → Core
+  abbrev at_place : MailState → Console → ℕ → Core
   at_place s o u = core_of (number_in s.box) (waits_by 1 s.sender + waits_by 2 s.receiver) (over_of s.sender s.receiver)
       (machine_at s.f (sends s.rest) one s.sender) (machine_at s.g (calls_left s.hand (held s.box s.rest)) two s.receiver) o u
 
   -- BEHIND A DISPATCH
-  made : (k : ℕ) (past : List Dispatch) (e : Dispatch) (s : Standing) (o : Console) (u : ℕ)
+  made : (k : ℕ) (past : List Dispatch) (e : Dispatch) (s : MailState) (o : Console) (u : ℕ)
       → (a : FollowsLegs F (sends ms) one s.f (sends s.rest) s.sender) (b : FollowsLegs G (receives ms) two s.g (calls_left s.hand (held s.box s.rest)) s.receiver)
       → ms ≡ s.printed ++ held s.hand (held s.box s.rest) → sent past ++ (sent_by e ++ ints (unsent s.sender s.rest)) ≡ ints ms → o.log ≡ numbers s.printed
       → (s.sender ≡ Waits → IsFull s.box) → (s.receiver ≡ Waits → IsEmpty s.hand × IsEmpty s.box)
-      → (status_of_places s.sender s.receiver ≡ Running → ((u ≡ 1) × IsRunning s.sender) ⊎ ((u ≡ 2) × IsRunning s.receiver)) → status_of e.next ≡ status_of_places s.sender s.receiver
+      → (status_of_users s.sender s.receiver ≡ Running → ((u ≡ 1) × IsStillStepping s.sender) ⊎ ((u ≡ 2) × IsStillStepping s.receiver)) → status_of e.next ≡ status_of_users s.sender s.receiver
       → suc k ≡ 1 + a.steps + b.steps + (lines_taken past + (if e.cause == 1 then 1 else 0)) → suc (length past) ≡ 1 + a.traps + b.traps + (lines_taken past + (if e.cause == 1 then 1 else 0))
       → I (suc k) (past ++ e ∷ []) (at_place s o u)
   made k past e s o u a b all sends_on log room mail turn status turns long =
@@ -142,8 +142,8 @@ module _ (y : System) (ms : List Message) (one two : ℕ) (r : Mails y ms one tw
         rest = s.rest;
         sender_from = s.f;
         receiver_from = s.g;
-        sender_place = s.sender;
-        receiver_place = s.receiver;
+        sender_progress = s.sender;
+        receiver_progress = s.receiver;
         so = record {
           sender = a;
           receiver = b;
@@ -201,9 +201,9 @@ module _ (y : System) (ms : List Message) (one two : ℕ) (r : Mails y ms one tw
       (code.starts p has_room F G (first_core y).console)
 
   -- A DISPATCH WHOSE CODE IS KNOWN, by the standing behind it: a user is next, or nobody
-  moves : (k cause edata : ℕ) (past : List Dispatch) (at : Core) → UsePages y 200 0 past → (box waits over : ℕ) (f g : Flat) (o : Console) (u a : ℕ) (s : Standing) (after : Console)
-      → at ≡ core_of box waits over f g o u → Code p cause edata (core_of box waits over f g o u) a (at_place s after u) → 1 ≤ a → a ≤ 2 → ((a ≡ 1) × IsRunning s.sender) ⊎ ((a ≡ 2) × IsRunning s.receiver)
-      → Running ≡ status_of_places s.sender s.receiver
+  moves : (k cause edata : ℕ) (past : List Dispatch) (at : Core) → UsePages y 200 0 past → (box waits over : ℕ) (f g : Flat) (o : Console) (u a : ℕ) (s : MailState) (after : Console)
+      → at ≡ core_of box waits over f g o u → Code p cause edata (core_of box waits over f g o u) a (at_place s after u) → 1 ≤ a → a ≤ 2 → ((a ≡ 1) × IsStillStepping s.sender) ⊎ ((a ≡ 2) × IsStillStepping s.receiver)
+      → Running ≡ status_of_users s.sender s.receiver
       → (b : FollowsLegs F (sends ms) one s.f (sends s.rest) s.sender) (c : FollowsLegs G (receives ms) two s.g (calls_left s.hand (held s.box s.rest)) s.receiver)
       → ms ≡ s.printed ++ held s.hand (held s.box s.rest)
       → sent past ++ (sent_by (made_of k cause edata (core_of box waits over f g o u) (at_place s after u) (User a)) ++ ints (unsent s.sender s.rest)) ≡ ints ms → after.log ≡ numbers s.printed
@@ -215,9 +215,9 @@ module _ (y : System) (ms : List Message) (one two : ℕ) (r : Mails y ms one tw
       (to_user k cause edata past (core_of box waits over f g o u) (at_place s after u) a some few
       (made k past (made_of k cause edata (core_of box waits over f g o u) (at_place s after u) (User a)) s after a b c all sends_on log room mail (λ go. turn) on turns long)) does
 
-  halts : (k cause edata : ℕ) (past : List Dispatch) (at : Core) → UsePages y 200 0 past → (box waits over : ℕ) (f g : Flat) (o : Console) (u : ℕ) (s : Standing)
+  halts : (k cause edata : ℕ) (past : List Dispatch) (at : Core) → UsePages y 200 0 past → (box waits over : ℕ) (f g : Flat) (o : Console) (u : ℕ) (s : MailState)
       → at ≡ core_of box waits over f g o u → Code p cause edata (core_of box waits over f g o u) 0 (at_place s o u)
-      → Halted ≡ status_of_places s.sender s.receiver
+      → Halted ≡ status_of_users s.sender s.receiver
       → (b : FollowsLegs F (sends ms) one s.f (sends s.rest) s.sender) (c : FollowsLegs G (receives ms) two s.g (calls_left s.hand (held s.box s.rest)) s.receiver)
       → ms ≡ s.printed ++ held s.hand (held s.box s.rest)
       → sent past ++ (sent_by (made_of k cause edata (core_of box waits over f g o u) (at_place s o u) Halt) ++ ints (unsent s.sender s.rest)) ≡ ints ms → o.log ≡ numbers s.printed
@@ -232,7 +232,7 @@ module _ (y : System) (ms : List Message) (one two : ℕ) (r : Mails y ms one tw
   -- A STANDING of a state that is running, by its parts: the dispatch that comes next
   module _ (k : ℕ) (past : List Dispatch) (touch : UsePages y 200 0 past) (printed : List Message) (hand : Option Message) where
     -- LINES: user 1 is current, and user 2
-    lined_first : (box : Option Message) (rest : List Message) (f g : Flat) (mask : ℕ) (c : Core) (t : ℕ) (q : Place) → So k past c (stand printed hand box rest f g (Runs t) q) → c.current ≡ 1
+    lined_first : (box : Option Message) (rest : List Message) (f g : Flat) (mask : ℕ) (c : Core) (t : ℕ) (q : UserProgress) → So k past c (stand printed hand box rest f g (Runs t) q) → c.current ≡ 1
         → KeepsAll y 200 J k 1 mask past c
     lined_first box rest f g mask c t (Runs s) so here =
         let turns = so.turns_are in
@@ -255,7 +255,7 @@ module _ (y : System) (ms : List Message) (one two : ℕ) (r : Mails y ms one tw
         (whole c (after t f ∷ h ∷ []) (data_of (number_in box) 0 2) 1 so.users_are here so.data_is) (code.first_stays_over p has_room (after t f) h c.console (number_in box) mask)
         (omega arith) (omega arith) (inl (refl, tt)) refl so.sender so.receiver so.all so.sent_are so.log_is so.for_room so.for_mail (omega (arith, turns)) (omega (arith, long))
 
-    lined_second : (box : Option Message) (rest : List Message) (f g : Flat) (mask : ℕ) (c : Core) (q : Place) (s : ℕ) → So k past c (stand printed hand box rest f g q (Runs s)) → c.current ≡ 2
+    lined_second : (box : Option Message) (rest : List Message) (f g : Flat) (mask : ℕ) (c : Core) (q : UserProgress) (s : ℕ) → So k past c (stand printed hand box rest f g q (Runs s)) → c.current ≡ 2
         → KeepsAll y 200 J k 1 mask past c
     lined_second box rest f g mask c (Runs t) s so here =
         let turns = so.turns_are in
@@ -288,7 +288,7 @@ module _ (y : System) (ms : List Message) (one two : ℕ) (r : Mails y ms one tw
     -- A TRAP OF USER 1
     module _ (c at : Core) (cause : Cause) (edata : ℕ) (came : IsTrapOf c cause edata at) where
       -- which trap it is, and the state in which dispatch is called
-      first_traps : (box : Option Message) (rest : List Message) (f g : Flat) (t : ℕ) (q : Place) → So k past c (stand printed hand box rest f g (Runs t) q) → c.current ≡ 1
+      first_traps : (box : Option Message) (rest : List Message) (f g : Flat) (t : ℕ) (q : UserProgress) → So k past c (stand printed hand box rest f g (Runs t) q) → c.current ≡ 1
           → IsThat f (sends rest) one t came.after cause edata
           × (at ≡ core_of (number_in box) (waits_by 1 (Runs t) + waits_by 2 q) (over_of (Runs t) q) (after (suc (before_trap (sends rest) one)) f) (machine_at g (calls_left hand (held box rest)) two q) c.console 1)
       first_traps box rest f g t q so here =
@@ -352,7 +352,7 @@ module _ (y : System) (ms : List Message) (one two : ℕ) (r : Mails y ms one tw
           (is_over F (sends ms) one f t n.0.now so.sender) so.receiver so.all so.sent_are so.log_is (gone (IsFull box)) (gone (IsEmpty hand × IsEmpty box)) (omega (arith, turns)) (omega (arith, long)))
 
       -- A TRAP OF USER 2
-      second_traps : (box : Option Message) (rest : List Message) (f g : Flat) (q : Place) (s : ℕ) → So k past c (stand printed hand box rest f g q (Runs s)) → c.current ≡ 2
+      second_traps : (box : Option Message) (rest : List Message) (f g : Flat) (q : UserProgress) (s : ℕ) → So k past c (stand printed hand box rest f g q (Runs s)) → c.current ≡ 2
           → IsThat g (calls_left hand (held box rest)) two s came.after cause edata
           × (at ≡ core_of (number_in box) (waits_by 1 q + waits_by 2 (Runs s)) (over_of q (Runs s)) (machine_at f (sends rest) one q) (after (suc (before_trap (calls_left hand (held box rest)) two)) g) c.console 2)
       second_traps box rest f g q s so here =
@@ -523,7 +523,7 @@ module _ (y : System) (ms : List Message) (one two : ℕ) (r : Mails y ms one tw
     abbrev Kept : Type 0
     Kept = KeepsAll y 200 J k (cause_number cause) edata past at
 
-    by_first : (hand box : Option Message) (rest : List Message) (f g : Flat) (t : ℕ) (q : Place) → So k past c (stand printed hand box rest f g (Runs t) q) → c.current ≡ 1 → Kept
+    by_first : (hand box : Option Message) (rest : List Message) (f g : Flat) (t : ℕ) (q : UserProgress) → So k past c (stand printed hand box rest f g (Runs t) q) → c.current ≡ 1 → Kept
     by_first hand box [] f g t (Runs s) so here = first_ends k past touch printed hand c at cause edata came box f g t s so here
     by_first hand box [] f g t Ended so here = first_ends_all k past touch printed hand c at cause edata came box f g t so here
     by_first None None [] f g t Waits so here = absurd so.receiver.is_at
@@ -538,7 +538,7 @@ module _ (y : System) (ms : List Message) (one two : ℕ) (r : Mails y ms one tw
     by_first None (Some b) (m ∷ rest) f g t Ended so here = absurd so.receiver.is_at
     by_first (Some h) box (m ∷ rest) f g t Ended so here = absurd so.receiver.is_at
 
-    by_second : (hand box : Option Message) (rest : List Message) (f g : Flat) (q : Place) (s : ℕ) → So k past c (stand printed hand box rest f g q (Runs s)) → c.current ≡ 2 → Kept
+    by_second : (hand box : Option Message) (rest : List Message) (f g : Flat) (q : UserProgress) (s : ℕ) → So k past c (stand printed hand box rest f g q (Runs s)) → c.current ≡ 2 → Kept
     by_second (Some m) box rest f g (Runs t) s so here = prints_it k past touch printed m c at cause edata came box rest f g t s so here
     by_second (Some m) box rest f g Ended s so here = prints_late k past touch printed m c at cause edata came box rest f g s so here
     by_second (Some m) (Some b) rest f g Waits s so here = prints_while_full k past touch printed m c at cause edata came b rest f g s so here
@@ -555,7 +555,7 @@ module _ (y : System) (ms : List Message) (one two : ℕ) (r : Mails y ms one tw
 
   -- A STEP of user 1, and of user 2
   module _ (k : ℕ) (past : List Dispatch) (printed : List Message) (hand box : Option Message) (rest : List Message) (f g : Flat) (c : Core) (h : Flat) (e : vstep (user_of c.users c.current) ≡ Goes h) where
-    first_steps : (t : ℕ) (q : Place) → So k past c (stand printed hand box rest f g (Runs t) q) → c.current ≡ 1 → I (suc k) past (with_machine c h)
+    first_steps : (t : ℕ) (q : UserProgress) → So k past c (stand printed hand box rest f g (Runs t) q) → c.current ≡ 1 → I (suc k) past (with_machine c h)
     first_steps t q so here =
         let us = after t f ∷ machine_at g (calls_left hand (held box rest)) two q ∷ [] in
         let z : vstep (after t f) ≡ Goes h = its_step c (after t f ∷ machine_at g (calls_left hand (held box rest)) two q ∷ []) 1 (Goes h) so.users_are here e in
@@ -568,8 +568,8 @@ module _ (y : System) (ms : List Message) (one two : ℕ) (r : Mails y ms one tw
           rest = rest;
           sender_from = f;
           receiver_from = g;
-          sender_place = Runs (suc t);
-          receiver_place = q;
+          sender_progress = Runs (suc t);
+          receiver_progress = q;
           so = record {
             sender = goes_on F (sends ms) one f (sends rest) t (goes_before f (before_trap (sends rest) one) Syscall s.traps t so.sender.is_at h z) so.sender;
             receiver = so.receiver;
@@ -588,7 +588,7 @@ module _ (y : System) (ms : List Message) (one two : ℕ) (r : Mails y ms one tw
           };
         }
 
-    second_steps : (q : Place) (t : ℕ) → So k past c (stand printed hand box rest f g q (Runs t)) → c.current ≡ 2 → I (suc k) past (with_machine c h)
+    second_steps : (q : UserProgress) (t : ℕ) → So k past c (stand printed hand box rest f g q (Runs t)) → c.current ≡ 2 → I (suc k) past (with_machine c h)
     second_steps q t so here =
         let legs = calls_left hand (held box rest) in
         let z : vstep (after t g) ≡ Goes h = its_step c (machine_at f (sends rest) one q ∷ after t g ∷ []) 2 (Goes h) so.users_are here e in
@@ -601,8 +601,8 @@ module _ (y : System) (ms : List Message) (one two : ℕ) (r : Mails y ms one tw
           rest = rest;
           sender_from = f;
           receiver_from = g;
-          sender_place = q;
-          receiver_place = Runs (suc t);
+          sender_progress = q;
+          receiver_progress = Runs (suc t);
           so = record {
             sender = so.sender;
             receiver = goes_on G (receives ms) two g (calls_left hand (held box rest)) t (goes_before g (before_trap (calls_left hand (held box rest)) two) Syscall s.traps t so.receiver.is_at h z) so.receiver;
@@ -623,39 +623,39 @@ module _ (y : System) (ms : List Message) (one two : ℕ) (r : Mails y ms one tw
 
   -- BY WHO IS CURRENT, of a state that is running
   module _ (k : ℕ) (past : List Dispatch) (c : Core) (printed : List Message) (hand box : Option Message) (rest : List Message) (f g : Flat) (P : Type 0) where
-    first_runs : (p q : Place) → So k past c (stand printed hand box rest f g p q) → c.current ≡ 1 → IsRunning p → ((t : ℕ) → So k past c (stand printed hand box rest f g (Runs t) q) → P) → P
+    first_runs : (p q : UserProgress) → So k past c (stand printed hand box rest f g p q) → c.current ≡ 1 → IsStillStepping p → ((t : ℕ) → So k past c (stand printed hand box rest f g (Runs t) q) → P) → P
     first_runs (Runs t) q so here on to = to t so
     first_runs Waits q so here on to = absurd on
     first_runs Ended q so here on to = absurd on
 
-    second_runs : (p q : Place) → So k past c (stand printed hand box rest f g p q) → c.current ≡ 2 → IsRunning q → ((t : ℕ) → So k past c (stand printed hand box rest f g p (Runs t)) → P) → P
+    second_runs : (p q : UserProgress) → So k past c (stand printed hand box rest f g p q) → c.current ≡ 2 → IsStillStepping q → ((t : ℕ) → So k past c (stand printed hand box rest f g p (Runs t)) → P) → P
     second_runs p (Runs t) so here on to = to t so
     second_runs p Waits so here on to = absurd on
     second_runs p Ended so here on to = absurd on
 
   by_who : (k : ℕ) (past : List Dispatch) (c : Core) (P : Type 0) → status_after past ≡ Running → (h : I k past c)
-      → ((t : ℕ) → So k past c (stand h.printed h.hand h.box h.rest h.sender_from h.receiver_from (Runs t) h.receiver_place) → c.current ≡ 1 → P)
-      → ((t : ℕ) → So k past c (stand h.printed h.hand h.box h.rest h.sender_from h.receiver_from h.sender_place (Runs t)) → c.current ≡ 2 → P) → P
+      → ((t : ℕ) → So k past c (stand h.printed h.hand h.box h.rest h.sender_from h.receiver_from (Runs t) h.receiver_progress) → c.current ≡ 1 → P)
+      → ((t : ℕ) → So k past c (stand h.printed h.hand h.box h.rest h.sender_from h.receiver_from h.sender_progress (Runs t)) → c.current ≡ 2 → P) → P
   by_who k past c P on h to_first to_second = ⊎_elim
-      (λ (w : (c.current ≡ 1) × IsRunning h.sender_place). first_runs k past c h.printed h.hand h.box h.rest h.sender_from h.receiver_from P h.sender_place h.receiver_place h.so w.0 w.1 (λ t so. to_first t so w.0))
-      (λ (w : (c.current ≡ 2) × IsRunning h.receiver_place). second_runs k past c h.printed h.hand h.box h.rest h.sender_from h.receiver_from P h.sender_place h.receiver_place h.so w.0 w.1 (λ t so. to_second t so w.0))
+      (λ (w : (c.current ≡ 1) × IsStillStepping h.sender_progress). first_runs k past c h.printed h.hand h.box h.rest h.sender_from h.receiver_from P h.sender_progress h.receiver_progress h.so w.0 w.1 (λ t so. to_first t so w.0))
+      (λ (w : (c.current ≡ 2) × IsStillStepping h.receiver_progress). second_runs k past c h.printed h.hand h.box h.rest h.sender_from h.receiver_from P h.sender_progress h.receiver_progress h.so w.0 w.1 (λ t so. to_second t so w.0))
       (h.so.turn_is on)
 
   lined : (k mask : ℕ) (past : List Dispatch) (c : Core) → status_after past ≡ Running → UsePages y 200 0 past → I k past c → KeepsAll y 200 J k 1 mask past c
   lined k mask past c on touch h = by_who k past c (KeepsAll y 200 J k 1 mask past c) on h
-      (λ t so here. lined_first k past touch h.printed h.hand h.box h.rest h.sender_from h.receiver_from mask c t h.receiver_place so here)
-      (λ t so here. lined_second k past touch h.printed h.hand h.box h.rest h.sender_from h.receiver_from mask c h.sender_place t so here)
+      (λ t so here. lined_first k past touch h.printed h.hand h.box h.rest h.sender_from h.receiver_from mask c t h.receiver_progress so here)
+      (λ t so here. lined_second k past touch h.printed h.hand h.box h.rest h.sender_from h.receiver_from mask c h.sender_progress t so here)
 
   trapped : (k : ℕ) (cause : Cause) (edata : ℕ) (past : List Dispatch) (c at : Core) → IsTrapOf c cause edata at → status_after past ≡ Running → UsePages y 200 0 past → I k past c
       → KeepsAll y 200 J k (cause_number cause) edata past at
   trapped k cause edata past c at came on touch h = by_who k past c (KeepsAll y 200 J k (cause_number cause) edata past at) on h
-      (λ t so here. by_first k past touch h.printed c at cause edata came h.hand h.box h.rest h.sender_from h.receiver_from t h.receiver_place so here)
-      (λ t so here. by_second k past touch h.printed c at cause edata came h.hand h.box h.rest h.sender_from h.receiver_from h.sender_place t so here)
+      (λ t so here. by_first k past touch h.printed c at cause edata came h.hand h.box h.rest h.sender_from h.receiver_from t h.receiver_progress so here)
+      (λ t so here. by_second k past touch h.printed c at cause edata came h.hand h.box h.rest h.sender_from h.receiver_from h.sender_progress t so here)
 
   stepped : (k : ℕ) (past : List Dispatch) (c : Core) (f : Flat) → vstep (user_of c.users c.current) ≡ Goes f → status_after past ≡ Running → I k past c → I (suc k) past (with_machine c f)
   stepped k past c f e on h = by_who k past c (I (suc k) past (with_machine c f)) on h
-      (λ t so here. first_steps k past h.printed h.hand h.box h.rest h.sender_from h.receiver_from c f e t h.receiver_place so here)
-      (λ t so here. second_steps k past h.printed h.hand h.box h.rest h.sender_from h.receiver_from c f e h.sender_place t so here)
+      (λ t so here. first_steps k past h.printed h.hand h.box h.rest h.sender_from h.receiver_from c f e t h.receiver_progress so here)
+      (λ t so here. second_steps k past h.printed h.hand h.box h.rest h.sender_from h.receiver_from c f e h.sender_progress t so here)
 
   invariant : IsSystemInvariant y 200 (HasUsers y) J
   invariant = record {

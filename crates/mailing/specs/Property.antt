@@ -15,7 +15,7 @@ use Rattle.cvm_model.specs.Cvm.{System, Cvm, Status, Running, Halted, first_flat
 use Rattle.cvm_model.specs.Invariant.{Dispatch, dispatches_of, HasEight, HasUsers, IsSafe}
 use Rattle.cvm_model.specs.Systems.{SystemProperty, status_after, lines_taken, UsePages, IsSystemInvariant, SystemHolds}
 use Rattle.mailing.specs.Tree.{kernel_tree}
-use Rattle.mailing.specs.Users.{Leg, CallsInTurn, ended, steps_of, Place, Runs, Waits, Ended, machine_at, IsRunning, FollowsLegs}
+use Rattle.mailing.specs.Users.{Leg, CallsInTurn, ended, steps_of, UserProgress, Runs, Waits, Ended, machine_at, IsStillStepping, FollowsLegs}
 
 -- a message: its number, and the untrapped steps of the sender before the call that sends it, of the receiver before the call that asks for it, and from its
 -- answer to the call that prints it
@@ -94,41 +94,41 @@ calls_left None ms = receives ms
 calls_left (Some m) ms = prints m ∷ receives ms
 
 -- a user's number where it waits, and where it has ended
-abbrev pub waits_by : ℕ → Place → ℕ
+abbrev pub waits_by : ℕ → UserProgress → ℕ
 waits_by u (Runs t) = 0
 waits_by u Waits = u
 waits_by u Ended = 0
 
-abbrev pub over_by : ℕ → Place → ℕ
+abbrev pub over_by : ℕ → UserProgress → ℕ
 over_by u (Runs t) = 0
 over_by u Waits = 0
 over_by u Ended = u
 
-abbrev pub over_of : (sender receiver : Place) → ℕ
+abbrev pub over_of : (sender receiver : UserProgress) → ℕ
 over_of p q = over_by 1 p + over_by 2 q
 
 -- it has halted when both have ended
-abbrev pub status_of_places : (sender receiver : Place) → Status
-status_of_places p q = if over_of p q == 3 then Halted else Running
+abbrev pub status_of_users : (sender receiver : UserProgress) → Status
+status_of_users p q = if over_of p q == 3 then Halted else Running
 
 -- WHERE MESSAGES ARE: printed; in the receiver's hand, which was answered with it and has not had it printed; in the mailbox; and with the sender, who hasn't
 -- been answered for them yet. And where both users are, from their machines behind their last answers.
-pub record Standing : Type 0 where
+pub record MailState : Type 0 where
   pub printed : List Message
   pub hand : Option Message
   pub box : Option Message
   pub rest : List Message
   pub f : Flat
   pub g : Flat
-  pub sender : Place
-  pub receiver : Place
+  pub sender : UserProgress
+  pub receiver : UserProgress
 
-abbrev pub stand : (printed : List Message) → (hand box : Option Message) → (rest : List Message) → (f g : Flat) → (sender receiver : Place) → Standing
+abbrev pub stand : (printed : List Message) → (hand box : Option Message) → (rest : List Message) → (f g : Flat) → (sender receiver : UserProgress) → MailState
 stand printed hand box rest f g sender receiver =
     record { printed = printed; hand = hand; box = box; rest = rest; f = f; g = g; sender = sender; receiver = receiver }
 
 -- the messages that were not sent yet
-abbrev pub unsent : Place → List Message → List Message
+abbrev pub unsent : UserProgress → List Message → List Message
 unsent Waits [] = []
 unsent Waits (m ∷ ms) = ms
 unsent (Runs t) ms = ms
@@ -149,7 +149,7 @@ ints ms = map (λ (m : Message). pos m.number) ms
 -- WHAT IS SO after k turns, whatever lines came. The messages are those that were printed, then that in the receiver's hand, that in the mailbox, and those that
 -- are left; they are those that were sent, and then those that were not yet. Each user follows its calls; who waits, waits for the mailbox; and each turn was
 -- the first, a step of a user, or lines that were taken.
-pub record StandsSo (ms : List Message) (one two : ℕ) (f g : Flat) (k : ℕ) (past : List Dispatch) (at : Core) (s : Standing) : Type 0 where
+pub record StandsSo (ms : List Message) (one two : ℕ) (f g : Flat) (k : ℕ) (past : List Dispatch) (at : Core) (s : MailState) : Type 0 where
   pub sender : FollowsLegs f (sends ms) one s.f (sends s.rest) s.sender
   pub receiver : FollowsLegs g (receives ms) two s.g (calls_left s.hand (held s.box s.rest)) s.receiver
   pub all : ms ≡ s.printed ++ held s.hand (held s.box s.rest)
@@ -159,8 +159,8 @@ pub record StandsSo (ms : List Message) (one two : ℕ) (f g : Flat) (k : ℕ) (
   pub for_mail : s.receiver ≡ Waits → IsEmpty s.hand × IsEmpty s.box
   pub users_are : at.users ≡ machine_at s.f (sends s.rest) one s.sender ∷ machine_at s.g (calls_left s.hand (held s.box s.rest)) two s.receiver ∷ []
   pub data_is : at.c0 ≡ data_of (number_in s.box) (waits_by 1 s.sender + waits_by 2 s.receiver) (over_of s.sender s.receiver)
-  pub turn_is : status_after past ≡ Running → ((at.current ≡ 1) × IsRunning s.sender) ⊎ ((at.current ≡ 2) × IsRunning s.receiver)
-  pub status_is : status_after past ≡ status_of_places s.sender s.receiver
+  pub turn_is : status_after past ≡ Running → ((at.current ≡ 1) × IsStillStepping s.sender) ⊎ ((at.current ≡ 2) × IsStillStepping s.receiver)
+  pub status_is : status_after past ≡ status_of_users s.sender s.receiver
   pub turns_are : k ≡ 1 + sender.steps + receiver.steps + lines_taken past
   pub length_is : length past ≡ 1 + sender.traps + receiver.traps + lines_taken past
 
@@ -171,9 +171,9 @@ pub record IsMailing (ms : List Message) (one two : ℕ) (f g : Flat) (k : ℕ) 
   pub rest : List Message
   pub sender_from : Flat
   pub receiver_from : Flat
-  pub sender_place : Place
-  pub receiver_place : Place
-  pub so : StandsSo ms one two f g k past at (stand printed hand box rest sender_from receiver_from sender_place receiver_place)
+  pub sender_progress : UserProgress
+  pub receiver_progress : UserProgress
+  pub so : StandsSo ms one two f g k past at (stand printed hand box rest sender_from receiver_from sender_progress receiver_progress)
 
 -- and no dispatch touches a page of a user
 abbrev pub Mailing : System → (ms : List Message) → (one two : ℕ) → (f g : Flat) → SystemProperty

@@ -47,44 +47,44 @@ before_trap [] last = last
 before_trap (leg ∷ legs) last = leg.steps
 
 -- where a user is in what it has still to do: so many untrapped steps behind its last answer; or its next call is made, and isn't answered yet; or it has ended
-pub data Place : Type 0 where
-  Runs : ℕ → Place
-  Waits : Place
-  Ended : Place
+pub data UserProgress : Type 0 where
+  Runs : ℕ → UserProgress
+  Waits : UserProgress
+  Ended : UserProgress
 
-abbrev pub IsAt : List Leg → (last : ℕ) → Place → Type 0
-IsAt legs last (Runs t) = t ≤ before_trap legs last
-IsAt [] last Waits = ⊥
-IsAt (leg ∷ legs) last Waits = Unit {0}
-IsAt [] last Ended = Unit {0}
-IsAt (leg ∷ legs) last Ended = ⊥
+abbrev pub IsProgressOf : List Leg → (last : ℕ) → UserProgress → Type 0
+IsProgressOf legs last (Runs t) = t ≤ before_trap legs last
+IsProgressOf [] last Waits = ⊥
+IsProgressOf (leg ∷ legs) last Waits = Unit {0}
+IsProgressOf [] last Ended = Unit {0}
+IsProgressOf (leg ∷ legs) last Ended = ⊥
 
 -- its steps behind its last answer, and how many of them trapped
-abbrev pub steps_at : List Leg → (last : ℕ) → Place → ℕ
+abbrev pub steps_at : List Leg → (last : ℕ) → UserProgress → ℕ
 steps_at legs last (Runs t) = t
 steps_at legs last Waits = suc (before_trap legs last)
 steps_at legs last Ended = suc (before_trap legs last)
 
-abbrev pub traps_at : Place → ℕ
+abbrev pub traps_at : UserProgress → ℕ
 traps_at (Runs t) = 0
 traps_at Waits = 1
 traps_at Ended = 1
 
 -- its machine, from that behind its last answer
-abbrev pub machine_at : Flat → List Leg → (last : ℕ) → Place → Flat
+abbrev pub machine_at : Flat → List Leg → (last : ℕ) → UserProgress → Flat
 machine_at f legs last p = after (steps_at legs last p) f
 
-abbrev pub IsRunning : Place → Type 0
-IsRunning (Runs t) = Unit {0}
-IsRunning Waits = ⊥
-IsRunning Ended = ⊥
+abbrev pub IsStillStepping : UserProgress → Type 0
+IsStillStepping (Runs t) = Unit {0}
+IsStillStepping Waits = ⊥
+IsStillStepping Ended = ⊥
 
--- A USER FOLLOWS its calls: from a first machine and all of its calls it has come to where these are left, and to a place in the first of them. It has made so
+-- A USER FOLLOWS its calls: from a first machine and all of its calls it has come to where these are left, and to a point in the first of them. It has made so
 -- many steps, of which so many trapped.
-pub record FollowsLegs (first : Flat) (all : List Leg) (last : ℕ) (f : Flat) (left : List Leg) (p : Place) : Type 0 where
+pub record FollowsLegs (first : Flat) (all : List Leg) (last : ℕ) (f : Flat) (left : List Leg) (p : UserProgress) : Type 0 where
   pub calls : CallsInTurn f left last
   pub ends : ended f left last ≡ ended first all last
-  pub is_at : IsAt left last p
+  pub is_at : IsProgressOf left last p
   pub steps : ℕ
   pub steps_are : steps + steps_of left last ≡ steps_of all last + steps_at left last p
   pub traps : ℕ

@@ -11,7 +11,7 @@ use Rattle.cvm_model.specs.Invariant.{Dispatch, with_machine}
 use Rattle.user_c0.specs.Events.{Event, call, answer_of}
 use Rattle.user_c0.specs.Users.{UserHasCome, UsersGoOn, IntsAreTold}
 use Rattle.kernel_theorems.specs.Registers.{set_in}
-use Rattle.program_systems.specs.Dispatches.{CallsIn, DispatchesAnswer}
+use Rattle.program_systems.specs.Dispatches.{CallsIn, DispatchesAnswerCalls}
 
 put_there : (us : List Flat) (v : ℕ) (f : Flat) → 1 ≤ v → v ≤ length us → user_of (with_user us v f) v ≡ f
 put_there us v f some few = get_or-set_same us (v - 1) f no_flat (omega (arith, some, few))
@@ -48,7 +48,7 @@ module _ (go : UsersGoOn) (tell : IntsAreTold) (u : CUnit) (es : List Event) (be
       subst (λ f. UserHasCome u (es ++ call None ∷ []) f) (sym (left_so before d.before c.calls.after c.calls.left c.some c.few d.after.users same))
       (go.calls u es (user_of before.users before.current) c.calls.after c.come c.calls.stepped)
 
-pub dispatches_answer : UsersGoOn → IntsAreTold → DispatchesAnswer
+pub dispatches_answer : UsersGoOn → IntsAreTold → DispatchesAnswerCalls
 dispatches_answer go tell = record {
   answered = λ u es before d a c fits set. answered go tell u es before d a c fits set;
   unanswered = λ u es before d c same. unanswered go tell u es before d c same;

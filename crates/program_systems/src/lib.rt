@@ -7,7 +7,7 @@ ghost use Rattle.program_systems.specs.Adders.{AddersAreCounted, AddersCall};
 ghost use Rattle.program_systems.specs.Asking.{ProgramsAskAndEnd};
 ghost use Rattle.program_systems.specs.Coming.{CallsCome, EndsCome, FirstCallsCome, ProgramsCome};
 ghost use Rattle.program_systems.specs.Counts.{CountsTell, ImagesIgnorePlaces};
-ghost use Rattle.program_systems.specs.Dispatches.{DispatchesAnswer};
+ghost use Rattle.program_systems.specs.Dispatches.{DispatchesAnswerCalls};
 
 use user_c0::users::{ints_are_told, programs_stay, programs_trap, traps_are_known, users_go_on};
 
@@ -42,7 +42,7 @@ pub fn ends_come()
 /// A law: a dispatch for a program's call that sets register 2 of its caller is that call answered, as an event of the program, which is told what was set; one
 /// that changes no machine is the call without an answer.
 pub fn dispatches_answer()
-    ensures { DispatchesAnswer }
+    ensures { DispatchesAnswerCalls }
 {
     users_go_on();
     ints_are_told();
