@@ -1,5 +1,5 @@
 mod Texts
 mod Dispatching
-mod Following
+mod UserFollows
 mod Property
-mod Ending
+mod MailEnds

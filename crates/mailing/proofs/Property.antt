@@ -30,7 +30,7 @@ use Rattle.mailing.specs.Users.{Leg, before_trap, UserProgress, Runs, Waits, End
 use Rattle.mailing.specs.Property.{Message, sends, receives, asks, prints, numbers, ints, AreSmall, Mails, data_of, held, number_in, IsFull, IsEmpty, calls_left, waits_by, over_of, status_of_users, MailState, stand, unsent, sent_by, sent, StandsSo, IsMailing, Mailing, MailIsKept, MailIsPrinted}
 use Rattle.mailing.proofs.Dispatching.{core_of, Gives, Code}
 use Rattle.mailing.proofs.Dispatching as code
-use Rattle.mailing.proofs.Following.{goes_on, is_answered, is_waiting, is_answered_late, is_over, TrapsSo, its_trap, IsThat, is_that}
+use Rattle.mailing.proofs.UserFollows.{goes_on, is_answered, is_waiting, is_answered_late, is_over, TrapsSo, its_trap, IsThat, is_that}
 
 -- HISTORY with a dispatch more
 sent_join : (past : List Dispatch) (e : Dispatch) (xs : List ℤ) → sent (past ++ e ∷ []) ++ xs ≡ sent past ++ (sent_by e ++ xs)

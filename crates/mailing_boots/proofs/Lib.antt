@@ -1,7 +1,7 @@
-mod Through
+mod ComesThrough
 mod Boots
 mod Mailers
 mod ProgramTexts
 mod Programs
-mod Compiled
-mod Counting
+mod CompiledBoots
+mod CountedCalls

@@ -1,4 +1,4 @@
-use Rattle.mailing.proofs.Ending.{mail_ends}
+use Rattle.mailing.proofs.MailEnds.{mail_ends}
 use Rattle.mailing.proofs.mail_ends.Goals as goal
 
 pub returns : goal.returns

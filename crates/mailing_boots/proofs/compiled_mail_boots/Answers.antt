@@ -1,4 +1,4 @@
-use Rattle.mailing_boots.proofs.Compiled.{compiled_mail_boots}
+use Rattle.mailing_boots.proofs.CompiledBoots.{compiled_mail_boots}
 use Rattle.mailing_boots.proofs.compiled_mail_boots.Goals as goal
 
 pub returns : goal.returns

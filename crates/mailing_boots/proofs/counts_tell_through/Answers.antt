@@ -1,4 +1,4 @@
-use Rattle.mailing_boots.proofs.Counting.{counts_tell_through}
+use Rattle.mailing_boots.proofs.CountedCalls.{counts_tell_through}
 use Rattle.mailing_boots.proofs.counts_tell_through.Goals as goal
 
 pub returns : goal.returns

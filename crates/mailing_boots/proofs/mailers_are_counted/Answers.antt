@@ -1,4 +1,4 @@
-use Rattle.mailing_boots.proofs.Counting.{mailers_are_counted}
+use Rattle.mailing_boots.proofs.CountedCalls.{mailers_are_counted}
 use Rattle.mailing_boots.proofs.mailers_are_counted.Goals as goal
 
 pub returns : goal.returns

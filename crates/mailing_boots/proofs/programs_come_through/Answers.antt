@@ -1,4 +1,4 @@
-use Rattle.mailing_boots.proofs.Through.{programs_come_through}
+use Rattle.mailing_boots.proofs.ComesThrough.{programs_come_through}
 use Rattle.mailing_boots.proofs.programs_come_through.Goals as goal
 
 pub returns : goal.returns

@@ -1,4 +1,4 @@
-use Rattle.mailing_boots.proofs.Counting.{steps_are_few}
+use Rattle.mailing_boots.proofs.CountedCalls.{steps_are_few}
 use Rattle.mailing_boots.proofs.steps_are_few.Goals as goal
 
 pub returns : goal.returns
