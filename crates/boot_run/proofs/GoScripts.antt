@@ -33,11 +33,12 @@ use Rattle.boot_turns.proofs.SomeCalls.{of_both}
 use Rattle.boot_turns.proofs.TurnScripts.{steps_join}
 use Rattle.boot_run.specs.LoadEnds.{Kept}
 use Rattle.boot_run.specs.Pieces.{Bootable, FirstAt, GoRuns}
-use Rattle.boot_run.specs.RunCalls.{run_at, begin_script, fault_script, turns_script, TellsFrom, TurnsCall, GoCalls}
+use Rattle.boot_run.specs.RunCalls.{run_at, begin_script, fault_script, turns_script, InTurns, TellsFrom, TurnsCall, GoCalls}
 use Rattle.boot_run.specs.Sink.{Base}
 use Rattle.boot_run.specs.TurnCalls.{ended_of, Around, around, Ready, Broken, TurnsEnd, TurnsRun, KeepsLoad}
 use Rattle.boot_run.proofs.TurnToTurn.{Going, Goes, came_on, goes_on, goes_on_to, end_most, no_end, not_before}
 use Rattle.boot_run.proofs.Looping.{KeepsGoing, machines, turns_end}
+use Rattle.boot_run.proofs.InTurns.{in_turns}
 use Rattle.boot_run.proofs.ScriptParts.{at}
 use Rattle.boot_run.proofs.Scripting.{goes_none}
 
@@ -127,7 +128,7 @@ TurnsAt text told r b rows v size budget o d o1 d1 n blamed =
     (u : CUnit) (y : System) (s : State) (late held : ℕ) (base : Base) (k t : ℕ) (c : Cvm) → y.boot ≡ boot_of b → StartsFrom (IsTypedState u) (outside_of rows size) y s late held →
     Ready (outside_of rows size) y s v base k t c (around r (told.sectors d) budget (text.text o)) → c.status ≡ Running → (turns steps : ℕ) (p : Past) →
     TellsFrom (run_at (outside_of rows size) y s v turns steps) p t (t + n) → (shelf : Files) →
-    Performs (turns_script (run_at (outside_of rows size) y s v turns steps) p k t n) (at text told shelf o d) (at text told shelf o1 d1) blamed
+    InTurns (run_at (outside_of rows size) y s v turns steps) p k t n (at text told shelf o d) (at text told shelf o1 d1) blamed
 
 pub made_first : {L O D : Type 0} (text : sink_of.Ghosts O) (told : sectors_of.Ghosts D) (r : Kept L) (o : O) (d : D) (budget i now : ℕ) → i ≡ 0 → KeepsMade text told r o d o d budget i now
 made_first text told r o d budget zero now none y s late held old base k t steps c p starts sum ready running turns past tells shelf = done (at text told shelf o d)
@@ -190,8 +191,9 @@ module _ {L O D : Type 0} (text : sink_of.Ghosts O) (told : sectors_of.Ghosts D)
         (made_join rn past k i i t u (now.machine.time - t) n all (omega (arith, time, low)) (omega (arith, there, time, low)) (λ z. (let high = no_later z in omega (arith, high, time))) none)
         (both (made_script rn past k i t (now.machine.time - t)) (turns_script rn past (k + i) u n) (at text told shelf o d) (at text told shelf o1 d1) (at text told shelf o2 d2) blamed
         (so y s late held old base k t steps c p starts sum ready running turns past (tells_part rn past t (t + all) t now.machine.time (omega arith) (omega (arith, there)) tells) shelf)
+        (in_turns rn past (k + i) u n (at text told shelf o1 d1) (at text told shelf o2 d2) blamed
         (turns_at n blamed calls (unit_view r.boot.unit) y s late held base (k + i) u past_c p.same p.starts stands goes turns steps past
-        (tells_part rn past t (t + all) u (u + n) low (omega (arith, there, time)) tells) shelf))
+        (tells_part rn past t (t + all) u (u + n) low (omega (arith, there, time)) tells) shelf)))
 
   -- SO MANY TURNS MORE
   pub made_next : (law : (u : CUnit) → MachinesRun (IsTypedState u)) (next made : ℕ) → i + made ≡ next → 1 ≤ made → now.ended ≡ None → (n after : ℕ) → after ≡ now.machine.time + n →

@@ -42,22 +42,22 @@ use Rattle.boot_turns.specs.declared.answers.Turn.{Turn}
 use Rattle.boot_turns.specs.declared.answers.RunFault.{RunFault}
 use Rattle.boot_turns.specs.declared.answers.RunFault.TheVariants.{StepLimit, Disk, Sink}
 use Rattle.boot_turns.specs.Runs.{Run, Past, state_at, cvm_at}
-use Rattle.boot_turns.specs.StepScript.{prints, transfers, rows_script, step_script, steps_script}
+use Rattle.boot_turns.specs.StepScript.{prints, rows_script, step_script}
 use Rattle.boot_turns.specs.RowScripts.{of_run}
-use Rattle.boot_turns.specs.LoopScripts.{StepsCall}
-use Rattle.boot_turns.proofs.ShownRows.{scripts-same}
+use Rattle.boot_turns.specs.LoopScripts.{InSteps, StepsCall}
+use Rattle.boot_turns.proofs.StepMakes.{in_last, in_same}
 use Rattle.boot_turns.proofs.SomeCalls.{of_both}
-use Rattle.boot_turns.proofs.TurnScripts.{rows_last}
 use Rattle.boot_run.specs.Closing.{says, last_steps, report_by, boot_report, trace_report}
 use Rattle.boot_run.specs.LoadEnds.{Kept}
-use Rattle.boot_run.specs.RunCalls.{run_at, begin_script, fault_script, turns_script, TellsFrom, TurnsCall}
+use Rattle.boot_run.specs.RunCalls.{run_at, begin_script, fault_script, InTurns, TellsFrom, TurnsCall}
 use Rattle.boot_run.specs.Shown.{has_faulted}
 use Rattle.boot_run.specs.Sink.{Base}
 use Rattle.boot_run.specs.TurnCalls.{rows_of, ended_of, around, Ready, Turned, TurnsEnd, TurnsRun}
 use Rattle.boot_run.specs.TurnParts.{rows_before, rows_after, fault_rows, Moved, Views}
 use Rattle.boot_run.proofs.Proceeding.{by_view, starts}
 use Rattle.boot_run.proofs.Skipping.{spread}
-use Rattle.boot_run.proofs.ScriptParts.{at, none_put, says_put, some_put, prints_put, three, two, one, same_rows}
+use Rattle.boot_run.proofs.InTurns.{turns_cut, turns_alone, turns_behind}
+use Rattle.boot_run.proofs.ScriptParts.{at, none_put, says_put, some_put, prints_put, same_rows}
 use Rattle.boot_run.proofs.TracedTurn.{start_at, traced_mid}
 
 -- of a boot that faulted nothing is behind its steps
@@ -81,38 +81,38 @@ module _ (x : device.Environment) (y : System) (s : State) (late held : ℕ) (m 
   rows_at : (j : ℕ) → t ≤ j → j ≤ t + n → a ≤ complete x s j → complete x s j ≤ b → (cvm_at (run_at x y s Boot turns steps) p j).rows ≡ ca.rows
   rows_at j from to low high = same_rows x y s late held m a (complete x s j) b ca (cvm_at r p j) cb low high ia (tells.turns j from to) ib same
 
-  -- none adds a row
-  pub quiet_steps : ((j : ℕ) → t ≤ j → j ≤ t + n → (a ≤ complete x s j) × (complete x s j ≤ b)) → steps_script (run_at x y s Boot turns steps) p t n ≡ transfers x s t n
-  quiet_steps between = scripts-same (λ i. step_script (run_at x y s Boot turns steps) p (t + i)) (λ i. script_of_step x (run x s (t + i))) n (λ i lt.
+  -- so many of them add none
+  quiet_steps : (l : ℕ) → l ≤ n → ((j : ℕ) → t ≤ j → j ≤ t + l → (a ≤ complete x s j) × (complete x s j ≤ b)) → (i : ℕ) → i < l → script_of_step x (run x s (t + i)) ≡ step_script (run_at x y s Boot turns steps) p (t + i)
+  quiet_steps l le between i lt =
       let h = between (t + i) (omega arith) (omega (arith, lt)) in
       let k = between (suc (t + i)) (omega arith) (omega (arith, lt)) in
-      let before = rows_at (t + i) (omega arith) (omega (arith, lt)) h.0 h.1 in
-      let after = rows_at (suc (t + i)) (omega arith) (omega (arith, lt)) k.0 k.1 in
-      ap (λ (l : List Call). script_of_step x (run x s (t + i)) ++ l)
+      let before = rows_at (t + i) (omega arith) (omega (arith, lt, le)) h.0 h.1 in
+      let after = rows_at (suc (t + i)) (omega arith) (omega (arith, lt, le)) k.0 k.1 in
+      sym (ap (λ (l : List Call). script_of_step x (run x s (t + i)) ++ l)
       (ap₂ (λ (c d : List Row). prints (rows_text (drop (length c) d))) before after ∙ ap (λ (l : List Row). prints (rows_text l)) (drop-length ca.rows))
       ∙ append-nil (script_of_step x (run x s (t + i))))
 
   -- the last may
-  pub last_step : (i : ℕ) → n ≡ suc i → ((j : ℕ) → t ≤ j → j ≤ t + i → (a ≤ complete x s j) × (complete x s j ≤ b)) → (more : List Row) → (cvm_at (run_at x y s Boot turns steps) p (t + n)).rows ≡ ca.rows ++ more →
-      steps_script (run_at x y s Boot turns steps) p t n ≡ transfers x s t n ++ prints (rows_text more)
-  last_step i is between more now =
-      let flat : (j : ℕ) → t ≤ j → j ≤ t + i → (cvm_at r p j).rows ≡ ca.rows = λ j from to. (let h = between j from to in rows_at j from (omega (arith, to, is)) h.0 h.1) in
+  pub last_rows : (i : ℕ) → n ≡ suc i → (a ≤ complete x s (t + i)) × (complete x s (t + i) ≤ b) → (more : List Row) → (cvm_at (run_at x y s Boot turns steps) p (t + n)).rows ≡ ca.rows ++ more →
+      rows_script Boot (run_at x y s Boot turns steps) p (t + i) ≡ prints (rows_text more)
+  last_rows i is here more now =
       let end : suc (t + i) ≡ t + n = omega (arith, is) in
-      let here : (cvm_at r p (suc (t + i))).rows ≡ ca.rows ++ more = ap (λ j. (cvm_at r p j).rows) end ∙ now in
-      rw is (
-      rows_last r p t i refl (λ j lt. flat (suc (t + j)) (omega arith) (omega (arith, lt)) ∙ sym (flat (t + j) (omega arith) (omega (arith, lt))))
-      ∙ ap (λ (l : List Call). transfers x s t (suc i) ++ l)
-      (ap₂ (λ (c d : List Row). prints (rows_text (drop (length c) d))) (flat (t + i) (omega arith) (omega arith)) here
-      ∙ ap (λ (l : List Row). prints (rows_text l)) (drop-append_seam ca.rows more)))
+      ap₂ (λ (c d : List Row). prints (rows_text (drop (length c) d))) (rows_at (t + i) (omega arith) (omega (arith, is)) here.0 here.1) (ap (λ j. (cvm_at r p j).rows) end ∙ now)
+      ∙ ap (λ (l : List Row). prints (rows_text l)) (drop-append_seam ca.rows more)
 
-  -- where it breaks off before its rows it is the transfers'
-  pub last_breaks : (i : ℕ) → n ≡ suc i → ((j : ℕ) → t ≤ j → j ≤ t + i → (a ≤ complete x s j) × (complete x s j ≤ b)) → (old new : Outside) (whom : Who) → Performs (transfers x s t n) old new (Some whom) →
-      Performs (steps_script (run_at x y s Boot turns steps) p t n) old new (Some whom)
-  last_breaks i is between old new whom made =
-      let flat : (j : ℕ) → t ≤ j → j ≤ t + i → (cvm_at r p j).rows ≡ ca.rows = λ j from to. (let h = between j from to in rows_at j from (omega (arith, to, is)) h.0 h.1) in
-      let all : steps_script r p t n ≡ transfers x s t n ++ rows_script Boot r p (t + i) =
-      rw is (rows_last r p t i refl (λ j lt. flat (suc (t + j)) (omega arith) (omega (arith, lt)) ∙ sym (flat (t + j) (omega arith) (omega (arith, lt))))) in
-      same_script (transfers x s t n ++ rows_script Boot r p (t + i)) (steps_script r p t n) old new (Some whom) (sym all) (first (transfers x s t n) (rows_script Boot r p (t + i)) old new whom made)
+  -- so they are made where their transfers are
+  pub made_quiet : ((j : ℕ) → t ≤ j → j ≤ t + n → (a ≤ complete x s j) × (complete x s j ≤ b)) → (old new : Outside) (blamed : Option Who) →
+      InSteps (λ i. script_of_step x (run x s (t + i))) n old new blamed → InSteps (λ i. step_script (run_at x y s Boot turns steps) p (t + i)) n old new blamed
+  made_quiet between old new blamed made = in_same (λ i. script_of_step x (run x s (t + i))) (λ i. step_script (run_at x y s Boot turns steps) p (t + i)) n old new blamed (quiet_steps n (omega arith) between) made
+
+  -- and the last where its transfer is, and what is behind that
+  pub made_last : (i : ℕ) → n ≡ suc i → ((j : ℕ) → t ≤ j → j ≤ t + i → (a ≤ complete x s j) × (complete x s j ≤ b)) → (old mid new : Outside) (before blamed : Option Who) →
+      ((here : Outside) → Performs (script_of_step x (run x s (t + i))) here mid before → Performs (step_script (run_at x y s Boot turns steps) p (t + i)) here new blamed) →
+      InSteps (λ i. script_of_step x (run x s (t + i))) n old mid before → InSteps (λ i. step_script (run_at x y s Boot turns steps) p (t + i)) n old new blamed
+  made_last i is between old mid new before blamed last made =
+      subst (λ l. InSteps (λ i. step_script (run_at x y s Boot turns steps) p (t + i)) l old new blamed) (sym is)
+      (in_last (λ i. script_of_step x (run x s (t + i))) (λ i. step_script (run_at x y s Boot turns steps) p (t + i)) i old mid new before blamed (quiet_steps i (omega (arith, is)) between) last
+      (subst (λ l. InSteps (λ i. script_of_step x (run x s (t + i))) l old mid before) is made))
 
 -- the row of a fault behind the last steps of a trace
 fault_is : (follow : RowsFollow) (j : List JournalEntry) (f : List ℕ) → steps_row (pending_steps j) ++ (codes "fault " ++ f ++ 10 ∷ []) ≡ last_steps j ++ codes "fault " ++ f ++ codes "\n"
@@ -173,7 +173,7 @@ module _ {L O D : Type 0} (text : sink_of.Ghosts O) (told : sectors_of.Ghosts D)
   CallsAs o9 d9 n blamed v = (u : CUnit) (y : System) (s : State) (late held : ℕ) (base : Base) (k t : ℕ) (c : Cvm) → y.boot ≡ boot_of r.boot → StartsFrom (IsTypedState u) (outside_of r.machine.rows (told.size d)) y s late held →
       Ready (outside_of r.machine.rows (told.size d)) y s v base k t c (around r (told.sectors d) budget (text.text o)) → c.status ≡ Running → (turns steps : ℕ) (p : Past) →
       TellsFrom (run_at (outside_of r.machine.rows (told.size d)) y s v turns steps) p t (t + n) → (shelf : Files) →
-      Performs (turns_script (run_at (outside_of r.machine.rows (told.size d)) y s v turns steps) p k t n) (at text told shelf o d) (at text told shelf o9 d9) blamed
+      InTurns (run_at (outside_of r.machine.rows (told.size d)) y s v turns steps) p k t n (at text told shelf o d) (at text told shelf o9 d9) blamed
 
   -- what turns come to, of a run viewed so
   abbrev EndsAs : Option (List ℕ) → Result (ℕ × Turn) RunFault → View → Type 0
@@ -215,15 +215,13 @@ module _ {L O D : Type 0} (text : sink_of.Ghosts O) (told : sectors_of.Ghosts D)
   gone (Some k) e h = absurd (cc)
 
   -- WHAT STANDS BEFORE THE FIRST TURN was cut off, and no step is made
-  pub begun_cut : {T : Type 0} → IsSome r.tracer → r.turns ≡ 0 → Puts (rows_before r.boot r.tracer r.turns) (output text o) (output text o1) (Some TheSink) → (n : ℕ) →
+  pub begun_cut : {T : Type 0} → IsSome r.tracer → r.turns ≡ 0 → Puts (rows_before r.boot r.tracer r.turns) (output text o) (output text o1) (Some TheSink) → (n : ℕ) → n ≡ 0 →
       TurnsCall {T = T} text told r budget (o, d) (o1, d) n (Err Sink)
-  begun_cut {T} traced first_turn puts n = record {
+  begun_cut {T} traced first_turn puts n none = record {
     exact = by_view r views (CallsAs o1 d n (Some TheSink))
         (λ e. absurd (gone r.tracer e traced))
         (λ kept e low high. λ u y s late held base k t c same lawful ready running turns steps p tells shelf.
-        one (begin_script (run_at (outside_of r.machine.rows (told.size d)) y s (Trace kept.user) turns steps) k) (steps_script (run_at (outside_of r.machine.rows (told.size d)) y s (Trace kept.user) turns steps) p t n)
-        (fault_script (Trace kept.user) (run_at (outside_of r.machine.rows (told.size d)) y s (Trace kept.user) turns steps) p (t + n) (run x s (t + n)).off (cvm_at (run_at (outside_of r.machine.rows (told.size d)) y s (Trace kept.user) turns steps) p (t + n)).status)
-        (at text told shelf o d) (at text told shelf o1 d) TheSink
+        turns_cut (run_at (outside_of r.machine.rows (told.size d)) y s (Trace kept.user) turns steps) p k t n none (at text told shelf o d) (at text told shelf o1 d) TheSink
         (begin_put kept y s turns steps k shelf (Some TheSink) e same ready.turns (λ ne. first_turn) puts));
     some = λ _. (Printed None ∷ [], tt, λ shelf. some_put text told shelf o o1 d (rows_before r.boot r.tracer r.turns) (Some TheSink) puts);
   }
@@ -243,22 +241,22 @@ module _ {L O D : Type 0} (text : sink_of.Ghosts O) (told : sectors_of.Ghosts D)
       -- in a step whose calls fail
       boot_breaks : (y : System) (s : State) (late held : ℕ) → RunMachines x y s late held → (k t : ℕ) (c : Cvm) → Stood x y s k t c → (i : ℕ) → i ≤ budget → (w : Skipped x y s k t c i) → (at : ℕ) → t + i ≤ at →
           left + (at + 1) ≡ budget - i + (t + i) → StillGoes x y s (k + i) (t + i) at → (turns steps : ℕ) (p : Past) → TellsFrom (run_at x y s Boot turns steps) p t (t + n) → (old new : Outside) (whom : Who) →
-          Performs (transfers x s t n) old new (Some whom) → Performs (steps_script (run_at x y s Boot turns steps) p t n) old new (Some whom)
+          InSteps (λ j. script_of_step x (run x s (t + j))) n old new (Some whom) → InSteps (λ j. step_script (run_at x y s Boot turns steps) p (t + j)) n old new (Some whom)
       boot_breaks y s late held m k t c stood i le w at from spent goes turns steps p tells old new whom made =
           let many : n ≡ suc (at - t) = omega (arith, n_is, spent, le, from) in
-          last_breaks x y s late held m turns steps p t n tells k (k + i) c w.after stood.cvm w.stood.cvm w.rows (at - t) many
-          (spread x y s k t c i w (t + (at - t)) (λ j low high. goes.between j low (omega (arith, high, from)))) old new whom made
+          made_last x y s late held m turns steps p t n tells k (k + i) c w.after stood.cvm w.stood.cvm w.rows (at - t) many
+          (spread x y s k t c i w (t + (at - t)) (λ j low high. goes.between j low (omega (arith, high, from)))) old new new (Some whom) (Some whom)
+          (λ here broken. first (script_of_step x (run x s (t + (at - t)))) (rows_script Boot (run_at x y s Boot turns steps) p (t + (at - t))) here new whom broken) made
 
       boot_fails : (f' : RunFault) → (y : System) (s : State) (late held : ℕ) → RunMachines x y s late held → (k t : ℕ) (c : Cvm) → Stood x y s k t c → (i : ℕ) → i ≤ budget → (w : Skipped x y s k t c i) →
           (now : Option State) → Stops x y s (k + i) (t + i) now (budget - i) left f' →
-          (turns steps : ℕ) (p : Past) → TellsFrom (run_at x y s Boot turns steps) p t (t + n) → (old new : Outside) → Performs (transfers x s t n) old new (of_run f') →
-          Performs (steps_script (run_at x y s Boot turns steps) p t n) old new (of_run f')
+          (turns steps : ℕ) (p : Past) → TellsFrom (run_at x y s Boot turns steps) p t (t + n) → (old new : Outside) → InSteps (λ j. script_of_step x (run x s (t + j))) n old new (of_run f') →
+          InSteps (λ j. step_script (run_at x y s Boot turns steps) p (t + j)) n old new (of_run f')
       boot_fails StepLimit y s late held m k t c stood i le w now fails turns steps p tells old new made =
           let spent : left ≡ 0 = fails.spent in
           let all : t + n ≡ t + i + (budget - i) = omega (arith, n_is, spent, le) in
-          same_script (transfers x s t n) (steps_script (run_at x y s Boot turns steps) p t n) old new None
-          (sym (quiet_steps x y s late held m turns steps p t n tells k (k + i) c w.after stood.cvm w.stood.cvm w.rows
-          (spread x y s k t c i w (t + n) (λ j from to. fails.goes.between j from (omega (arith, to, all)))))) made
+          made_quiet x y s late held m turns steps p t n tells k (k + i) c w.after stood.cvm w.stood.cvm w.rows
+          (spread x y s k t c i w (t + n) (λ j from to. fails.goes.between j from (omega (arith, to, all)))) old new None made
       boot_fails Disk y s late held m k t c stood i le w now fails turns steps p tells old new made = boot_breaks y s late held m k t c stood i le w fails.at fails.from fails.spent fails.goes turns steps p tells old new TheDisk made
       boot_fails Sink y s late held m k t c stood i le w now fails turns steps p tells old new made = boot_breaks y s late held m k t c stood i le w fails.at fails.from fails.spent fails.goes turns steps p tells old new TheSink made
 
@@ -284,7 +282,7 @@ module _ {L O D : Type 0} (text : sink_of.Ghosts O) (told : sectors_of.Ghosts D)
             let q = moved.advances u y s late held lawful k t c ready.stood running ready.state in
             let m = law u x y s late held lawful in
             let rn : Run = run_at x y s Boot turns steps in
-            two (begin_script rn k) (steps_script rn p t n) (fault_script Boot rn p (t + n) (run x s (t + n)).off (cvm_at rn p (t + n)).status) (at text told shelf o d) (at text told shelf o1 d) (at text told shelf o2 d1) (of_run f)
+            turns_alone rn p k t n (at text told shelf o d) (at text told shelf o1 d) (at text told shelf o2 d1) (of_run f)
             (λ _. no_fault rn p (t + n) (run x s (t + n)).off (cvm_at rn p (t + n)).status refl)
             (begin_none y s turns steps k shelf e puts)
             (boot_fails f y s late held m k t c ready.stood q.0 q.2 q.3 (state_seen (told.sectors d1) new.machine) q.4 turns steps p tells (at text told shelf o1 d) (at text told shelf o2 d1) (calls.untraced e s t ready.state shelf)))
@@ -292,7 +290,7 @@ module _ {L O D : Type 0} (text : sink_of.Ghosts O) (told : sectors_of.Ghosts D)
             let q = moved.advances u y s late held lawful k t c ready.stood running ready.state in
             let m = law u x y s late held lawful in
             let rn : Run = run_at x y s (Trace kept.user) turns steps in
-            two (begin_script rn k) (steps_script rn p t n) (fault_script (Trace kept.user) rn p (t + n) (run x s (t + n)).off (cvm_at rn p (t + n)).status) (at text told shelf o d) (at text told shelf o1 d) (at text told shelf o2 d1) (of_run f)
+            turns_alone rn p k t n (at text told shelf o d) (at text told shelf o1 d) (at text told shelf o2 d1) (of_run f)
             (none_behind f (Trace kept.user) y s late held m k t c q.0 q.2 q.3 (state_seen (told.sectors d1) new.machine) q.4 turns steps p tells)
             (begin_put kept y s turns steps k shelf None e same ready.turns (λ ne. absurd (ne refl)) puts)
             (calls.traced u y s late held kept.user t (base.shows (start_at y kept.user 0)) lawful (ap map_of (sym same)) low (few y kept.user same high) ready.state
@@ -332,16 +330,19 @@ module _ {L O D : Type 0} (text : sink_of.Ghosts O) (told : sectors_of.Ghosts D)
           let many : n ≡ suc (n - 1) = omega (arith, there, from, to) in
           let is : cvm_at rn p (t + n) ≡ g.ahead.after = at_end x y s late held m Boot turns steps p t n tells (k + i) (t + i) w.after g.ahead there in
           let rows : (cvm_at rn p (t + n)).rows ≡ c.rows ++ rows_of answer = ap (λ (z : Cvm). z.rows) is ∙ g.rows ∙ ap (λ (l : List Row). l ++ rows_of answer) w.rows in
-          let all : steps_script rn p t n ≡ transfers x s t n ++ prints (rows_text (rows_of answer)) =
-          last_step x y s late held m turns steps p t n tells k (k + i) c w.after ready.stood.cvm w.stood.cvm w.rows (n - 1) many
-          (spread x y s k t c i w (t + (n - 1)) (λ j low high. g.ahead.between j low (omega (arith, high, there, from, to)))) (rows_of answer) rows in
+          let between = spread x y s k t c i w (t + (n - 1)) (λ j low high. g.ahead.between j low (omega (arith, high, there, from, to))) in
+          let last : rows_script Boot rn p (t + (n - 1)) ≡ prints (rows_text (rows_of answer)) =
+          last_rows x y s late held m turns steps p t n tells k (k + i) c w.after ready.stood.cvm w.stood.cvm w.rows (n - 1) many (between (t + (n - 1)) (omega arith) (omega arith)) (rows_of answer) rows in
           let after : Puts (rows_text (rows_of answer)) (output text o2) (output text o3) blamed = subst (λ (z : Option Tracer). Puts (rows_after z new.ended answer) (output text o2) (output text o3) blamed) (none_kept e) behind in
-          two (begin_script rn k) (steps_script rn p t n) (fault_script Boot rn p (t + n) (run x s (t + n)).off (cvm_at rn p (t + n)).status) (at text told shelf o d) (at text told shelf o1 d) (at text told shelf o3 d1) blamed
+          turns_alone rn p k t n (at text told shelf o d) (at text told shelf o1 d) (at text told shelf o3 d1) blamed
           (λ _. no_fault rn p (t + n) (run x s (t + n)).off (cvm_at rn p (t + n)).status refl)
           (begin_none y s turns steps k shelf e puts)
-          (same_script (transfers x s t n ++ prints (rows_text (rows_of answer))) (steps_script rn p t n) (at text told shelf o1 d) (at text told shelf o3 d1) blamed (sym all)
-          (both (transfers x s t n) (prints (rows_text (rows_of answer))) (at text told shelf o1 d) (at text told shelf o2 d1) (at text told shelf o3 d1) blamed (calls.untraced e s t ready.state shelf)
+          (made_last x y s late held m turns steps p t n tells k (k + i) c w.after ready.stood.cvm w.stood.cvm w.rows (n - 1) many between (at text told shelf o1 d) (at text told shelf o2 d1) (at text told shelf o3 d1) None blamed
+          (λ here of_last. same_script (script_of_step x (run x s (t + (n - 1))) ++ prints (rows_text (rows_of answer))) (step_script rn p (t + (n - 1))) here (at text told shelf o3 d1) blamed
+          (ap (λ (l : List Call). script_of_step x (run x s (t + (n - 1))) ++ l) (sym last))
+          (both (script_of_step x (run x s (t + (n - 1)))) (prints (rows_text (rows_of answer))) here (at text told shelf o2 d1) (at text told shelf o3 d1) blamed of_last
           (prints_put text told shelf o2 o3 d1 (rows_text (rows_of answer)) blamed (some_row (rows_of answer) (one_row e)) after)))
+          (calls.untraced e s t ready.state shelf))
 
       off_at : (x : device.Environment) (s : State) (a b : ℕ) → a ≡ b → (f : KernelFault) (st : Status) → st ≡ Faulted f → Rests st (run x s b) → (run x s a).off ≡ Some (power_of f)
       off_at x s a b e f st is rests = ap (λ i. (run x s i).off) e ∙ subst (λ (z : Status). Rests z (run x s b)) is rests
@@ -366,8 +367,7 @@ module _ {L O D : Type 0} (text : sink_of.Ghosts O) (told : sectors_of.Ghosts D)
           let shown : p.shown (t + n) ≡ j =
           grows.one (t + n) (p.shown (t + n)) j (tells.user (t + n) (omega arith) (omega arith)) (subst (λ z. Shown x s y kept.user z j) (sym there) traces.1) in
           let rows : rows_after new.tracer new.ended answer ≡ fault_rows (pending_steps j) new.ended = ap (λ z. rows_after z new.ended answer) traces.2 in
-          three (begin_script rn k) (steps_script rn p t n) (fault_script (Trace kept.user) rn p (t + n) (run x s (t + n)).off (cvm_at rn p (t + n)).status)
-          (at text told shelf o d) (at text told shelf o1 d) (at text told shelf o2 d1) (at text told shelf o3 d1) blamed
+          turns_behind rn p k t n (at text told shelf o d) (at text told shelf o1 d) (at text told shelf o2 d1) (at text told shelf o3 d1) blamed
           (begin_put kept y s turns steps k shelf None e same ready.turns (λ ne. absurd (ne refl)) puts)
           (calls.traced u y s late held kept.user t (base.shows (start_at y kept.user 0)) lawful (ap map_of (sym same)) low (few y kept.user same high) ready.state
           (traced kept e low high u y s late held base k t c same lawful ready running) p turns steps tells.user shelf)
@@ -403,7 +403,7 @@ pub as_calls : {L O D T R : Type 0} (text : sink_of.Ghosts O) (told : sectors_of
     TurnsCall text told r budget (o, d) (o1, d1) n before → TurnsCall text told r budget (o, d) (o1, d1) n result
 as_calls text told r o o1 d d1 budget n before result same calls = record {
   exact = λ u y s late held base k t c at lawful ready running turns steps p tells shelf.
-      subst (Performs (turns_script (run_at (outside_of r.machine.rows (told.size d)) y s r.view turns steps) p k t n) (record { shelf = shelf; sink = output text o; disk = drive told d }) (record { shelf = shelf; sink = output text o1; disk = drive told d1 })) same
+      subst (InTurns (run_at (outside_of r.machine.rows (told.size d)) y s r.view turns steps) p k t n (record { shelf = shelf; sink = output text o; disk = drive told d }) (record { shelf = shelf; sink = output text o1; disk = drive told d1 })) same
       (calls.exact u y s late held base k t c at lawful ready running turns steps p tells shelf);
   some = λ none. (let q = calls.some none in (q.0, q.1, λ shelf. subst (Performs q.0 (record { shelf = shelf; sink = output text o; disk = drive told d }) (record { shelf = shelf; sink = output text o1; disk = drive told d1 })) same (q.2 shelf)));
 }

@@ -5,9 +5,9 @@ use Rattle.std.proofs.lemmas.Bool.{cases_lt}
 use Rattle.cvm_outside.specs.Outside.{Outside, Files, output}
 use Rattle.cvm_outside.specs.declared.sink.Sink as sink_of
 use Rattle.cvm_outside.specs.declared.sectors.Sectors as sectors_of
-use Rattle.cvm_outside.specs.Script.{Printed, Who, TheSink, TheDisk, Performs, Puts, blame}
-use Rattle.cvm_outside.proofs.Follow.{both, first}
-use Rattle.cvm_outside.proofs.Putting.{same_script, loop_none}
+use Rattle.cvm_outside.specs.Script.{Call, Printed, Who, TheSink, TheDisk, Performs, done, Puts, blame}
+use Rattle.cvm_outside.proofs.Follow.{first}
+use Rattle.cvm_outside.proofs.Putting.{same_script}
 use Rattle.mips_table.specs.Device as device
 use Rattle.mips_table.specs.Machine.{State, run}
 use Rattle.mips_table.specs.Turns.{complete, is_end, IsTurnEnd, end_within, TurnLaws}
@@ -20,14 +20,14 @@ use Rattle.boot_turns.specs.AnyTurns.{BrokeOff}
 use Rattle.boot_turns.specs.Completes.{state_seen}
 use Rattle.boot_turns.specs.Sooner.{NoSooner, ComesTo}
 use Rattle.boot_turns.specs.RowScripts.{of_run}
-use Rattle.boot_turns.specs.LoopScripts.{StepsCall}
+use Rattle.boot_turns.specs.LoopScripts.{InSteps, StepsCall}
 use Rattle.boot_turns.specs.declared.answers.Turn.{Turn}
 use Rattle.boot_turns.specs.declared.answers.RunFault.{RunFault}
 use Rattle.boot_turns.specs.declared.answers.RunFault.TheVariants.{StepLimit, Disk, Sink}
 use Rattle.boot_turns.specs.declared.tracer.Tracer.{Tracer}
-use Rattle.boot_turns.proofs.StepMakes.{from_add}
+use Rattle.boot_turns.proofs.StepMakes.{from_add, in_all, in_both}
 use Rattle.boot_run.specs.AnyRun.{AnyTurnsRun, AnyGoRuns}
-use Rattle.boot_run.specs.AnyScripts.{untold_script, TurnsUntold, GoUntold}
+use Rattle.boot_run.specs.AnyScripts.{untold_step, untold_script, TurnsUntold, GoUntold}
 use Rattle.boot_run.specs.LoadEnds.{Kept}
 use Rattle.boot_run.specs.TurnCalls.{around, KeepsLoad}
 use Rattle.boot_run.specs.TurnParts.{rows_before}
@@ -57,6 +57,10 @@ some_steps x s k made t u some here there on le = ⊎_elim
     absurd (omega (arith, a, c, some)))
     (cases_lt t u)
 
+-- steps behind no call
+from_there : (f : ℕ → List Call) (n : ℕ) (old mid new : Outside) (blamed : Option Who) → Performs [] old mid None → InSteps f n mid new blamed → InSteps f n old new blamed
+from_there f n old mid new blamed (done here) made = made
+
 -- THE CALLS OF ONE CALL of `turns`, by what was called before the turns, in their steps and behind them
 module _ {L O D : Type 0} (text : sink_of.Ghosts O) (told : sectors_of.Ghosts D) (r new : Kept L) (o o1 o2 o3 : O) (d d1 : D) (budget left most : ℕ) where
   -- a trace isn't untold
@@ -71,7 +75,7 @@ module _ {L O D : Type 0} (text : sink_of.Ghosts O) (told : sectors_of.Ghosts D)
     pub untold_broke : {R : Type 0} (T : Type 0) (f : RunFault) → StepsCall {T = R} text told (map_of (boot_of r.boot)) r.machine r.tracer (o1, d) (o2, d1) n (Err f) → TurnsUntold {T = T} text told r (o, d) (o2, d1) n (Err f)
     untold_broke T f calls s k t alone on fine comes here is shelf =
         let x = outside_of r.machine.rows (told.size d) in
-        both [] (untold_script x s t n) (at text told shelf o d) (at text told shelf o1 d) (at text told shelf o2 d1) (of_run f) (nothing shelf alone)
+        from_there (untold_step x s t) n (at text told shelf o d) (at text told shelf o1 d) (at text told shelf o2 d1) (of_run f) (nothing shelf alone)
         (each_text (λ i. script_of_step x (run x s (t + i))) n (at text told shelf o1 d) (at text told shelf o2 d1) (of_run f) (calls.untraced alone s t is shelf))
 
     -- or made, and the text behind them was put, or cut off
@@ -83,7 +87,7 @@ module _ {L O D : Type 0} (text : sink_of.Ghosts O) (told : sectors_of.Ghosts D)
         let g = runs s k t comes here is on in
         let spent : left + g.at ≡ budget + t = g.spent in
         let later = some_steps x s k made t g.at some comes g.comes here (omega (arith, spent, less)) in
-        both [] (untold_script x s t n) (at text told shelf o d) (at text told shelf o1 d) (at text told shelf o3 d1) (blame of_run result) (nothing shelf alone)
+        from_there (untold_step x s t) n (at text told shelf o d) (at text told shelf o1 d) (at text told shelf o3 d1) (blame of_run result) (nothing shelf alone)
         (last_text (λ i. script_of_step x (run x s (t + i))) n (at text told shelf o1 d) (at text told shelf o2 d1) (at text told shelf o3 d1) (blame of_run result) (omega (arith, n_is, spent, less, later)) (calls.untraced alone s t is shelf)
         (some_put text told shelf o2 o3 d1 rows (blame of_run result) behind))
 
@@ -96,9 +100,7 @@ untold_over text told r o o1 d d1 n result over s k t alone on fine comes here s
 
 -- no step
 pub untold_first : {L O D : Type 0} (text : sink_of.Ghosts O) (told : sectors_of.Ghosts D) (r : Kept L) (o : O) (d : D) (n : ℕ) → n ≡ 0 → TurnsUntold {T = Unit {0}} text told r (o, d) (o, d) n (Ok tt)
-untold_first text told r o d zero none s k t alone on fine comes here is shelf =
-    each_text (λ i. script_of_step (outside_of r.machine.rows (told.size d)) (run (outside_of r.machine.rows (told.size d)) s (t + i))) 0 (at text told shelf o d) (at text told shelf o d) None
-    (loop_none (λ i. script_of_step (outside_of r.machine.rows (told.size d)) (run (outside_of r.machine.rows (told.size d)) s (t + i))) (at text told shelf o d))
+untold_first text told r o d zero none s k t alone on fine comes here is shelf = done (at text told shelf o d)
 untold_first text told r o d (suc n) none s k t alone on fine comes here is shelf = absurd (omega (arith, none))
 
 -- scripts behind scripts
@@ -109,7 +111,7 @@ untold_join x s t n m = from_add (λ j. script_of_step x (run x s j) ++ Printed 
 abbrev UntoldAt : {L O D : Type 0} → sink_of.Ghosts O → sectors_of.Ghosts D → Kept L → Rows → (size : ℕ) → O → D → O → D → (n : ℕ) → Option Who → Type 0
 UntoldAt text told r rows size o d o1 d1 n blamed =
     (s : State) (k t : ℕ) → r.tracer ≡ None → r.ended ≡ None → r.fault ≡ None → ComesTo (outside_of rows size) s k t → (run (outside_of rows size) s t).off ≡ None → state_seen (told.sectors d) r.machine ≡ Some (run (outside_of rows size) s t) → (shelf : Files) →
-    Performs (untold_script (outside_of rows size) s t n) (at text told shelf o d) (at text told shelf o1 d1) blamed
+    InSteps (untold_step (outside_of rows size) s t) n (at text told shelf o d) (at text told shelf o1 d1) blamed
 
 module _ {L O D : Type 0} (text : sink_of.Ghosts O) (told : sectors_of.Ghosts D) (r now : Kept L) (o o1 o2 : O) (d d1 d2 : D) (budget left i : ℕ) (kept : KeepsLoad r now) (size : told.size d1 ≡ told.size d) (less : left ≤ budget)
     (alone_too : r.tracer ≡ None → now.tracer ≡ None) (on_too : now.ended ≡ None) (fine_too : now.fault ≡ None)
@@ -125,11 +127,10 @@ module _ {L O D : Type 0} (text : sink_of.Ghosts O) (told : sectors_of.Ghosts D)
       let g = going s k t comes here is on in
       let spent : left + g.at ≡ budget + t = g.spent in
       let there : g.at ≡ t + (budget - left) = omega (arith, spent, less) in
-      same_script (untold_script x s t (budget - left) ++ untold_script x s (t + (budget - left)) n) (untold_script x s t all) (at text told shelf o d) (at text told shelf o2 d2) (blame of_run result)
-      (sym (untold_join x s t (budget - left) n) ∙ ap (untold_script x s t) (sym all_is))
-      (both (untold_script x s t (budget - left)) (untold_script x s (t + (budget - left)) n) (at text told shelf o d) (at text told shelf o1 d1) (at text told shelf o2 d2) (blame of_run result)
+      subst (λ j. InSteps (untold_step x s t) j (at text told shelf o d) (at text told shelf o2 d2) (blame of_run result)) (sym all_is)
+      (in_both (λ j. script_of_step x (run x s j) ++ Printed None ∷ []) t (budget - left) n (at text told shelf o d) (at text told shelf o1 d1) (at text told shelf o2 d2) (blame of_run result)
       (so s k t alone on fine comes here is shelf)
-      (subst (λ j. Performs (untold_script x s j n) (at text told shelf o1 d1) (at text told shelf o2 d2) (blame of_run result)) there
+      (subst (λ j. InSteps (untold_step x s j) n (at text told shelf o1 d1) (at text told shelf o2 d2) (blame of_run result)) there
       (next_at n result calls s (k + i) g.at (alone_too alone) on_too fine_too g.comes (is_on (run x s g.at).off (sym g.ended ∙ on_too)) g.state shelf)))
 
 -- WHERE THE LOOP STANDS on the run
@@ -161,7 +162,8 @@ module _ {L O D : Type 0} (text : sink_of.Ghosts O) (told : sectors_of.Ghosts D)
       let last = end_there x s wanted g.at (subst (λ i. ComesTo x s i g.at) more g.comes) in
       let end : end_within x s wanted steps ≡ g.at = counts.ends x s wanted steps g.at last (omega (arith, spent, sum)) in
       let many : budget - left ≡ end_within x s wanted steps - t = omega (arith, end, spent, less) in
-      subst (λ q. Performs (untold_script x s t q) (at text told shelf o d) (at text told shelf o1 d1) None) many (so s k t alone on fine comes here is shelf)
+      subst (λ q. Performs (untold_script x s t q) (at text told shelf o d) (at text told shelf o1 d1) None) many
+      (in_all (untold_step x s t) (budget - left) (at text told shelf o d) (at text told shelf o1 d1) None (so s k t alone on fine comes here is shelf))
 
   -- what breaks off breaks off in more steps, too
   more_steps : (x : device.Environment) (s : State) (t n all : ℕ) → n ≤ all → (old fresh : Outside) (whom : Who) → Performs (untold_script x s t n) old fresh (Some whom) → Performs (untold_script x s t all) old fresh (Some whom)
@@ -175,7 +177,8 @@ module _ {L O D : Type 0} (text : sink_of.Ghosts O) (told : sectors_of.Ghosts D)
       AnyGoRuns (told.size d) r turns (around r (told.sectors d) budget (text.text o)) (around new (told.sectors d1) left (text.text o1)) (Err f) → GoUntold {T = T} text told r turns budget (o, d) (o1, d1) (Err f)
   untold_failed T f so goes s k t wanted steps alone on fine comes here is more sum shelf =
       let x = outside_of r.machine.rows (told.size d) in
-      by f x s t wanted steps (subst (λ i. BrokeOff x s i t (state_seen (told.sectors d1) new.machine) budget left f) more (goes s k t comes here is on)) sum shelf (so s k t alone on fine comes here is shelf)
+      by f x s t wanted steps (subst (λ i. BrokeOff x s i t (state_seen (told.sectors d1) new.machine) budget left f) more (goes s k t comes here is on)) sum shelf
+      (in_all (untold_step x s t) (budget - left) (at text told shelf o d) (at text told shelf o1 d1) (of_run f) (so s k t alone on fine comes here is shelf))
     where
       by : (f : RunFault) (x : device.Environment) (s : State) (t wanted steps : ℕ) → BrokeOff x s wanted t (state_seen (told.sectors d1) new.machine) budget left f → budget + t ≡ steps → (shelf : Files) →
           Performs (untold_script x s t (budget - left)) (at text told shelf o d) (at text told shelf o1 d1) (of_run f) → Performs (untold_script x s t (end_within x s wanted steps - t)) (at text told shelf o d) (at text told shelf o1 d1) (of_run f)

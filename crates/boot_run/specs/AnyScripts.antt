@@ -13,6 +13,7 @@ use Rattle.boot_turns.specs.declared.answers.View.TheVariants.{Boot}
 use Rattle.boot_turns.specs.Completes.{state_seen}
 use Rattle.boot_turns.specs.Runs.{Run, state_at, steps_made, has_ended}
 use Rattle.boot_turns.specs.RowScripts.{of_run}
+use Rattle.boot_turns.specs.LoopScripts.{InSteps, MakesAs}
 use Rattle.boot_turns.specs.declared.answers.RunFault.{RunFault}
 use Rattle.boot_turns.specs.Sooner.{ComesTo}
 use Rattle.boot_run.specs.declared.whole.RunEnd.{RunEnd}
@@ -21,9 +22,12 @@ use Rattle.boot_run.specs.LoadEnds.{Kept}
 use Rattle.boot_run.specs.RunCalls.{run_at, EndsBy}
 use Rattle.boot_run.specs.RunScript.{AreReads}
 
--- n steps from step number t on: the transfer that each makes, and a text
+-- step number i from step number t on: the transfer that it makes, and a text; and n such steps
+abbrev pub untold_step : Environment → State → (t i : ℕ) → List Call
+untold_step x s t i = script_of_step x (run x s (t + i)) ++ Printed None ∷ []
+
 abbrev pub untold_script : Environment → State → (t n : ℕ) → List Call
-untold_script x s t n = scripts (λ i. script_of_step x (run x s (t + i)) ++ Printed None ∷ []) n
+untold_script x s t n = scripts (untold_step x s t) n
 
 -- how a run ends where no call fails, by whether it came to its end and by the power word of its machine
 abbrev pub end_by_power : (ended : Bool) → (off : Option ℕ) → RunEnd
@@ -53,7 +57,7 @@ TurnsUntold text told r (out, disk) new n result =
     (s : State) (k t : ℕ) → r.tracer ≡ None → r.ended ≡ None → r.fault ≡ None → ComesTo (outside_of r.machine.rows (told.size disk)) s k t →
     (run (outside_of r.machine.rows (told.size disk)) s t).off ≡ None →
     state_seen (told.sectors disk) r.machine ≡ Some (run (outside_of r.machine.rows (told.size disk)) s t) →
-    Makes text told (out, disk) new (untold_script (outside_of r.machine.rows (told.size disk)) s t n) of_run result
+    MakesAs text told (out, disk) new (InSteps (untold_step (outside_of r.machine.rows (told.size disk)) s t) n) result
 
 -- THE LOOP over turns: the steps up to the end of the run
 abbrev pub GoUntold : {O D L T : Type 0} → sink_of.Ghosts O → sectors_of.Ghosts D → Kept L → (turns budget : ℕ) → (old new : O × D) → Result T RunFault →

@@ -7,7 +7,7 @@ use Rattle.mips_machine.specs.Steps.{outside_of}
 use Rattle.c0_tree.specs.Tree.{CUnit}
 use Rattle.c0_tree.specs.View.{unit_view}
 use Rattle.c0_meaning.specs.TypedState.{IsTypedState}
-use Rattle.cvm_outside.specs.Outside.{Files, Output, output, drive}
+use Rattle.cvm_outside.specs.Outside.{Outside, Files, Output, output, drive}
 use Rattle.cvm_outside.specs.declared.sink.Sink as sink_of
 use Rattle.cvm_outside.specs.declared.sectors.Sectors as sectors_of
 use Rattle.cvm_outside.specs.Script.{Call, Who, TheSink, TheShelf, TheDisk, Performs, Makes, blame}
@@ -17,9 +17,9 @@ use Rattle.boot_turns.specs.Premises.{StartsFrom}
 use Rattle.boot_turns.specs.declared.answers.View.{View}
 use Rattle.boot_turns.specs.declared.answers.RunFault.{RunFault}
 use Rattle.boot_turns.specs.Runs.{Run, Past, IsPast, IsShown, state_at, turns_at, lines_met, steps_made, has_ended, cvm_at}
-use Rattle.boot_turns.specs.StepScript.{steps_script}
+use Rattle.boot_turns.specs.StepScript.{step_script, steps_script}
 use Rattle.boot_turns.specs.RowScripts.{of_run}
-use Rattle.boot_turns.specs.LoopScripts.{AreOfRun, SomeMake}
+use Rattle.boot_turns.specs.LoopScripts.{AreOfRun, SomeMake, MakesAs}
 use Rattle.boot_run.specs.declared.load.LoadFault.{LoadFault}
 use Rattle.boot_run.specs.declared.load.LoadFault.TheVariants as load
 use Rattle.boot_run.specs.declared.whole.RunEnd.{RunEnd}
@@ -61,6 +61,13 @@ report_script v r p t other = report_by v r p t
 abbrev pub turns_script : Run → Past → (k t n : ℕ) → List Call
 turns_script r p k t n = begin_script r k ++ steps_script r p t n ++ fault_script r.view r p (t + n) (state_at r (t + n)).off (cvm_at r p (t + n)).status
 
+-- TURNS ARE MADE in n steps: the calls before the last of them are all done, and then those from there on are made; so no step is made behind a call that
+-- failed
+abbrev pub InTurns : Run → Past → (k t n : ℕ) → (old new : Outside) → Option Who → Type 0
+InTurns r p k t zero old new blamed = Performs (turns_script r p k t 0) old new blamed
+InTurns r p k t (suc n) old new blamed = (mid : Outside) × Performs (begin_script r k ++ steps_script r p t n) old mid None
+    × Performs (step_script r p (t + n) ++ fault_script r.view r p (t + suc n) (state_at r (t + suc n)).off (cvm_at r p (t + suc n)).status) mid new blamed
+
 -- THE CALLS OF TURNS that a loaded run makes in n steps: from any moment between turns of any boot of this kernel that stands there and goes on
 abbrev pub TurnsPerform : {O D L T : Type 0} → sink_of.Ghosts O → sectors_of.Ghosts D → Kept L → (budget : ℕ) → (old new : O × D) → (n : ℕ) →
     Result T RunFault → Type 0
@@ -70,7 +77,7 @@ TurnsPerform text told run budget (out, disk) new n result =
     Ready (outside_of run.machine.rows (told.size disk)) y s run.view base k t c (around run (told.sectors disk) budget (text.text out)) →
     c.status ≡ Running → (turns steps : ℕ) (p : Past) →
     TellsFrom (run_at (outside_of run.machine.rows (told.size disk)) y s run.view turns steps) p t (t + n) →
-    Makes text told (out, disk) new (turns_script (run_at (outside_of run.machine.rows (told.size disk)) y s run.view turns steps) p k t n) of_run result
+    MakesAs text told (out, disk) new (InTurns (run_at (outside_of run.machine.rows (told.size disk)) y s run.view turns steps) p k t n) result
 
 -- so it is; and where it kept no fault some calls of a run are made over any disk
 pub record TurnsCall {O D L T : Type 0} (text : sink_of.Ghosts O) (told : sectors_of.Ghosts D) (run : Kept L) (budget : ℕ) (old new : O × D) (n : ℕ)

@@ -5,7 +5,7 @@ use Rattle.std.specs.Option.{option_map}
 use Rattle.cvm_outside.specs.Outside.{Files, Outside, output, drive}
 use Rattle.cvm_outside.specs.declared.sink.Sink as sink_of
 use Rattle.cvm_outside.specs.declared.sectors.Sectors as sectors_of
-use Rattle.cvm_outside.specs.Script.{Call, TheDisk, Performs, done, scripts, blame}
+use Rattle.cvm_outside.specs.Script.{Call, Who, TheDisk, Performs, done, scripts, blame}
 use Rattle.cvm_outside.proofs.Follow.{both, first}
 use Rattle.cvm_outside.proofs.Putting.{same_script, scripts-none, scripts-suc}
 use Rattle.mips_table.specs.Device as device
@@ -28,11 +28,11 @@ use Rattle.boot_turns.specs.Completes.{state_seen, note}
 use Rattle.boot_turns.specs.Entries.{TracesGrow}
 use Rattle.boot_turns.specs.JournalText.{RowsFollow}
 use Rattle.boot_turns.specs.Tracing.{Traced, tracer_at, tracing}
-use Rattle.boot_turns.specs.StepScript.{step_script, rows_script, transfers, steps_script}
+use Rattle.boot_turns.specs.StepScript.{step_script, rows_script, steps_script}
 use Rattle.boot_turns.specs.RowScripts.{of_run, ArePages, followed_script}
-use Rattle.boot_turns.specs.LoopScripts.{traced_run, CallsOf, StepsCall}
+use Rattle.boot_turns.specs.LoopScripts.{InSteps, traced_run, CallsOf, StepsCall}
 use Rattle.boot_turns.proofs.Events.{told_as_some}
-use Rattle.boot_turns.proofs.ShownRows.{scripts-same, scripts-one, counted_none}
+use Rattle.boot_turns.proofs.ShownRows.{scripts-same, counted_none}
 use Rattle.boot_turns.proofs.SomeCalls.{untold, made_untold, of_both, untold_both, of_due, of_followed}
 use Rattle.boot_turns.proofs.Stretches.{later}
 use Rattle.boot_turns.proofs.Tracking.{Booted, Tracks, steps_one, step_made}
@@ -55,13 +55,55 @@ all_none : (f : ℕ → List Call) (n : ℕ) → ((i : ℕ) → i < n → f i �
 all_none f zero none = scripts-none f
 all_none f (suc n) none = scripts-suc f n ∙ ap₂ (λ (a b : List Call). a ++ b) (all_none f n (λ i lt. none i (omega (arith, lt)))) (none n (omega arith))
 
+-- STEPS THAT ARE MADE are one script
+pub in_all : (f : ℕ → List Call) (n : ℕ) (old new : Outside) (blamed : Option Who) → InSteps f n old new blamed → Performs (scripts f n) old new blamed
+in_all f zero old new blamed made = same_script [] (scripts f 0) old new blamed (sym (scripts-none f)) made
+in_all f (suc n) old new blamed (mid, before, last) =
+    same_script (scripts f n ++ f n) (scripts f (suc n)) old new blamed (sym (scripts-suc f n)) (both (scripts f n) (f n) old mid new blamed before last)
+
+-- of which one is made; or steps that call nothing
+pub in_one : (f : ℕ → List Call) (old new : Outside) (blamed : Option Who) → Performs (f 0) old new blamed → InSteps f 1 old new blamed
+in_one f old new blamed made = (old, same_script [] (scripts f 0) old old None (sym (scripts-none f)) (done old), made)
+
+in_quiet : (f : ℕ → List Call) (n : ℕ) (here : Outside) → ((i : ℕ) → i < n → f i ≡ []) → InSteps f n here here None
+in_quiet f zero here none = done here
+in_quiet f (suc n) here none = (
+  here,
+  same_script [] (scripts f n) here here None (sym (all_none f n (λ i lt. none i (omega (arith, lt))))) (done here),
+  same_script [] (f n) here here None (sym (none n (omega arith))) (done here),
+)
+
+-- steps from a number on, and those behind them
+pub in_both : (f : ℕ → List Call) (t n k : ℕ) (old mid new : Outside) (blamed : Option Who) → InSteps (λ i. f (t + i)) n old mid None → InSteps (λ i. f (t + n + i)) k mid new blamed →
+    InSteps (λ i. f (t + i)) (n + k) old new blamed
+in_both f t n zero old mid new blamed made (done at) = let e : n ≡ n + 0 = omega arith in subst (λ j. InSteps (λ i. f (t + i)) j old mid None) e made
+in_both f t n (suc k) old mid new blamed made (late, before, last) =
+    let e : suc (n + k) ≡ n + suc k = omega arith in
+    let there : t + n + k ≡ t + (n + k) = omega arith in
+    subst (λ j. InSteps (λ i. f (t + i)) j old new blamed) e (
+      late,
+      same_script (scripts (λ i. f (t + i)) n ++ scripts (λ i. f (t + n + i)) k) (scripts (λ i. f (t + i)) (n + k)) old late None (sym (from_add f t n k))
+          (both (scripts (λ i. f (t + i)) n) (scripts (λ i. f (t + n + i)) k) old mid late None (in_all (λ i. f (t + i)) n old mid None made) before),
+      same_script (f (t + n + k)) (f (t + (n + k))) late new blamed (ap f there) last,
+    )
+
+-- by other scripts that are the same but for the last step's
+pub in_last : (f g : ℕ → List Call) (n : ℕ) (old mid new : Outside) (before blamed : Option Who) → ((i : ℕ) → i < n → f i ≡ g i) → ((at : Outside) → Performs (f n) at mid before → Performs (g n) at new blamed) →
+    InSteps f (suc n) old mid before → InSteps g (suc n) old new blamed
+in_last f g n old mid new before blamed same last (at, made, of_last) = (at, same_script (scripts f n) (scripts g n) old at None (scripts-same f g n same) made, last at of_last)
+
+pub in_same : (f g : ℕ → List Call) (n : ℕ) (old new : Outside) (blamed : Option Who) → ((i : ℕ) → i < n → f i ≡ g i) → InSteps f n old new blamed → InSteps g n old new blamed
+in_same f g zero old new blamed same made = made
+in_same f g (suc n) old new blamed same made =
+    in_last f g n old new new blamed blamed (λ i lt. same i (omega (arith, lt))) (λ at of_last. same_script (f n) (g n) at new blamed (same n (omega arith)) of_last) made
+
 -- the transfer of one step, of a run in which the machine stands
-pub one_transfer : (x : device.Environment) (held : Held) (told : Option (List (List ℕ))) (P : List Call → Type 0) → ((ss : List (List ℕ)) → P (script_of_step x (state_of held ss))) →
-    (s : State) (t : ℕ) → state_seen told held ≡ Some (run x s t) → P (transfers x s t 1)
+one_transfer : (x : device.Environment) (held : Held) (told : Option (List (List ℕ))) (P : List Call → Type 0) → ((ss : List (List ℕ)) → P (script_of_step x (state_of held ss))) →
+    (s : State) (t : ℕ) → state_seen told held ≡ Some (run x s t) → P (script_of_step x (run x s (t + 0)))
 one_transfer x held told P h s t at =
     let w = told_as_some told held (run x s t) at in
     let e : t + 0 ≡ t = omega arith in
-    subst P (ap (script_of_step x) w.2 ∙ ap (λ n. script_of_step x (run x s n)) (sym e) ∙ sym (scripts-one (λ i. script_of_step x (run x s (t + i))))) (h w.0)
+    subst P (ap (script_of_step x) w.2 ∙ ap (λ n. script_of_step x (run x s n)) (sym e)) (h w.0)
 
 abbrev over : {O D : Type 0} → sink_of.Ghosts O → sectors_of.Ghosts D → Files → O → D → Outside
 over text told shelf o d = record { shelf = shelf; sink = output text o; disk = drive told d }
@@ -70,9 +112,8 @@ module _ {O D : Type 0} (x : device.Environment) (text : sink_of.Ghosts O) (told
   -- no step is made
   pub no_steps : CallsOf {T = Unit {0}} x text told m held kept (o, d) (o, d) 0 (Ok tt)
   no_steps = record {
-    untraced = λ none s t at shelf. same_script [] (transfers x s t 0) (over text told shelf o d) (over text told shelf o d) None (sym (scripts-none (λ i. script_of_step x (run x s (t + i))))) (done _);
-    traced = λ c y s late limit u t base from map_is low high at traced p turns steps shown shelf.
-        same_script [] (steps_script (traced_run x y s u turns steps) p t 0) (over text told shelf o d) (over text told shelf o d) None (sym (scripts-none (λ i. step_script (traced_run x y s u turns steps) p (t + i)))) (done _);
+    untraced = λ none s t at shelf. done _;
+    traced = λ c y s late limit u t base from map_is low high at traced p turns steps shown shelf. done _;
     some = ([], tt, λ shelf. done _);
   }
 
@@ -80,24 +121,27 @@ module _ {O D : Type 0} (x : device.Environment) (text : sink_of.Ghosts O) (told
   pub as_made : {R T : Type 0} (before : Result R RunFault) (result : Result T RunFault) (o1 : O) (d1 : D) (n k : ℕ) → k ≡ n → blame of_run before ≡ blame of_run result →
       CallsOf x text told m held kept (o, d) (o1, d1) n before → CallsOf x text told m held kept (o, d) (o1, d1) k result
   as_made before result o1 d1 n k many same made = rw many (record {
-    untraced = λ none s t at shelf. subst (Performs (transfers x s t n) (over text told shelf o d) (over text told shelf o1 d1)) same (made.untraced none s t at shelf);
+    untraced = λ none s t at shelf. subst (InSteps (λ i. script_of_step x (run x s (t + i))) n (over text told shelf o d) (over text told shelf o1 d1)) same (made.untraced none s t at shelf);
     traced = λ c y s late limit u t base from map_is low high at traced p turns steps shown shelf.
-        subst (Performs (steps_script (traced_run x y s u turns steps) p t n) (over text told shelf o d) (over text told shelf o1 d1)) same
+        subst (InSteps (λ i. step_script (traced_run x y s u turns steps) p (t + i)) n (over text told shelf o d) (over text told shelf o1 d1)) same
         (made.traced c y s late limit u t base from map_is low high at traced p turns steps shown shelf);
     some = (made.some.0, made.some.1, λ shelf. subst (Performs made.some.0 (over text told shelf o d) (over text told shelf o1 d1)) same (made.some.2 shelf));
   })
+
+  -- its transfer is made
+  transfer_made : (d1 : D) (blamed : Option Who) → ((ss : List (List ℕ)) → (shelf : Files) → Performs (script_of_step x (state_of held ss)) (over text told shelf o d) (over text told shelf o d1) blamed) →
+      (s : State) (t : ℕ) → state_seen (told.sectors d) held ≡ Some (run x s t) → (shelf : Files) → Performs (script_of_step x (run x s (t + 0))) (over text told shelf o d) (over text told shelf o d1) blamed
+  transfer_made d1 blamed h s t at shelf = one_transfer x held (told.sectors d) (λ (l : List Call). Performs l (over text told shelf o d) (over text told shelf o d1) blamed) (λ ss. h ss shelf) s t at
 
   -- ONE STEP, whose transfer failed
   pub step_broken : {T : Type 0} (d1 : D) → ((ss : List (List ℕ)) (shelf : Files) → Performs (script_of_step x (state_of held ss)) (over text told shelf o d) (over text told shelf o d1) (Some TheDisk)) →
       CallsOf {T = T} x text told m held kept (o, d) (o, d1) 1 (Err Disk)
   step_broken d1 h = record {
-    untraced = λ none s t at shelf. one_transfer x held (told.sectors d) (λ (l : List Call). Performs l (over text told shelf o d) (over text told shelf o d1) (Some TheDisk)) (λ ss. h ss shelf) s t at;
+    untraced = λ none s t at shelf. in_one (λ i. script_of_step x (run x s (t + i))) (over text told shelf o d) (over text told shelf o d1) (Some TheDisk) (transfer_made d1 (Some TheDisk) h s t at shelf);
     traced = λ c y s late limit u t base from map_is low high at traced p turns steps shown shelf.
         let r = traced_run x y s u turns steps in
-        let w = told_as_some (told.sectors d) held (run x s t) at in
-        same_script (script_of_step x (state_of held w.0) ++ rows_script (Trace u) r p t) (steps_script r p t 1) (over text told shelf o d) (over text told shelf o d1) (Some TheDisk)
-        (ap (λ (v : State). script_of_step x v ++ rows_script (Trace u) r p t) w.2 ∙ sym (steps_one r p t))
-        (first (script_of_step x (state_of held w.0)) (rows_script (Trace u) r p t) (over text told shelf o d) (over text told shelf o d1) TheDisk (h w.0 shelf));
+        in_one (λ i. step_script r p (t + i)) (over text told shelf o d) (over text told shelf o d1) (Some TheDisk)
+        (first (script_of_step x (run x s (t + 0))) (rows_script (Trace u) r p (t + 0)) (over text told shelf o d) (over text told shelf o d1) TheDisk (transfer_made d1 (Some TheDisk) h s t at shelf));
     some = (untold (script_of_step x (state_of held [])), of_due x (state_of held []), λ shelf. made_untold (script_of_step x (state_of held [])) (over text told shelf o d) (over text told shelf o d1) (Some TheDisk) (h [] shelf));
   }
 
@@ -105,7 +149,7 @@ module _ {O D : Type 0} (x : device.Environment) (text : sink_of.Ghosts O) (told
   pub step_plain : {T : Type 0} (v : T) (d1 : D) → kept ≡ None → ((ss : List (List ℕ)) (shelf : Files) → Performs (script_of_step x (state_of held ss)) (over text told shelf o d) (over text told shelf o d1) None) →
       CallsOf {T = T} x text told m held kept (o, d) (o, d1) 1 (Ok v)
   step_plain v d1 untraced h = record {
-    untraced = λ none s t at shelf. one_transfer x held (told.sectors d) (λ (l : List Call). Performs l (over text told shelf o d) (over text told shelf o d1) None) (λ ss. h ss shelf) s t at;
+    untraced = λ none s t at shelf. in_one (λ i. script_of_step x (run x s (t + i))) (over text told shelf o d) (over text told shelf o d1) None (transfer_made d1 None h s t at shelf);
     traced = λ c y s late limit u t base from map_is low high at traced p turns steps shown shelf.
         absurd (let e : ◌≡◌ {A = Option Tracer} None (Some (tracer_at x s u t traced.journal)) = sym untraced ∙ traced.keeps in cc);
     some = (untold (script_of_step x (state_of held [])), of_due x (state_of held []), λ shelf. made_untold (script_of_step x (state_of held [])) (over text told shelf o d) (over text told shelf o d1) None (h [] shelf));
@@ -120,10 +164,14 @@ module _ {O D : Type 0} (x : device.Environment) (text : sink_of.Ghosts O) (told
   step_follows grow f tell on k is mid o2 d1 d2 current began result ran current_is began_is moved rows = rw is (record {
     untraced = λ none s t at shelf. absurd (let e : ◌≡◌ {A = Option Tracer} (Some k) None = none in cc);
     traced = λ c y s late limit u t base from map_is low high at traced p turns steps shown shelf.
-        step_made grow f tell x m held (told.sectors d) k (text.text o) on mid (told.sectors d1) ran current current_is began began_is
+        let r = traced_run x y s u turns steps in
+        let e : t ≡ t + 0 = omega arith in
+        in_one (λ i. step_script r p (t + i)) (over text told shelf o d) (over text told shelf o2 d2) (blame of_run result)
+        (same_script (steps_script r p t 1) (step_script r p (t + 0)) (over text told shelf o d) (over text told shelf o2 d2) (blame of_run result) (steps_one r p t ∙ ap (step_script r p) e)
+        (step_made grow f tell x m held (told.sectors d) k (text.text o) on mid (told.sectors d1) ran current current_is began began_is
         (record { unit = c; y = y; s = s; late = late; held = limit; u = u; t = t; base = base; from = from; map_is = map_is; low = low; high = high; at = at; traced = traced }) p turns steps shown
         (λ (l : List Call). Performs l (over text told shelf o d) (over text told shelf o2 d2) (blame of_run result))
-        (λ ss pages are. both (script_of_step x (state_of held ss)) (followed_script m (state_of mid []) pages k current began) (over text told shelf o d) (over text told shelf o d1) (over text told shelf o2 d2) (blame of_run result) (moved ss shelf) (rows pages are shelf));
+        (λ ss pages are. both (script_of_step x (state_of held ss)) (followed_script m (state_of mid []) pages k current began) (over text told shelf o d) (over text told shelf o d1) (over text told shelf o2 d2) (blame of_run result) (moved ss shelf) (rows pages are shelf))));
     some = (
       untold (script_of_step x (state_of held []) ++ followed_script m (state_of mid []) None k current began),
       untold_both (script_of_step x (state_of held [])) (followed_script m (state_of mid []) None k current began) (of_due x (state_of held [])) (of_followed m (state_of mid []) None k current began),
@@ -153,16 +201,14 @@ module _ {O D : Type 0} (x : device.Environment) (text : sink_of.Ghosts O) (told
           CallsOf x text told m mid rekept (o1, d1) (o2, d2) k result → CallsOf x text told m held kept (o, d) (o2, d2) all result
       steps_then result rekept o2 d2 k all many none_kept traced_mid then = rw many (record {
         untraced = λ none s t at shelf.
-            same_script (transfers x s t n ++ transfers x s (t + n) k) (transfers x s t (n + k)) (over text told shelf o d) (over text told shelf o2 d2) (blame of_run result) (sym (from_add (λ j. script_of_step x (run x s j)) t n k))
-            (both (transfers x s t n) (transfers x s (t + n) k) (over text told shelf o d) (over text told shelf o1 d1) (over text told shelf o2 d2) (blame of_run result)
-            (first_steps.untraced none s t at shelf) (then.untraced (none_kept none) s (t + n) (at_mid s t at) shelf));
+            in_both (λ j. script_of_step x (run x s j)) t n k (over text told shelf o d) (over text told shelf o1 d1) (over text told shelf o2 d2) (blame of_run result)
+            (first_steps.untraced none s t at shelf) (then.untraced (none_kept none) s (t + n) (at_mid s t at) shelf);
         traced = λ c y s late limit u t base from map_is low high at traced p turns steps shown shelf.
             let r = traced_run x y s u turns steps in
             let there = traced_mid (record { unit = c; y = y; s = s; late = late; held = limit; u = u; t = t; base = base; from = from; map_is = map_is; low = low; high = high; at = at; traced = traced }) in
-            same_script (steps_script r p t n ++ steps_script r p (t + n) k) (steps_script r p t (n + k)) (over text told shelf o d) (over text told shelf o2 d2) (blame of_run result) (sym (from_add (step_script r p) t n k))
-            (both (steps_script r p t n) (steps_script r p (t + n) k) (over text told shelf o d) (over text told shelf o1 d1) (over text told shelf o2 d2) (blame of_run result)
+            in_both (step_script r p) t n k (over text told shelf o d) (over text told shelf o1 d1) (over text told shelf o2 d2) (blame of_run result)
             (first_steps.traced c y s late limit u t base from map_is low high at traced p turns steps (λ j a b. shown j a (omega (arith, b))) shelf)
-            (then.traced c y s late limit u (t + n) base from map_is low high (at_mid s t at) there p turns steps (λ j a b. shown j (omega (arith, a)) (omega (arith, b))) shelf));
+            (then.traced c y s late limit u (t + n) base from map_is low high (at_mid s t at) there p turns steps (λ j a b. shown j (omega (arith, a)) (omega (arith, b))) shelf);
         some = (
           first_steps.some.0 ++ then.some.0,
           of_both first_steps.some.0 then.some.0 first_steps.some.1 then.some.1,
@@ -176,16 +222,14 @@ module _ {O D : Type 0} (x : device.Environment) (text : sink_of.Ghosts O) (told
       stretch_then new k all many stretch none_traced = rw many (record {
         untraced = λ none s t at shelf.
             let w = told_as_some (told.sectors d1) mid (run x s (t + n)) (at_mid s t at) in
-            let quiet : transfers x s (t + n) k ≡ [] = all_none (λ i. script_of_step x (run x s (t + n + i))) k (λ i lt.
-            ap (script_of_step x) (sym (later x s (t + n) i)) ∙ ap (λ (v : State). script_of_step x (run x v i)) (sym w.2) ∙ (stretch w.0).calls i lt) in
-            same_script (transfers x s t n) (transfers x s t (n + k)) (over text told shelf o d) (over text told shelf o1 d1) None
-            (sym (append-nil (transfers x s t n)) ∙ ap (λ (l : List Call). transfers x s t n ++ l) (sym quiet) ∙ sym (from_add (λ j. script_of_step x (run x s j)) t n k))
-            (first_steps.untraced none s t at shelf);
+            in_both (λ j. script_of_step x (run x s j)) t n k (over text told shelf o d) (over text told shelf o1 d1) (over text told shelf o1 d1) None (first_steps.untraced none s t at shelf)
+            (in_quiet (λ i. script_of_step x (run x s (t + n + i))) k (over text told shelf o1 d1) (λ i lt.
+            ap (script_of_step x) (sym (later x s (t + n) i)) ∙ ap (λ (v : State). script_of_step x (run x v i)) (sym w.2) ∙ (stretch w.0).calls i lt));
         traced = λ c y s late limit u t base from map_is low high at traced p turns steps shown shelf.
             let r = traced_run x y s u turns steps in
             let none : k ≡ 0 = none_traced (subst IsSome (sym traced.keeps) refl) in
             let same : n ≡ n + k = omega (arith, none) in
-            same_script (steps_script r p t n) (steps_script r p t (n + k)) (over text told shelf o d) (over text told shelf o1 d1) None (ap (steps_script r p t) same)
+            subst (λ j. InSteps (λ i. step_script r p (t + i)) j (over text told shelf o d) (over text told shelf o1 d1) None) same
             (first_steps.traced c y s late limit u t base from map_is low high at traced p turns steps (λ j a b. shown j a (omega (arith, b))) shelf);
         some = first_steps.some;
       })

@@ -1,4 +1,4 @@
-use Rattle.std.proofs.Common.{ℕ, ◌-◌, Some, None, Ok, Err, ap, sym, refl}
+use Rattle.std.proofs.Common.{ℕ, ◌-◌, Some, None, Ok, Err, ap, sym, refl, arith}
 use Rattle.std.specs.Io.KnownBytes.{append_known}
 use Rattle.boot_turns.specs.declared.answers.Turn.{Turn}
 use Rattle.std.proofs.lemmas.Result.{err_from_is_err_and}
@@ -86,7 +86,7 @@ returns-in_err-put_before-clause-script g c =
     rw (h.1, h.2) (begun_cut g.O.Sink g.D.Sectors c.args.self.now c.args.self.now c.args.out.now c.put_before.new.out c.put_before.new.out c.put_before.new.out c.args.disk.now c.args.disk.now c.args.budget.now c.args.budget.now c.args.most
     c.put_before.ensures.views c.machines_run.ensures c.traces_grow.ensures c.journal_rows_follow.ensures c.in_err-put_before.ensures.first.0 c.in_err-put_before.ensures.first.1
     c.in_err-put_before.ensures.put
-    (c.args.budget.now - c.args.budget.now))
+    (c.args.budget.now - c.args.budget.now) (omega arith))
 
 pub returns-in_err-made-clause-script : goal.returns-in_err-made-clause-script
 returns-in_err-made-clause-script g c =
