@@ -60,18 +60,18 @@ is_off None h e = cc
 is_off (Some power) h e = cc
 
 -- A CALL OF `turns`, by what the machine did
-module _ {L : Type 0} (r new : Kept L) (count most : ℕ) (told retold : Option (List (List ℕ))) (budget left : ℕ) (text mid late retext : Option (List ℕ)) where
+module _ {L : Type 0} (r new : Kept L) (count most : ℕ) (told retold : Option (List (List ℕ))) (budget left : ℕ) where
   -- the first row couldn't be printed
-  pub any_cut_before : AnyTurnsRun count r most (around r told budget text) (around r told budget retext) (Err Sink)
+  pub any_cut_before : AnyTurnsRun count r most (around r told budget) (around r told budget) (Err Sink)
   any_cut_before = λ s k t c on is none. (t, omega arith, sooner_than (outside_of r.machine.rows count) s k (k + most) t (omega arith) c.sooner, refl, is)
 
   -- the turns were broken off
-  pub any_broke_off : (f : RunFault) → Moved count r new most told retold mid late budget left (Err f) → AnyTurnsRun count r most (around r told budget text) (around new retold left retext) (Err f)
+  pub any_broke_off : (f : RunFault) → Moved count r new most told retold budget left (Err f) → AnyTurnsRun count r most (around r told budget) (around new retold left) (Err f)
   any_broke_off f w = λ s k t c on is none. w.anyhow s k t c on is
 
-  module _ (made skipped : ℕ) (b : Begun) (answer : Turn) (number : made ≡ skipped + 1) (w : Moved count r new most told retold mid late budget left (Ok (skipped, b))) (counted : Counted r new skipped b answer) where
+  module _ (made skipped : ℕ) (b : Begun) (answer : Turn) (number : made ≡ skipped + 1) (w : Moved count r new most told retold budget left (Ok (skipped, b))) (counted : Counted r new skipped b answer) where
     came : (s : State) (k t : ℕ) → ComesTo (outside_of r.machine.rows count) s k t → (run (outside_of r.machine.rows count) s t).off ≡ None → state_seen told r.machine ≡ Some (run (outside_of r.machine.rows count) s t) →
-        CameTo (outside_of r.machine.rows count) s (k + made) t (around r told budget text) (around new retold left retext)
+        CameTo (outside_of r.machine.rows count) s (k + made) t (around r told budget) (around new retold left)
     came s k t c on is =
         let x = outside_of r.machine.rows count in
         let d = w.anyhow s k t c on is in
@@ -85,11 +85,11 @@ module _ {L : Type 0} (r new : Kept L) (count most : ℕ) (told retold : Option 
           ended = counted.ended ∙ ended_any new.machine.hardware.off (slice_index new.machine.hardware.memory 1024) ∙ ap ended_off parts.0;
         }
 
-    pub any_made : AnyTurnsRun count r most (around r told budget text) (around new retold left retext) (Ok (made, answer))
+    pub any_made : AnyTurnsRun count r most (around r told budget) (around new retold left) (Ok (made, answer))
     any_made = λ s k t c on is none. came s k t c on is
 
     -- or the row behind them couldn't be printed
-    pub any_cut_after : made ≤ most → AnyTurnsRun count r most (around r told budget text) (around new retold left retext) (Err Sink)
+    pub any_cut_after : made ≤ most → AnyTurnsRun count r most (around r told budget) (around new retold left) (Err Sink)
     any_cut_after few = λ s k t c on is none.
         let d = came s k t c on is in
         (d.at, no_earlier (outside_of r.machine.rows count) s k t made d.at c d.comes, sooner_than (outside_of r.machine.rows count) s (k + made) (k + most) d.at (omega (arith, few)) d.comes.sooner, d.spent, d.state)
@@ -107,10 +107,10 @@ cut_kept x s k t before after Sink kept w = w
 any_faulted : {L : Type 0} (count : ℕ) (r : Kept L) (most : ℕ) (before after : Around) (f : RunFault) (kept : Option RunFault) → AnyTurnsRun count r most before after (Err f) → AnyTurnsRun count r most before (record after { fault = kept }) (Err f)
 any_faulted count r most before after f kept w = λ s k t c on is none. cut_kept (outside_of r.machine.rows count) s (k + most) t before after f kept (w s k t c on is none)
 
-pub any_kept : {L : Type 0} (a b : Kept L) → a ≡ b → (count : ℕ) (r : Kept L) (most : ℕ) (before : Around) (told : Option (List (List ℕ))) (budget : ℕ) (text : Option (List ℕ)) (f : RunFault) →
-    AnyTurnsRun count r most before (around b told budget text) (Err f) → AnyTurnsRun count r most before (record (around a told budget text) { fault = Some f }) (Err f)
-any_kept a b e count r most before told budget text f w =
-    any_faulted count r most before (around a told budget text) f (Some f) (subst (λ (q : Kept _). AnyTurnsRun count r most before (around q told budget text) (Err f)) (sym e) w)
+pub any_kept : {L : Type 0} (a b : Kept L) → a ≡ b → (count : ℕ) (r : Kept L) (most : ℕ) (before : Around) (told : Option (List (List ℕ))) (budget : ℕ) (f : RunFault) →
+    AnyTurnsRun count r most before (around b told budget) (Err f) → AnyTurnsRun count r most before (record (around a told budget) { fault = Some f }) (Err f)
+any_kept a b e count r most before told budget f w =
+    any_faulted count r most before (around a told budget) f (Some f) (subst (λ (q : Kept _). AnyTurnsRun count r most before (around q told budget) (Err f)) (sym e) w)
 
 -- THE LOOP. A call's turns come behind those that were made
 joins : (x : Environment) (s : State) (k m t : ℕ) (before mid after : Around) → (c : CameTo x s k t before mid) → CameTo x s m c.at mid after → CameTo x s m t before after

@@ -53,7 +53,6 @@ use Rattle.boot_run.specs.Report.{runs_now, closing_calls, trace_calls}
 use Rattle.boot_run.specs.RunCalls.{run_at, report_script, TellsFrom, ReportCalls}
 use Rattle.boot_run.specs.RunScript.{AreReads}
 use Rattle.boot_run.specs.Shown.{has_faulted}
-use Rattle.boot_run.specs.Sink.{Base}
 use Rattle.boot_run.specs.TurnCalls.{ended_of, around, Ready, Traces}
 use Rattle.boot_run.proofs.TraceRoom.{user_there}
 use Rattle.boot_run.proofs.Reporting.{true_false, its_told, halting, told_rows, told_globals, user_called, users_called, users_are_those}
@@ -104,7 +103,7 @@ faulted_script v r p t (Faulted f) e = refl
 
 pub faulted_report : {L O D T : Type 0} (text : sink_of.Ghosts O) (told : sectors_of.Ghosts D) (r : Kept L) (o : O) (d : D) (v0 : T) → has_faulted r.ended ≡ true → ReportCalls {T = T} text told r (o, d) (o, d) (Ok v0)
 faulted_report text told r o d v0 faulted = record {
-  exact = λ budget y s late held base k t c same lawful ready turns steps p tells shelf.
+  exact = λ budget y s late held k t c same lawful ready turns steps p tells shelf.
       same_script [] (report_script r.view (run_at (outside_of r.machine.rows (told.size d)) y s r.view turns steps) p t c.status) (at text told shelf o d) (at text told shelf o d) None
       (sym (faulted_script r.view (run_at (outside_of r.machine.rows (told.size d)) y s r.view turns steps) p t c.status (ap has_faulted (sym ready.ended) ∙ faulted))) (done (at text told shelf o d));
   some = λ none. ([], tt, λ shelf. done (at text told shelf o d));
@@ -114,7 +113,7 @@ faulted_report text told r o d v0 faulted = record {
 -- A CALL THAT KEPT A FAULT calls nothing
 pub kept_report : {L O D T : Type 0} (text : sink_of.Ghosts O) (told : sectors_of.Ghosts D) (r : Kept L) (o : O) (d : D) (result : Result T RunFault) (f : RunFault) → r.fault ≡ Some f → ReportCalls text told r (o, d) (o, d) result
 kept_report text told r o d result f is = record {
-  exact = λ budget y s late held base k t c same lawful ready turns steps p tells shelf. absurd (let e : ◌≡◌ {A = Option RunFault} (Some f) None = sym is ∙ ready.fault in cc);
+  exact = λ budget y s late held k t c same lawful ready turns steps p tells shelf. absurd (let e : ◌≡◌ {A = Option RunFault} (Some f) None = sym is ∙ ready.fault in cc);
   some = λ none. absurd (let e : ◌≡◌ {A = Option RunFault} (Some f) None = sym is ∙ none in cc);
   none = λ _. refl;
 }
@@ -125,21 +124,21 @@ module _ {L O D : Type 0} (text : sink_of.Ghosts O) (told : sectors_of.Ghosts D)
   x = outside_of r.machine.rows (told.size d)
 
   -- what the abstract machine says between turns
-  its_cvm : (y : System) (s : State) (late held : ℕ) → RunMachines x y s late held → (v : View) (base : Base) (k t : ℕ) (c : Cvm) (budget : ℕ) → Ready x y s v base (suc k) t c (around r (told.sectors d) budget (text.text o)) → (turns steps : ℕ) (p : Past) →
+  its_cvm : (y : System) (s : State) (late held : ℕ) → RunMachines x y s late held → (v : View) (k t : ℕ) (c : Cvm) (budget : ℕ) → Ready x y s v (suc k) t c (around r (told.sectors d) budget) → (turns steps : ℕ) (p : Past) →
       TellsFrom (run_at x y s v turns steps) p t t → cvm_at (run_at x y s v turns steps) p t ≡ c
-  its_cvm y s late held m v base k t c budget ready turns steps p tells =
+  its_cvm y s late held m v k t c budget ready turns steps p tells =
       m.same (complete x s t) (cvm_at (run_at x y s v turns steps) p t) c (tells.turns t (omega arith) (omega arith)) (subst (λ n. IsCvm y (lines_of_turn x s) n c) (sym ready.stood.all) ready.stood.cvm)
 
   -- these calls are those of the report that is viewed so
   abbrev Is : View → List Call → Type 0
-  Is v calls = (budget : ℕ) (y : System) (s : State) (late held : ℕ) (base : Base) (k t : ℕ) (c : Cvm) → y.boot ≡ boot_of r.boot → StartsFrom (IsTypedState (unit_view r.boot.unit)) x y s late held →
-      Ready x y s v base (suc k) t c (around r (told.sectors d) budget (text.text o)) → (turns steps : ℕ) (p : Past) → TellsFrom (run_at x y s v turns steps) p t t → calls ≡ report_script v (run_at x y s v turns steps) p t c.status
+  Is v calls = (budget : ℕ) (y : System) (s : State) (late held : ℕ) (k t : ℕ) (c : Cvm) → y.boot ≡ boot_of r.boot → StartsFrom (IsTypedState (unit_view r.boot.unit)) x y s late held →
+      Ready x y s v (suc k) t c (around r (told.sectors d) budget) → (turns steps : ℕ) (p : Past) → TellsFrom (run_at x y s v turns steps) p t t → calls ≡ report_script v (run_at x y s v turns steps) p t c.status
 
   -- they are made, and only read where nothing is told
   performs : {T : Type 0} (calls : List Call) (result : Result T RunFault) → AreReads (untold calls) → Is r.view calls → Makes text told (o, d) (o1, d1) calls of_run result → ReportCalls text told r (o, d) (o1, d1) result
   performs calls result reads is made = record {
-    exact = λ budget y s late held base k t c same lawful ready turns steps p tells shelf.
-        same_script calls (report_script r.view (run_at x y s r.view turns steps) p t c.status) (at text told shelf o d) (at text told shelf o1 d1) (blame of_run result) (is budget y s late held base k t c same lawful ready turns steps p tells) (made shelf);
+    exact = λ budget y s late held k t c same lawful ready turns steps p tells shelf.
+        same_script calls (report_script r.view (run_at x y s r.view turns steps) p t c.status) (at text told shelf o d) (at text told shelf o1 d1) (blame of_run result) (is budget y s late held k t c same lawful ready turns steps p tells) (made shelf);
     some = λ none. (untold calls, reads, λ shelf. made_untold calls (at text told shelf o d) (at text told shelf o1 d1) (blame of_run result) (made shelf));
     none = λ e. absurd (true_false (has_faulted r.ended) e fine);
   }
@@ -147,19 +146,19 @@ module _ {L O D : Type 0} (text : sink_of.Ghosts O) (told : sectors_of.Ghosts D)
   -- of a boot
   module _ (view : r.view ≡ Boot) (typed : (u : CUnit) → RunsStayTyped (IsTypedState u)) (rows : RowsTell) (users : UserTells) (globals : GlobalRowsTell) (formed : IsWellFormed kernel_primitives (unit_view r.boot.unit)) where
     boot_is : Is Boot (closing_calls (is_some r.ended) r.current r.machine (told.sectors d) places r.boot.unit.globals.items)
-    boot_is budget y s late held base k t c same lawful ready turns steps p tells =
+    boot_is budget y s late held k t c same lawful ready turns steps p tells =
         let m = law (unit_view r.boot.unit) x y s late held lawful in
         let stays = typed (unit_view r.boot.unit) x y s late held lawful in
         let T = told.sectors d in
-        let seen = its_told x y s Boot base k t budget c r T (text.text o) ready in
-        let h = halting x y s Boot base k t budget c r T (text.text o) ready same places.map places.offsets.items placed fine in
+        let seen = its_told x y s Boot k t budget c r T ready in
+        let h = halting x y s Boot k t budget c r T ready same places.map places.offsets.items placed fine in
         let now = runs_now (is_some r.ended) r.current in
         ap (λ (q : Option (List (List ℕ))). closing_calls (is_some r.ended) r.current r.machine q places r.boot.unit.globals.items) seen.are
         ∙ ap₂ (λ (e g : List ℕ). Printed (Some (e ++ g ++ log_rows r.machine.hardware.console.log)) ∷ reported.users_script places.map r.machine (Some seen.sectors) now places.map.users) h.0
-        (told_globals x y s Boot base k t budget c r T (text.text o) ready same places.map places.offsets.items placed fine stays globals formed)
+        (told_globals x y s Boot k t budget c r T ready same places.map places.offsets.items placed fine stays globals formed)
         ∙ ap₂ (λ (l : List ℕ) (us : List Call). Printed (Some (end_text c.status ++ globals_text y.boot.meaning.names (parts_of c.core.c0.global_values) ++ l)) ∷ us)
-        (told_rows x y s Boot base k t budget c r T (text.text o) ready same places.map places.offsets.items placed fine rows).log (users_called x y s Boot base k t budget c r T (text.text o) ready same places.map places.offsets.items placed fine rows users)
-        ∙ sym (boot_script x y s turns steps p t c (its_cvm y s late held m Boot base k t c budget ready turns steps p tells) c.status refl (ap has_faulted (sym ready.ended) ∙ fine))
+        (told_rows x y s Boot k t budget c r T ready same places.map places.offsets.items placed fine rows).log (users_called x y s Boot k t budget c r T ready same places.map places.offsets.items placed fine rows users)
+        ∙ sym (boot_script x y s turns steps p t c (its_cvm y s late held m Boot k t c budget ready turns steps p tells) c.status refl (ap has_faulted (sym ready.ended) ∙ fine))
 
     boot_performs : {T : Type 0} (result : Result T RunFault) → Makes text told (o, d) (o1, d1) (closing_calls (is_some r.ended) r.current r.machine (told.sectors d) places r.boot.unit.globals.items) of_run result → ReportCalls text told r (o, d) (o1, d1) result
     boot_performs result made = performs (closing_calls (is_some r.ended) r.current r.machine (told.sectors d) places r.boot.unit.globals.items) result (of_closing (is_some r.ended) r.current r.machine (told.sectors d) places r.boot.unit.globals.items)
@@ -170,9 +169,9 @@ module _ {L O D : Type 0} (text : sink_of.Ghosts O) (told : sectors_of.Ghosts D)
     -- what is kept tells the last steps of what is shown
     last_is : (y : System) (s : State) (t : ℕ) (p : Past) → TraceGrows x y s kept.user → Shown x s y kept.user t (p.shown t) → Traces x y s (Trace kept.user) t r.tracer → steps_row kept.steps ≡ last_steps (p.shown t)
     last_is y s t p g shown traces =
-        let j : List JournalEntry = traces.0 in
-        let one : p.shown t ≡ j = g.one t (p.shown t) j shown traces.1 in
-        let steps : kept.steps ≡ pending_steps j = same_steps kept (tracer_at x s kept.user t j) (sym tracer ∙ traces.2) in
+        let j : List JournalEntry = traces.journal in
+        let one : p.shown t ≡ j = g.one t (p.shown t) j shown traces.shown in
+        let steps : kept.steps ≡ pending_steps j = same_steps kept (tracer_at x s kept.user t j) (sym tracer ∙ traces.keeps) in
         ap steps_row steps ∙ sym (ap (λ i. drop (length (open_journal_rows i)) (journal_rows i)) one ∙ ap (drop (length (open_journal_rows j))) (follow.end j) ∙ drop-append_seam (open_journal_rows j) (steps_row (pending_steps j)))
       where
         same_steps : (a b : Tracer) → Some a ≡ Some b → a.steps ≡ b.steps
@@ -185,19 +184,19 @@ module _ {L O D : Type 0} (text : sink_of.Ghosts O) (told : sectors_of.Ghosts D)
         omega (arith, a, b, most)
 
     trace_is : Is (Trace kept.user) (trace_calls (is_some r.ended) r.current r.machine (told.sectors d) places.map kept)
-    trace_is budget y s late held base k t c same lawful ready turns steps p tells =
+    trace_is budget y s late held k t c same lawful ready turns steps p tells =
         let u = kept.user in
         let v = Trace kept.user in
         let m = law (unit_view r.boot.unit) x y s late held lawful in
         let T = told.sectors d in
-        let seen = its_told x y s v base k t budget c r T (text.text o) ready in
-        let h = halting x y s v base k t budget c r T (text.text o) ready same places.map places.offsets.items placed fine in
+        let seen = its_told x y s v k t budget c r T ready in
+        let h = halting x y s v k t budget c r T ready same places.map places.offsets.items placed fine in
         let now = runs_now (is_some r.ended) r.current in
         ap (λ (q : Option (List (List ℕ))). trace_calls (is_some r.ended) r.current r.machine q places.map kept) seen.are
         ∙ ap₂ (λ (a e : List ℕ). Printed (Some (a ++ e)) ∷ reported.user_script places.map r.machine (Some seen.sectors) (u == now) u)
         (last_is y s t p (grow (unit_view r.boot.unit) x y s late held u lawful some (few y same)) (tells.user t (omega arith) (omega arith)) ready.traces) h.0
-        ∙ ap (λ (us : List Call). Printed (Some (last_steps (p.shown t) ++ end_text c.status)) ∷ us) (user_called x y s v base k t budget c r T (text.text o) ready same places.map places.offsets.items placed fine rows users u some most)
-        ∙ sym (trace_script x y s u turns steps p t c (its_cvm y s late held m v base k t c budget ready turns steps p tells) c.status refl (ap has_faulted (sym ready.ended) ∙ fine))
+        ∙ ap (λ (us : List Call). Printed (Some (last_steps (p.shown t) ++ end_text c.status)) ∷ us) (user_called x y s v k t budget c r T ready same places.map places.offsets.items placed fine rows users u some most)
+        ∙ sym (trace_script x y s u turns steps p t c (its_cvm y s late held m v k t c budget ready turns steps p tells) c.status refl (ap has_faulted (sym ready.ended) ∙ fine))
 
     trace_performs : {T : Type 0} (result : Result T RunFault) → Makes text told (o, d) (o1, d1) (trace_calls (is_some r.ended) r.current r.machine (told.sectors d) places.map kept) of_run result → ReportCalls text told r (o, d) (o1, d1) result
     trace_performs result made = performs (trace_calls (is_some r.ended) r.current r.machine (told.sectors d) places.map kept) result (of_trace (is_some r.ended) r.current r.machine (told.sectors d) places.map kept)

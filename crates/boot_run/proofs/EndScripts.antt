@@ -40,7 +40,6 @@ use Rattle.boot_run.specs.Pieces.{Bootable, FirstAt, GoRuns, end_of_fault}
 use Rattle.boot_run.specs.RunCalls.{run_at, begin_script, fault_script, report_script, turns_script, TellsFrom, ReportCalls, GoCalls, of_end, end_by, EndsBy, CloseCalls, RestCalls}
 use Rattle.boot_run.specs.RunScript.{rest_script}
 use Rattle.boot_run.specs.Shown.{has_faulted}
-use Rattle.boot_run.specs.Sink.{Base}
 use Rattle.boot_run.specs.TurnCalls.{ended_of, around, Ready, KeepsLoad}
 use Rattle.boot_run.proofs.ClosingCalls.{faulted_script}
 use Rattle.boot_run.proofs.GoScripts.{no_sooner, on_there, goes_before, past_tells}
@@ -73,7 +72,7 @@ blames_so Sink = refl
 module _ {L O D : Type 0} (text : sink_of.Ghosts O) (told : sectors_of.Ghosts D) (r : Kept L) (o : O) (d : D) where
   pub closed_none : has_faulted r.ended ≡ true → CloseCalls text told r (o, d) (o, d) ends.KernelFaulted
   closed_none e = record {
-    exact = λ budget y s late held base k t c same lawful ready turns steps p tells. record {
+    exact = λ budget y s late held k t c same lawful ready turns steps p tells. record {
       made = λ shelf. same_script [] (report_script r.view (run_at (outside_of r.machine.rows (told.size d)) y s r.view turns steps) p t c.status) (at text told shelf o d) (at text told shelf o d) None
           (sym (faulted_script r.view (run_at (outside_of r.machine.rows (told.size d)) y s r.view turns steps) p t c.status (ap has_faulted (sym ready.ended) ∙ e))) (done (at text told shelf o d));
       is = λ _. faulted_due c.status (ap has_faulted (sym ready.ended) ∙ e);
@@ -85,8 +84,8 @@ module _ {L O D : Type 0} (text : sink_of.Ghosts O) (told : sectors_of.Ghosts D)
   module _ (o1 : O) (d1 : D) (fine : r.fault ≡ None) (other : has_faulted r.ended ≡ false) where
     pub closed_done : {T : Type 0} (v : T) → ReportCalls {T = T} text told r (o, d) (o1, d1) (Ok v) → CloseCalls text told r (o, d) (o1, d1) ends.Done
     closed_done v calls = record {
-      exact = λ budget y s late held base k t c same lawful ready turns steps p tells. record {
-        made = calls.exact budget y s late held base k t c same lawful ready turns steps p tells;
+      exact = λ budget y s late held k t c same lawful ready turns steps p tells. record {
+        made = calls.exact budget y s late held k t c same lawful ready turns steps p tells;
         is = λ _. other_due c.status (ap has_faulted (sym ready.ended) ∙ other);
       };
       some = calls.some fine;
@@ -99,12 +98,12 @@ module _ {L O D : Type 0} (text : sink_of.Ghosts O) (told : sectors_of.Ghosts D)
         by : {T : Type 0} (f : RunFault) → f ≢ StepLimit → ReportCalls {T = T} text told r (o, d) (o1, d1) (Err f) → CloseCalls text told r (o, d) (o1, d1) (end_of_fault f)
         by StepLimit ne calls = absurd (ne refl)
         by Disk ne calls = record {
-          exact = λ budget y s late held base k t c same lawful ready turns steps p tells. record { made = calls.exact budget y s late held base k t c same lawful ready turns steps p tells; is = λ e. absurd (let h = e in cc) };
+          exact = λ budget y s late held k t c same lawful ready turns steps p tells. record { made = calls.exact budget y s late held k t c same lawful ready turns steps p tells; is = λ e. absurd (let h = e in cc) };
           some = calls.some fine;
           none = λ e. absurd (no_other r.ended e other);
         }
         by Sink ne calls = record {
-          exact = λ budget y s late held base k t c same lawful ready turns steps p tells. record { made = calls.exact budget y s late held base k t c same lawful ready turns steps p tells; is = λ e. absurd (let h = e in cc) };
+          exact = λ budget y s late held k t c same lawful ready turns steps p tells. record { made = calls.exact budget y s late held k t c same lawful ready turns steps p tells; is = λ e. absurd (let h = e in cc) };
           some = calls.some fine;
           none = λ e. absurd (no_other r.ended e other);
         }
@@ -187,27 +186,27 @@ module _ (counts : TurnLaws) (x : device.Environment) (y : System) (s : State) (
         by (Some whom) none made = first (turns_script (run_at x y s v turns steps) p k t (end_within x s turns steps - t)) (tail (is_end x s turns (end_within x s turns steps)) rep) old new whom made
 
 -- where it was out of steps its run has no end within them
-pub late_none : {L : Type 0} (count : ℕ) (r new : Kept L) (turns budget left : ℕ) (told retold : Option (List (List ℕ))) (text retext : Option (List ℕ)) (f : RunFault) → GoRuns count r turns (around r told budget text) (around new retold left retext) (Err f) → of_run f ≡ None →
-    (y : System) (s : State) (late held : ℕ) (old : List (List ℕ)) (base : Base) (k t wanted steps : ℕ) (c : Cvm) → Bootable r.boot r.machine.rows count y s late held old → FirstAt (outside_of r.machine.rows count) s k t → 1 ≤ wanted → k + turns ≡ wanted → budget + t ≡ steps →
-    Ready (outside_of r.machine.rows count) y s r.view base k t c (around r told budget text) → is_end (outside_of r.machine.rows count) s wanted (end_within (outside_of r.machine.rows count) s wanted steps) ≡ false
-late_none count r new turns budget left told retold text retext StepLimit goes e y s late held old base k t wanted steps c p starts some more sum ready = (goes y s late held old base k t wanted steps c p starts some more sum ready).none
-late_none count r new turns budget left told retold text retext Disk goes e y s late held old base k t wanted steps c p starts some more sum ready = absurd (let h = e in cc)
-late_none count r new turns budget left told retold text retext Sink goes e y s late held old base k t wanted steps c p starts some more sum ready = absurd (let h = e in cc)
+pub late_none : {L : Type 0} (count : ℕ) (r new : Kept L) (turns budget left : ℕ) (told retold : Option (List (List ℕ))) (f : RunFault) → GoRuns count r turns (around r told budget) (around new retold left) (Err f) → of_run f ≡ None →
+    (y : System) (s : State) (late held : ℕ) (old : List (List ℕ)) (k t wanted steps : ℕ) (c : Cvm) → Bootable r.boot r.machine.rows count y s late held old → FirstAt (outside_of r.machine.rows count) s k t → 1 ≤ wanted → k + turns ≡ wanted → budget + t ≡ steps →
+    Ready (outside_of r.machine.rows count) y s r.view k t c (around r told budget) → is_end (outside_of r.machine.rows count) s wanted (end_within (outside_of r.machine.rows count) s wanted steps) ≡ false
+late_none count r new turns budget left told retold StepLimit goes e y s late held old k t wanted steps c p starts some more sum ready = (goes y s late held old k t wanted steps c p starts some more sum ready).none
+late_none count r new turns budget left told retold Disk goes e y s late held old k t wanted steps c p starts some more sum ready = absurd (let h = e in cc)
+late_none count r new turns budget left told retold Sink goes e y s late held old k t wanted steps c p starts some more sum ready = absurd (let h = e in cc)
 
 -- THE LOOP FAILED
 pub rest_fails : {L O D T : Type 0} (text : sink_of.Ghosts O) (told : sectors_of.Ghosts D) (r new : Kept L) (o o1 : O) (d d1 : D) (turns budget left : ℕ) (law : (u : CUnit) → MachinesRun (IsTypedState u)) (counts : TurnLaws) (f : RunFault) →
-    GoRuns (told.size d) r turns (around r (told.sectors d) budget (text.text o)) (around new (told.sectors d1) left (text.text o1)) (Err f) → GoCalls {T = T} text told r turns budget (o, d) (o1, d1) (Err f) → RestCalls text told r turns budget (o, d) (o1, d1) (end_of_fault f)
+    GoRuns (told.size d) r turns (around r (told.sectors d) budget) (around new (told.sectors d1) left) (Err f) → GoCalls {T = T} text told r turns budget (o, d) (o1, d1) (Err f) → RestCalls text told r turns budget (o, d) (o1, d1) (end_of_fault f)
 rest_fails text told r new o o1 d d1 turns budget left law counts f goes calls = record {
-  exact = λ y s late held old base k t wanted steps c p starts some more sum ready running past is.
+  exact = λ y s late held old k t wanted steps c p starts some more sum ready running past is.
       let x = outside_of r.machine.rows (told.size d) in
       let m = machines law r.boot r.machine.rows (told.size d) y s late held old p in
-      let none : of_run f ≡ None → is_end x s wanted (end_within x s wanted steps) ≡ false = λ e. late_none (told.size d) r new turns budget left (told.sectors d) (told.sectors d1) (text.text o) (text.text o1) f goes e y s late held old base k t wanted steps c p starts some more sum ready in
+      let none : of_run f ≡ None → is_end x s wanted (end_within x s wanted steps) ≡ false = λ e. late_none (told.size d) r new turns budget left (told.sectors d) (told.sectors d1) f goes e y s late held old k t wanted steps c p starts some more sum ready in
       let low : t ≤ end_within x s wanted steps = no_sooner counts x s wanted steps t (omega (arith, sum)) (λ j lt. goes_before x s k t wanted starts (omega (arith, more)) j lt) in
       record {
         made = λ shelf. subst (Performs (begin_script (run_at x y s r.view wanted steps) k ++ rest_script (run_at x y s r.view wanted steps) past t) (at text told shelf o d) (at text told shelf o1 d1)) (sym (blames_so f))
             (rest_broke counts x y s late held m r.view wanted steps past is (closing_script (run_at x y s r.view wanted steps) past) (report_script r.view (run_at x y s r.view wanted steps) past (end_within x s wanted steps) (cvm_at (run_at x y s r.view wanted steps) past (end_within x s wanted steps)).status)
             (closing_is counts x y s late held m r.view wanted steps past is) k t low (at text told shelf o d) (at text told shelf o1 d1) (of_run f) none
-            (calls.exact y s late held old base k t wanted steps c p starts some more sum ready running past is shelf));
+            (calls.exact y s late held old k t wanted steps c p starts some more sum ready running past is shelf));
         is = λ e. due f (sym (blames_so f) ∙ e) (is_end x s wanted (end_within x s wanted steps)) (none (sym (blames_so f) ∙ e)) (cvm_at (run_at x y s r.view wanted steps) past (end_within x s wanted steps)).status;
       };
   some = (calls.some.0, calls.some.1, λ shelf. subst (Performs calls.some.0 (at text told shelf o d) (at text told shelf o1 d1)) (sym (blames_so f)) (calls.some.2 shelf));
@@ -221,31 +220,31 @@ rest_fails text told r new o o1 d d1 turns budget left law counts f goes calls =
 -- what closes a run, over these rows and this view and a disk of so many sectors
 abbrev ClosesAt : {L O D : Type 0} → sink_of.Ghosts O → sectors_of.Ghosts D → Kept L → Booted → Rows → View → (size : ℕ) → O → D → O → D → RunEnd → Type 0
 ClosesAt text told r b rows v size o d o1 d1 end =
-    (budget : ℕ) (y : System) (s : State) (late held : ℕ) (base : Base) (k t : ℕ) (c : Cvm) → y.boot ≡ boot_of b → StartsFrom (IsTypedState (unit_view b.unit)) (outside_of rows size) y s late held →
-    Ready (outside_of rows size) y s v base (suc k) t c (around r (told.sectors d) budget (text.text o)) → (turns steps : ℕ) (p : Past) → TellsFrom (run_at (outside_of rows size) y s v turns steps) p t t →
+    (budget : ℕ) (y : System) (s : State) (late held : ℕ) (k t : ℕ) (c : Cvm) → y.boot ≡ boot_of b → StartsFrom (IsTypedState (unit_view b.unit)) (outside_of rows size) y s late held →
+    Ready (outside_of rows size) y s v (suc k) t c (around r (told.sectors d) budget) → (turns steps : ℕ) (p : Past) → TellsFrom (run_at (outside_of rows size) y s v turns steps) p t t →
     EndsBy text told (o, d) (o1, d1) (report_script v (run_at (outside_of rows size) y s v turns steps) p t c.status) (end_by true c.status) end
 
 -- OR CAME TO ITS END, and the run is closed
 pub rest_closes : {L O D : Type 0} (text : sink_of.Ghosts O) (told : sectors_of.Ghosts D) (r mid : Kept L) (o o1 o2 : O) (d d1 d2 : D) (turns budget left : ℕ) (law : (u : CUnit) → MachinesRun (IsTypedState u)) (counts : TurnLaws) (e : RunEnd) → KeepsLoad r mid → told.size d1 ≡ told.size d →
-    GoRuns (told.size d) r turns (around r (told.sectors d) budget (text.text o)) (around mid (told.sectors d1) left (text.text o1)) (Ok tt) → GoCalls {T = Unit {0}} text told r turns budget (o, d) (o1, d1) (Ok tt) → CloseCalls text told mid (o1, d1) (o2, d2) e →
+    GoRuns (told.size d) r turns (around r (told.sectors d) budget) (around mid (told.sectors d1) left) (Ok tt) → GoCalls {T = Unit {0}} text told r turns budget (o, d) (o1, d1) (Ok tt) → CloseCalls text told mid (o1, d1) (o2, d2) e →
     RestCalls text told r turns budget (o, d) (o2, d2) e
 rest_closes text told r mid o o1 o2 d d1 d2 turns budget left law counts e kept size goes calls closes = record {
-  exact = λ y s late held old base k t wanted steps c p starts some more sum ready running past is.
+  exact = λ y s late held old k t wanted steps c p starts some more sum ready running past is.
       let x = outside_of r.machine.rows (told.size d) in
       let rn : Run = run_at x y s r.view wanted steps in
       let m = machines law r.boot r.machine.rows (told.size d) y s late held old p in
-      let g = goes y s late held old base k t wanted steps c p starts some more sum ready in
+      let g = goes y s late held old k t wanted steps c p starts some more sum ready in
       let end : end_within x s wanted steps ≡ g.at = counts.ends x s wanted steps g.at g.end g.within in
       let ended : is_end x s wanted (end_within x s wanted steps) ≡ true = ap (is_end x s wanted) end ∙ g.end.here in
       let low : t ≤ end_within x s wanted steps = no_sooner counts x s wanted steps t (omega (arith, sum)) (λ j lt. goes_before x s k t wanted starts (omega (arith, more)) j lt) in
       let now : cvm_at rn past (end_within x s wanted steps) ≡ g.past =
       m.same (complete x s (end_within x s wanted steps)) (cvm_at rn past (end_within x s wanted steps)) g.past (now_is counts x y s late held m r.view wanted steps past is)
       (subst (λ q. IsCvm y (lines_of_turn x s) q g.past) (sym (ap (complete x s) end ∙ g.ready.stood.all)) g.ready.stood.cvm) in
-      let w = closes_at left y s late held base g.count g.at g.past p.same p.starts g.ready wanted steps past (past_tells counts rn past g.at g.at is (omega (arith, end))) in
+      let w = closes_at left y s late held g.count g.at g.past p.same p.starts g.ready wanted steps past (past_tells counts rn past g.at g.at is (omega (arith, end))) in
       record {
         made = λ shelf. rest_made counts x y s late held m r.view wanted steps past is (closing_script (run_at x y s r.view wanted steps) past) (report_script r.view (run_at x y s r.view wanted steps) past (end_within x s wanted steps) (cvm_at (run_at x y s r.view wanted steps) past (end_within x s wanted steps)).status)
             (closing_is counts x y s late held m r.view wanted steps past is) k t low (at text told shelf o d) (at text told shelf o1 d1) (at text told shelf o2 d2) (of_end e) ended
-            (calls.exact y s late held old base k t wanted steps c p starts some more sum ready running past is shelf)
+            (calls.exact y s late held old k t wanted steps c p starts some more sum ready running past is shelf)
             (same_script (report_script r.view rn past g.at g.past.status) (report_script r.view rn past (end_within x s wanted steps) (cvm_at rn past (end_within x s wanted steps)).status) (at text told shelf o1 d1) (at text told shelf o2 d2) (of_end e)
             (ap₂ (λ q (st : Status). report_script r.view rn past q st) (sym end) (ap (λ (q : Cvm). q.status) (sym now))) (w.made shelf));
         is = λ none. w.is none ∙ ap₂ (λ (b : Bool) (st : Status). end_by b st) (sym ended) (ap (λ (q : Cvm). q.status) (sym now));

@@ -34,7 +34,6 @@ use Rattle.boot_turns.proofs.TurnScripts.{steps_join}
 use Rattle.boot_run.specs.LoadEnds.{Kept}
 use Rattle.boot_run.specs.Pieces.{Bootable, FirstAt, GoRuns}
 use Rattle.boot_run.specs.RunCalls.{run_at, begin_script, fault_script, turns_script, InTurns, TellsFrom, TurnsCall, GoCalls}
-use Rattle.boot_run.specs.Sink.{Base}
 use Rattle.boot_run.specs.TurnCalls.{ended_of, Around, around, Ready, Broken, TurnsEnd, TurnsRun, KeepsLoad}
 use Rattle.boot_run.proofs.TurnToTurn.{Going, Goes, came_on, goes_on, goes_on_to, end_most, no_end, not_before}
 use Rattle.boot_run.proofs.Looping.{KeepsGoing, machines, turns_end}
@@ -117,26 +116,26 @@ made_join r p k (suc i) j t u n m all there sum none quiet =
 -- WHAT WAS CALLED in i turns, up to step number `now`, of a run that was found as r
 abbrev pub KeepsMade : {L O D : Type 0} → sink_of.Ghosts O → sectors_of.Ghosts D → Kept L → O → D → O → D → (budget i now : ℕ) → Type 0
 KeepsMade text told r o d o1 d1 budget i now =
-    (y : System) (s : State) (late held : ℕ) (old : List (List ℕ)) (base : Base) (k t steps : ℕ) (c : Cvm) → Bootable r.boot r.machine.rows (told.size d) y s late held old → FirstAt (outside_of r.machine.rows (told.size d)) s k t →
-    budget + t ≡ steps → Ready (outside_of r.machine.rows (told.size d)) y s r.view base k t c (around r (told.sectors d) budget (text.text o)) → c.status ≡ Running → (turns : ℕ) (p : Past) →
+    (y : System) (s : State) (late held : ℕ) (old : List (List ℕ)) (k t steps : ℕ) (c : Cvm) → Bootable r.boot r.machine.rows (told.size d) y s late held old → FirstAt (outside_of r.machine.rows (told.size d)) s k t →
+    budget + t ≡ steps → Ready (outside_of r.machine.rows (told.size d)) y s r.view k t c (around r (told.sectors d) budget) → c.status ≡ Running → (turns : ℕ) (p : Past) →
     TellsFrom (run_at (outside_of r.machine.rows (told.size d)) y s r.view turns steps) p t now → (shelf : Files) →
     Performs (made_script (run_at (outside_of r.machine.rows (told.size d)) y s r.view turns steps) p k i t (now - t)) (at text told shelf o d) (at text told shelf o1 d1) None
 
 -- the calls of turns of this boot, over these rows and this view and a disk of so many sectors, by whom they blame
 abbrev TurnsAt : {L O D : Type 0} → sink_of.Ghosts O → sectors_of.Ghosts D → Kept L → Booted → Rows → View → (size budget : ℕ) → O → D → O → D → (n : ℕ) → Option Who → Type 0
 TurnsAt text told r b rows v size budget o d o1 d1 n blamed =
-    (u : CUnit) (y : System) (s : State) (late held : ℕ) (base : Base) (k t : ℕ) (c : Cvm) → y.boot ≡ boot_of b → StartsFrom (IsTypedState u) (outside_of rows size) y s late held →
-    Ready (outside_of rows size) y s v base k t c (around r (told.sectors d) budget (text.text o)) → c.status ≡ Running → (turns steps : ℕ) (p : Past) →
+    (u : CUnit) (y : System) (s : State) (late held : ℕ) (k t : ℕ) (c : Cvm) → y.boot ≡ boot_of b → StartsFrom (IsTypedState u) (outside_of rows size) y s late held →
+    Ready (outside_of rows size) y s v k t c (around r (told.sectors d) budget) → c.status ≡ Running → (turns steps : ℕ) (p : Past) →
     TellsFrom (run_at (outside_of rows size) y s v turns steps) p t (t + n) → (shelf : Files) →
     InTurns (run_at (outside_of rows size) y s v turns steps) p k t n (at text told shelf o d) (at text told shelf o1 d1) blamed
 
 pub made_first : {L O D : Type 0} (text : sink_of.Ghosts O) (told : sectors_of.Ghosts D) (r : Kept L) (o : O) (d : D) (budget i now : ℕ) → i ≡ 0 → KeepsMade text told r o d o d budget i now
-made_first text told r o d budget zero now none y s late held old base k t steps c p starts sum ready running turns past tells shelf = done (at text told shelf o d)
-made_first text told r o d budget (suc i) now none y s late held old base k t steps c p starts sum ready running turns past tells shelf = absurd (omega (arith, none))
+made_first text told r o d budget zero now none y s late held old k t steps c p starts sum ready running turns past tells shelf = done (at text told shelf o d)
+made_first text told r o d budget (suc i) now none y s late held old k t steps c p starts sum ready running turns past tells shelf = absurd (omega (arith, none))
 
 -- a run of which turns were made, and its next call
 module _ {L O D : Type 0} (text : sink_of.Ghosts O) (told : sectors_of.Ghosts D) (r now : Kept L) (o o1 o2 : O) (d d1 d2 : D) (budget left i : ℕ) (kept : KeepsLoad r now) (size : told.size d1 ≡ told.size d)
-    (going : KeepsGoing (told.size d) r (around r (told.sectors d) budget (text.text o)) i (around now (told.sectors d1) left (text.text o1))) (so : KeepsMade text told r o d o1 d1 budget i now.machine.time) where
+    (going : KeepsGoing (told.size d) r (around r (told.sectors d) budget) i (around now (told.sectors d1) left)) (so : KeepsMade text told r o d o1 d1 budget i now.machine.time) where
   abbrev x : device.Environment
   x = outside_of r.machine.rows (told.size d)
 
@@ -147,30 +146,30 @@ module _ {L O D : Type 0} (text : sink_of.Ghosts O) (told : sectors_of.Ghosts D)
       (subst (λ (rows : Rows). TurnsAt text told now r.boot rows now.view (told.size d1) left o1 d1 o2 d2 n blamed) kept.rows_are
       (subst (λ (b : Booted). TurnsAt text told now b now.machine.rows now.view (told.size d1) left o1 d1 o2 d2 n blamed) kept.boot_is h)))
 
-  module _ (law : (u : CUnit) → MachinesRun (IsTypedState u)) (y : System) (s : State) (late held : ℕ) (old : List (List ℕ)) (base : Base) (k t steps : ℕ) (c : Cvm) (p : Bootable r.boot r.machine.rows (told.size d) y s late held old) (starts : FirstAt x s k t) (sum : budget + t ≡ steps)
-      (ready : Ready x y s r.view base k t c (around r (told.sectors d) budget (text.text o))) (running : c.status ≡ Running) where
-    abbrev g : Goes x y s r.view base steps (k + i) (around now (told.sectors d1) left (text.text o1))
-    g = going y s late held old base k t steps c p starts sum ready
+  module _ (law : (u : CUnit) → MachinesRun (IsTypedState u)) (y : System) (s : State) (late held : ℕ) (old : List (List ℕ)) (k t steps : ℕ) (c : Cvm) (p : Bootable r.boot r.machine.rows (told.size d) y s late held old) (starts : FirstAt x s k t) (sum : budget + t ≡ steps)
+      (ready : Ready x y s r.view k t c (around r (told.sectors d) budget)) (running : c.status ≡ Running) where
+    abbrev g : Goes x y s r.view steps (k + i) (around now (told.sectors d1) left)
+    g = going y s late held old k t steps c p starts sum ready
 
     -- the run stands no sooner than it was found
-    later : t ≤ (going y s late held old base k t steps c p starts sum ready).0
+    later : t ≤ (going y s late held old k t steps c p starts sum ready).0
     later = ⊎_elim
-        (λ (lt : (going y s late held old base k t steps c p starts sum ready).0 < t).
-        let a = starts.before (going y s late held old base k t steps c p starts sum ready).0 lt in
-        let b : complete x s (going y s late held old base k t steps c p starts sum ready).0 ≡ k + i = (going y s late held old base k t steps c p starts sum ready).2.ready.stood.all in
+        (λ (lt : (going y s late held old k t steps c p starts sum ready).0 < t).
+        let a = starts.before (going y s late held old k t steps c p starts sum ready).0 lt in
+        let b : complete x s (going y s late held old k t steps c p starts sum ready).0 ≡ k + i = (going y s late held old k t steps c p starts sum ready).2.ready.stood.all in
         absurd (omega (arith, a, b)))
-        (λ (ge : t ≤ (going y s late held old base k t steps c p starts sum ready).0). ge)
-        (cases_lt (going y s late held old base k t steps c p starts sum ready).0 t)
+        (λ (ge : t ≤ (going y s late held old k t steps c p starts sum ready).0). ge)
+        (cases_lt (going y s late held old k t steps c p starts sum ready).0 t)
 
     -- and there where no turn was made
-    no_later : i ≡ 0 → (going y s late held old base k t steps c p starts sum ready).0 ≤ t
+    no_later : i ≡ 0 → (going y s late held old k t steps c p starts sum ready).0 ≤ t
     no_later none = ⊎_elim
-        (λ (lt : t < (going y s late held old base k t steps c p starts sum ready).0).
-        let a = (going y s late held old base k t steps c p starts sum ready).2.came.before t lt in
+        (λ (lt : t < (going y s late held old k t steps c p starts sum ready).0).
+        let a = (going y s late held old k t steps c p starts sum ready).2.came.before t lt in
         let b = ready.stood.all in
         absurd (omega (arith, a, b, none)))
-        (λ (ge : (going y s late held old base k t steps c p starts sum ready).0 ≤ t). ge)
-        (cases_lt t (going y s late held old base k t steps c p starts sum ready).0)
+        (λ (ge : (going y s late held old k t steps c p starts sum ready).0 ≤ t). ge)
+        (cases_lt t (going y s late held old k t steps c p starts sum ready).0)
 
     -- so the calls of its next turns, in n steps, are those of all turns from the first on
     next_made : now.ended ≡ None → (n : ℕ) (blamed : Option Who) → TurnsAt text told now now.boot now.machine.rows now.view (told.size d1) left o1 d1 o2 d2 n blamed → (turns : ℕ) (past : Past) (all : ℕ) →
@@ -179,31 +178,31 @@ module _ {L O D : Type 0} (text : sink_of.Ghosts O) (told : sectors_of.Ghosts D)
     next_made on n blamed calls turns past all there tells shelf =
         let m = machines law r.boot r.machine.rows (told.size d) y s late held old p in
         let rn : Run = run_at x y s r.view turns steps in
-        let u : ℕ = (going y s late held old base k t steps c p starts sum ready).0 in
-        let past_c : Cvm = (going y s late held old base k t steps c p starts sum ready).1 in
-        let stands = (going y s late held old base k t steps c p starts sum ready).2.ready in
+        let u : ℕ = (going y s late held old k t steps c p starts sum ready).0 in
+        let past_c : Cvm = (going y s late held old k t steps c p starts sum ready).1 in
+        let stands = (going y s late held old k t steps c p starts sum ready).2.ready in
         let time : now.machine.time ≡ u = stands.steps in
         let low = later in
-        let goes : past_c.status ≡ Running = goes_on x y s r.view base (k + i) u past_c (around now (told.sectors d1) left (text.text o1)) stands on in
+        let goes : past_c.status ≡ Running = goes_on x y s r.view (k + i) u past_c (around now (told.sectors d1) left) stands on in
         let is : cvm_at rn past u ≡ past_c = m.same (complete x s u) (cvm_at rn past u) past_c (tells.turns u low (omega (arith, there, time))) (subst (λ q. IsCvm y (lines_of_turn x s) q past_c) (sym stands.stood.all) stands.stood.cvm) in
         let none : (off : Option ℕ) → fault_script r.view rn past u off (cvm_at rn past u).status ≡ [] = λ off. goes_none r.view rn past u off (cvm_at rn past u).status (ap (λ (q : Cvm). q.status) is ∙ goes) in
         same_script (made_script rn past k i t (now.machine.time - t) ++ turns_script rn past (k + i) u n) (turns_script rn past k t all) (at text told shelf o d) (at text told shelf o2 d2) blamed
         (made_join rn past k i i t u (now.machine.time - t) n all (omega (arith, time, low)) (omega (arith, there, time, low)) (λ z. (let high = no_later z in omega (arith, high, time))) none)
         (both (made_script rn past k i t (now.machine.time - t)) (turns_script rn past (k + i) u n) (at text told shelf o d) (at text told shelf o1 d1) (at text told shelf o2 d2) blamed
-        (so y s late held old base k t steps c p starts sum ready running turns past (tells_part rn past t (t + all) t now.machine.time (omega arith) (omega (arith, there)) tells) shelf)
+        (so y s late held old k t steps c p starts sum ready running turns past (tells_part rn past t (t + all) t now.machine.time (omega arith) (omega (arith, there)) tells) shelf)
         (in_turns rn past (k + i) u n (at text told shelf o1 d1) (at text told shelf o2 d2) blamed
-        (turns_at n blamed calls (unit_view r.boot.unit) y s late held base (k + i) u past_c p.same p.starts stands goes turns steps past
+        (turns_at n blamed calls (unit_view r.boot.unit) y s late held (k + i) u past_c p.same p.starts stands goes turns steps past
         (tells_part rn past t (t + all) u (u + n) low (omega (arith, there, time)) tells) shelf)))
 
   -- SO MANY TURNS MORE
   pub made_next : (law : (u : CUnit) → MachinesRun (IsTypedState u)) (next made : ℕ) → i + made ≡ next → 1 ≤ made → now.ended ≡ None → (n after : ℕ) → after ≡ now.machine.time + n →
       TurnsAt text told now now.boot now.machine.rows now.view (told.size d1) left o1 d1 o2 d2 n None → KeepsMade text told r o d o2 d2 budget next after
-  made_next law zero made more some on n after is calls y s late held old base k t steps c p starts sum ready running turns past tells shelf = absurd (omega (arith, more, some))
-  made_next law (suc next) made more some on n after is calls y s late held old base k t steps c p starts sum ready running turns past tells shelf =
-      let low = later law y s late held old base k t steps c p starts sum ready running in
-      let time = (going y s late held old base k t steps c p starts sum ready).2.ready.steps in
+  made_next law zero made more some on n after is calls y s late held old k t steps c p starts sum ready running turns past tells shelf = absurd (omega (arith, more, some))
+  made_next law (suc next) made more some on n after is calls y s late held old k t steps c p starts sum ready running turns past tells shelf =
+      let low = later law y s late held old k t steps c p starts sum ready running in
+      let time = (going y s late held old k t steps c p starts sum ready).2.ready.steps in
       let there : t + (after - t) ≡ after = omega (arith, is, low, time) in
-      next_made law y s late held old base k t steps c p starts sum ready running on n None calls turns past (after - t) (there ∙ is)
+      next_made law y s late held old k t steps c p starts sum ready running on n None calls turns past (after - t) (there ∙ is)
       (tells_part (run_at x y s r.view turns steps) past t after t (t + (after - t)) (omega arith) (omega (arith, there)) tells) shelf
 
 -- what a past tells up to the end of its run
@@ -245,7 +244,7 @@ broken_on counts x y s v turns steps p k t n le old new whom made = ⊎_elim
     (cases_lt (t + n) (end_within x s turns steps))
 
 -- HOW FAR TURNS CAME THAT FAILED: to no later step than the headline's, and where they are out of steps just to that
-module _ (counts : TurnLaws) (x : device.Environment) (y : System) (s : State) (v : View) (base : Base) (turns steps i t : ℕ) (c : Cvm) (most : ℕ) (before after : Around) (room : i + most ≤ turns) (g : Going x y s v base steps i t c before) where
+module _ (counts : TurnLaws) (x : device.Environment) (y : System) (s : State) (v : View) (turns steps i t : ℕ) (c : Cvm) (most : ℕ) (before after : Around) (room : i + most ≤ turns) (g : Going x y s v steps i t c before) where
   fail_within : (f : RunFault) → Broken x y s t (i + most) before after f → after.steps ≤ end_within x s turns steps
   fail_within f w =
       let spent = g.came.spent in
@@ -255,14 +254,14 @@ module _ (counts : TurnLaws) (x : device.Environment) (y : System) (s : State) (
       (λ (ge : t ≤ j). let e = w.fewer j ge h in no_end x s turns j (λ f. omega (arith, e, f, room)) (w.on j h))
       (cases_lt j t))
 
-  fail_end : (f : RunFault) → TurnsEnd x y s v base i t c most before after (Err f) → (of_run f ≡ None → after.steps ≡ end_within x s turns steps) × (after.steps ≤ end_within x s turns steps)
+  fail_end : (f : RunFault) → TurnsEnd x y s v i t c most before after (Err f) → (of_run f ≡ None → after.steps ≡ end_within x s turns steps) × (after.steps ≤ end_within x s turns steps)
   fail_end StepLimit (n, lt, le, w, fails) =
       let spent = g.came.spent in
       let time : after.steps ≡ t + n + (before.budget - n) = fails.steps in
       let here : t + n + (before.budget - n) ≡ steps = omega (arith, spent, le) in
       let came = came_on x y s steps i t c before.budget g.came n le w in
       let none : (j : ℕ) → j < suc steps → is_end x s turns j ≡ false = λ j h.
-      goes_on_to counts x y s v base turns steps (i + n) (t + n) w.after (record before { budget = before.budget - n }) after (omega (arith, room, lt)) came j (λ ge. fails.between j ge (omega (arith, h, here))) (fails.on j (omega (arith, h, here))) in
+      goes_on_to counts x y s turns steps (i + n) (t + n) w.after (record before { budget = before.budget - n }) after (omega (arith, room, lt)) came j (λ ge. fails.between j ge (omega (arith, h, here))) (fails.on j (omega (arith, h, here))) in
       let end : end_within x s turns steps ≡ steps = (counts.none x s turns steps (none (end_within x s turns steps) (let h = end_most x s turns steps in omega (arith, h)))).0 in
       (λ _. omega (arith, time, here, end), omega (arith, time, here, end))
   fail_end Disk w = (λ e. absurd (let h = e in cc), fail_within Disk w)
@@ -270,23 +269,23 @@ module _ (counts : TurnLaws) (x : device.Environment) (y : System) (s : State) (
 
 -- THE LOOP FAILED
 module _ {L O D : Type 0} (text : sink_of.Ghosts O) (told : sectors_of.Ghosts D) (r now new : Kept L) (o o1 o2 : O) (d d1 d2 : D) (budget middle left i turns : ℕ) (kept : KeepsLoad r now) (size : told.size d1 ≡ told.size d) (law : (u : CUnit) → MachinesRun (IsTypedState u)) (counts : TurnLaws)
-    (going : KeepsGoing (told.size d) r (around r (told.sectors d) budget (text.text o)) i (around now (told.sectors d1) middle (text.text o1))) (so : KeepsMade text told r o d o1 d1 budget i now.machine.time)
+    (going : KeepsGoing (told.size d) r (around r (told.sectors d) budget) i (around now (told.sectors d1) middle)) (so : KeepsMade text told r o d o1 d1 budget i now.machine.time)
     (some_made : SomeMake {T = Unit {0}} text told (o, d) (o1, d1) (Ok tt)) (fine : now.fault ≡ None) where
-  pub go_broke : {R T : Type 0} (f : RunFault) (most : ℕ) → i + most ≤ turns → now.ended ≡ None → TurnsRun (told.size d1) now most (around now (told.sectors d1) middle (text.text o1)) (around new (told.sectors d2) left (text.text o2)) (Err f) →
+  pub go_broke : {R T : Type 0} (f : RunFault) (most : ℕ) → i + most ≤ turns → now.ended ≡ None → TurnsRun (told.size d1) now most (around now (told.sectors d1) middle) (around new (told.sectors d2) left) (Err f) →
       (n : ℕ) → new.machine.time ≡ now.machine.time + n → TurnsCall {T = R} text told now middle (o1, d1) (o2, d2) n (Err f) → GoCalls {T = T} text told r turns budget (o, d) (o2, d2) (Err f)
   go_broke {R} {T} f most room on runs n time calls = record {
-    exact = λ y s late held old base k t wanted steps c p starts some more sum ready running past is shelf.
+    exact = λ y s late held old k t wanted steps c p starts some more sum ready running past is shelf.
         let x = outside_of r.machine.rows (told.size d) in
-        let g = going y s late held old base k t steps c p starts sum ready in
+        let g = going y s late held old k t steps c p starts sum ready in
         let u : ℕ = g.0 in
         let stands : now.machine.time ≡ u = g.2.ready.steps in
-        let low = later text told r now o o1 o2 d d1 d2 budget middle i kept size going so law y s late held old base k t steps c p starts sum ready running in
-        let ends = fail_end counts x y s r.view base wanted steps (k + i) u g.1 most (around now (told.sectors d1) middle (text.text o1)) (around new (told.sectors d2) left (text.text o2)) (omega (arith, room, more)) g.2 f
-        (turns_end (told.size d) (told.size d1) r now kept size most (around now (told.sectors d1) middle (text.text o1)) (around new (told.sectors d2) left (text.text o2)) (Err f) runs y s late held old base (k + i) u g.1 p g.2.ready
-        (goes_on x y s r.view base (k + i) u g.1 (around now (told.sectors d1) middle (text.text o1)) g.2.ready on)) in
+        let low = later text told r now o o1 o2 d d1 d2 budget middle i kept size going so law y s late held old k t steps c p starts sum ready running in
+        let ends = fail_end counts x y s r.view wanted steps (k + i) u g.1 most (around now (told.sectors d1) middle) (around new (told.sectors d2) left) (omega (arith, room, more)) g.2 f
+        (turns_end (told.size d) (told.size d1) r now kept size most (around now (told.sectors d1) middle) (around new (told.sectors d2) left) (Err f) runs y s late held old (k + i) u g.1 p g.2.ready
+        (goes_on x y s r.view (k + i) u g.1 (around now (told.sectors d1) middle) g.2.ready on)) in
         let within : new.machine.time ≤ end_within x s wanted steps = ends.1 in
         let all : t + (new.machine.time - t) ≡ now.machine.time + n = omega (arith, time, stands, low) in
-        let made = next_made text told r now o o1 o2 d d1 d2 budget middle i kept size going so law y s late held old base k t steps c p starts sum ready running on n (of_run f) calls.exact wanted past (new.machine.time - t) all
+        let made = next_made text told r now o o1 o2 d d1 d2 budget middle i kept size going so law y s late held old k t steps c p starts sum ready running on n (of_run f) calls.exact wanted past (new.machine.time - t) all
         (past_tells counts (run_at x y s r.view wanted steps) past t (t + (new.machine.time - t)) is (omega (arith, all, time, within))) shelf in
         by f refl x y s wanted steps (λ e. ends.0 e) past k t (new.machine.time - t) (omega (arith, all, time)) (omega (arith, all, time, within)) shelf made;
     some = (
@@ -309,19 +308,19 @@ module _ {L O D : Type 0} (text : sink_of.Ghosts O) (told : sectors_of.Ghosts D)
 -- OR IT CAME TO ITS END
 module _ {L O D : Type 0} (text : sink_of.Ghosts O) (told : sectors_of.Ghosts D) (r new : Kept L) (o o1 : O) (d d1 : D) (budget left i turns : ℕ) (law : (u : CUnit) → MachinesRun (IsTypedState u)) (counts : TurnLaws) (so : KeepsMade text told r o d o1 d1 budget i new.machine.time)
     (some_made : SomeMake {T = Unit {0}} text told (o, d) (o1, d1) (Ok tt)) where
-  pub go_came : GoRuns (told.size d) r turns (around r (told.sectors d) budget (text.text o)) (around new (told.sectors d1) left (text.text o1)) (Ok tt) → (i ≡ 0 → ((turns ≡ 0) × (new.machine.time ≡ r.machine.time)) ⊎ IsSome r.ended) →
+  pub go_came : GoRuns (told.size d) r turns (around r (told.sectors d) budget) (around new (told.sectors d1) left) (Ok tt) → (i ≡ 0 → ((turns ≡ 0) × (new.machine.time ≡ r.machine.time)) ⊎ IsSome r.ended) →
       GoCalls {T = Unit {0}} text told r turns budget (o, d) (o1, d1) (Ok tt)
   go_came gone none = record {
-    exact = λ y s late held old base k t wanted steps c p starts some more sum ready running past is shelf.
+    exact = λ y s late held old k t wanted steps c p starts some more sum ready running past is shelf.
         let x = outside_of r.machine.rows (told.size d) in
-        let w = gone y s late held old base k t wanted steps c p starts some more sum ready in
+        let w = gone y s late held old k t wanted steps c p starts some more sum ready in
         let end : end_within x s wanted steps ≡ w.at = counts.ends x s wanted steps w.at w.end w.within in
         let time : new.machine.time ≡ w.at = w.ready.steps in
         let found : r.machine.time ≡ t = ready.steps in
         let m = machines law r.boot r.machine.rows (told.size d) y s late held old p in
         same_script (made_script (run_at x y s r.view wanted steps) past k i t (new.machine.time - t)) (turns_script (run_at x y s r.view wanted steps) past k t (end_within x s wanted steps - t)) (at text told shelf o d) (at text told shelf o1 d1) None
         (by i (λ z. ⊎_elim (λ (h : (turns ≡ 0) × (new.machine.time ≡ r.machine.time)). h) (λ (h : IsSome r.ended). absurd (no_some r.ended (ready.ended ∙ ap ended_of running) h)) (none z)) x y s late held m wanted steps past k t c ready.stood.cvm ready.stood.all running more some found (λ j low high. (past_tells counts (run_at x y s r.view wanted steps) past t (end_within x s wanted steps) is (omega arith)).turns j low high) (new.machine.time - t) (omega (arith, time, end)) (omega (arith, time, end)))
-        (so y s late held old base k t steps c p starts sum ready running wanted past (past_tells counts (run_at x y s r.view wanted steps) past t new.machine.time is (omega (arith, time, end))) shelf);
+        (so y s late held old k t steps c p starts sum ready running wanted past (past_tells counts (run_at x y s r.view wanted steps) past t new.machine.time is (omega (arith, time, end))) shelf);
     some = some_made;
   }
     where

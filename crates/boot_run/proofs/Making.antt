@@ -37,26 +37,26 @@ row_is k turn user b n next count same e =
     ∙ sym (ap (λ (d : Bool). if d then Dispatch (record { turn = turn; cause = b.cause; edata = b.edata; user = user; next = next }) else Step user) e)
 
 -- of the run as the call found it
-module _ {L : Type 0} (advance : LoopsAdvance) (make : LoopsMakeTurns) (now r : Kept L) (same : r ≡ now) (count : ℕ) (new : Kept L) (most : ℕ) (told retold : Option (List (List ℕ))) (text retext : Option (List ℕ)) (budget left : ℕ) (m : Map) (placed : m ≡ map_of (boot_of r.boot)) where
+module _ {L : Type 0} (advance : LoopsAdvance) (make : LoopsMakeTurns) (now r : Kept L) (same : r ≡ now) (count : ℕ) (new : Kept L) (most : ℕ) (told retold : Option (List (List ℕ))) (budget left : ℕ) (m : Map) (placed : m ≡ map_of (boot_of r.boot)) where
   moved : (result : Result (ℕ × Begun) RunFault) → Completes count r.machine new.machine told retold budget left most result →
-      TraceRuns count m r.machine told (record { tracer = r.tracer; text = text; budget = budget }) (record { tracer = new.tracer; text = retext; budget = left }) result → (r.tracer ≡ None → result ≢ Err Sink) →
-      Moved count now new most told retold text retext budget left result
-  moved result a t silent = subst (λ (q : Kept L). Moved count q new most told retold text retext budget left result) same
+      TraceRuns count m r.machine told (record { tracer = r.tracer; budget = budget }) (record { tracer = new.tracer; budget = left }) result → (r.tracer ≡ None → result ≢ Err Sink) →
+      Moved count now new most told retold budget left result
+  moved result a t silent = subst (λ (q : Kept L). Moved count q new most told retold budget left result) same
       (record {
         advances = advance count r.machine new.machine told retold budget left most result a;
         anyhow = make count r.machine new.machine told retold budget left most result a;
-        traces = subst (λ (m : Map). TraceRuns count m r.machine told (record { tracer = r.tracer; text = text; budget = budget }) (record { tracer = new.tracer; text = retext; budget = left }) result) placed t;
+        traces = subst (λ (m : Map). TraceRuns count m r.machine told (record { tracer = r.tracer; budget = budget }) (record { tracer = new.tracer; budget = left }) result) placed t;
         silent = silent;
       })
 
   pub made_err : (f e : RunFault) (result : Result (ℕ × Turn) RunFault) → result ≡ Err e → f ≡ e → Completes count r.machine new.machine told retold budget left most (Err f) →
-      TraceRuns count m r.machine told (record { tracer = r.tracer; text = text; budget = budget }) (record { tracer = new.tracer; text = retext; budget = left }) (Err f) → (r.tracer ≡ None → ◌≢◌ {A = Result (ℕ × Begun) RunFault} (Err f) (Err Sink)) → new.ended ≡ r.ended →
-      MakesTurn count now new most told retold text retext budget left result
+      TraceRuns count m r.machine told (record { tracer = r.tracer; budget = budget }) (record { tracer = new.tracer; budget = left }) (Err f) → (r.tracer ≡ None → ◌≢◌ {A = Result (ℕ × Begun) RunFault} (Err f) (Err Sink)) → new.ended ≡ r.ended →
+      MakesTurn count now new most told retold budget left result
   made_err f e result is fault a t silent ended =
-      subst (λ (q : Result (ℕ × Turn) RunFault). MakesTurn count now new most told retold text retext budget left q) (ap (λ g. Err g) fault ∙ sym is)
+      subst (λ (q : Result (ℕ × Turn) RunFault). MakesTurn count now new most told retold budget left q) (ap (λ g. Err g) fault ∙ sym is)
       (moved (Err f) a t silent, ended ∙ ap (λ (q : Kept L). q.ended) same)
 
   pub made : (skipped number : ℕ) (b : Begun) (answer : Turn) → Completes count r.machine new.machine told retold budget left most (Ok (skipped, b)) →
-      TraceRuns count m r.machine told (record { tracer = r.tracer; text = text; budget = budget }) (record { tracer = new.tracer; text = retext; budget = left }) (Ok (skipped, b)) →
-      number ≡ skipped + 1 → Counted r new skipped b answer → MakesTurn count now new most told retold text retext budget left (Ok (number, answer))
+      TraceRuns count m r.machine told (record { tracer = r.tracer; budget = budget }) (record { tracer = new.tracer; budget = left }) (Ok (skipped, b)) →
+      number ≡ skipped + 1 → Counted r new skipped b answer → MakesTurn count now new most told retold budget left (Ok (number, answer))
   made skipped number b answer a t is c = (skipped, b, is, moved (Ok (skipped, b)) a t (λ _ e. absurd (cc)), subst (λ (q : Kept L). Counted q new skipped b answer) same c)

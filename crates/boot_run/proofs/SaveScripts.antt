@@ -35,7 +35,6 @@ use Rattle.boot_run.specs.Loading.{system_of}
 use Rattle.boot_run.specs.Pieces.{Bootable, FirstAt, GoRuns, end_of_fault}
 use Rattle.boot_run.specs.RunCalls.{run_at, begin_script, fault_script, report_script, TellsFrom, GoCalls, CloseCalls, of_load, loads, LoadCalls, of_end, end_by, EndsBy}
 use Rattle.boot_run.specs.SaveCalls.{unless_on, stop_script, stop_by, due_stop, StopCalls, ToStopCalls, SaveScript}
-use Rattle.boot_run.specs.Sink.{Base, behind}
 use Rattle.boot_run.specs.TurnCalls.{ended_of, around, Ready, StandsReady, KeepsLoad}
 use Rattle.boot_run.proofs.EndScripts.{blames_so, late_none, now_is, closing_is, rest_made, rest_broke}
 use Rattle.boot_run.proofs.TurnToTurn.{running_of}
@@ -63,9 +62,9 @@ on_is st closing e = ap (λ (q : Status). unless_on q closing) e
 module _ {L O D : Type 0} (text : sink_of.Ghosts O) (told : sectors_of.Ghosts D) (r : Kept L) (o o1 : O) (d d1 : D) where
   pub stop_closed : (end : RunEnd) → is_some r.ended ≡ true → CloseCalls text told r (o, d) (o1, d1) end → StopCalls text told r (o, d) (o1, d1) end
   stop_closed end over calls = record {
-    exact = λ budget y s late held base k t c same lawful ready turns steps p tells.
+    exact = λ budget y s late held k t c same lawful ready turns steps p tells.
         let rep : List Call = report_script r.view (run_at (outside_of r.machine.rows (told.size d)) y s r.view turns steps) p t c.status in
-        let w = calls.exact budget y s late held base k t c same lawful ready turns steps p tells in
+        let w = calls.exact budget y s late held k t c same lawful ready turns steps p tells in
         let on : is_some (ended_of c.status) ≡ true = ap is_some (sym ready.ended) ∙ over in
         record {
           made = λ shelf. same_script rep (unless_on c.status rep) (at text told shelf o d) (at text told shelf o1 d1) (of_end end) (sym (over_is c.status rep on)) (w.made shelf);
@@ -76,7 +75,7 @@ module _ {L O D : Type 0} (text : sink_of.Ghosts O) (told : sectors_of.Ghosts D)
 
 pub stop_on : {L O D : Type 0} (text : sink_of.Ghosts O) (told : sectors_of.Ghosts D) (r : Kept L) (o : O) (d : D) → r.ended ≡ None → StopCalls text told r (o, d) (o, d) Stopped
 stop_on text told r o d on = record {
-  exact = λ budget y s late held base k t c same lawful ready turns steps p tells.
+  exact = λ budget y s late held k t c same lawful ready turns steps p tells.
       let running : c.status ≡ Running = running_of c.status (sym ready.ended ∙ on) in
       record {
         made = λ shelf. same_script [] (unless_on c.status (report_script r.view (run_at (outside_of r.machine.rows (told.size d)) y s r.view turns steps) p t c.status)) (at text told shelf o d) (at text told shelf o d) None
@@ -94,14 +93,14 @@ stop_parts v r p t off (Faulted f) all report is = is
 
 -- THE LOOP FAILED
 pub stop_fails : {L O D T : Type 0} (text : sink_of.Ghosts O) (told : sectors_of.Ghosts D) (r new : Kept L) (o o1 : O) (d d1 : D) (turns budget left : ℕ) (law : (u : CUnit) → MachinesRun (IsTypedState u)) (counts : TurnLaws) (f : RunFault) →
-    GoRuns (told.size d) r turns (around r (told.sectors d) budget (text.text o)) (around new (told.sectors d1) left (text.text o1)) (Err f) → GoCalls {T = T} text told r turns budget (o, d) (o1, d1) (Err f) → ToStopCalls text told r turns budget (o, d) (o1, d1) (end_of_fault f)
+    GoRuns (told.size d) r turns (around r (told.sectors d) budget) (around new (told.sectors d1) left) (Err f) → GoCalls {T = T} text told r turns budget (o, d) (o1, d1) (Err f) → ToStopCalls text told r turns budget (o, d) (o1, d1) (end_of_fault f)
 stop_fails text told r new o o1 d d1 turns budget left law counts f goes calls = record {
-  exact = λ y s late held old base k t wanted steps c p starts some more sum ready running past is.
+  exact = λ y s late held old k t wanted steps c p starts some more sum ready running past is.
       let x = outside_of r.machine.rows (told.size d) in
       let rn : Run = run_at x y s r.view wanted steps in
       let m = machines law r.boot r.machine.rows (told.size d) y s late held old p in
       let st : Status = (cvm_at rn past (end_within x s wanted steps)).status in
-      let none : of_run f ≡ None → is_end x s wanted (end_within x s wanted steps) ≡ false = λ e. late_none (told.size d) r new turns budget left (told.sectors d) (told.sectors d1) (text.text o) (text.text o1) f goes e y s late held old base k t wanted steps c p starts some more sum ready in
+      let none : of_run f ≡ None → is_end x s wanted (end_within x s wanted steps) ≡ false = λ e. late_none (told.size d) r new turns budget left (told.sectors d) (told.sectors d1) f goes e y s late held old k t wanted steps c p starts some more sum ready in
       let low : t ≤ end_within x s wanted steps = no_sooner counts x s wanted steps t (omega (arith, sum)) (λ j lt. goes_before x s k t wanted starts (omega (arith, more)) j lt) in
       let rep : List Call = report_script r.view rn past (end_within x s wanted steps) st in
       record {
@@ -109,7 +108,7 @@ stop_fails text told r new o o1 d d1 turns budget left law counts f goes calls =
             (rest_broke counts x y s late held m r.view wanted steps past is (unless_on st (closing_script rn past)) (unless_on st rep)
             (λ e. stop_parts r.view rn past (end_within x s wanted steps) (run x s (end_within x s wanted steps)).off st (closing_script rn past) rep (closing_is counts x y s late held m r.view wanted steps past is e))
             k t low (at text told shelf o d) (at text told shelf o1 d1) (of_run f) none
-            (calls.exact y s late held old base k t wanted steps c p starts some more sum ready running past is shelf));
+            (calls.exact y s late held old k t wanted steps c p starts some more sum ready running past is shelf));
         is = λ e. due f (sym (blames_so f) ∙ e) (is_end x s wanted (end_within x s wanted steps)) (none (sym (blames_so f) ∙ e)) st;
       };
   some = (calls.some.0, calls.some.1, λ shelf. subst (Performs calls.some.0 (at text told shelf o d) (at text told shelf o1 d1)) (sym (blames_so f)) (calls.some.2 shelf));
@@ -123,34 +122,34 @@ stop_fails text told r new o o1 d d1 turns budget left law counts f goes calls =
 -- what stops or closes a run, over these rows and this view and a disk of so many sectors
 abbrev StopsAt : {L O D : Type 0} → sink_of.Ghosts O → sectors_of.Ghosts D → Kept L → Booted → Rows → View → (size : ℕ) → O → D → O → D → RunEnd → Type 0
 StopsAt text told r b rows v size o d o1 d1 end =
-    (budget : ℕ) (y : System) (s : State) (late held : ℕ) (base : Base) (k t : ℕ) (c : Cvm) → y.boot ≡ boot_of b → StartsFrom (IsTypedState (unit_view b.unit)) (outside_of rows size) y s late held →
-    Ready (outside_of rows size) y s v base (suc k) t c (around r (told.sectors d) budget (text.text o)) → (turns steps : ℕ) (p : Past) → TellsFrom (run_at (outside_of rows size) y s v turns steps) p t t →
+    (budget : ℕ) (y : System) (s : State) (late held : ℕ) (k t : ℕ) (c : Cvm) → y.boot ≡ boot_of b → StartsFrom (IsTypedState (unit_view b.unit)) (outside_of rows size) y s late held →
+    Ready (outside_of rows size) y s v (suc k) t c (around r (told.sectors d) budget) → (turns steps : ℕ) (p : Past) → TellsFrom (run_at (outside_of rows size) y s v turns steps) p t t →
     EndsBy text told (o, d) (o1, d1) (unless_on c.status (report_script v (run_at (outside_of rows size) y s v turns steps) p t c.status)) (stop_by true c.status) end
 
 -- OR CAME TO ITS END, and the run stops or is closed
 pub stop_comes : {L O D : Type 0} (text : sink_of.Ghosts O) (told : sectors_of.Ghosts D) (r mid : Kept L) (o o1 o2 : O) (d d1 d2 : D) (turns budget left : ℕ) (law : (u : CUnit) → MachinesRun (IsTypedState u)) (counts : TurnLaws) (e : RunEnd) → KeepsLoad r mid → told.size d1 ≡ told.size d →
-    GoRuns (told.size d) r turns (around r (told.sectors d) budget (text.text o)) (around mid (told.sectors d1) left (text.text o1)) (Ok tt) → GoCalls {T = Unit {0}} text told r turns budget (o, d) (o1, d1) (Ok tt) → StopCalls text told mid (o1, d1) (o2, d2) e →
+    GoRuns (told.size d) r turns (around r (told.sectors d) budget) (around mid (told.sectors d1) left) (Ok tt) → GoCalls {T = Unit {0}} text told r turns budget (o, d) (o1, d1) (Ok tt) → StopCalls text told mid (o1, d1) (o2, d2) e →
     ToStopCalls text told r turns budget (o, d) (o2, d2) e
 stop_comes text told r mid o o1 o2 d d1 d2 turns budget left law counts e kept size goes calls stops = record {
-  exact = λ y s late held old base k t wanted steps c p starts some more sum ready running past is.
+  exact = λ y s late held old k t wanted steps c p starts some more sum ready running past is.
       let x = outside_of r.machine.rows (told.size d) in
       let rn : Run = run_at x y s r.view wanted steps in
       let m = machines law r.boot r.machine.rows (told.size d) y s late held old p in
       let st : Status = (cvm_at rn past (end_within x s wanted steps)).status in
       let rep : List Call = report_script r.view rn past (end_within x s wanted steps) st in
-      let g = goes y s late held old base k t wanted steps c p starts some more sum ready in
+      let g = goes y s late held old k t wanted steps c p starts some more sum ready in
       let end : end_within x s wanted steps ≡ g.at = counts.ends x s wanted steps g.at g.end g.within in
       let ended : is_end x s wanted (end_within x s wanted steps) ≡ true = ap (is_end x s wanted) end ∙ g.end.here in
       let low : t ≤ end_within x s wanted steps = no_sooner counts x s wanted steps t (omega (arith, sum)) (λ j lt. goes_before x s k t wanted starts (omega (arith, more)) j lt) in
       let now : cvm_at rn past (end_within x s wanted steps) ≡ g.past =
       m.same (complete x s (end_within x s wanted steps)) (cvm_at rn past (end_within x s wanted steps)) g.past (now_is counts x y s late held m r.view wanted steps past is)
       (subst (λ q. IsCvm y (lines_of_turn x s) q g.past) (sym (ap (complete x s) end ∙ g.ready.stood.all)) g.ready.stood.cvm) in
-      let w = stops_at left y s late held base g.count g.at g.past p.same p.starts g.ready wanted steps past (past_tells counts rn past g.at g.at is (omega (arith, end))) in
+      let w = stops_at left y s late held g.count g.at g.past p.same p.starts g.ready wanted steps past (past_tells counts rn past g.at g.at is (omega (arith, end))) in
       record {
         made = λ shelf. rest_made counts x y s late held m r.view wanted steps past is (unless_on st (closing_script rn past)) (unless_on st rep)
             (λ e. stop_parts r.view rn past (end_within x s wanted steps) (run x s (end_within x s wanted steps)).off st (closing_script rn past) rep (closing_is counts x y s late held m r.view wanted steps past is e))
             k t low (at text told shelf o d) (at text told shelf o1 d1) (at text told shelf o2 d2) (of_end e) ended
-            (calls.exact y s late held old base k t wanted steps c p starts some more sum ready running past is shelf)
+            (calls.exact y s late held old k t wanted steps c p starts some more sum ready running past is shelf)
             (same_script (unless_on g.past.status (report_script r.view rn past g.at g.past.status)) (unless_on st rep) (at text told shelf o1 d1) (at text told shelf o2 d2) (of_end e)
             (ap₂ (λ q (z : Status). unless_on z (report_script r.view rn past q z)) (sym end) (ap (λ (q : Cvm). q.status) (sym now))) (w.made shelf));
         is = λ none. w.is none ∙ ap₂ (λ (b : Bool) (z : Status). stop_by b z) (sym ended) (ap (λ (q : Cvm). q.status) (sym now));
@@ -193,8 +192,8 @@ save_refused {L} {O} {D} {T} text told y rows start turns steps script o d d1 f 
 -- WHERE ONE IS
 abbrev ToStopAt : {L O D : Type 0} → sink_of.Ghosts O → sectors_of.Ghosts D → Kept L → Booted → Rows → View → (size turns budget : ℕ) → O → D → O → D → RunEnd → Type 0
 ToStopAt text told r b rows v size turns budget o d o1 d1 e =
-    (y : System) (s : State) (late held : ℕ) (old : List (List ℕ)) (base : Base) (k t wanted steps : ℕ) (c : Cvm) → Bootable b rows size y s late held old → FirstAt (outside_of rows size) s k t → 1 ≤ wanted → k + turns ≡ wanted → budget + t ≡ steps →
-    Ready (outside_of rows size) y s v base k t c (around r (told.sectors d) budget (text.text o)) → c.status ≡ Running → (p : Past) → IsPast (run_at (outside_of rows size) y s v wanted steps) p →
+    (y : System) (s : State) (late held : ℕ) (old : List (List ℕ)) (k t wanted steps : ℕ) (c : Cvm) → Bootable b rows size y s late held old → FirstAt (outside_of rows size) s k t → 1 ≤ wanted → k + turns ≡ wanted → budget + t ≡ steps →
+    Ready (outside_of rows size) y s v k t c (around r (told.sectors d) budget) → c.status ≡ Running → (p : Past) → IsPast (run_at (outside_of rows size) y s v wanted steps) p →
     EndsBy text told (o, d) (o1, d1) (begin_script (run_at (outside_of rows size) y s v wanted steps) k ++ stop_script (run_at (outside_of rows size) y s v wanted steps) p t) (due_stop (run_at (outside_of rows size) y s v wanted steps) p) e
 
 module _ {L O D : Type 0} (text : sink_of.Ghosts O) (told : sectors_of.Ghosts D) (layer : L) (b : Booted) (rows : Rows) (start : List (List ℕ) → State) (held need : ℕ) (turns steps : ℕ) (script : List Call) (o o1 : O) (d d1 d2 : D) (r new : Kept L) (e : RunEnd)
@@ -213,8 +212,8 @@ module _ {L O D : Type 0} (text : sink_of.Ghosts O) (told : sectors_of.Ghosts D)
     exact = λ _ sectors p is past.
         let y = system_of b rows in
         let rn : Run = run_at (outside_of rows (told.size d)) y (start sectors) Boot turns steps in
-        let w = stop_at y (start sectors) (premises sectors is).0 held sectors (behind (text.text o)) 0 0 turns steps (first_cvm y) (premises sectors is).1 (record { before = λ j h. absurd (omega (arith, h)); on = λ j h. absurd (omega (arith, h)) }) some (omega arith) (omega arith)
-        (subst (λ (q : View). Ready (outside_of rows (told.size d)) y (start sectors) q (behind (text.text o)) 0 0 (first_cvm y) (around r (told.sectors d1) steps (text.text o))) fresh.view_is (ready (outside_of rows (told.size d)) sectors steps (text.text o) is)) refl p past in (
+        let w = stop_at y (start sectors) (premises sectors is).0 held sectors 0 0 turns steps (first_cvm y) (premises sectors is).1 (record { before = λ j h. absurd (omega (arith, h)); on = λ j h. absurd (omega (arith, h)) }) some (omega arith) (omega arith)
+        (subst (λ (q : View). Ready (outside_of rows (told.size d)) y (start sectors) q 0 0 (first_cvm y) (around r (told.sectors d1) steps)) fresh.view_is (ready (outside_of rows (told.size d)) sectors steps is)) refl p past in (
           λ shelf. both script (stop_script rn p 0) (at text told shelf o d) (at text told shelf o d1) (at text told shelf o1 d2) (of_end e) (loaded.made refl shelf (output text o)) (w.made shelf),
           w.is,
         );

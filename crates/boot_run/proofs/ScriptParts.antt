@@ -1,7 +1,6 @@
 -- Scripts of a run put together: rows of a sink as scripts, parts behind parts, and which turns of a boot add no row.
 use Rattle.std.proofs.Common.{◌≡◌, ℕ, zero, suc, ◌<◌, ◌≤◌, Option, Some, None, List, [], ◌∷◌, ◌++◌, length, refl, sym, ap, ◌∙◌, subst, arith, ⊎_elim, append-nil, append_assoc}
 use Rattle.std.specs.Prelude.{bit_or}
-use Rattle.std.specs.Io.KnownBytes.{append_known}
 use Rattle.std.proofs.lemmas.List.{length-append}
 use Rattle.std.proofs.lemmas.Bool.{cases_lt}
 use Rattle.cvm_outside.specs.Outside.{Outside, Files, Output, output, drive}
@@ -23,10 +22,6 @@ use Rattle.boot_run.specs.Closing.{says}
 -- an outside of a sink and a disk
 abbrev pub at : {O D : Type 0} → sink_of.Ghosts O → sectors_of.Ghosts D → Files → O → D → Outside
 at text told shelf o d = record { shelf = shelf; sink = output text o; disk = drive told d }
-
--- what a sink has once rows were put
-pub text_put : (old new : Output) (rows : List ℕ) → Puts rows old new None → new.text ≡ append_known old.text rows
-text_put old new rows p = ap (λ (o : Output). o.text) p.by
 
 -- nothing is put
 none_same : (old new : Output) → Puts [] old new None → new ≡ old

@@ -1,10 +1,9 @@
 -- The script of turns, by what was called before them, in their steps and behind them.
 use Rattle.std.proofs.Common.{◌≡◌, ◌≢◌, ℕ, zero, suc, ◌+◌, ◌-◌, ◌<◌, ◌≤◌, true, false, Option, Some, None, List, [], ◌∷◌, ◌++◌, length, drop, codes, Result, Ok, Err, refl, sym, ap, ap₂, ◌∙◌, subst, arith, ◌⊎◌, inl, inr, append-nil, append_assoc}
 use Rattle.std.specs.Prelude.{IsSome}
-use Rattle.std.specs.Io.KnownBytes.{append_known}
 use Rattle.std.proofs.lemmas.List.{length-map}
 use Rattle.std.proofs.Math.Seq.{drop-append_seam, drop-length}
-use Rattle.cvm_outside.specs.Outside.{Outside, Output, Files, output, drive}
+use Rattle.cvm_outside.specs.Outside.{Outside, Files, output, drive}
 use Rattle.cvm_outside.specs.declared.sink.Sink as sink_of
 use Rattle.cvm_outside.specs.declared.sectors.Sectors as sectors_of
 use Rattle.cvm_outside.specs.Script.{Call, Printed, Who, TheSink, TheDisk, Performs, done, Puts, blame}
@@ -34,7 +33,6 @@ use Rattle.boot_turns.specs.Premises.{StartsFrom}
 use Rattle.boot_turns.specs.RunMachines.{RunMachines, MachinesRun}
 use Rattle.boot_turns.specs.Trace.{Shown}
 use Rattle.boot_turns.specs.TurnEnds.{Stood}
-use Rattle.boot_turns.specs.Tracing.{Traced}
 use Rattle.boot_turns.specs.declared.tracer.Tracer.{Tracer}
 use Rattle.boot_turns.specs.declared.answers.View.{View}
 use Rattle.boot_turns.specs.declared.answers.View.TheVariants.{Boot, Trace}
@@ -51,14 +49,12 @@ use Rattle.boot_run.specs.Closing.{says, last_steps, report_by, boot_report, tra
 use Rattle.boot_run.specs.LoadEnds.{Kept}
 use Rattle.boot_run.specs.RunCalls.{run_at, begin_script, fault_script, InTurns, TellsFrom, TurnsCall}
 use Rattle.boot_run.specs.Shown.{has_faulted}
-use Rattle.boot_run.specs.Sink.{Base}
 use Rattle.boot_run.specs.TurnCalls.{rows_of, ended_of, around, Ready, Turned, TurnsEnd, TurnsRun}
 use Rattle.boot_run.specs.TurnParts.{rows_before, rows_after, fault_rows, Moved, Views}
-use Rattle.boot_run.proofs.Proceeding.{by_view, starts}
+use Rattle.boot_run.proofs.Proceeding.{by_view, start_at, starts}
 use Rattle.boot_run.proofs.Skipping.{spread}
 use Rattle.boot_run.proofs.InTurns.{turns_cut, turns_alone, turns_behind}
 use Rattle.boot_run.proofs.ScriptParts.{at, none_put, says_put, some_put, prints_put, same_rows}
-use Rattle.boot_run.proofs.TracedTurn.{start_at, traced_mid}
 
 -- of a boot that faulted nothing is behind its steps
 no_fault : (r : Run) (p : Past) (t : ℕ) (off : Option ℕ) (st : Status) → (cvm_at r p t).status ≡ st → fault_script Boot r p t off st ≡ []
@@ -170,16 +166,16 @@ module _ {L O D : Type 0} (text : sink_of.Ghosts O) (told : sectors_of.Ghosts D)
 
   -- the calls of so many steps, of a run viewed so, by whom they blame
   abbrev CallsAs : O → D → (n : ℕ) → Option Who → View → Type 0
-  CallsAs o9 d9 n blamed v = (u : CUnit) (y : System) (s : State) (late held : ℕ) (base : Base) (k t : ℕ) (c : Cvm) → y.boot ≡ boot_of r.boot → StartsFrom (IsTypedState u) (outside_of r.machine.rows (told.size d)) y s late held →
-      Ready (outside_of r.machine.rows (told.size d)) y s v base k t c (around r (told.sectors d) budget (text.text o)) → c.status ≡ Running → (turns steps : ℕ) (p : Past) →
+  CallsAs o9 d9 n blamed v = (u : CUnit) (y : System) (s : State) (late held : ℕ) (k t : ℕ) (c : Cvm) → y.boot ≡ boot_of r.boot → StartsFrom (IsTypedState u) (outside_of r.machine.rows (told.size d)) y s late held →
+      Ready (outside_of r.machine.rows (told.size d)) y s v k t c (around r (told.sectors d) budget) → c.status ≡ Running → (turns steps : ℕ) (p : Past) →
       TellsFrom (run_at (outside_of r.machine.rows (told.size d)) y s v turns steps) p t (t + n) → (shelf : Files) →
       InTurns (run_at (outside_of r.machine.rows (told.size d)) y s v turns steps) p k t n (at text told shelf o d) (at text told shelf o9 d9) blamed
 
   -- what turns come to, of a run viewed so
-  abbrev EndsAs : Option (List ℕ) → Result (ℕ × Turn) RunFault → View → Type 0
-  EndsAs retext result v = (u : CUnit) (y : System) (s : State) (late held : ℕ) (base : Base) (k t : ℕ) (c : Cvm) → y.boot ≡ boot_of r.boot → StartsFrom (IsTypedState u) (outside_of r.machine.rows (told.size d)) y s late held →
-      Ready (outside_of r.machine.rows (told.size d)) y s v base k t c (around r (told.sectors d) budget (text.text o)) → c.status ≡ Running →
-      TurnsEnd (outside_of r.machine.rows (told.size d)) y s v base k t c most (around r (told.sectors d) budget (text.text o)) (around new (told.sectors d1) left retext) result
+  abbrev EndsAs : Result (ℕ × Turn) RunFault → View → Type 0
+  EndsAs result v = (u : CUnit) (y : System) (s : State) (late held : ℕ) (k t : ℕ) (c : Cvm) → y.boot ≡ boot_of r.boot → StartsFrom (IsTypedState u) (outside_of r.machine.rows (told.size d)) y s late held →
+      Ready (outside_of r.machine.rows (told.size d)) y s v k t c (around r (told.sectors d) budget) → c.status ≡ Running →
+      TurnsEnd (outside_of r.machine.rows (told.size d)) y s v k t c most (around r (told.sectors d) budget) (around new (told.sectors d1) left) result
 
   -- the first row of a trace, where it is put
   begin_put : (kept : Tracer) (y : System) (s : State) (turns steps k : ℕ) (shelf : Files) (blamed : Option Who) → r.tracer ≡ Some kept → y.boot ≡ boot_of r.boot → r.turns ≡ k → (blamed ≢ None → r.turns ≡ 0) →
@@ -220,22 +216,13 @@ module _ {L O D : Type 0} (text : sink_of.Ghosts O) (told : sectors_of.Ghosts D)
   begun_cut {T} traced first_turn puts n none = record {
     exact = by_view r views (CallsAs o1 d n (Some TheSink))
         (λ e. absurd (gone r.tracer e traced))
-        (λ kept e low high. λ u y s late held base k t c same lawful ready running turns steps p tells shelf.
+        (λ kept e low high. λ u y s late held k t c same lawful ready running turns steps p tells shelf.
         turns_cut (run_at (outside_of r.machine.rows (told.size d)) y s (Trace kept.user) turns steps) p k t n none (at text told shelf o d) (at text told shelf o1 d) TheSink
         (begin_put kept y s turns steps k shelf (Some TheSink) e same ready.turns (λ ne. first_turn) puts));
     some = λ _. (Printed None ∷ [], tt, λ shelf. some_put text told shelf o o1 d (rows_before r.boot r.tracer r.turns) (Some TheSink) puts);
   }
 
   module _ (puts : Puts (rows_before r.boot r.tracer r.turns) (output text o) (output text o1) None) (n : ℕ) (n_is : n ≡ budget - left) where
-    -- the text before the steps of a trace
-    traced : (kept : Tracer) → r.tracer ≡ Some kept → 1 ≤ kept.user → kept.user ≤ length r.boot.users.items → (u : CUnit) (y : System) (s : State) (late held : ℕ) (base : Base) (k t : ℕ) (c : Cvm) → y.boot ≡ boot_of r.boot →
-        StartsFrom (IsTypedState u) x y s late held → Ready x y s (Trace kept.user) base k t c (around r (told.sectors d) budget (text.text o)) → c.status ≡ Running →
-        Traced x y s kept.user t (base.shows (start_at y kept.user 0)) r.tracer (text.text o1)
-    traced kept e low high u y s late held base k t c same lawful ready running =
-        traced_mid x y s late held (law u x y s late held lawful) kept.user (grow u x y s late held kept.user lawful low (few y kept.user same high)) follow base k t c
-        (around r (told.sectors d) budget (text.text o)) (around r (told.sectors d) budget (text.text o)) ready running (text.text o1)
-        (ap (λ (q : Output). q.text) puts.by ∙ ap (append_known (text.text o)) (ap (λ q. rows_before r.boot q r.turns) e ∙ starts r.boot kept r.turns y same))
-
     -- THE TURNS WERE BROKEN OFF
     module _ {R : Type 0} (f : RunFault) (calls : StepsCall {T = R} text told (map_of (boot_of r.boot)) r.machine r.tracer (o1, d) (o2, d1) n (Err f)) where
       -- in a step whose calls fail
@@ -275,10 +262,10 @@ module _ {L O D : Type 0} (text : sink_of.Ghosts O) (told : sectors_of.Ghosts D)
       none_behind Disk v y s late held m k t c i le w now fails turns steps p tells e = absurd (let h = e in cc)
       none_behind Sink v y s late held m k t c i le w now fails turns steps p tells e = absurd (let h = e in cc)
 
-      pub broken_calls : {T : Type 0} → Moved (told.size d) r new most (told.sectors d) (told.sectors d1) (text.text o1) (text.text o2) budget left (Err f) → TurnsCall {T = T} text told r budget (o, d) (o2, d1) n (Err f)
+      pub broken_calls : {T : Type 0} → Moved (told.size d) r new most (told.sectors d) (told.sectors d1) budget left (Err f) → TurnsCall {T = T} text told r budget (o, d) (o2, d1) n (Err f)
       broken_calls {T} moved = record {
         exact = by_view r views (CallsAs o2 d1 n (of_run f))
-            (λ e. λ u y s late held base k t c same lawful ready running turns steps p tells shelf.
+            (λ e. λ u y s late held k t c same lawful ready running turns steps p tells shelf.
             let q = moved.advances u y s late held lawful k t c ready.stood running ready.state in
             let m = law u x y s late held lawful in
             let rn : Run = run_at x y s Boot turns steps in
@@ -286,15 +273,14 @@ module _ {L O D : Type 0} (text : sink_of.Ghosts O) (told : sectors_of.Ghosts D)
             (λ _. no_fault rn p (t + n) (run x s (t + n)).off (cvm_at rn p (t + n)).status refl)
             (begin_none y s turns steps k shelf e puts)
             (boot_fails f y s late held m k t c ready.stood q.0 q.2 q.3 (state_seen (told.sectors d1) new.machine) q.4 turns steps p tells (at text told shelf o1 d) (at text told shelf o2 d1) (calls.untraced e s t ready.state shelf)))
-            (λ kept e low high. λ u y s late held base k t c same lawful ready running turns steps p tells shelf.
+            (λ kept e low high. λ u y s late held k t c same lawful ready running turns steps p tells shelf.
             let q = moved.advances u y s late held lawful k t c ready.stood running ready.state in
             let m = law u x y s late held lawful in
             let rn : Run = run_at x y s (Trace kept.user) turns steps in
             turns_alone rn p k t n (at text told shelf o d) (at text told shelf o1 d) (at text told shelf o2 d1) (of_run f)
             (none_behind f (Trace kept.user) y s late held m k t c q.0 q.2 q.3 (state_seen (told.sectors d1) new.machine) q.4 turns steps p tells)
             (begin_put kept y s turns steps k shelf None e same ready.turns (λ ne. absurd (ne refl)) puts)
-            (calls.traced u y s late held kept.user t (base.shows (start_at y kept.user 0)) lawful (ap map_of (sym same)) low (few y kept.user same high) ready.state
-            (traced kept e low high u y s late held base k t c same lawful ready running) p turns steps tells.user shelf));
+            (calls.traced u y s late held kept.user t lawful (ap map_of (sym same)) low (few y kept.user same high) ready.state ready.traces p turns steps tells.user shelf));
         some = λ _. (
           Printed None ∷ calls.some.0,
           calls.some.1,
@@ -314,13 +300,13 @@ module _ {L O D : Type 0} (text : sink_of.Ghosts O) (told : sectors_of.Ghosts D)
           by None h = refl
           by (Some whom) h = let z = h (λ q. cc) in absurd (let g : rows_text (z.0 ∷ []) ≡ [] = sym (ap rows_text z.1) ∙ e in cc)
 
-      boot_made : r.tracer ≡ None → (retext : Option (List ℕ)) → EndsAs retext (Ok (made, answer)) Boot → CallsAs o3 d1 n blamed Boot
-      boot_made e retext ends u y s late held base k t c same lawful ready running turns steps p tells shelf =
-          let q = ends u y s late held base k t c same lawful ready running in
+      boot_made : r.tracer ≡ None → EndsAs (Ok (made, answer)) Boot → CallsAs o3 d1 n blamed Boot
+      boot_made e ends u y s late held k t c same lawful ready running turns steps p tells shelf =
+          let q = ends u y s late held k t c same lawful ready running in
           let i = q.0 in
           let le : i ≤ budget = q.2 in
           let w : Skipped x y s k t c i = q.3 in
-          let g : Turned x y s Boot base (k + i) (t + i) w.after (record (around r (told.sectors d) budget (text.text o)) { budget = budget - i }) (around new (told.sectors d1) left retext) answer = q.4.1 in
+          let g : Turned x y s Boot (k + i) (t + i) w.after (record (around r (told.sectors d) budget) { budget = budget - i }) (around new (told.sectors d1) left) answer = q.4.1 in
           let m = law u x y s late held lawful in
           let rn : Run = run_at x y s Boot turns steps in
           let sum : left + g.ahead.end ≡ budget - i + (t + i) = g.budget in
@@ -347,13 +333,13 @@ module _ {L O D : Type 0} (text : sink_of.Ghosts O) (told : sectors_of.Ghosts D)
       off_at : (x : device.Environment) (s : State) (a b : ℕ) → a ≡ b → (f : KernelFault) (st : Status) → st ≡ Faulted f → Rests st (run x s b) → (run x s a).off ≡ Some (power_of f)
       off_at x s a b e f st is rests = ap (λ i. (run x s i).off) e ∙ subst (λ (z : Status). Rests z (run x s b)) is rests
 
-      trace_made : (kept : Tracer) → r.tracer ≡ Some kept → 1 ≤ kept.user → kept.user ≤ length r.boot.users.items → (retext : Option (List ℕ)) → EndsAs retext (Ok (made, answer)) (Trace kept.user) → CallsAs o3 d1 n blamed (Trace kept.user)
-      trace_made kept e low high retext ends u y s late held base k t c same lawful ready running turns steps p tells shelf =
-          let q = ends u y s late held base k t c same lawful ready running in
+      trace_made : (kept : Tracer) → r.tracer ≡ Some kept → 1 ≤ kept.user → kept.user ≤ length r.boot.users.items → EndsAs (Ok (made, answer)) (Trace kept.user) → CallsAs o3 d1 n blamed (Trace kept.user)
+      trace_made kept e low high ends u y s late held k t c same lawful ready running turns steps p tells shelf =
+          let q = ends u y s late held k t c same lawful ready running in
           let i = q.0 in
           let le : i ≤ budget = q.2 in
           let w : Skipped x y s k t c i = q.3 in
-          let g : Turned x y s (Trace kept.user) base (k + i) (t + i) w.after (record (around r (told.sectors d) budget (text.text o)) { budget = budget - i }) (around new (told.sectors d1) left retext) answer = q.4.1 in
+          let g : Turned x y s (Trace kept.user) (k + i) (t + i) w.after (record (around r (told.sectors d) budget) { budget = budget - i }) (around new (told.sectors d1) left) answer = q.4.1 in
           let m = law u x y s late held lawful in
           let grows = grow u x y s late held kept.user lawful low (few y kept.user same high) in
           let rn : Run = run_at x y s (Trace kept.user) turns steps in
@@ -363,24 +349,23 @@ module _ {L O D : Type 0} (text : sink_of.Ghosts O) (told : sectors_of.Ghosts D)
           let there : t + n ≡ g.ahead.end = omega (arith, n_is, sum, le, from, to) in
           let is : cvm_at rn p (t + n) ≡ g.ahead.after = at_end x y s late held m (Trace kept.user) turns steps p t n tells (k + i) (t + i) w.after g.ahead there in
           let traces = g.ready.traces in
-          let j : List JournalEntry = traces.0 in
+          let j : List JournalEntry = traces.journal in
           let shown : p.shown (t + n) ≡ j =
-          grows.one (t + n) (p.shown (t + n)) j (tells.user (t + n) (omega arith) (omega arith)) (subst (λ z. Shown x s y kept.user z j) (sym there) traces.1) in
-          let rows : rows_after new.tracer new.ended answer ≡ fault_rows (pending_steps j) new.ended = ap (λ z. rows_after z new.ended answer) traces.2 in
+          grows.one (t + n) (p.shown (t + n)) j (tells.user (t + n) (omega arith) (omega arith)) (subst (λ z. Shown x s y kept.user z j) (sym there) traces.shown) in
+          let rows : rows_after new.tracer new.ended answer ≡ fault_rows (pending_steps j) new.ended = ap (λ z. rows_after z new.ended answer) traces.keeps in
           turns_behind rn p k t n (at text told shelf o d) (at text told shelf o1 d) (at text told shelf o2 d1) (at text told shelf o3 d1) blamed
           (begin_put kept y s turns steps k shelf None e same ready.turns (λ ne. absurd (ne refl)) puts)
-          (calls.traced u y s late held kept.user t (base.shows (start_at y kept.user 0)) lawful (ap map_of (sym same)) low (few y kept.user same high) ready.state
-          (traced kept e low high u y s late held base k t c same lawful ready running) p turns steps tells.user shelf)
+          (calls.traced u y s late held kept.user t lawful (ap map_of (sym same)) low (few y kept.user same high) ready.state ready.traces p turns steps tells.user shelf)
           (fault_put text told shelf o2 o3 d1 follow x y s kept.user turns steps p (t + n) g.ahead.after is j shown new.ended (run x s (t + n)).off (cvm_at rn p (t + n)).status (sym (ap (λ (z : Cvm). z.status) is))
           (g.ready.ended ∙ ap ended_of (sym (ap (λ (z : Cvm). z.status) is)))
-          (λ f e_st. off_at x s (t + n) g.ahead.end there f (g.ahead.after.status) (sym (ap (λ (z : Cvm). z.status) is) ∙ e_st) g.ahead.stood.rests.0) blamed (faulted (subst IsSome (sym traces.2) refl))
+          (λ f e_st. off_at x s (t + n) g.ahead.end there f (g.ahead.after.status) (sym (ap (λ (z : Cvm). z.status) is) ∙ e_st) g.ahead.stood.rests.0) blamed (faulted (subst IsSome (sym traces.keeps) refl))
           (subst (λ (l : List ℕ). Puts l (output text o2) (output text o3) blamed) rows behind))
 
-      pub made_calls : {T : Type 0} (result : Result T RunFault) → blame of_run result ≡ blamed → (retext : Option (List ℕ)) →
-          TurnsRun (told.size d) r most (around r (told.sectors d) budget (text.text o)) (around new (told.sectors d1) left retext) (Ok (made, answer)) → TurnsCall text told r budget (o, d) (o3, d1) n result
-      made_calls result is retext runs = record {
+      pub made_calls : {T : Type 0} (result : Result T RunFault) → blame of_run result ≡ blamed →
+          TurnsRun (told.size d) r most (around r (told.sectors d) budget) (around new (told.sectors d1) left) (Ok (made, answer)) → TurnsCall text told r budget (o, d) (o3, d1) n result
+      made_calls result is runs = record {
         exact = subst (λ (w : Option Who). CallsAs o3 d1 n w r.view) (sym is)
-            (by_view r views (λ v. EndsAs retext (Ok (made, answer)) v → CallsAs o3 d1 n blamed v) (λ e. boot_made e retext) (λ kept e low high. trace_made kept e low high retext) runs);
+            (by_view r views (λ v. EndsAs (Ok (made, answer)) v → CallsAs o3 d1 n blamed v) boot_made trace_made runs);
         some = λ _. (
           Printed None ∷ calls.some.0 ++ Printed None ∷ [],
           of_both calls.some.0 (Printed None ∷ []) calls.some.1 tt,
@@ -394,7 +379,7 @@ module _ {L O D : Type 0} (text : sink_of.Ghosts O) (told : sectors_of.Ghosts D)
 module _ {L O D T : Type 0} (text : sink_of.Ghosts O) (told : sectors_of.Ghosts D) (r : Kept L) (o o1 : O) (d d1 : D) (budget n : ℕ) (result : Result T RunFault) where
   pub faulted_calls : (f : RunFault) → r.fault ≡ Some f → TurnsCall text told r budget (o, d) (o1, d1) n result
   faulted_calls f is = record {
-    exact = λ u y s late held base k t c same lawful ready running turns steps p tells shelf. absurd (let e : ◌≡◌ {A = Option RunFault} (Some f) None = sym is ∙ ready.fault in cc);
+    exact = λ u y s late held k t c same lawful ready running turns steps p tells shelf. absurd (let e : ◌≡◌ {A = Option RunFault} (Some f) None = sym is ∙ ready.fault in cc);
     some = λ none. absurd (let e : ◌≡◌ {A = Option RunFault} (Some f) None = sym is ∙ none in cc);
   }
 
@@ -402,15 +387,15 @@ module _ {L O D T : Type 0} (text : sink_of.Ghosts O) (told : sectors_of.Ghosts 
 pub as_calls : {L O D T R : Type 0} (text : sink_of.Ghosts O) (told : sectors_of.Ghosts D) (r : Kept L) (o o1 : O) (d d1 : D) (budget n : ℕ) (before : Result T RunFault) (result : Result R RunFault) → blame of_run before ≡ blame of_run result →
     TurnsCall text told r budget (o, d) (o1, d1) n before → TurnsCall text told r budget (o, d) (o1, d1) n result
 as_calls text told r o o1 d d1 budget n before result same calls = record {
-  exact = λ u y s late held base k t c at lawful ready running turns steps p tells shelf.
+  exact = λ u y s late held k t c at lawful ready running turns steps p tells shelf.
       subst (InTurns (run_at (outside_of r.machine.rows (told.size d)) y s r.view turns steps) p k t n (record { shelf = shelf; sink = output text o; disk = drive told d }) (record { shelf = shelf; sink = output text o1; disk = drive told d1 })) same
-      (calls.exact u y s late held base k t c at lawful ready running turns steps p tells shelf);
+      (calls.exact u y s late held k t c at lawful ready running turns steps p tells shelf);
   some = λ none. (let q = calls.some none in (q.0, q.1, λ shelf. subst (Performs q.0 (record { shelf = shelf; sink = output text o; disk = drive told d }) (record { shelf = shelf; sink = output text o1; disk = drive told d1 })) same (q.2 shelf)));
 }
 
 ended_calls : {L O D T : Type 0} (text : sink_of.Ghosts O) (told : sectors_of.Ghosts D) (r : Kept L) (o : O) (d : D) (budget n : ℕ) (v : T) (e : Next) → r.ended ≡ Some e → TurnsCall {T = T} text told r budget (o, d) (o, d) n (Ok v)
 ended_calls text told r o d budget n v e is = record {
-  exact = λ u y s late held base k t c same lawful ready running turns steps p tells shelf.
+  exact = λ u y s late held k t c same lawful ready running turns steps p tells shelf.
       absurd (let h : ◌≡◌ {A = Option Next} (Some e) None = sym is ∙ ready.ended ∙ ap ended_of running in cc);
   some = λ none. ([], tt, λ shelf. done (record { shelf = shelf; sink = output text o; disk = drive told d }));
 }

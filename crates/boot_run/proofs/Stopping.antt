@@ -4,21 +4,20 @@ use Rattle.std.specs.Prelude.{is_some, ◌&&◌, ◌||◌, ◌==◌}
 use Rattle.std.proofs.lemmas.Bool.{eqb-true}
 use Rattle.mips_table.specs.Device.{Environment}
 use Rattle.mips_table.specs.Machine.{State, run}
-use Rattle.mips_table.specs.Turns.{in_user, complete, lines_of_turn, TurnLaws}
+use Rattle.mips_table.specs.Turns.{in_user, complete, TurnLaws}
 use Rattle.c0_tree.specs.Tree.{CUnit}
 use Rattle.c0_meaning.specs.TypedState.{IsTypedState}
 use Rattle.schedule_file.specs.Rows.{Rows}
 use Rattle.mips_machine.specs.Machine.{Held, state_of}
 use Rattle.mips_machine.specs.Saved.{saved}
 use Rattle.mips_machine.specs.Steps.{outside_of}
-use Rattle.cvm_model.specs.Cvm.{System, Status, Running, Halted, Faulted, Cvm, IsCvm}
+use Rattle.cvm_model.specs.Cvm.{System, Status, Running, Halted, Faulted}
 use Rattle.cvm_model.specs.declared.row.Next.{Next}
 use Rattle.cvm_model.specs.Text.{rows_text}
 use Rattle.layer_contract.specs.Layer.{Rests}
 use Rattle.boot_turns.specs.Completes.{state_seen}
 use Rattle.boot_turns.specs.RunMachines.{RunMachines, MachinesRun}
 use Rattle.boot_turns.specs.TurnEnds.{Stood}
-use Rattle.boot_turns.specs.Ahead.{TextAfter}
 use Rattle.boot_turns.specs.declared.answers.View.{View}
 use Rattle.boot_turns.specs.declared.answers.View.TheVariants.{Boot}
 use Rattle.boot_run.specs.Loading.{system_of}
@@ -26,7 +25,6 @@ use Rattle.boot_run.specs.LoadEnds.{Kept}
 use Rattle.boot_run.specs.SavedRuns.{SavedAt}
 use Rattle.boot_run.specs.Saving.{saved_run, RunsToStop, RunStops, StaysThere}
 use Rattle.boot_run.specs.declared.whole.RunEnd.{RunEnd}
-use Rattle.boot_run.specs.Sink.{Base}
 use Rattle.boot_run.specs.TurnCalls.{Around, around, KeepsLoad}
 use Rattle.boot_run.specs.Pieces.{Gone, GoRuns}
 use Rattle.boot_run.proofs.TurnToTurn.{running_of}
@@ -48,13 +46,6 @@ complete_of true o e h = refl
 complete_of false None e h = absurd (cc)
 complete_of false (Some v) e h = absurd (cc)
 
--- the text of a run that goes on is that of its rows
-rows_of_text : (x : Environment) (y : System) (s0 : State) (delay bound : ℕ) → RunMachines x y s0 delay bound → (t : ℕ) (c : Cvm) → IsCvm y (lines_of_turn x s0) (complete x s0 t) c → (s : Status) → s ≡ Running → (text : List ℕ) →
-    TextAfter x y s0 Boot t s text → text ≡ rows_text c.rows
-rows_of_text x y s0 delay bound m t c is Running e text (d, id, h) = h ∙ ap (λ (w : Cvm). rows_text w.rows) (m.same (complete x s0 t) d c id is)
-rows_of_text x y s0 delay bound m t c is Halted e text h = absurd (cc)
-rows_of_text x y s0 delay bound m t c is (Faulted f) e text h = absurd (cc)
-
 one_state : (a b : State) → Some a ≡ Some b → a ≡ b
 one_state a b e = cc
 
@@ -67,10 +58,7 @@ seen_is None held z e = absurd (none_state z e)
 seen_is (Some ss) held z e = let same = one_state (state_of held ss) z e in (ss, refl, same, ap (λ (s : State). s.device.sectors) same)
 
 module _ (counts : TurnLaws) (x : Environment) (y : System) (s0 : State) (delay bound : ℕ) (m : RunMachines x y s0 delay bound)
-    (base : Base) (turns steps : ℕ) (mid : Around) (g : Gone x y s0 Boot base turns steps mid) where
-  cvm_at : IsCvm y (lines_of_turn x s0) (complete x s0 g.at) g.past
-  cvm_at = subst (λ n. IsCvm y (lines_of_turn x s0) n g.past) (sym g.ready.stood.all) g.ready.stood.cvm
-
+    (turns steps : ℕ) (mid : Around) (g : Gone x y s0 Boot turns steps mid) where
   module _ (goes_on : mid.ended ≡ None) where
     running : g.past.status ≡ Running
     running = running_of g.past.status (sym g.ready.ended ∙ goes_on)
@@ -81,11 +69,8 @@ module _ (counts : TurnLaws) (x : Environment) (y : System) (s0 : State) (delay 
     all : suc g.count ≡ turns
     all = sym g.ready.stood.all ∙ eqb-true (complete x s0 g.at) turns (complete_of (complete x s0 g.at == turns) (run x s0 g.at).off on g.end.here)
 
-    shown_is : g.ready.shown ≡ rows_text g.past.rows
-    shown_is = rows_of_text x y s0 delay bound m g.at g.past cvm_at g.past.status running g.ready.shown g.ready.printed
-
     -- the words of the saved run
-    pub saved_at : (words : List ℕ) → words ≡ saved y.input (run x s0 g.at) turns g.past.core.current → (now : List (List ℕ)) → now ≡ (run x s0 g.at).device.sectors → SavedAt x y s0 turns steps words now g.ready.shown
+    pub saved_at : (words : List ℕ) → words ≡ saved y.input (run x s0 g.at) turns g.past.core.current → (now : List (List ℕ)) → now ≡ (run x s0 g.at).device.sectors → SavedAt x y s0 turns steps words now (rows_text g.past.rows)
     saved_at words are now is = record {
       at = g.at;
       past = g.past;
@@ -95,7 +80,7 @@ module _ (counts : TurnLaws) (x : Environment) (y : System) (s0 : State) (delay 
       stood = subst (λ k. Stood x y s0 k g.at g.past) all g.ready.stood;
       words_are = are;
       left_is = is;
-      shown_is = shown_is;
+      shown_is = refl;
     }
 
 -- a run that isn't over has no end
@@ -108,35 +93,35 @@ one_told None a b e f = absurd (cc)
 one_told (Some c) a b e f = cc
 
 -- the loop is done, and the run goes on: it stops there
-module _ {L : Type 0} (run_is : (u : CUnit) → MachinesRun (IsTypedState u)) (counts : TurnLaws) (count : ℕ) (r mid : Kept L) (turns steps left : ℕ) (told mid_told : Option (List (List ℕ))) (text mid_text : Option (List ℕ))
-    (kept : KeepsLoad r mid) (gone : GoRuns count r turns (around r told steps text) (around mid mid_told left mid_text) (Ok tt)) where
-  pub stops : (e : RunEnd) → mid.ended ≡ None → RunsToStop count r mid turns (around r told steps text) mid_told e
-  stops e on = λ s0 delay bound old base k t wanted total c now p view starts some more sum ready there is.
+module _ {L : Type 0} (run_is : (u : CUnit) → MachinesRun (IsTypedState u)) (counts : TurnLaws) (count : ℕ) (r mid : Kept L) (turns steps left : ℕ) (told mid_told : Option (List (List ℕ)))
+    (kept : KeepsLoad r mid) (gone : GoRuns count r turns (around r told steps) (around mid mid_told left) (Ok tt)) where
+  pub stops : (e : RunEnd) → mid.ended ≡ None → RunsToStop count r mid turns (around r told steps) mid_told e
+  stops e on = λ s0 delay bound old k t wanted total c now p view starts some more sum ready there is.
       let x = outside_of r.machine.rows count in
       let y = system_of r.boot r.machine.rows in
       let m = machines run_is r.boot r.machine.rows count y s0 delay bound old p in
-      let g : Gone x y s0 Boot base wanted total (around mid mid_told left mid_text) =
-      subst (λ (v : View). Gone x y s0 v base wanted total (around mid mid_told left mid_text)) view (gone y s0 delay bound old base k t wanted total c p starts some more sum ready) in
+      let g : Gone x y s0 Boot wanted total (around mid mid_told left) =
+      subst (λ (v : View). Gone x y s0 v wanted total (around mid mid_told left)) view (gone y s0 delay bound old k t wanted total c p starts some more sum ready) in
       let found = seen_is mid_told mid.machine (run x s0 g.at) g.ready.state in
       let inputs : mid.machine.rows.inputs ≡ r.machine.rows.inputs = ap (λ (w : Rows). w.inputs) kept.rows_are in
-      let turned : mid.turns ≡ wanted = g.ready.turns ∙ all counts x y s0 delay bound m base wanted total (around mid mid_told left mid_text) g on in
-      let user : mid.current ≡ g.past.core.current = g.ready.current (running counts x y s0 delay bound m base wanted total (around mid mid_told left mid_text) g on) in
+      let turned : mid.turns ≡ wanted = g.ready.turns ∙ all counts x y s0 delay bound m wanted total (around mid mid_told left) g on in
+      let user : mid.current ≡ g.past.core.current = g.ready.current (running counts x y s0 delay bound m wanted total (around mid mid_told left) g on) in
       let words : saved_run mid ≡ saved r.machine.rows.inputs (run x s0 g.at) wanted g.past.core.current =
       ap (λ i. saved i (state_of mid.machine found.0) mid.turns mid.current) inputs
       ∙ ap (λ z. saved r.machine.rows.inputs z mid.turns mid.current) found.2
       ∙ ap (λ n. saved r.machine.rows.inputs (run x s0 g.at) n mid.current) turned
       ∙ ap (λ n. saved r.machine.rows.inputs (run x s0 g.at) wanted n) user in
       let same : found.0 ≡ now = one_told mid_told found.0 now found.1 there in
-      (g.ready.shown, saved_at counts x y s0 delay bound m base wanted total (around mid mid_told left mid_text) g on (saved_run mid) words now (sym same ∙ found.3))
+      (rows_text g.past.rows, saved_at counts x y s0 delay bound m wanted total (around mid mid_told left) g on (saved_run mid) words now (sym same ∙ found.3))
 
 -- by how it stops
-module _ {L D O : Type 0} (run_is : (u : CUnit) → MachinesRun (IsTypedState u)) (counts : TurnLaws) (size : D → ℕ) (sectors : D → Option (List (List ℕ))) (text : O → Option (List ℕ))
+module _ {L D O : Type 0} (run_is : (u : CUnit) → MachinesRun (IsTypedState u)) (counts : TurnLaws) (size : D → ℕ) (sectors : D → Option (List (List ℕ)))
     (r mid new : Kept L) (disk mid_disk redisk : D) (out mid_out reout : O) (turns steps left : ℕ) (kept : KeepsLoad r mid)
-    (gone : GoRuns (size disk) r turns (around r (sectors disk) steps (text out)) (around mid (sectors mid_disk) left (text mid_out)) (Ok tt)) where
-  pub stopped : (e : RunEnd) → StaysThere mid mid_disk mid_out new redisk reout e → RunStops size sectors text turns steps r disk out new redisk e
-  stopped e stays = λ s0 delay bound old base k t wanted total c now p view starts some more sum ready there is.
+    (gone : GoRuns (size disk) r turns (around r (sectors disk) steps) (around mid (sectors mid_disk) left) (Ok tt)) where
+  pub stopped : (e : RunEnd) → StaysThere mid mid_disk mid_out new redisk reout e → RunStops size sectors turns steps r disk new redisk e
+  stopped e stays = λ s0 delay bound old k t wanted total c now p view starts some more sum ready there is.
       let w = stays is in
-      subst (λ (n : Kept L). RunStops size sectors text turns steps r disk out n redisk e) (sym w.1)
-      (subst (λ (d : D). RunStops size sectors text turns steps r disk out mid d e) (sym w.2)
-      (stops run_is counts (size disk) r mid turns steps left (sectors disk) (sectors mid_disk) (text out) (text mid_out) kept gone e w.0))
-      s0 delay bound old base k t wanted total c now p view starts some more sum ready there is
+      subst (λ (n : Kept L). RunStops size sectors turns steps r disk n redisk e) (sym w.1)
+      (subst (λ (d : D). RunStops size sectors turns steps r disk mid d e) (sym w.2)
+      (stops run_is counts (size disk) r mid turns steps left (sectors disk) (sectors mid_disk) kept gone e w.0))
+      s0 delay bound old k t wanted total c now p view starts some more sum ready there is

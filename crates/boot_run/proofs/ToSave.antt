@@ -14,31 +14,30 @@ use Rattle.boot_run.specs.Loading.{system_of}
 use Rattle.boot_run.specs.LoadEnds.{Kept, IsFresh}
 use Rattle.boot_run.specs.declared.whole.RunEnd.{RunEnd}
 use Rattle.boot_run.specs.Saving.{saved_run, Stops, RunsToStop, WholeStops}
-use Rattle.boot_run.specs.Sink.{Base, behind}
 use Rattle.boot_run.specs.TurnCalls.{Around, around, Ready, StandsReady}
 use Rattle.boot_run.specs.Pieces.{FirstAt, Bootable}
 
 -- a loaded run to where it stops, of this boot, over these rows and with this view
 abbrev StopsAt : {L : Type 0} → Booted → Rows → View → ℕ → (new : Kept L) → (turns : ℕ) → Around → Option (List (List ℕ)) → RunEnd → Type 0
-StopsAt b rows v count new turns before retold e = (s0 : State) (delay bound : ℕ) (old : List (List ℕ)) (base : Base) (k t wanted total : ℕ) (c : Cvm) (now : List (List ℕ)) →
+StopsAt b rows v count new turns before retold e = (s0 : State) (delay bound : ℕ) (old : List (List ℕ)) (k t wanted total : ℕ) (c : Cvm) (now : List (List ℕ)) →
     Bootable b rows count (system_of b rows) s0 delay bound old → v ≡ Boot →
-    FirstAt (outside_of rows count) s0 k t → 1 ≤ wanted → k + turns ≡ wanted → before.budget + t ≡ total → Ready (outside_of rows count) (system_of b rows) s0 v base k t c before → retold ≡ Some now →
+    FirstAt (outside_of rows count) s0 k t → 1 ≤ wanted → k + turns ≡ wanted → before.budget + t ≡ total → Ready (outside_of rows count) (system_of b rows) s0 v k t c before → retold ≡ Some now →
     Stops (outside_of rows count) (system_of b rows) s0 wanted total (saved_run new) now e
 
-module _ {L : Type 0} (layer : L) (b : Booted) (rows : Rows) (need count size : ℕ) (turns steps : ℕ) (told mid retold : Option (List (List ℕ))) (before : Option (List ℕ)) (r new : Kept L) (e : RunEnd)
+module _ {L : Type 0} (layer : L) (b : Booted) (rows : Rows) (need count size : ℕ) (turns steps : ℕ) (told mid retold : Option (List (List ℕ))) (r new : Kept L) (e : RunEnd)
     (fresh : IsFresh layer b Boot rows need count r) (same : size ≡ count) (some : 1 ≤ turns)
     (premises : (old : List (List ℕ)) → told ≡ Some old → Bootable b rows count (system_of b rows) (loaded (system_of b rows) old) 1 (user_sectors (system_of b rows)) old)
     (ready : StandsReady (system_of b rows) (loaded (system_of b rows)) told mid r)
-    (runs : RunsToStop size r new turns (around r mid steps before) retold e) where
-  stops_at : StopsAt b rows Boot count new turns (around r mid steps before) retold e
+    (runs : RunsToStop size r new turns (around r mid steps) retold e) where
+  stops_at : StopsAt b rows Boot count new turns (around r mid steps) retold e
   stops_at =
-      subst (λ (n : ℕ). StopsAt b rows Boot n new turns (around r mid steps before) retold e) same
-      (subst (λ (w : View). StopsAt b rows w size new turns (around r mid steps before) retold e) fresh.view_is
-      (subst (λ (q : Rows). StopsAt b q r.view size new turns (around r mid steps before) retold e) fresh.rows_are
-      (subst (λ (c : Booted). StopsAt c r.machine.rows r.view size new turns (around r mid steps before) retold e) fresh.boot_is runs)))
+      subst (λ (n : ℕ). StopsAt b rows Boot n new turns (around r mid steps) retold e) same
+      (subst (λ (w : View). StopsAt b rows w size new turns (around r mid steps) retold e) fresh.view_is
+      (subst (λ (q : Rows). StopsAt b q r.view size new turns (around r mid steps) retold e) fresh.rows_are
+      (subst (λ (c : Booted). StopsAt c r.machine.rows r.view size new turns (around r mid steps) retold e) fresh.boot_is runs)))
 
   pub saves_so : WholeStops b rows count turns steps told retold (Ok (new, e))
   saves_so = λ old now is re.
-      stops_at (loaded (system_of b rows) old) 1 (user_sectors (system_of b rows)) old (behind before) 0 0 turns steps (first_cvm (system_of b rows)) now (premises old is) refl
+      stops_at (loaded (system_of b rows) old) 1 (user_sectors (system_of b rows)) old 0 0 turns steps (first_cvm (system_of b rows)) now (premises old is) refl
       (record { before = λ j h. absurd (omega (arith, h)); on = λ j h. absurd (omega (arith, h)) }) some (omega arith) (omega arith)
-      (subst (λ (w : View). Ready (outside_of rows count) (system_of b rows) (loaded (system_of b rows) old) w (behind before) 0 0 (first_cvm (system_of b rows)) (around r mid steps before)) fresh.view_is (ready (outside_of rows count) old steps before is)) re
+      (subst (λ (w : View). Ready (outside_of rows count) (system_of b rows) (loaded (system_of b rows) old) w 0 0 (first_cvm (system_of b rows)) (around r mid steps)) fresh.view_is (ready (outside_of rows count) old steps is)) re

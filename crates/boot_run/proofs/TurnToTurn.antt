@@ -11,14 +11,13 @@ use Rattle.cvm_model.specs.Cvm.{System, Status, Running, Halted, Faulted, Cvm, f
 use Rattle.layer_contract.specs.Layer.{Rests}
 use Rattle.boot_turns.specs.RunMachines.{RunMachines}
 use Rattle.boot_turns.specs.Advances.{Skipped}
-use Rattle.boot_turns.specs.TurnEnds.{Stood, Printed}
+use Rattle.boot_turns.specs.TurnEnds.{Stood}
 use Rattle.boot_turns.specs.declared.answers.View.{View}
 use Rattle.boot_turns.specs.declared.answers.Turn.{Turn}
 use Rattle.boot_turns.specs.declared.answers.RunFault.{RunFault}
 use Rattle.boot_turns.specs.declared.answers.RunFault.TheVariants.{StepLimit, Disk, Sink}
 use Rattle.boot_run.specs.TurnCalls.{ended_of, Around, Ready, Turned, Limited, TurnsEnd}
 use Rattle.boot_run.specs.Pieces.{Gone, Late, FirstAt, GoFails}
-use Rattle.boot_run.specs.Sink.{Base}
 
 -- after i turns the machine came to step t, and no end came before
 pub record Came (x : Environment) (y : System) (s0 : State) (steps i t : ℕ) (c : Cvm) (budget : ℕ) : Type 0 where
@@ -28,15 +27,15 @@ pub record Came (x : Environment) (y : System) (s0 : State) (steps i t : ℕ) (c
   pub spent : budget + t ≡ steps
 
 -- and the next call finds the run so
-pub record Going (x : Environment) (y : System) (s0 : State) (v : View) (base : Base) (steps i t : ℕ) (c : Cvm) (now : Around) : Type 0 where
-  pub ready : Ready x y s0 v base i t c now
+pub record Going (x : Environment) (y : System) (s0 : State) (v : View) (steps i t : ℕ) (c : Cvm) (now : Around) : Type 0 where
+  pub ready : Ready x y s0 v i t c now
   pub came : Came x y s0 steps i t c now.budget
 
-abbrev pub Goes : Environment → System → State → View → Base → (steps i : ℕ) → Around → Type 0
-Goes x y s0 v base steps i now = (t : ℕ) × (c : Cvm) × Going x y s0 v base steps i t c now
+abbrev pub Goes : Environment → System → State → View → (steps i : ℕ) → Around → Type 0
+Goes x y s0 v steps i now = (t : ℕ) × (c : Cvm) × Going x y s0 v steps i t c now
 
-pub going_from : (x : Environment) (y : System) (s0 : State) (v : View) (base : Base) (k t steps : ℕ) (c : Cvm) (now : Around) → FirstAt x s0 k t → now.budget + t ≡ steps → Ready x y s0 v base k t c now → Goes x y s0 v base steps k now
-going_from x y s0 v base k t steps c now starts sum ready = (t, c, record { ready = ready; came = record { stood = ready.stood; before = starts.before; on = starts.on; spent = sum } })
+pub going_from : (x : Environment) (y : System) (s0 : State) (v : View) (k t steps : ℕ) (c : Cvm) (now : Around) → FirstAt x s0 k t → now.budget + t ≡ steps → Ready x y s0 v k t c now → Goes x y s0 v steps k now
+going_from x y s0 v k t steps c now starts sum ready = (t, c, record { ready = ready; came = record { stood = ready.stood; before = starts.before; on = starts.on; spent = sum } })
 
 -- turns that were passed
 pub came_on : (x : Environment) (y : System) (s0 : State) (steps i t : ℕ) (c : Cvm) (budget : ℕ) → Came x y s0 steps i t c budget → (n : ℕ) → n ≤ budget → (w : Skipped x y s0 i t c n) → Came x y s0 steps (i + n) (t + n) w.after (budget - n)
@@ -59,8 +58,8 @@ running_of Running e = refl
 running_of Halted e = absurd (cc)
 running_of (Faulted f) e = absurd (cc)
 
-pub goes_on : (x : Environment) (y : System) (s0 : State) (v : View) (base : Base) (i t : ℕ) (c : Cvm) (now : Around) → Ready x y s0 v base i t c now → now.ended ≡ None → c.status ≡ Running
-goes_on x y s0 v base i t c now r e = running_of c.status (sym r.ended ∙ e)
+pub goes_on : (x : Environment) (y : System) (s0 : State) (v : View) (i t : ℕ) (c : Cvm) (now : Around) → Ready x y s0 v i t c now → now.ended ≡ None → c.status ≡ Running
+goes_on x y s0 v i t c now r e = running_of c.status (sym r.ended ∙ e)
 
 or_true : (b : Bool) → (b || true) ≡ true
 or_true true = refl
@@ -76,11 +75,11 @@ pub no_end : (x : Environment) (s : State) (k t : ℕ) → complete x s t ≢ k 
 no_end x s k t e o = ap₂ (λ (b : Bool) (o : Option ℕ). b || not (not (is_some o))) (ne_eqb (complete x s t) k e) o
 
 -- the next turn is complete
-going_next : (x : Environment) (y : System) (s0 : State) (v : View) (base : Base) (steps i next t : ℕ) (c : Cvm) (before after : Around) (answer : Turn) → suc i ≡ next →
-    Came x y s0 steps i t c before.budget → Turned x y s0 v base i t c before after answer → Goes x y s0 v base steps next after
-going_next x y s0 v base steps i next t c before after answer is g w =
+going_next : (x : Environment) (y : System) (s0 : State) (v : View) (steps i next t : ℕ) (c : Cvm) (before after : Around) (answer : Turn) → suc i ≡ next →
+    Came x y s0 steps i t c before.budget → Turned x y s0 v i t c before after answer → Goes x y s0 v steps next after
+going_next x y s0 v steps i next t c before after answer is g w =
     let a = w.ahead in
-    let ready = subst (λ n. Ready x y s0 v base n a.end a.after after) is w.ready in
+    let ready = subst (λ n. Ready x y s0 v n a.end a.after after) is w.ready in
     let b0 = g.spent in
     let b1 = w.budget in (
       a.end,
@@ -100,11 +99,11 @@ going_next x y s0 v base steps i next t c before after answer is g w =
     )
 
 -- so many turns were made in one call
-pub going_turns : (x : Environment) (y : System) (s0 : State) (v : View) (base : Base) (steps i t : ℕ) (c : Cvm) (most : ℕ) (before after : Around) (made : ℕ) (answer : Turn) →
-    Going x y s0 v base steps i t c before → TurnsEnd x y s0 v base i t c most before after (Ok (made, answer)) → Goes x y s0 v base steps (i + made) after
-going_turns x y s0 v base steps i t c most before after made answer g (n, lt, le, s, (is, w)) =
+pub going_turns : (x : Environment) (y : System) (s0 : State) (v : View) (steps i t : ℕ) (c : Cvm) (most : ℕ) (before after : Around) (made : ℕ) (answer : Turn) →
+    Going x y s0 v steps i t c before → TurnsEnd x y s0 v i t c most before after (Ok (made, answer)) → Goes x y s0 v steps (i + made) after
+going_turns x y s0 v steps i t c most before after made answer g (n, lt, le, s, (is, w)) =
     let next : suc (i + n) ≡ i + made = omega (arith, is) in
-    going_next x y s0 v base steps (i + n) (i + made) (t + n) s.after (record before { budget = before.budget - n }) after answer next
+    going_next x y s0 v steps (i + n) (i + made) (t + n) s.after (record before { budget = before.budget - n }) after answer next
     (came_on x y s0 steps i t c before.budget g.came n le s) w
 
 -- no end comes before t
@@ -115,9 +114,9 @@ within : (x : Environment) (y : System) (s0 : State) (steps i t : ℕ) (c : Cvm)
 within x y s0 steps i t c budget g = let b = g.spent in omega (arith, b)
 
 -- so many turns are complete
-pub go_done : (x : Environment) (y : System) (s0 : State) (v : View) (base : Base) (turns steps i : ℕ) (now : Around) → 1 ≤ turns → i ≡ turns → Goes x y s0 v base steps i now → Gone x y s0 v base turns steps now
-go_done x y s0 v base turns steps zero now some same (t, c, g) = absurd (omega arith)
-go_done x y s0 v base turns steps (suc k) now some same (t, c, g) = record {
+pub go_done : (x : Environment) (y : System) (s0 : State) (v : View) (turns steps i : ℕ) (now : Around) → 1 ≤ turns → i ≡ turns → Goes x y s0 v steps i now → Gone x y s0 v turns steps now
+go_done x y s0 v turns steps zero now some same (t, c, g) = absurd (omega arith)
+go_done x y s0 v turns steps (suc k) now some same (t, c, g) = record {
   count = k;
   at = t;
   past = c;
@@ -136,13 +135,13 @@ off_of Running z e r = absurd (cc)
 off_of Halted z e r = (0, r)
 off_of (Faulted f) z e r = (power_of f, r)
 
-pub go_over : (x : Environment) (y : System) (s0 : State) (delay bound : ℕ) → RunMachines x y s0 delay bound → (v : View) (base : Base) (turns steps i : ℕ) (now : Around) → i ≤ turns → IsSome now.ended → Goes x y s0 v base steps i now →
-    Gone x y s0 v base turns steps now
-go_over x y s0 delay bound m v base turns steps zero now le over (t, c, g) =
+pub go_over : (x : Environment) (y : System) (s0 : State) (delay bound : ℕ) → RunMachines x y s0 delay bound → (v : View) (turns steps i : ℕ) (now : Around) → i ≤ turns → IsSome now.ended → Goes x y s0 v steps i now →
+    Gone x y s0 v turns steps now
+go_over x y s0 delay bound m v turns steps zero now le over (t, c, g) =
     let first : c ≡ first_cvm y = m.same 0 c (first_cvm y) g.ready.stood.cvm (record { units = 0; is = refl }) in
     let none : now.ended ≡ None = g.ready.ended ∙ ap (λ (w : Cvm). ended_of w.status) first in
     absurd (some_none now.ended none over)
-go_over x y s0 delay bound m v base turns steps (suc k) now le over (t, c, g) =
+go_over x y s0 delay bound m v turns steps (suc k) now le over (t, c, g) =
     let off = off_of c.status (run x s0 t) (subst (λ (o : Option Next). IsSome o) g.ready.ended over) g.ready.stood.rests.0 in
     record {
       count = k;
@@ -166,7 +165,7 @@ end_most x s k (suc n) = by (is_end x s k (end_within x s k n)) (end_most x s k 
 pub none_within : TurnLaws → (x : Environment) (s : State) (k n : ℕ) → ((j : ℕ) → j ≤ n → is_end x s k j ≡ false) → (is_end x s k (end_within x s k n) ≡ false) × (end_within x s k n ≡ n)
 none_within counts x s k n h = let e = h (end_within x s k n) (end_most x s k n) in (e, (counts.none x s k n e).0)
 
-module _ (counts : TurnLaws) (x : Environment) (y : System) (s0 : State) (v : View) (base : Base) (turns steps i t : ℕ) (c : Cvm) (before after : Around) (lt : i < turns) (g : Came x y s0 steps i t c before.budget) where
+module _ (counts : TurnLaws) (x : Environment) (y : System) (s0 : State) (turns steps i t : ℕ) (c : Cvm) (before after : Around) (lt : i < turns) (g : Came x y s0 steps i t c before.budget) where
   -- where turn i isn't complete at a step, and the machine is on, the run hasn't ended there
   pub goes_on_to : (j : ℕ) → (t ≤ j → complete x s0 j ≡ i) → (run x s0 j).off ≡ None → is_end x s0 turns j ≡ false
   goes_on_to j between on = ⊎_elim
@@ -175,25 +174,19 @@ module _ (counts : TurnLaws) (x : Environment) (y : System) (s0 : State) (v : Vi
       (cases_lt j t)
 
   -- the steps were run
-  late : Limited x y s0 v base i t before after → Late x y s0 v base turns steps after
+  late : Limited x s0 i t before after → Late x s0 turns steps after
   late w =
       let b = g.spent in
       let same : t + before.budget ≡ steps = omega (arith, b) in
       let none : (j : ℕ) → j ≤ steps → is_end x s0 turns j ≡ false = λ j h. goes_on_to j (λ ge. w.between j ge (omega (arith, same))) (w.on j (omega (arith, same))) in
       let e = none_within counts x s0 turns steps none in
       let here : t + before.budget ≡ end_within x s0 turns steps = same ∙ sym e.1 in
-      record {
-        none = e.0;
-        state = w.state ∙ ap (λ n. Some (run x s0 n)) here;
-        shown = w.shown;
-        printed = subst (λ n. Printed x y s0 v n w.shown) here w.printed;
-        text = w.text;
-      }
+      record { none = e.0; state = w.state ∙ ap (λ n. Some (run x s0 n)) here }
 
 -- a call that makes so many turns at most fails in one of them
-pub go_fails : (counts : TurnLaws) (x : Environment) (y : System) (s0 : State) (v : View) (base : Base) (turns steps i t : ℕ) (c : Cvm) (most : ℕ) (before after : Around) → i + most ≤ turns → Going x y s0 v base steps i t c before →
-    (f : RunFault) → TurnsEnd x y s0 v base i t c most before after (Err f) → GoFails x y s0 v base turns steps after f
-go_fails counts x y s0 v base turns steps i t c most before after room g StepLimit (n, lt, le, s, w) =
-    late counts x y s0 v base turns steps (i + n) (t + n) s.after (record before { budget = before.budget - n }) after (omega (arith, room, lt)) (came_on x y s0 steps i t c before.budget g.came n le s) w
-go_fails counts x y s0 v base turns steps i t c most before after room g Disk w = tt
-go_fails counts x y s0 v base turns steps i t c most before after room g Sink w = tt
+pub go_fails : (counts : TurnLaws) (x : Environment) (y : System) (s0 : State) (v : View) (turns steps i t : ℕ) (c : Cvm) (most : ℕ) (before after : Around) → i + most ≤ turns → Going x y s0 v steps i t c before →
+    (f : RunFault) → TurnsEnd x y s0 v i t c most before after (Err f) → GoFails x s0 turns steps after f
+go_fails counts x y s0 v turns steps i t c most before after room g StepLimit (n, lt, le, s, w) =
+    late counts x y s0 turns steps (i + n) (t + n) s.after (record before { budget = before.budget - n }) after (omega (arith, room, lt)) (came_on x y s0 steps i t c before.budget g.came n le s) w
+go_fails counts x y s0 v turns steps i t c most before after room g Disk w = tt
+go_fails counts x y s0 v turns steps i t c most before after room g Sink w = tt

@@ -87,7 +87,7 @@ done_end ends.ShelfFault plain h other none = absurd plain
 
 -- THE LOOP FAILED
 pub rest_broken : {L O D : Type 0} (T : Type 0) (text : sink_of.Ghosts O) (told : sectors_of.Ghosts D) (r new : Kept L) (o o1 : O) (d d1 : D) (turns budget left : ℕ) (counts : TurnLaws) (f : RunFault) →
-    AnyGoRuns (told.size d) r turns (around r (told.sectors d) budget (text.text o)) (around new (told.sectors d1) left (text.text o1)) (Err f) → GoUntold {T = T} text told r turns budget (o, d) (o1, d1) (Err f) →
+    AnyGoRuns (told.size d) r turns (around r (told.sectors d) budget) (around new (told.sectors d1) left) (Err f) → GoUntold {T = T} text told r turns budget (o, d) (o1, d1) (Err f) →
     RestUntold text told r turns budget (o, d) (o1, d1) (end_of_fault f)
 rest_broken T text told r new o o1 d d1 turns budget left counts f goes calls y s k t wanted steps alone on fine comes here is more sum =
     let x = outside_of r.machine.rows (told.size d) in
@@ -99,7 +99,7 @@ rest_broken T text told r new o o1 d d1 turns budget left counts f goes calls y 
       is = λ none. by f (sym (blames_so f) ∙ none) goes;
     })
   where
-    by : (f : RunFault) → of_run f ≡ None → AnyGoRuns (told.size d) r turns (around r (told.sectors d) budget (text.text o)) (around new (told.sectors d1) left (text.text o1)) (Err f) →
+    by : (f : RunFault) → of_run f ≡ None → AnyGoRuns (told.size d) r turns (around r (told.sectors d) budget) (around new (told.sectors d1) left) (Err f) →
         end_of_fault f ≡ power_end (run_at (outside_of r.machine.rows (told.size d)) y s Boot wanted steps)
     by StepLimit none goes =
         let x = outside_of r.machine.rows (told.size d) in
@@ -113,7 +113,7 @@ rest_broken T text told r new o o1 d d1 turns budget left counts f goes calls y 
 
 -- OR CAME TO ITS END, and the run is closed
 module _ {L O D : Type 0} (text : sink_of.Ghosts O) (told : sectors_of.Ghosts D) (r mid : Kept L) (o o1 o2 : O) (d d1 d2 : D) (turns budget left : ℕ) (counts : TurnLaws) (e : RunEnd)
-    (goes : AnyGoRuns (told.size d) r turns (around r (told.sectors d) budget (text.text o)) (around mid (told.sectors d1) left (text.text o1)) (Ok tt)) (calls : GoUntold {T = Unit {0}} text told r turns budget (o, d) (o1, d1) (Ok tt))
+    (goes : AnyGoRuns (told.size d) r turns (around r (told.sectors d) budget) (around mid (told.sectors d1) left) (Ok tt)) (calls : GoUntold {T = Unit {0}} text told r turns budget (o, d) (o1, d1) (Ok tt))
     (closes : CloseCalls text told mid (o1, d1) (o2, d2) e) (how : has_faulted mid.ended ≡ is_faulted e) (other : e ≢ ends.OutOfSteps) (plain : EndsUnsaved e) where
   -- the report, by whether the kernel faulted
   closed_by : (faulted : Bool) → has_faulted mid.ended ≡ faulted → (x : device.Environment) (y : System) (s : State) (wanted steps t : ℕ) → power_end (run_at x y s Boot wanted steps) ≡ closed_end faulted →

@@ -79,10 +79,10 @@ module _ {L O D : Type 0} (text : sink_of.Ghosts O) (told : sectors_of.Ghosts D)
         (each_text (λ i. script_of_step x (run x s (t + i))) n (at text told shelf o1 d) (at text told shelf o2 d1) (of_run f) (calls.untraced alone s t is shelf))
 
     -- or made, and the text behind them was put, or cut off
-    pub untold_made : {R T : Type 0} (v : R) → StepsCall {T = R} text told (map_of (boot_of r.boot)) r.machine r.tracer (o1, d) (o2, d1) n (Ok v) → n ≡ budget - left → left ≤ budget → (made : ℕ) (answer : Turn) → 1 ≤ made → (retext : Option (List ℕ)) →
-        AnyTurnsRun (told.size d) r most (around r (told.sectors d) budget (text.text o)) (around new (told.sectors d1) left retext) (Ok (made, answer)) → (rows : List ℕ) (result : Result T RunFault) →
+    pub untold_made : {R T : Type 0} (v : R) → StepsCall {T = R} text told (map_of (boot_of r.boot)) r.machine r.tracer (o1, d) (o2, d1) n (Ok v) → n ≡ budget - left → left ≤ budget → (made : ℕ) (answer : Turn) → 1 ≤ made →
+        AnyTurnsRun (told.size d) r most (around r (told.sectors d) budget) (around new (told.sectors d1) left) (Ok (made, answer)) → (rows : List ℕ) (result : Result T RunFault) →
         Puts rows (output text o2) (output text o3) (blame of_run result) → TurnsUntold text told r (o, d) (o3, d1) n result
-    untold_made v calls n_is less made answer some retext runs rows result behind s k t alone on fine comes here is shelf =
+    untold_made v calls n_is less made answer some runs rows result behind s k t alone on fine comes here is shelf =
         let x = outside_of r.machine.rows (told.size d) in
         let g = runs s k t comes here is on in
         let spent : left + g.at ≡ budget + t = g.spent in
@@ -115,7 +115,7 @@ UntoldAt text told r rows size o d o1 d1 n blamed =
 
 module _ {L O D : Type 0} (text : sink_of.Ghosts O) (told : sectors_of.Ghosts D) (r now : Kept L) (o o1 o2 : O) (d d1 d2 : D) (budget left i : ℕ) (kept : KeepsLoad r now) (size : told.size d1 ≡ told.size d) (less : left ≤ budget)
     (alone_too : r.tracer ≡ None → now.tracer ≡ None) (on_too : now.ended ≡ None) (fine_too : now.fault ≡ None)
-    (going : AnyGoing (told.size d) r (around r (told.sectors d) budget (text.text o)) i (around now (told.sectors d1) left (text.text o1))) (so : TurnsUntold {T = Unit {0}} text told r (o, d) (o1, d1) (budget - left) (Ok tt)) where
+    (going : AnyGoing (told.size d) r (around r (told.sectors d) budget) i (around now (told.sectors d1) left)) (so : TurnsUntold {T = Unit {0}} text told r (o, d) (o1, d1) (budget - left) (Ok tt)) where
   next_at : {T : Type 0} (n : ℕ) (result : Result T RunFault) → TurnsUntold text told now (o1, d1) (o2, d2) n result → UntoldAt text told now r.machine.rows (told.size d) o1 d1 o2 d2 n (blame of_run result)
   next_at n result calls =
       subst (λ (q : ℕ). UntoldAt text told now r.machine.rows q o1 d1 o2 d2 n (blame of_run result)) size
@@ -153,7 +153,7 @@ module _ (x : device.Environment) (s : State) (wanted : ℕ) where
 
 -- IT CAME TO ITS END
 module _ {L O D : Type 0} (text : sink_of.Ghosts O) (told : sectors_of.Ghosts D) (r new : Kept L) (o o1 : O) (d d1 : D) (budget left turns : ℕ) (counts : TurnLaws) (less : left ≤ budget) where
-  pub untold_came : TurnsUntold {T = Unit {0}} text told r (o, d) (o1, d1) (budget - left) (Ok tt) → AnyGoRuns (told.size d) r turns (around r (told.sectors d) budget (text.text o)) (around new (told.sectors d1) left (text.text o1)) (Ok tt) →
+  pub untold_came : TurnsUntold {T = Unit {0}} text told r (o, d) (o1, d1) (budget - left) (Ok tt) → AnyGoRuns (told.size d) r turns (around r (told.sectors d) budget) (around new (told.sectors d1) left) (Ok tt) →
       GoUntold {T = Unit {0}} text told r turns budget (o, d) (o1, d1) (Ok tt)
   untold_came so goes s k t wanted steps alone on fine comes here is more sum shelf =
       let x = outside_of r.machine.rows (told.size d) in
@@ -174,7 +174,7 @@ module _ {L O D : Type 0} (text : sink_of.Ghosts O) (told : sectors_of.Ghosts D)
 
   -- OR FAILED
   pub untold_failed : (T : Type 0) (f : RunFault) → TurnsUntold {T = T} text told r (o, d) (o1, d1) (budget - left) (Err f) →
-      AnyGoRuns (told.size d) r turns (around r (told.sectors d) budget (text.text o)) (around new (told.sectors d1) left (text.text o1)) (Err f) → GoUntold {T = T} text told r turns budget (o, d) (o1, d1) (Err f)
+      AnyGoRuns (told.size d) r turns (around r (told.sectors d) budget) (around new (told.sectors d1) left) (Err f) → GoUntold {T = T} text told r turns budget (o, d) (o1, d1) (Err f)
   untold_failed T f so goes s k t wanted steps alone on fine comes here is more sum shelf =
       let x = outside_of r.machine.rows (told.size d) in
       by f x s t wanted steps (subst (λ i. BrokeOff x s i t (state_seen (told.sectors d1) new.machine) budget left f) more (goes s k t comes here is on)) sum shelf

@@ -1,5 +1,5 @@
 -- What the calls of a loaded run come to on any run of the machine, whatever state that begins from: a run that is resumed from what no save left, file
--- and disk, is one. Nothing is said of the text.
+-- and disk, is one.
 use Rattle.std.specs.Prelude.{◌≡◌, ℕ, ◌+◌, Bool, true, false, Some, None, Result, MatchResult}
 use Rattle.mips_table.specs.Device.{Environment}
 use Rattle.mips_table.specs.Machine.{State, run}

@@ -43,12 +43,16 @@ abbrev pub IsReport : RunEnd → List Call → Type 0
 IsReport Done report = AreReads report
 IsReport other report = report ≡ []
 
+-- the steps of a run from step number t on
+abbrev pub untold_rest : Run → (t : ℕ) → List Call
+untold_rest r t = untold_script r.around r.first t (steps_made r - t)
+
 -- THE CALLS of a run from step number t on: its transfers, and a report
 pub record EndsUntold {O D : Type 0} (text : sink_of.Ghosts O) (told : sectors_of.Ghosts D) (old new : O × D) (r : Run) (t : ℕ) (end : RunEnd) :
     Type 0 where
   pub report : List Call
   pub is_report : IsReport (power_end r) report
-  pub ends : EndsBy text told old new (untold_script r.around r.first t (steps_made r - t) ++ report) (power_end r) end
+  pub ends : EndsBy text told old new (untold_rest r t ++ report) (power_end r) end
 
 -- TURNS of a loaded run, in n steps, from each step of each run, from any state, in which its machine stands: no user is traced, and it goes on
 abbrev pub TurnsUntold : {O D L T : Type 0} → sink_of.Ghosts O → sectors_of.Ghosts D → Kept L → (old new : O × D) → (n : ℕ) → Result T RunFault →

@@ -68,12 +68,12 @@ module _ {D : Type 0} (size : D → ℕ) where
     pub limit : result ≡ Err StepLimit → run.fault ≡ None → (left ≡ 0) × (new.machine.hardware.off ≡ None)
 
 -- TURNS, so many at most: what they leave, and what they come to
-module _ {D O : Type 0} (size : D → ℕ) (sectors : D → Option (List (List ℕ))) (text : O → Option (List ℕ)) where
-  pub record TurnsSay {L : Type 0} (most : ℕ) (run : Kept L) (disk : D) (budget : ℕ) (out : O) (new : Kept L) (retold : D) (left : ℕ) (printed : O)
+module _ {D : Type 0} (size : D → ℕ) (sectors : D → Option (List (List ℕ))) where
+  pub record TurnsSay {L O : Type 0} (most : ℕ) (run : Kept L) (disk : D) (budget : ℕ) (out : O) (new : Kept L) (retold : D) (left : ℕ) (printed : O)
       (result : Result (ℕ × Turn) RunFault) : Type 0 where
     pub leaves : TurnsLeave size most run disk budget out new retold left printed result
-    pub ends : TakesTurns size sectors text most run disk budget out new retold left printed result
-    pub any : ProceedsAnyhow size sectors text most run disk budget out new retold left printed result
+    pub ends : TakesTurns size sectors most run disk budget new retold left result
+    pub any : ProceedsAnyhow size sectors most run disk budget new retold left result
 
 -- one turn at most, as a call of `turns` answers it
 abbrev pub as_turns : Result Turn RunFault → Result (ℕ × Turn) RunFault

@@ -13,7 +13,6 @@ use Rattle.layer_contract.specs.Boots.{boot_of}
 use Rattle.layer_contract.specs.Follows.{loaded}
 use Rattle.layer_contract.specs.Starts.{user_sectors, Beyond}
 use Rattle.boot_turns.specs.Sooner.{NoSooner}
-use Rattle.boot_turns.specs.TurnEnds.{Printed}
 use Rattle.boot_turns.specs.Premises.{StartsFrom}
 use Rattle.boot_turns.specs.Rom.{rom_sectors, rom_steps}
 use Rattle.boot_turns.specs.declared.answers.View.{View}
@@ -25,7 +24,6 @@ use Rattle.boot_run.specs.Loading.{system_of}
 use Rattle.boot_run.specs.LoadEnds.{Kept, pages_needed, rom_needed}
 use Rattle.boot_run.specs.SavedRuns.{IsDisk}
 use Rattle.boot_run.specs.TurnCalls.{Around, Ready}
-use Rattle.boot_run.specs.Sink.{Base}
 use Rattle.boot_run.specs.Whole.{rom_start_of}
 
 -- The premises of a run: what is booted under these rows, over a disk of so many sectors, which were `old` before the load. It
@@ -58,26 +56,23 @@ abbrev pub AreRomBootable : Booted → Rows → (count : ℕ) → (told : Option
 AreRomBootable b rows count told = (old : List (List ℕ)) → told ≡ Some old → rom_needed b ≤ count → RomBootable b rows count old
 
 -- the wanted turns are complete, or the run has ended, within the steps
-pub record Gone (x : Environment) (y : System) (s : State) (v : View) (base : Base) (turns steps : ℕ) (after : Around) : Type 0 where
+pub record Gone (x : Environment) (y : System) (s : State) (v : View) (turns steps : ℕ) (after : Around) : Type 0 where
   pub count : ℕ
   pub at : ℕ
   pub past : Cvm
-  pub ready : Ready x y s v base (suc count) at past after
+  pub ready : Ready x y s v (suc count) at past after
   pub end : IsTurnEnd x s turns at
   pub within : at ≤ steps
 
 -- they aren't
-pub record Late (x : Environment) (y : System) (s : State) (v : View) (base : Base) (turns steps : ℕ) (after : Around) : Type 0 where
+pub record Late (x : Environment) (s : State) (turns steps : ℕ) (after : Around) : Type 0 where
   pub none : is_end x s turns (end_within x s turns steps) ≡ false
   pub state : after.state ≡ Some (run x s (end_within x s turns steps))
-  pub shown : List ℕ
-  pub printed : Printed x y s v (end_within x s turns steps) shown
-  pub text : after.text ≡ base.shows shown
 
 -- the steps were spent; what a fault of the disk or the sink leaves the script tells
-abbrev pub GoFails : Environment → System → State → View → Base → (turns steps : ℕ) → Around → RunFault → Type 0
-GoFails x y s v base turns steps after StepLimit = Late x y s v base turns steps after
-GoFails x y s v base turns steps after other = ⊤
+abbrev pub GoFails : Environment → State → (turns steps : ℕ) → Around → RunFault → Type 0
+GoFails x s turns steps after StepLimit = Late x s turns steps after
+GoFails x s turns steps after other = ⊤
 
 -- k turns are complete at step t for the first time: before, fewer were, and the machine was on
 abbrev pub FirstAt : Environment → State → (k t : ℕ) → Type 0
@@ -86,12 +81,12 @@ FirstAt x s k t = NoSooner x s k t
 -- THE LOOP over turns, from any moment at which turns are complete for the first time
 abbrev pub GoRuns : {L : Type 0} → (count : ℕ) → Kept L → ℕ → (before after : Around) → Result (Unit {0}) RunFault → Type 0
 GoRuns count r turns before after result =
-    (y : System) (s : State) (late held : ℕ) (old : List (List ℕ)) (base : Base) (k t wanted steps : ℕ) (c : Cvm) →
+    (y : System) (s : State) (late held : ℕ) (old : List (List ℕ)) (k t wanted steps : ℕ) (c : Cvm) →
     Bootable r.boot r.machine.rows count y s late held old →
     FirstAt (outside_of r.machine.rows count) s k t → 1 ≤ wanted → k + turns ≡ wanted → before.budget + t ≡ steps →
-    Ready (outside_of r.machine.rows count) y s r.view base k t c before →
-    MatchResult result (λ _. Gone (outside_of r.machine.rows count) y s r.view base wanted steps after)
-    (GoFails (outside_of r.machine.rows count) y s r.view base wanted steps after)
+    Ready (outside_of r.machine.rows count) y s r.view k t c before →
+    MatchResult result (λ _. Gone (outside_of r.machine.rows count) y s r.view wanted steps after)
+    (GoFails (outside_of r.machine.rows count) s wanted steps after)
 
 -- how an ended run is told, and a fault
 abbrev pub end_of_fault : RunFault → RunEnd

@@ -28,7 +28,6 @@ use Rattle.boot_run.specs.Closing.{opening_script, report_by}
 use Rattle.boot_run.specs.RunScript.{rest_script, run_script, AreReads}
 use Rattle.boot_run.specs.Shown.{has_faulted}
 use Rattle.boot_run.specs.LoadEnds.{Kept}
-use Rattle.boot_run.specs.Sink.{Base}
 use Rattle.boot_run.specs.Pieces.{Bootable, FirstAt}
 use Rattle.boot_run.specs.TurnCalls.{around, Ready}
 
@@ -72,9 +71,9 @@ InTurns r p k t (suc n) old new blamed = (mid : Outside) × Performs (begin_scri
 abbrev pub TurnsPerform : {O D L T : Type 0} → sink_of.Ghosts O → sectors_of.Ghosts D → Kept L → (budget : ℕ) → (old new : O × D) → (n : ℕ) →
     Result T RunFault → Type 0
 TurnsPerform text told run budget (out, disk) new n result =
-    (u : CUnit) (y : System) (s : State) (late held : ℕ) (base : Base) (k t : ℕ) (c : Cvm) → y.boot ≡ boot_of run.boot →
+    (u : CUnit) (y : System) (s : State) (late held : ℕ) (k t : ℕ) (c : Cvm) → y.boot ≡ boot_of run.boot →
     StartsFrom (IsTypedState u) (outside_of run.machine.rows (told.size disk)) y s late held →
-    Ready (outside_of run.machine.rows (told.size disk)) y s run.view base k t c (around run (told.sectors disk) budget (text.text out)) →
+    Ready (outside_of run.machine.rows (told.size disk)) y s run.view k t c (around run (told.sectors disk) budget) →
     c.status ≡ Running → (turns steps : ℕ) (p : Past) →
     TellsFrom (run_at (outside_of run.machine.rows (told.size disk)) y s run.view turns steps) p t (t + n) →
     MakesAs text told (out, disk) new (InTurns (run_at (outside_of run.machine.rows (told.size disk)) y s run.view turns steps) p k t n) result
@@ -88,9 +87,9 @@ pub record TurnsCall {O D L T : Type 0} (text : sink_of.Ghosts O) (told : sector
 -- THE CALLS OF A REPORT, between turns of any boot of this kernel that stands there
 abbrev pub ReportPerforms : {O D L T : Type 0} → sink_of.Ghosts O → sectors_of.Ghosts D → Kept L → (old new : O × D) → Result T RunFault → Type 0
 ReportPerforms text told run (out, disk) new result =
-    (budget : ℕ) (y : System) (s : State) (late held : ℕ) (base : Base) (k t : ℕ) (c : Cvm) → y.boot ≡ boot_of run.boot →
+    (budget : ℕ) (y : System) (s : State) (late held : ℕ) (k t : ℕ) (c : Cvm) → y.boot ≡ boot_of run.boot →
     StartsFrom (IsTypedState (unit_view run.boot.unit)) (outside_of run.machine.rows (told.size disk)) y s late held →
-    Ready (outside_of run.machine.rows (told.size disk)) y s run.view base (suc k) t c (around run (told.sectors disk) budget (text.text out)) →
+    Ready (outside_of run.machine.rows (told.size disk)) y s run.view (suc k) t c (around run (told.sectors disk) budget) →
     (turns steps : ℕ) (p : Past) → TellsFrom (run_at (outside_of run.machine.rows (told.size disk)) y s run.view turns steps) p t t →
     Makes text told (out, disk) new
     (report_script run.view (run_at (outside_of run.machine.rows (told.size disk)) y s run.view turns steps) p t c.status) of_run result
@@ -155,10 +154,10 @@ pub record EndsBy {O D : Type 0} (text : sink_of.Ghosts O) (told : sectors_of.Gh
 abbrev pub GoPerforms : {O D L T : Type 0} → sink_of.Ghosts O → sectors_of.Ghosts D → Kept L → (turns budget : ℕ) → (old new : O × D) →
     Result T RunFault → Type 0
 GoPerforms text told run turns budget (out, disk) new result =
-    (y : System) (s : State) (late held : ℕ) (old : List (List ℕ)) (base : Base) (k t wanted steps : ℕ) (c : Cvm) →
+    (y : System) (s : State) (late held : ℕ) (old : List (List ℕ)) (k t wanted steps : ℕ) (c : Cvm) →
     Bootable run.boot run.machine.rows (told.size disk) y s late held old → FirstAt (outside_of run.machine.rows (told.size disk)) s k t → 1 ≤ wanted →
     k + turns ≡ wanted → budget + t ≡ steps →
-    Ready (outside_of run.machine.rows (told.size disk)) y s run.view base k t c (around run (told.sectors disk) budget (text.text out)) →
+    Ready (outside_of run.machine.rows (told.size disk)) y s run.view k t c (around run (told.sectors disk) budget) →
     c.status ≡ Running → (p : Past) → IsPast (run_at (outside_of run.machine.rows (told.size disk)) y s run.view wanted steps) p →
     Makes text told (out, disk) new (turns_script (run_at (outside_of run.machine.rows (told.size disk)) y s run.view wanted steps) p k t
     (steps_made (run_at (outside_of run.machine.rows (told.size disk)) y s run.view wanted steps) - t)) of_run result
@@ -173,10 +172,10 @@ pub record GoCalls {O D L T : Type 0} (text : sink_of.Ghosts O) (told : sectors_
 -- goes on
 abbrev pub RestPerforms : {O D L : Type 0} → sink_of.Ghosts O → sectors_of.Ghosts D → Kept L → (turns budget : ℕ) → (old new : O × D) → RunEnd → Type 0
 RestPerforms text told run turns budget (out, disk) new end =
-    (y : System) (s : State) (late held : ℕ) (old : List (List ℕ)) (base : Base) (k t wanted steps : ℕ) (c : Cvm) →
+    (y : System) (s : State) (late held : ℕ) (old : List (List ℕ)) (k t wanted steps : ℕ) (c : Cvm) →
     Bootable run.boot run.machine.rows (told.size disk) y s late held old → FirstAt (outside_of run.machine.rows (told.size disk)) s k t → 1 ≤ wanted →
     k + turns ≡ wanted → budget + t ≡ steps →
-    Ready (outside_of run.machine.rows (told.size disk)) y s run.view base k t c (around run (told.sectors disk) budget (text.text out)) →
+    Ready (outside_of run.machine.rows (told.size disk)) y s run.view k t c (around run (told.sectors disk) budget) →
     c.status ≡ Running → (p : Past) → IsPast (run_at (outside_of run.machine.rows (told.size disk)) y s run.view wanted steps) p →
     EndsBy text told (out, disk) new (begin_script (run_at (outside_of run.machine.rows (told.size disk)) y s run.view wanted steps) k
     ++ rest_script (run_at (outside_of run.machine.rows (told.size disk)) y s run.view wanted steps) p t)
@@ -185,9 +184,9 @@ RestPerforms text told run turns budget (out, disk) new end =
 -- THE CALLS THAT CLOSE A RUN: those of its report, by whom the end blames
 abbrev pub ClosePerforms : {O D L : Type 0} → sink_of.Ghosts O → sectors_of.Ghosts D → Kept L → (old new : O × D) → RunEnd → Type 0
 ClosePerforms text told run (out, disk) new end =
-    (budget : ℕ) (y : System) (s : State) (late held : ℕ) (base : Base) (k t : ℕ) (c : Cvm) → y.boot ≡ boot_of run.boot →
+    (budget : ℕ) (y : System) (s : State) (late held : ℕ) (k t : ℕ) (c : Cvm) → y.boot ≡ boot_of run.boot →
     StartsFrom (IsTypedState (unit_view run.boot.unit)) (outside_of run.machine.rows (told.size disk)) y s late held →
-    Ready (outside_of run.machine.rows (told.size disk)) y s run.view base (suc k) t c (around run (told.sectors disk) budget (text.text out)) →
+    Ready (outside_of run.machine.rows (told.size disk)) y s run.view (suc k) t c (around run (told.sectors disk) budget) →
     (turns steps : ℕ) (p : Past) → TellsFrom (run_at (outside_of run.machine.rows (told.size disk)) y s run.view turns steps) p t t →
     EndsBy text told (out, disk) new (report_script run.view (run_at (outside_of run.machine.rows (told.size disk)) y s run.view turns steps) p t c.status)
     (end_by true c.status) end

@@ -1,9 +1,10 @@
--- THE SCRIPTS OF WHOLE RUNS: a boot or a trace, the rest of one, and the steps of a machine of which nothing is known.
-use Rattle.std.specs.Prelude.{ℕ, ◌-◌, ⊤, if◌then◌else◌, List, [], ◌∷◌, ◌++◌, None}
+-- THE SCRIPTS OF WHOLE RUNS: a boot or a trace, and the rest of one; and a run that was saved.
+use Rattle.std.specs.Prelude.{◌≡◌, ℕ, ◌-◌, ◌≤◌, ⊤, if◌then◌else◌, List, [], ◌∷◌, ◌++◌, None}
+use Rattle.mips_table.specs.Turns.{IsTurnEnd}
 use Rattle.mips_machine.specs.Saved.{saved}
-use Rattle.mips_machine.specs.Steps.{script_of_step}
-use Rattle.cvm_outside.specs.Script.{Call, Printed, Read, scripts}
-use Rattle.boot_turns.specs.Runs.{Run, Past, state_at, turns_at, steps_made, has_ended, cvm_at}
+use Rattle.cvm_model.specs.Cvm.{Running}
+use Rattle.cvm_outside.specs.Script.{Call, Printed, Read}
+use Rattle.boot_turns.specs.Runs.{Run, Past, IsPast, state_at, turns_at, steps_made, has_ended, cvm_at}
 use Rattle.boot_turns.specs.StepScript.{steps_script}
 use Rattle.boot_run.specs.Closing.{opening_script, closing_script}
 
@@ -19,9 +20,15 @@ run_script r load p = load ++ opening_script r.view r.system ++ rest_script r p 
 abbrev pub saved_words : Run → Past → List ℕ
 saved_words r p = saved r.system.input (state_at r (steps_made r)) (turns_at r (steps_made r)) (cvm_at r p (steps_made r)).core.current
 
--- A RESUME of a machine of which nothing is known: its transfers, with texts that aren't told
-abbrev pub untold_steps : Run → List Call
-untold_steps r = scripts (λ t. script_of_step r.around (state_at r t) ++ Printed None ∷ []) (steps_made r)
+-- A RUN WAS SAVED in these words, with these sectors, after so many steps: there so many turns are complete for the first time, and the abstract machine
+-- goes on
+pub record WasSaved (r : Run) (past : Past) (words : List ℕ) (left : List (List ℕ)) (made : ℕ) : Type 0 where
+  pub is_past : IsPast r past
+  pub few : made ≤ r.steps
+  pub first : IsTurnEnd r.around r.first (turns_at r made) made
+  pub on : (cvm_at r past made).status ≡ Running
+  pub words_are : words ≡ saved r.system.input (state_at r made) (turns_at r made) (cvm_at r past made).core.current
+  pub left_is : left ≡ (state_at r made).device.sectors
 
 -- calls that only read sectors, and print texts that aren't told
 abbrev pub AreReads : List Call → Type 0

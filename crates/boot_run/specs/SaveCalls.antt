@@ -22,7 +22,6 @@ use Rattle.boot_run.specs.Closing.{closing_script}
 use Rattle.boot_run.specs.LoadEnds.{Kept}
 use Rattle.boot_run.specs.Pieces.{Bootable, FirstAt}
 use Rattle.boot_run.specs.RunCalls.{run_at, begin_script, report_script, TellsFrom, of_load, loads, of_end, end_by, EndsBy, Made, SomeMade}
-use Rattle.boot_run.specs.Sink.{Base}
 use Rattle.boot_run.specs.TurnCalls.{around, Ready}
 
 -- nothing where a run goes on, and else what closes it
@@ -46,9 +45,9 @@ due_stop r p = stop_by (has_ended r) (cvm_at r p (steps_made r)).status
 -- THE CALLS THAT STOP A RUN, between turns of any boot of this kernel that stands there, or close it
 abbrev pub StopPerforms : {O D L : Type 0} → sink_of.Ghosts O → sectors_of.Ghosts D → Kept L → (old new : O × D) → RunEnd → Type 0
 StopPerforms text told run (out, disk) new end =
-    (budget : ℕ) (y : System) (s : State) (late held : ℕ) (base : Base) (k t : ℕ) (c : Cvm) → y.boot ≡ boot_of run.boot →
+    (budget : ℕ) (y : System) (s : State) (late held : ℕ) (k t : ℕ) (c : Cvm) → y.boot ≡ boot_of run.boot →
     StartsFrom (IsTypedState (unit_view run.boot.unit)) (outside_of run.machine.rows (told.size disk)) y s late held →
-    Ready (outside_of run.machine.rows (told.size disk)) y s run.view base (suc k) t c (around run (told.sectors disk) budget (text.text out)) →
+    Ready (outside_of run.machine.rows (told.size disk)) y s run.view (suc k) t c (around run (told.sectors disk) budget) →
     (turns steps : ℕ) (p : Past) → TellsFrom (run_at (outside_of run.machine.rows (told.size disk)) y s run.view turns steps) p t t →
     EndsBy text told (out, disk) new
     (unless_on c.status (report_script run.view (run_at (outside_of run.machine.rows (told.size disk)) y s run.view turns steps) p t c.status))
@@ -62,10 +61,10 @@ pub record StopCalls {O D L : Type 0} (text : sink_of.Ghosts O) (told : sectors_
 abbrev pub ToStopPerforms : {O D L : Type 0} → sink_of.Ghosts O → sectors_of.Ghosts D → Kept L → (turns budget : ℕ) → (old new : O × D) → RunEnd →
     Type 0
 ToStopPerforms text told run turns budget (out, disk) new end =
-    (y : System) (s : State) (late held : ℕ) (old : List (List ℕ)) (base : Base) (k t wanted steps : ℕ) (c : Cvm) →
+    (y : System) (s : State) (late held : ℕ) (old : List (List ℕ)) (k t wanted steps : ℕ) (c : Cvm) →
     Bootable run.boot run.machine.rows (told.size disk) y s late held old → FirstAt (outside_of run.machine.rows (told.size disk)) s k t → 1 ≤ wanted →
     k + turns ≡ wanted → budget + t ≡ steps →
-    Ready (outside_of run.machine.rows (told.size disk)) y s run.view base k t c (around run (told.sectors disk) budget (text.text out)) →
+    Ready (outside_of run.machine.rows (told.size disk)) y s run.view k t c (around run (told.sectors disk) budget) →
     c.status ≡ Running → (p : Past) → IsPast (run_at (outside_of run.machine.rows (told.size disk)) y s run.view wanted steps) p →
     EndsBy text told (out, disk) new (begin_script (run_at (outside_of run.machine.rows (told.size disk)) y s run.view wanted steps) k
     ++ stop_script (run_at (outside_of run.machine.rows (told.size disk)) y s run.view wanted steps) p t)

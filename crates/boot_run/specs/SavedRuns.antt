@@ -1,6 +1,5 @@
--- What a saved run leaves, what is printed of one that is taken up from there, and which sectors are those of a disk.
-use Rattle.std.specs.Prelude.{◌≡◌, ℕ, ◌≤◌, Some, None, Option, List, length, drop, All}
-use Rattle.std.specs.Io.KnownBytes.{append_known}
+-- What a saved run leaves, and which sectors are those of a disk.
+use Rattle.std.specs.Prelude.{◌≡◌, ℕ, ◌≤◌, Some, None, Option, List, length, All}
 use Rattle.mips_table.specs.Device.{Environment}
 use Rattle.mips_table.specs.Turns.{IsTurnEnd}
 use Rattle.mips_table.specs.Machine.{State, run}
@@ -8,7 +7,6 @@ use Rattle.mips_machine.specs.Saved.{saved}
 use Rattle.cvm_model.specs.Cvm.{System, Cvm}
 use Rattle.cvm_model.specs.Text.{rows_text}
 use Rattle.boot_turns.specs.TurnEnds.{Stood}
-use Rattle.boot_run.specs.Sink.{Base}
 use Rattle.mips_table.specs.Fits.{IsPage}
 
 -- THE SAVED RUN of so many turns, from `s`: the first step at which they are complete comes within the steps; the
@@ -23,10 +21,6 @@ pub record SavedAt (x : Environment) (y : System) (s : State) (turns steps : ℕ
   pub words_are : words ≡ saved y.input (run x s at) turns past.core.current
   pub left_is : left ≡ (run x s at).device.sectors
   pub shown_is : shown ≡ rows_text past.rows
-
--- the sink of a run that is taken up: it had this text, and gets what comes behind `shown`
-abbrev pub after_saved : (had : Option (List ℕ)) (shown : List ℕ) → Base
-after_saved had shown = record { least = length shown; shows = λ text. append_known had (drop (length shown) text) }
 
 -- so many sectors, of 1,024 words each
 pub record IsDisk (count : ℕ) (old : List (List ℕ)) : Type 0 where

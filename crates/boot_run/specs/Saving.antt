@@ -16,7 +16,6 @@ use Rattle.boot_run.specs.declared.whole.RunEnd.TheVariants.{Stopped}
 use Rattle.boot_run.specs.Loading.{system_of}
 use Rattle.boot_run.specs.LoadEnds.{Kept}
 use Rattle.boot_run.specs.SavedRuns.{SavedAt}
-use Rattle.boot_run.specs.Sink.{Base}
 use Rattle.boot_run.specs.TurnCalls.{Around, around, Ready}
 use Rattle.boot_run.specs.Pieces.{Bootable, FirstAt}
 
@@ -33,10 +32,10 @@ Stops x y s turns steps words now end = end ≡ Stopped → (shown : List ℕ) �
 abbrev pub RunsToStop : {L : Type 0} → (count : ℕ) → (r new : Kept L) → (turns : ℕ) → (before : Around) → (retold : Option (List (List ℕ))) → RunEnd →
     Type 0
 RunsToStop count r new turns before retold result =
-    (s : State) (late held : ℕ) (old : List (List ℕ)) (base : Base) (k t wanted total : ℕ) (c : Cvm) (now : List (List ℕ)) →
+    (s : State) (late held : ℕ) (old : List (List ℕ)) (k t wanted total : ℕ) (c : Cvm) (now : List (List ℕ)) →
     Bootable r.boot r.machine.rows count (system_of r.boot r.machine.rows) s late held old → r.view ≡ Boot →
     FirstAt (outside_of r.machine.rows count) s k t → 1 ≤ wanted → k + turns ≡ wanted → before.budget + t ≡ total →
-    Ready (outside_of r.machine.rows count) (system_of r.boot r.machine.rows) s r.view base k t c before → retold ≡ Some now →
+    Ready (outside_of r.machine.rows count) (system_of r.boot r.machine.rows) s r.view k t c before → retold ≡ Some now →
     Stops (outside_of r.machine.rows count) (system_of r.boot r.machine.rows) s wanted total (saved_run new) now result
 
 -- and of a call that loads one, with the run
@@ -72,13 +71,11 @@ pub record IsTakenUp {L : Type 0} (layer : L) (boot : Booted) (rows : Rows) (cou
 abbrev pub StaysThere : {L D O : Type 0} → Kept L → D → O → Kept L → D → O → RunEnd → Type 0
 StaysThere run disk out new redisk reout end = end ≡ Stopped → (run.ended ≡ None) × (new ≡ run) × (redisk ≡ disk) × (reout ≡ out)
 
--- The calls, by the run, the disk and the sink before, and then by the run and the disk after. The first words of each tell the disk's size, its sectors
--- and the sink's text.
-module _ {D O : Type 0} (size : D → ℕ) (sectors : D → Option (List (List ℕ))) (text : O → Option (List ℕ)) where
+-- The calls, by the run and the disk before, and then by those after. The first words of each tell the disk's size and its sectors.
+module _ {D : Type 0} (size : D → ℕ) (sectors : D → Option (List (List ℕ))) where
   -- a loaded run is run to where it can be saved
-  abbrev pub RunStops : {L : Type 0} → (turns steps : ℕ) → Kept L → D → O → Kept L → D → RunEnd → Type 0
-  RunStops turns steps run disk out new redisk result =
-      RunsToStop (size disk) run new turns (around run (sectors disk) steps (text out)) (sectors redisk) result
+  abbrev pub RunStops : {L : Type 0} → (turns steps : ℕ) → Kept L → D → Kept L → D → RunEnd → Type 0
+  RunStops turns steps run disk new redisk result = RunsToStop (size disk) run new turns (around run (sectors disk) steps) (sectors redisk) result
 
 -- what is booted over such a disk, under a schedule, is run so
 abbrev pub StopsSaved : {L D : Type 0} → (size : D → ℕ) → (sectors : D → Option (List (List ℕ))) → Booted → Rows → (turns steps : ℕ) → D → D →

@@ -76,18 +76,18 @@ pub record Counted {L : Type 0} (old new : Kept L) (skipped : ℕ) (b : Begun) (
   pub ended : new.ended ≡ end_of_next (next_of_held new.machine)
   pub is : answer ≡ answer_of (count_on old.turns skipped) old.current b (next_of_held new.machine)
 
--- what the machine did, and what a trace printed, over a disk of so many sectors, with these texts and budgets; a boot prints nothing yet
-pub record Moved {L : Type 0} (count : ℕ) (old new : Kept L) (most : ℕ) (told retold : Option (List (List ℕ))) (text retext : Option (List ℕ)) (budget left : ℕ)
+-- what the machine did, and what is kept of a trace, over a disk of so many sectors, with these budgets; a boot prints nothing yet
+pub record Moved {L : Type 0} (count : ℕ) (old new : Kept L) (most : ℕ) (told retold : Option (List (List ℕ))) (budget left : ℕ)
     (result : Result (ℕ × Begun) RunFault) : Type 0 where
   pub advances : Advances count old.machine new.machine told retold budget left most result
   pub anyhow : AnyTurns count old.machine new.machine told retold budget left most result
   pub traces : TraceRuns count (map_of (boot_of old.boot)) old.machine told
-      (record { tracer = old.tracer; text = text; budget = budget }) (record { tracer = new.tracer; text = retext; budget = left }) result
+      (record { tracer = old.tracer; budget = budget }) (record { tracer = new.tracer; budget = left }) result
   pub silent : old.tracer ≡ None → result ≢ Err Sink
 
 -- THE TURNS: the last is complete and all are counted, or it was broken off
-abbrev pub MakesTurn : {L : Type 0} → (count : ℕ) → (old new : Kept L) → (most : ℕ) → (told retold : Option (List (List ℕ))) → (text retext : Option (List ℕ)) →
-    (budget left : ℕ) → Result (ℕ × Turn) RunFault → Type 0
-MakesTurn count old new most told retold text retext budget left result = MatchResult result
-    (λ r. (n : ℕ) × (b : Begun) × (r.0 ≡ n + 1) × Moved count old new most told retold text retext budget left (Ok (n, b)) × Counted old new n b r.1)
-    (λ fault. Moved count old new most told retold text retext budget left (Err fault) × (new.ended ≡ old.ended))
+abbrev pub MakesTurn : {L : Type 0} → (count : ℕ) → (old new : Kept L) → (most : ℕ) → (told retold : Option (List (List ℕ))) → (budget left : ℕ) →
+    Result (ℕ × Turn) RunFault → Type 0
+MakesTurn count old new most told retold budget left result = MatchResult result
+    (λ r. (n : ℕ) × (b : Begun) × (r.0 ≡ n + 1) × Moved count old new most told retold budget left (Ok (n, b)) × Counted old new n b r.1)
+    (λ fault. Moved count old new most told retold budget left (Err fault) × (new.ended ≡ old.ended))

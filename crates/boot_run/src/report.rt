@@ -37,14 +37,23 @@ fn put_kernel<O: Sink>(
     Ok(())
 }
 
-// The user that the machine of a run runs between turns: the current one, and once it halted none, 0.
-fn runs_now(halted: bool, current: u32) -> u32
-    ensures { result ≡ runs_now halted current }
-{
-    if halted { 0 } else { current }
+/// How a run stands between turns.
+#[derive(Clone, Copy, Debug, PartialEq, Eq)]
+pub(crate) struct Standing {
+    /// Whether it halted.
+    pub(crate) halted: bool,
+    /// The current user.
+    pub(crate) current: u32,
 }
 
-// Prints the end and the report of a run that halted, or goes on with this current user.
+// The user that the machine of a run runs between turns: the current one, and once it halted none, 0.
+fn runs_now(standing: Standing) -> u32
+    ensures { result ≡ runs_now standing.halted standing.current }
+{
+    if standing.halted { 0 } else { standing.current }
+}
+
+// Prints the end and the report of a run that halted, or goes on.
 //
 // # Errors
 //
@@ -53,8 +62,7 @@ pub(crate) fn put_closing<D: Sectors, O: Sink>(
     machine: &Machine,
     places: &Places,
     decls: &[Decl],
-    halted: bool,
-    current: u32,
+    standing: Standing,
     disk: &mut D,
     out: &mut O,
 ) -> Result<(), ReportFault>
@@ -62,10 +70,10 @@ pub(crate) fn put_closing<D: Sectors, O: Sink>(
     requires users { CanReadUsers places.now.map (length machine.now.hardware.memory) (D.size disk.old) }
     requires inside { AreInside places.now.map places.now.offsets.items }
     ensures { Makes O.Sink D.Sectors (out.old, disk.old) (out.new, disk.new)
-        (closing_calls halted current machine.now (D.sectors disk.old) places.now decls.now) of_report result }
+        (closing_calls standing.halted standing.current machine.now (D.sectors disk.old) places.now decls.now) of_report result }
 {
-    put_kernel(machine, places, decls, halted, out)?;
-    let running = runs_now(halted, current);
+    put_kernel(machine, places, decls, standing.halted, out)?;
+    let running = runs_now(standing);
     put_users(machine, &places.map, running, disk, out)
 }
 
@@ -77,8 +85,7 @@ fn put_last<O: Sink>(steps: u64, halted: bool, out: &mut O) -> Result<(), SinkFa
     put_end(halted, out)
 }
 
-// Prints what ends a trace of a run that halted, or goes on with this current user: the row of the last steps, the end, and the rows of
-// the traced user.
+// Prints what ends a trace of a run that halted, or goes on: the row of the last steps, the end, and the rows of the traced user.
 //
 // # Errors
 //
@@ -87,17 +94,16 @@ pub(crate) fn put_trace_closing<D: Sectors, O: Sink>(
     machine: &Machine,
     map: &Map,
     tracer: Tracer,
-    halted: bool,
-    current: u32,
+    standing: Standing,
     disk: &mut D,
     out: &mut O,
 ) -> Result<(), ReportFault>
     requires { CanReadUser map.now tracer.user (length machine.now.hardware.memory) (D.size disk.old) }
     ensures { Makes O.Sink D.Sectors (out.old, disk.old) (out.new, disk.new)
-        (trace_calls halted current machine.now (D.sectors disk.old) map.now tracer) of_report result }
+        (trace_calls standing.halted standing.current machine.now (D.sectors disk.old) map.now tracer) of_report result }
 {
-    put_last(tracer.steps, halted, out)?;
-    let running = runs_now(halted, current);
+    put_last(tracer.steps, standing.halted, out)?;
+    let running = runs_now(standing);
     put_user_rows(machine, map, running, tracer.user, disk, out)
 }
 

@@ -32,7 +32,7 @@ use crate::load::{
 use crate::next::{ended_by, has_faulted, seen_next};
 use crate::pages::write_pages;
 use crate::places::{Places, places_of};
-use crate::report::{as_run, put_closing, put_trace_closing};
+use crate::report::{Standing, as_run, put_closing, put_trace_closing};
 use crate::resuming::resumed_machine;
 use crate::turn_rows::{put_fault, put_row, put_start};
 use boot_report::{a_user_is_told, the_globals_tell, the_rows_tell};
@@ -261,7 +261,7 @@ impl<L: Layer + Drop> Run<L> {
     ) -> Result<(u32, Turn), RunFault>
         requires can { CanMake most self.old (D.size disk.old) budget.old }
         ensures makes { TurnsMake D.size most self.old disk.old budget.old self.new disk.new budget.new result }
-        ensures ends { MakesTurns D.size D.sectors O.text most self.old disk.old budget.old out.old self.new disk.new budget.new out.new result }
+        ensures ends { MakesTurns D.size D.sectors most self.old disk.old budget.old self.new disk.new budget.new result }
         ensures untraced { self.old.tracer ≡ None → (self.new.tracer ≡ None) × (out.new ≡ out.old) }
         ensures script { StepsCall O.Sink D.Sectors (map_of (boot_of self.old.boot)) self.old.machine self.old.tracer
             (out.old, disk.old) (out.new, disk.new) (budget.old - budget.new) result }
@@ -322,8 +322,8 @@ impl<L: Layer + Drop> Run<L> {
     ) -> Result<(u32, Turn), RunFault>
         requires can { CanMake most self.old (D.size disk.old) budget.old }
         ensures makes { TurnsMake D.size most self.old disk.old budget.old self.new disk.new budget.new result }
-        ensures ends { Proceeds D.size D.sectors O.text most self.old disk.old budget.old out.old self.new disk.new budget.new out.new result }
-        ensures any { ProceedsAnyhow D.size D.sectors O.text most self.old disk.old budget.old out.old self.new disk.new budget.new out.new result }
+        ensures ends { Proceeds D.size D.sectors most self.old disk.old budget.old self.new disk.new budget.new result }
+        ensures any { ProceedsAnyhow D.size D.sectors most self.old disk.old budget.old self.new disk.new budget.new result }
         ensures script { TurnsCall O.Sink D.Sectors self.old budget.old (out.old, disk.old) (out.new, disk.new) (budget.old - budget.new) result }
         ensures untold { TurnsUntold O.Sink D.Sectors self.old (out.old, disk.old) (out.new, disk.new) (budget.old - budget.new) result }
         ensures untraced { self.old.tracer ≡ None → self.new.tracer ≡ None }
@@ -355,7 +355,7 @@ impl<L: Layer + Drop> Run<L> {
         out: &mut O,
     ) -> Result<(u32, Turn), RunFault>
         requires can { CanMake most self.old (D.size disk.old) budget.old }
-        ensures says { TurnsSay D.size D.sectors O.text most self.old disk.old budget.old out.old self.new disk.new budget.new out.new result }
+        ensures says { TurnsSay D.size D.sectors most self.old disk.old budget.old out.old self.new disk.new budget.new out.new result }
         ensures script { TurnsCall O.Sink D.Sectors self.old budget.old (out.old, disk.old) (out.new, disk.new) (budget.old - budget.new) result }
         ensures untold { TurnsUntold O.Sink D.Sectors self.old (out.old, disk.old) (out.new, disk.new) (budget.old - budget.new) result }
         ensures untraced { self.old.tracer ≡ None → self.new.tracer ≡ None }
@@ -388,7 +388,7 @@ impl<L: Layer + Drop> Run<L> {
         out: &mut O,
     ) -> Result<Turn, RunFault>
         requires can { CanMake 1 self.old (D.size disk.old) budget.old }
-        ensures says { TurnsSay D.size D.sectors O.text 1 self.old disk.old budget.old out.old self.new disk.new budget.new out.new (as_turns result) }
+        ensures says { TurnsSay D.size D.sectors 1 self.old disk.old budget.old out.old self.new disk.new budget.new out.new (as_turns result) }
         ensures script { TurnsCall O.Sink D.Sectors self.old budget.old (out.old, disk.old) (out.new, disk.new) (budget.old - budget.new) result }
     {
         let (_, turn) = self.turns(1, budget, disk, out)?;
@@ -412,27 +412,22 @@ impl<L: Layer + Drop> Run<L> {
         parts_are_in_order();
         memory_is_whole();
         let halted = self.ended.is_some();
+        let standing = Standing {
+            halted,
+            current: self.current,
+        };
         if let Some(tracer) = self.tracer {
             return as_run(put_trace_closing(
                 &self.machine,
                 &self.places.map,
                 tracer,
-                halted,
-                self.current,
+                standing,
                 disk,
                 out,
             ));
         }
         let decls = self.boot.unit.unit().globals.as_slice();
-        as_run(put_closing(
-            &self.machine,
-            &self.places,
-            decls,
-            halted,
-            self.current,
-            disk,
-            out,
-        ))
+        as_run(put_closing(&self.machine, &self.places, decls, standing, disk, out))
     }
 
     /// Prints the end and the report of a run that halted, or goes on: of a trace the row of the last steps, the end, and the rows of the

@@ -43,7 +43,7 @@ fn run_to_stop<L: Layer + Drop, D: Sectors, O: Sink>(
     out: &mut O,
 ) -> RunEnd
     requires can { CanRun limits.steps run.old (D.size disk.old) }
-    ensures stops { RunStops D.size D.sectors O.text limits.turns limits.steps run.old disk.old out.old run.new disk.new result }
+    ensures stops { RunStops D.size D.sectors limits.turns limits.steps run.old disk.old run.new disk.new result }
     ensures unput { result ≢ RunEnd.ShelfFault }
     ensures size { D.size disk.new ≡ D.size disk.old }
     ensures script { ToStopCalls O.Sink D.Sectors run.old limits.turns limits.steps (out.old, disk.old) (out.new, disk.new) result }

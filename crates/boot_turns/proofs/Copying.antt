@@ -1,10 +1,8 @@
 -- The rows of words that are put one after another.
 use Rattle.std.proofs.Common.{◌≡◌, ℕ, zero, suc, ◌+◌, ◌-◌, ◌*◌, ◌/◌, ◌<◌, ◌≤◌, false, Option, List, [], ◌∷◌, ◌++◌, length, take, drop, refl, sym, ap, ap₂, ◌∙◌, arith, append-nil, ne_eqb}
 use Rattle.std.specs.Prelude.{◌==◌, if◌then◌else◌, Bool, true}
-use Rattle.std.specs.Io.KnownBytes.{append_known}
 use Rattle.std.proofs.lemmas.List.{get_or-drop, length-drop, take_more}
 use Rattle.std.proofs.lemmas.Bool.{cond-false}
-use Rattle.cvm_outside.proofs.Parts.{append_known-nil, puts-both}
 use Rattle.mips_table.specs.Machine.{State}
 use Rattle.layer_map.specs.Map.{Map}
 use Rattle.page_model.specs.Paging.{Paged}
@@ -16,8 +14,17 @@ use Rattle.boot_report.specs.Told.{user_word, WordsAreTold}
 use Rattle.boot_turns.specs.declared.tracer.Tracer.{Tracer}
 use Rattle.boot_turns.specs.JournalText.{steps_after}
 use Rattle.boot_turns.specs.Steps.{KeepsTracer}
-use Rattle.boot_turns.specs.Copies.{user_words, copy_rows, copied_kept, steps_left}
+use Rattle.boot_turns.specs.Copies.{copied_kept, steps_left}
 use Rattle.boot_turns.proofs.JournalRows.{more}
+
+-- n words of user u from word k on
+abbrev pub user_words : Map → Paged → (u k n : ℕ) → List ℕ
+user_words m a u k zero = []
+user_words m a u k (suc n) = user_words m a u k n ++ user_word m a u (k + n) ∷ []
+
+-- the rows of the puts of these words from an address on, after so many steps with no row yet
+abbrev pub copy_rows : Map → Paged → (u steps address n : ℕ) → List ℕ
+copy_rows m a u steps address n = journal_rows_after false steps (puts address (user_words m a u (address / 4) n))
 
 -- one word more is put
 puts_one : (address : ℕ) (ws : List ℕ) (w : ℕ) → puts address (ws ++ w ∷ []) ≡ puts address ws ++ Put (address + 4 * length ws) w ∷ []
@@ -71,21 +78,6 @@ module _ (m : Map) (a : Paged) (u steps address : ℕ) where
       ∙ ap (λ s. copy_rows m a u steps address n ++ journal_rows_after false s (Put (address + 4 * n) (user_word m a u (address / 4 + n)) ∷ [])) (left_is n)
       ∙ ap (λ r. copy_rows m a u steps address n ++ r) (append-nil _)
 
-  module _ (old mid new : Option (List ℕ)) (i : ℕ) (row : List ℕ) (left : ℕ) (before : mid ≡ append_known old (copy_rows m a u steps address i))
-      (row_is : row ≡ entry_row (Put (address + 4 * i) (user_word m a u (address / 4 + i)))) (left_now : left ≡ steps_left steps i) where
-    both : steps_row left ++ row ≡ steps_row (steps_left steps i) ++ entry_row (Put (address + 4 * i) (user_word m a u (address / 4 + i)))
-    both = ap₂ (λ s r. steps_row s ++ r) left_now row_is
-
-    -- one more is put
-    pub one_put : new ≡ append_known mid (steps_row left ++ row) → new ≡ append_known old (copy_rows m a u steps address (i + 1))
-    one_put is =
-        let e : suc i ≡ i + 1 = omega arith in
-        puts-both old mid new (copy_rows m a u steps address i) (steps_row (steps_left steps i) ++ entry_row (Put (address + 4 * i) (user_word m a u (address / 4 + i)))) before (is ∙ ap (append_known mid) both)
-        ∙ ap (append_known old) (sym (rows_next i) ∙ ap (copy_rows m a u steps address) e)
-
-  pub none_put : (old : Option (List ℕ)) → old ≡ append_known old (copy_rows m a u steps address 0)
-  none_put old = sym (append_known-nil old)
-
 pub left_none : (steps i : ℕ) → steps_left steps (i + 1) ≡ 0
 left_none steps i = cond-false (i + 1 == 0) steps 0 (ne_eqb (i + 1) 0 (λ e. absurd (omega (arith, e))))
 
@@ -110,10 +102,6 @@ keeps_puts kept new n is =
 
 pub keeps_more : (kept mid new : Tracer) → KeepsTracer kept mid → KeepsTracer mid new → KeepsTracer kept new
 keeps_more kept mid new a b = record { user = b.user ∙ a.user; few = let p = a.few in let q = b.few in omega (arith, p, q) }
-
--- the row of the word that was read
-pub row_read : (m : Map) (s : State) (u v k address word : ℕ) (row : List ℕ) → v ≡ u → word ≡ user_word m (paged_of m s) v k → row ≡ entry_row (Put address word) → row ≡ entry_row (Put address (user_word m (paged_of m s) u k))
-row_read m s u v k address word row e is r = r ∙ ap (λ w. entry_row (Put address w)) (is ∙ ap (λ v. user_word m (paged_of m s) v k) e)
 
 -- where a user's words are told, n of them from word k on are those of its pages
 pub copies_tell : (m : Map) (s : State) (u k n : ℕ) (words : List ℕ) → WordsAreTold m s u words → k + n ≤ length words →

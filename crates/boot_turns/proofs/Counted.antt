@@ -3,9 +3,7 @@
 use Rattle.std.proofs.Common.{◌≡◌, ℕ, zero, suc, ◌+◌, ◌&&◌, Bool, true, false, Option, Some, None, Ok, List, [], ◌∷◌, slice_index, refl, sym, ap, ap₂, ◌∙◌, subst}
 use Rattle.std.specs.Prelude.{◌==◌, not, if◌then◌else◌, nat_lt, IfSome}
 use Rattle.std.specs.Option.{option_map}
-use Rattle.std.specs.Io.KnownBytes.{append_known}
 use Rattle.std.proofs.lemmas.Bool.{cond-false}
-use Rattle.cvm_outside.proofs.Parts.{append_known-nil}
 use Rattle.mips_table.specs.Device.{Environment}
 use Rattle.mips_table.specs.declared.special.TheConstants.{MODE}
 use Rattle.mips_table.specs.Machine.{State, in_system, step}
@@ -15,7 +13,6 @@ use Rattle.layer_map.specs.Map.{Map, current_at}
 use Rattle.c0_tree.specs.Tree.{CUnit}
 use Rattle.c0_meaning.specs.TypedState.{IsTypedState}
 use Rattle.cvm_model.specs.Kernel.{JournalEntry, Trapped, Stepped as Untrapped}
-use Rattle.cvm_model.specs.Text.{journal_rows_after}
 use Rattle.layer_contract.specs.declared.entry.Entry.TheVariants.{Primitive}
 use Rattle.layer_contract.specs.Layer.{layer_entry}
 use Rattle.boot_report.specs.Told.{WordsTell}
@@ -47,18 +44,11 @@ begins_as s u current h =
     let trapped : List JournalEntry = if nat_lt 1 (note s).cause then Trapped (note s).cause (note s).edata ∷ [] else [] in
     ap (λ (m : ℕ). if current == u then (if not (m == 1) then trapped else Untrapped ∷ []) else []) h
 
-no_rows : (n : ℕ) (b : Bool) → journal_rows_after false n (if b then Untrapped ∷ [] else []) ≡ []
-no_rows n true = refl
-no_rows n false = refl
-
 one_more : (n : ℕ) (b : Bool) → steps_after n (if b then Untrapped ∷ [] else []) ≡ (if b then n + 1 else n)
 one_more n true = refl
 one_more n false = refl
 
 module _ (s : State) (k : Tracer) (current : ℕ) (words : List ℕ) (user : slice_index s.special MODE ≡ 1) (free : k.call ≡ None) where
-  pub counted_rows : journal_rows_after false k.steps (followed s k current true words) ≡ []
-  counted_rows = ap (journal_rows_after false k.steps) (begins_as s k.user current user) ∙ no_rows k.steps (current == k.user)
-
   pub counted_kept : counted_step current k ≡ kept_after s k current true words
   counted_kept = ap₂ (λ (n : ℕ) (c : Option Entered). record k { steps = n; call = c }) (sym counted_steps) called
     where
@@ -69,13 +59,12 @@ module _ (s : State) (k : Tracer) (current : ℕ) (words : List ℕ) (user : sli
       called = free ∙ sym (ap (notes_on s) free ∙ no_entry 10 s user)
 
 -- THE STEP of a trace that is counted
-pub step_counted : (grow : (c : CUnit) → TracesGrow (IsTypedState c)) (f : RowsFollow) (tell : WordsTell) (x : Environment) (m : Map) (held : Held) (told : Option (List (List ℕ))) (before after : Option Tracer) (text : Option (List ℕ)) → held.hardware.off ≡ None →
+pub step_counted : (grow : (c : CUnit) → TracesGrow (IsTypedState c)) (f : RowsFollow) (tell : WordsTell) (x : Environment) (m : Map) (held : Held) (told : Option (List (List ℕ))) (before after : Option Tracer) → held.hardware.off ≡ None →
     (mid : Held) (midtold : Option (List (List ℕ))) → state_seen midtold mid ≡ option_map (step x) (state_seen told held) → (current : ℕ) → IfSome before (λ _. current ≡ slice_index held.hardware.memory current_at) →
     IfSome (state_seen told held) (λ s. true ≡ begins_turn x s) → slice_index mid.hardware.special MODE ≡ 1 → IfSome before (λ k. k.call ≡ None) → after ≡ option_map (counted_step current) before → (stepped : Stepped) →
-    StepTraces x m held told before after text text (Ok stepped)
-step_counted grow f tell x m held told None after text on mid midtold ran current is began user free counts stepped = step_untraced x m held told after text text (Ok stepped)
-step_counted grow f tell x m held told (Some k) after text on mid midtold ran current is began user free counts stepped =
-    subst (λ (t : Option Tracer). StepTraces x m held told (Some k) t text text (Ok stepped)) (sym counts)
-    (step_goes grow f tell x m held told k text on mid midtold ran current is true began stepped (Some k) (counted_step current k) text refl
-    (λ ss words e t. sym (ap (append_known text) (counted_rows (state_of mid ss) k current words user free) ∙ append_known-nil text))
+    StepTraces x m held told before after (Ok stepped)
+step_counted grow f tell x m held told None after on mid midtold ran current is began user free counts stepped = step_untraced x m held told after (Ok stepped)
+step_counted grow f tell x m held told (Some k) after on mid midtold ran current is began user free counts stepped =
+    subst (λ (t : Option Tracer). StepTraces x m held told (Some k) t (Ok stepped)) (sym counts)
+    (step_goes grow f tell x m held told k on mid midtold ran current is true began stepped (Some k) (counted_step current k) refl
     (λ ss words e t. counted_kept (state_of mid ss) k current words user free))

@@ -1,7 +1,6 @@
--- The entries and the rows of one step, by what it began or which primitive returned.
+-- The entries of one step, by what it began or which primitive returned, and the rows of words that were copied.
 use Rattle.std.proofs.Common.{◌≡◌, ◌≢◌, ℕ, ◌/◌, ◌≤◌, ◌&&◌, Bool, true, false, List, [], ◌∷◌, length, Option, Some, None, take, drop, slice_index, refl, sym, ap, ap₂, ◌∙◌, subst, eq-eqb, ne_eqb, take-take, length-drop, length-take-le, arith}
 use Rattle.std.specs.Prelude.{◌==◌}
-use Rattle.std.specs.Io.KnownBytes.{append_known}
 use Rattle.std.proofs.lemmas.Bool.{cond-true, cond-false}
 use Rattle.mips_table.specs.Machine.{State}
 use Rattle.layer_map.specs.Map.{Map}
@@ -15,12 +14,12 @@ use Rattle.boot_turns.specs.declared.completion.Begun.{Begun}
 use Rattle.boot_turns.specs.declared.tracer.Entered.{Entered}
 use Rattle.boot_turns.specs.declared.tracer.Tracer.{Tracer}
 use Rattle.boot_turns.specs.Completes.{note}
-use Rattle.boot_turns.specs.Copies.{copy_rows, copied_kept, steps_left}
+use Rattle.boot_turns.specs.Copies.{copied_kept, steps_left}
 use Rattle.boot_turns.specs.Entries.{IsPlaced, call_ends, turn_begins, return_entries}
 use Rattle.boot_turns.specs.Returns.{returned, notes_on}
 use Rattle.boot_turns.specs.JournalText.{steps_after}
-use Rattle.boot_turns.specs.Tracing.{ReturnTold, followed, followed_rows, ended_rows, ended_kept, kept_after}
-use Rattle.boot_turns.proofs.Copying.{puts_first, puts_length, copies_tell, left_is}
+use Rattle.boot_turns.specs.Tracing.{ReturnTold, followed, ended_kept, kept_after}
+use Rattle.boot_turns.proofs.Copying.{copy_rows, puts_first, puts_length, copies_tell, left_is}
 
 -- the entries of a primitive that has copied words to the user
 pub copy_is : (u : ℕ) (e : Entered) (answer : ℕ) (words : List ℕ) → answer ≡ 1 → slice_index e.arguments 2 ≡ u → e.primitive ≡ 6 →
@@ -35,19 +34,13 @@ copy_is u e answer words one user sixth =
 
 module _ (m : Map) (s : State) (u steps answer : ℕ) (e : Entered) (words : List ℕ) (one : answer ≡ 1) (user : slice_index e.arguments 2 ≡ u) (sixth : e.primitive ≡ 6)
     (told : WordsAreTold m s u words) (placed : IsPlaced u e answer words) where
-  -- the words that the pages show are those that were copied
-  pub copied_rows : copy_rows m (paged_of m s) u steps (slice_index e.arguments 3) (slice_index e.arguments 4) ≡ journal_rows_after false steps (call_ends u e answer words)
-  copied_rows =
-      ap (λ ws. journal_rows_after false steps (puts (slice_index e.arguments 3) ws)) (copies_tell m s u (slice_index e.arguments 3 / 4) (slice_index e.arguments 4) words told (placed one sixth user))
-      ∙ ap (journal_rows_after false steps) (sym (copy_is u e answer words one user sixth))
-
   pub copied_steps : steps_left steps (slice_index e.arguments 4) ≡ steps_after steps (call_ends u e answer words)
   copied_steps =
       sym (left_is m (paged_of m s) u steps (slice_index e.arguments 3) (slice_index e.arguments 4))
       ∙ ap (λ ws. steps_after steps (puts (slice_index e.arguments 3) ws)) (copies_tell m s u (slice_index e.arguments 3 / 4) (slice_index e.arguments 4) words told (placed one sixth user))
       ∙ ap (steps_after steps) (sym (copy_is u e answer words one user sixth))
 
-  -- so the first of its entries have the rows of the first words
+  -- the first of its entries have the rows of the first words, as the pages show them
   pub first_rows : (i : ℕ) → i ≤ slice_index e.arguments 4 → copy_rows m (paged_of m s) u steps (slice_index e.arguments 3) i ≡ journal_rows_after false steps (take i (call_ends u e answer words))
   first_rows i le =
       let there = placed one sixth user in
@@ -69,14 +62,8 @@ copied_then m s kept answer e words one user sixth told placed = ap (λ (n : ℕ
 
 -- what follows a step, by what the code tests
 module _ (s : State) (kept : Tracer) (current : ℕ) (began : Bool) (words : List ℕ) where
-  -- the rows of these entries, and what is kept then
+  -- what is kept behind these entries
   module _ (j : List JournalEntry) (is : followed s kept current began words ≡ j) where
-    rows_are : journal_rows_after false kept.steps j ≡ followed_rows s kept current began words
-    rows_are = ap (journal_rows_after false kept.steps) (sym is)
-
-    pub rows_put : (old new : Option (List ℕ)) → new ≡ append_known old (journal_rows_after false kept.steps j) → new ≡ append_known old (followed_rows s kept current began words)
-    rows_put old new e = e ∙ ap (append_known old) rows_are
-
     pub kept_then : (mid : Tracer) (next : Option Entered) → mid ≡ record kept { steps = steps_after kept.steps j } → next ≡ notes_on s kept.call → record mid { call = next } ≡ kept_after s kept current began words
     kept_then mid next e noted =
         ap₂ (λ (t : Tracer) (c : Option Entered). record t { call = c }) e noted
@@ -106,10 +93,6 @@ module _ (s : State) (kept : Tracer) (current : ℕ) (began : Bool) (words : Lis
 
     pub call_returned : followed s kept current began words ≡ call_ends kept.user e answer words
     call_returned = not_begun r no is ∙ ap (return_entries kept.user s words) one ∙ ap (λ n. call_ends kept.user e n words) (sym a)
-
-    pub call_put : (old new : Option (List ℕ)) → (WordsAreTold m s kept.user words → IsPlaced kept.user e answer words → new ≡ append_known old (ended_rows kept e answer words)) →
-        new ≡ append_known old (followed_rows s kept current began words)
-    call_put old new put = rows_put (call_ends kept.user e answer words) call_returned old new (put told_there.0 placed)
 
     pub call_kept : (mid : Tracer) (next : Option Entered) → (WordsAreTold m s kept.user words → IsPlaced kept.user e answer words → mid ≡ ended_kept kept e answer words) → (mid.call ≡ kept.call → next ≡ notes_on s kept.call) →
         record mid { call = next } ≡ kept_after s kept current began words

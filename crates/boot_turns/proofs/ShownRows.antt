@@ -26,7 +26,7 @@ use Rattle.boot_turns.specs.declared.completion.Begun.{Begun}
 use Rattle.boot_turns.specs.declared.tracer.Entered.{Entered}
 use Rattle.boot_turns.specs.declared.tracer.Tracer.{Tracer}
 use Rattle.boot_turns.specs.Completes.{note}
-use Rattle.boot_turns.specs.Copies.{copy_rows, steps_left}
+use Rattle.boot_turns.specs.Copies.{steps_left}
 use Rattle.boot_turns.specs.Entries.{turn_begins, call_ends, return_entries, step_entries, IsPlaced}
 use Rattle.boot_turns.specs.JournalText.{pending_steps, RowsFollow}
 use Rattle.boot_turns.specs.Returns.{noted_call, returned}
@@ -35,7 +35,7 @@ use Rattle.boot_turns.specs.Runs.{Past}
 use Rattle.boot_turns.specs.StepScript.{prints, page_of, page_reads, is_copy_to, entry_reads, row_behind, rows_script}
 use Rattle.boot_turns.specs.RowScripts.{ArePages, copied_script, copy_script, words_copied, ended_script, returned_script, followed_script}
 use Rattle.boot_turns.specs.LoopScripts.{traced_run}
-use Rattle.boot_turns.proofs.Copying.{rows_next, puts_length}
+use Rattle.boot_turns.proofs.Copying.{copy_rows, rows_next, puts_length}
 use Rattle.boot_turns.proofs.Followed.{copy_is, first_rows, copied_length}
 use Rattle.boot_turns.proofs.JournalRows.{nil_back, put_some}
 

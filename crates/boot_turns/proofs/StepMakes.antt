@@ -113,7 +113,7 @@ module _ {O D : Type 0} (x : device.Environment) (text : sink_of.Ghosts O) (told
   pub no_steps : CallsOf {T = Unit {0}} x text told m held kept (o, d) (o, d) 0 (Ok tt)
   no_steps = record {
     untraced = λ none s t at shelf. done _;
-    traced = λ c y s late limit u t base from map_is low high at traced p turns steps shown shelf. done _;
+    traced = λ c y s late limit u t from map_is low high at traced p turns steps shown shelf. done _;
     some = ([], tt, λ shelf. done _);
   }
 
@@ -122,9 +122,9 @@ module _ {O D : Type 0} (x : device.Environment) (text : sink_of.Ghosts O) (told
       CallsOf x text told m held kept (o, d) (o1, d1) n before → CallsOf x text told m held kept (o, d) (o1, d1) k result
   as_made before result o1 d1 n k many same made = rw many (record {
     untraced = λ none s t at shelf. subst (InSteps (λ i. script_of_step x (run x s (t + i))) n (over text told shelf o d) (over text told shelf o1 d1)) same (made.untraced none s t at shelf);
-    traced = λ c y s late limit u t base from map_is low high at traced p turns steps shown shelf.
+    traced = λ c y s late limit u t from map_is low high at traced p turns steps shown shelf.
         subst (InSteps (λ i. step_script (traced_run x y s u turns steps) p (t + i)) n (over text told shelf o d) (over text told shelf o1 d1)) same
-        (made.traced c y s late limit u t base from map_is low high at traced p turns steps shown shelf);
+        (made.traced c y s late limit u t from map_is low high at traced p turns steps shown shelf);
     some = (made.some.0, made.some.1, λ shelf. subst (Performs made.some.0 (over text told shelf o d) (over text told shelf o1 d1)) same (made.some.2 shelf));
   })
 
@@ -138,7 +138,7 @@ module _ {O D : Type 0} (x : device.Environment) (text : sink_of.Ghosts O) (told
       CallsOf {T = T} x text told m held kept (o, d) (o, d1) 1 (Err Disk)
   step_broken d1 h = record {
     untraced = λ none s t at shelf. in_one (λ i. script_of_step x (run x s (t + i))) (over text told shelf o d) (over text told shelf o d1) (Some TheDisk) (transfer_made d1 (Some TheDisk) h s t at shelf);
-    traced = λ c y s late limit u t base from map_is low high at traced p turns steps shown shelf.
+    traced = λ c y s late limit u t from map_is low high at traced p turns steps shown shelf.
         let r = traced_run x y s u turns steps in
         in_one (λ i. step_script r p (t + i)) (over text told shelf o d) (over text told shelf o d1) (Some TheDisk)
         (first (script_of_step x (run x s (t + 0))) (rows_script (Trace u) r p (t + 0)) (over text told shelf o d) (over text told shelf o d1) TheDisk (transfer_made d1 (Some TheDisk) h s t at shelf));
@@ -150,7 +150,7 @@ module _ {O D : Type 0} (x : device.Environment) (text : sink_of.Ghosts O) (told
       CallsOf {T = T} x text told m held kept (o, d) (o, d1) 1 (Ok v)
   step_plain v d1 untraced h = record {
     untraced = λ none s t at shelf. in_one (λ i. script_of_step x (run x s (t + i))) (over text told shelf o d) (over text told shelf o d1) None (transfer_made d1 None h s t at shelf);
-    traced = λ c y s late limit u t base from map_is low high at traced p turns steps shown shelf.
+    traced = λ c y s late limit u t from map_is low high at traced p turns steps shown shelf.
         absurd (let e : ◌≡◌ {A = Option Tracer} None (Some (tracer_at x s u t traced.journal)) = sym untraced ∙ traced.keeps in cc);
     some = (untold (script_of_step x (state_of held [])), of_due x (state_of held []), λ shelf. made_untold (script_of_step x (state_of held [])) (over text told shelf o d) (over text told shelf o d1) None (h [] shelf));
   }
@@ -163,13 +163,13 @@ module _ {O D : Type 0} (x : device.Environment) (text : sink_of.Ghosts O) (told
       CallsOf x text told m held kept (o, d) (o2, d2) 1 result
   step_follows grow f tell on k is mid o2 d1 d2 current began result ran current_is began_is moved rows = rw is (record {
     untraced = λ none s t at shelf. absurd (let e : ◌≡◌ {A = Option Tracer} (Some k) None = none in cc);
-    traced = λ c y s late limit u t base from map_is low high at traced p turns steps shown shelf.
+    traced = λ c y s late limit u t from map_is low high at traced p turns steps shown shelf.
         let r = traced_run x y s u turns steps in
         let e : t ≡ t + 0 = omega arith in
         in_one (λ i. step_script r p (t + i)) (over text told shelf o d) (over text told shelf o2 d2) (blame of_run result)
         (same_script (steps_script r p t 1) (step_script r p (t + 0)) (over text told shelf o d) (over text told shelf o2 d2) (blame of_run result) (steps_one r p t ∙ ap (step_script r p) e)
-        (step_made grow f tell x m held (told.sectors d) k (text.text o) on mid (told.sectors d1) ran current current_is began began_is
-        (record { unit = c; y = y; s = s; late = late; held = limit; u = u; t = t; base = base; from = from; map_is = map_is; low = low; high = high; at = at; traced = traced }) p turns steps shown
+        (step_made grow f tell x m held (told.sectors d) k on mid (told.sectors d1) ran current current_is began began_is
+        (record { unit = c; y = y; s = s; late = late; held = limit; u = u; t = t; from = from; map_is = map_is; low = low; high = high; at = at; traced = traced }) p turns steps shown
         (λ (l : List Call). Performs l (over text told shelf o d) (over text told shelf o2 d2) (blame of_run result))
         (λ ss pages are. both (script_of_step x (state_of held ss)) (followed_script m (state_of mid []) pages k current began) (over text told shelf o d) (over text told shelf o d1) (over text told shelf o2 d2) (blame of_run result) (moved ss shelf) (rows pages are shelf))));
     some = (
@@ -197,18 +197,18 @@ module _ {O D : Type 0} (x : device.Environment) (text : sink_of.Ghosts O) (told
     module _ (mid : Held) (at_mid : (s : State) (t : ℕ) → state_seen (told.sectors d) held ≡ Some (run x s t) → state_seen (told.sectors d1) mid ≡ Some (run x s (t + n))) where
       -- steps behind them
       pub steps_then : {T : Type 0} (result : Result T RunFault) (rekept : Option Tracer) (o2 : O) (d2 : D) (k all : ℕ) → all ≡ n + k → (kept ≡ None → rekept ≡ None) →
-          ((b : Booted x m (state_seen (told.sectors d) held) kept (text.text o)) → Traced x b.y b.s b.u (b.t + n) b.base rekept (text.text o1)) →
+          ((b : Booted x m (state_seen (told.sectors d) held) kept) → Traced x b.y b.s b.u (b.t + n) rekept) →
           CallsOf x text told m mid rekept (o1, d1) (o2, d2) k result → CallsOf x text told m held kept (o, d) (o2, d2) all result
       steps_then result rekept o2 d2 k all many none_kept traced_mid then = rw many (record {
         untraced = λ none s t at shelf.
             in_both (λ j. script_of_step x (run x s j)) t n k (over text told shelf o d) (over text told shelf o1 d1) (over text told shelf o2 d2) (blame of_run result)
             (first_steps.untraced none s t at shelf) (then.untraced (none_kept none) s (t + n) (at_mid s t at) shelf);
-        traced = λ c y s late limit u t base from map_is low high at traced p turns steps shown shelf.
+        traced = λ c y s late limit u t from map_is low high at traced p turns steps shown shelf.
             let r = traced_run x y s u turns steps in
-            let there = traced_mid (record { unit = c; y = y; s = s; late = late; held = limit; u = u; t = t; base = base; from = from; map_is = map_is; low = low; high = high; at = at; traced = traced }) in
+            let there = traced_mid (record { unit = c; y = y; s = s; late = late; held = limit; u = u; t = t; from = from; map_is = map_is; low = low; high = high; at = at; traced = traced }) in
             in_both (step_script r p) t n k (over text told shelf o d) (over text told shelf o1 d1) (over text told shelf o2 d2) (blame of_run result)
-            (first_steps.traced c y s late limit u t base from map_is low high at traced p turns steps (λ j a b. shown j a (omega (arith, b))) shelf)
-            (then.traced c y s late limit u (t + n) base from map_is low high (at_mid s t at) there p turns steps (λ j a b. shown j (omega (arith, a)) (omega (arith, b))) shelf);
+            (first_steps.traced c y s late limit u t from map_is low high at traced p turns steps (λ j a b. shown j a (omega (arith, b))) shelf)
+            (then.traced c y s late limit u (t + n) from map_is low high (at_mid s t at) there p turns steps (λ j a b. shown j (omega (arith, a)) (omega (arith, b))) shelf);
         some = (
           first_steps.some.0 ++ then.some.0,
           of_both first_steps.some.0 then.some.0 first_steps.some.1 then.some.1,
@@ -225,12 +225,12 @@ module _ {O D : Type 0} (x : device.Environment) (text : sink_of.Ghosts O) (told
             in_both (λ j. script_of_step x (run x s j)) t n k (over text told shelf o d) (over text told shelf o1 d1) (over text told shelf o1 d1) None (first_steps.untraced none s t at shelf)
             (in_quiet (λ i. script_of_step x (run x s (t + n + i))) k (over text told shelf o1 d1) (λ i lt.
             ap (script_of_step x) (sym (later x s (t + n) i)) ∙ ap (λ (v : State). script_of_step x (run x v i)) (sym w.2) ∙ (stretch w.0).calls i lt));
-        traced = λ c y s late limit u t base from map_is low high at traced p turns steps shown shelf.
+        traced = λ c y s late limit u t from map_is low high at traced p turns steps shown shelf.
             let r = traced_run x y s u turns steps in
             let none : k ≡ 0 = none_traced (subst IsSome (sym traced.keeps) refl) in
             let same : n ≡ n + k = omega (arith, none) in
             subst (λ j. InSteps (λ i. step_script r p (t + i)) j (over text told shelf o d) (over text told shelf o1 d1) None) same
-            (first_steps.traced c y s late limit u t base from map_is low high at traced p turns steps (λ j a b. shown j a (omega (arith, b))) shelf);
+            (first_steps.traced c y s late limit u t from map_is low high at traced p turns steps (λ j a b. shown j a (omega (arith, b))) shelf);
         some = first_steps.some;
       })
 
@@ -244,23 +244,23 @@ at_made x start now budget left less ran s t at =
     let e : i.0 ≡ t + (budget - left) = omega (arith, b, less) in
     i.2 ∙ ap (λ u. Some (run x s u)) e
 
-traced_made : (x : device.Environment) (m : Map) (start now : Option State) (budget left : ℕ) (kept rekept : Option Tracer) (text retext : Option (List ℕ)) → left ≤ budget →
-    Tracks x m start now (tracing kept text budget) (tracing rekept retext left) → (b : Booted x m start kept text) → Traced x b.y b.s b.u (b.t + (budget - left)) b.base rekept retext
-traced_made x m start now budget left kept rekept text retext less tracks b =
+traced_made : (x : device.Environment) (m : Map) (start now : Option State) (budget left : ℕ) (kept rekept : Option Tracer) → left ≤ budget → Tracks x m start now (tracing kept budget) (tracing rekept left) → (b : Booted x m start kept) →
+    Traced x b.y b.s b.u (b.t + (budget - left)) rekept
+traced_made x m start now budget left kept rekept less tracks b =
     let w = tracks b in
     let spent = w.spent in
     let e : w.at ≡ b.t + (budget - left) = omega (arith, spent, less) in
-    subst (λ u. Traced x b.y b.s b.u u b.base rekept retext) e w.traced
+    subst (λ u. Traced x b.y b.s b.u u rekept) e w.traced
 
 -- so the calls of one step more are those behind the calls so far
 pub one_more : {O D T : Type 0} (text : sink_of.Ghosts O) (told : sectors_of.Ghosts D) (m : Map) (start now : Held) (kept rekept : Option Tracer) (o o1 o2 : O) (d d1 d2 : D) (budget left : ℕ) (result : Result T RunFault) →
     left ≤ budget → 1 ≤ left → now.rows ≡ start.rows → told.size d1 ≡ told.size d → StepsCall {T = Unit {0}} text told m start kept (o, d) (o1, d1) (budget - left) (Ok tt) →
     ((s : State) (t : ℕ) → state_seen (told.sectors d) start ≡ Some (run (outside_of start.rows (told.size d)) s t) → (u : ℕ) × (left + u ≡ budget + t) × (state_seen (told.sectors d1) now ≡ Some (run (outside_of start.rows (told.size d)) s u))) →
-    (kept ≡ None → rekept ≡ None) → Tracks (outside_of start.rows (told.size d)) m (state_seen (told.sectors d) start) (state_seen (told.sectors d1) now) (tracing kept (text.text o) budget) (tracing rekept (text.text o1) left) →
+    (kept ≡ None → rekept ≡ None) → Tracks (outside_of start.rows (told.size d)) m (state_seen (told.sectors d) start) (state_seen (told.sectors d1) now) (tracing kept budget) (tracing rekept left) →
     StepsCall text told m now rekept (o1, d1) (o2, d2) 1 result → StepsCall text told m start kept (o, d) (o2, d2) (budget - (left - 1)) result
 one_more text told m start now kept rekept o o1 o2 d d1 d2 budget left result less some rows size so_far ran none tracks made =
     let x = outside_of start.rows (told.size d) in
     steps_then x text told m start kept o d o1 d1 (budget - left) so_far now
     (at_made x (state_seen (told.sectors d) start) (state_seen (told.sectors d1) now) budget left less ran) result rekept o2 d2 1 (budget - (left - 1)) (omega (arith, less, some)) none
-    (traced_made x m (state_seen (told.sectors d) start) (state_seen (told.sectors d1) now) budget left kept rekept (text.text o) (text.text o1) less tracks)
+    (traced_made x m (state_seen (told.sectors d) start) (state_seen (told.sectors d1) now) budget left kept rekept less tracks)
     (subst (λ z. CallsOf z text told m now rekept (o1, d1) (o2, d2) 1 result) (ap₂ outside_of rows size) made)

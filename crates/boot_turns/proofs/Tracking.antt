@@ -1,9 +1,7 @@
--- What the loop has printed of a trace: what one step adds to it, and how far it is at each step of the loop.
+-- What the loop keeps of a trace: what one step makes of it, and how far it is at each step of the loop.
 use Rattle.std.proofs.Common.{◌≡◌, ℕ, suc, ◌+◌, ◌≤◌, Bool, Option, Some, None, Result, Ok, Err, List, [], ◌++◌, length, slice_index, refl, sym, ap, ap₂, ◌∙◌, subst, subst₂, arith}
 use Rattle.std.specs.Prelude.{IfSome, MatchResult, true, false}
 use Rattle.std.specs.Option.{option_map}
-use Rattle.std.specs.Io.KnownBytes.{append_known}
-use Rattle.cvm_outside.proofs.Parts.{puts-both}
 use Rattle.mips_table.specs.Device.{Environment}
 use Rattle.mips_table.specs.Machine.{State, run, step}
 use Rattle.mips_table.specs.Turns.{begins_turn, rests}
@@ -14,7 +12,6 @@ use Rattle.c0_tree.specs.Tree.{CUnit}
 use Rattle.c0_meaning.specs.TypedState.{IsTypedState}
 use Rattle.cvm_model.specs.Kernel.{JournalEntry}
 use Rattle.cvm_model.specs.Cvm.{System, Running, map_of}
-use Rattle.cvm_model.specs.Text.{open_journal_rows, journal_rows_after}
 use Rattle.layer_contract.specs.Follows.{site_of}
 use Rattle.boot_report.specs.Told.{WordsAreTold, WordsTell}
 use Rattle.boot_turns.specs.declared.completion.Begun.{Begun}
@@ -41,26 +38,20 @@ use Rattle.boot_turns.proofs.Events.{told_as_some}
 use Rattle.boot_turns.proofs.LoopSteps.{seen_more}
 use Rattle.boot_turns.proofs.ShownRows.{scripts-one, rows_followed, followed_here, pages_for}
 
--- THE ROWS: those of the entries d follow those of j
-module _ (f : RowsFollow) (base text : Option (List ℕ)) (j d : List JournalEntry) (is : text ≡ append_known base (open_journal_rows j)) where
-  rows_done : (retext : Option (List ℕ)) → retext ≡ append_known text (journal_rows_after false (pending_steps j) d) → retext ≡ append_known base (open_journal_rows (j ++ d))
-  rows_done retext h = puts-both base text retext (open_journal_rows j) (journal_rows_after false (pending_steps j) d) is h ∙ ap (λ r. append_known base r) (sym (f.more j d))
-
 abbrev tracer_of : ℕ → ℕ → Option Entered → Tracer
 tracer_of u n c = record { user = u; steps = n; call = c }
 
 -- ONE STEP of the run, of which j was shown before it
-module _ (f : RowsFollow) (x : Environment) (y : System) (s : State) (u t : ℕ) (base text : Option (List ℕ)) (kept : Option Tracer) (w : Traced x y s u t base kept text) (more : ShowsMore x y s u t w.journal) where
+module _ (f : RowsFollow) (x : Environment) (y : System) (s : State) (u t : ℕ) (kept : Option Tracer) (w : Traced x y s u t kept) (more : ShowsMore x y s u t w.journal) where
   abbrev entries : List JournalEntry
   entries = step_entries x s u t more.words
 
-  step_done_rows : (retext : Option (List ℕ)) (after : Tracer) → retext ≡ append_known text (journal_rows_after false (pending_steps w.journal) entries) →
-      after ≡ tracer_of u (steps_after (pending_steps w.journal) entries) (notes_on (run x s (suc t)) (noted_call x s t)) → Traced x y s u (suc t) base (Some after) retext
-  step_done_rows retext after h is =
+  step_kept : (after : Tracer) → after ≡ tracer_of u (steps_after (pending_steps w.journal) entries) (notes_on (run x s (suc t)) (noted_call x s t)) → Traced x y s u (suc t) (Some after)
+  step_kept after is =
       let c : Option Entered = notes_on (run x s (suc t)) (noted_call x s t) in
       let counted : ◌≡◌ {A = Option Tracer} (Some (tracer_of u (steps_after (pending_steps w.journal) entries) c)) (Some (tracer_of u (pending_steps (w.journal ++ entries)) c)) =
       ap (λ (n : ℕ). Some (tracer_of u n c)) (sym (f.count w.journal entries)) in
-      record { journal = w.journal ++ entries; shown = more.shown; keeps = ap (λ (k : Tracer). Some k) is ∙ counted; printed = rows_done f base text w.journal entries w.printed retext h }
+      record { journal = w.journal ++ entries; shown = more.shown; keeps = ap (λ (k : Tracer). Some k) is ∙ counted }
 
 -- what is followed are the entries of the step
 followed_is : (x : Environment) (y : System) (s : State) (u t : ℕ) (j : List JournalEntry) (k : Tracer) → k ≡ tracer_at x s u t j → (now : State) → now ≡ run x s (suc t) →
@@ -84,7 +75,7 @@ words_told x y tell range u low high held ss words (Some e) (core, stands, is, p
     (subst (WordsAreTold (site_of y.boot).map (state_of held ss) u) (sym is) told, placed)
 
 -- A run from a start in which a machine stands at step t, and one of its users who is traced.
-pub record Booted (x : Environment) (m : Map) (now : Option State) (kept : Option Tracer) (text : Option (List ℕ)) : Type 0 where
+pub record Booted (x : Environment) (m : Map) (now : Option State) (kept : Option Tracer) : Type 0 where
   pub unit : CUnit
   pub y : System
   pub s : State
@@ -92,23 +83,22 @@ pub record Booted (x : Environment) (m : Map) (now : Option State) (kept : Optio
   pub held : ℕ
   pub u : ℕ
   pub t : ℕ
-  pub base : Option (List ℕ)
   pub from : StartsFrom (IsTypedState unit) x y s late held
   pub map_is : m ≡ (site_of y.boot).map
   pub low : 1 ≤ u
   pub high : u ≤ length y.boot.users
   pub at : now ≡ Some (run x s t)
-  pub traced : Traced x y s u t base kept text
+  pub traced : Traced x y s u t kept
 
 -- the clause on a step is of each such run
-pub each_step : (x : Environment) (m : Map) (held : Held) (told : Option (List (List ℕ))) (before after : Option Tracer) (text retext : Option (List ℕ)) (result : Result Stepped RunFault) →
-    ((b : Booted x m (state_seen told held) before text) → MatchResult result (λ _. Traced x b.y b.s b.u (suc b.t) b.base after retext) (λ fault. fault ≡ Sink → rests (run x b.s (suc b.t)) ≡ false)) → StepTraces x m held told before after text retext result
-each_step x m held told before after text retext result f = λ unit y s late limit u t base from map_is low high at traced.
-    f (record { unit = unit; y = y; s = s; late = late; held = limit; u = u; t = t; base = base; from = from; map_is = map_is; low = low; high = high; at = at; traced = traced })
+pub each_step : (x : Environment) (m : Map) (held : Held) (told : Option (List (List ℕ))) (before after : Option Tracer) (result : Result Stepped RunFault) →
+    ((b : Booted x m (state_seen told held) before) → MatchResult result (λ _. Traced x b.y b.s b.u (suc b.t) after) (λ fault. fault ≡ Sink → rests (run x b.s (suc b.t)) ≡ false)) → StepTraces x m held told before after result
+each_step x m held told before after result f = λ unit y s late limit u t from map_is low high at traced.
+    f (record { unit = unit; y = y; s = s; late = late; held = limit; u = u; t = t; from = from; map_is = map_is; low = low; high = high; at = at; traced = traced })
 
 -- a fault of the disk, of which nothing is to be said
-pub step_broke : (x : Environment) (m : Map) (held : Held) (told : Option (List (List ℕ))) (before after : Option Tracer) (text retext : Option (List ℕ)) (result : Result Stepped RunFault) (e : RunFault) → result ≡ Err e → (e ≡ Sink → ⊥) → StepTraces x m held told before after text retext result
-step_broke x m held told before after text retext result e is disk = rw is (each_step x m held told before after text retext (Err e) (λ b sink. absurd (disk sink)))
+pub step_broke : (x : Environment) (m : Map) (held : Held) (told : Option (List (List ℕ))) (before after : Option Tracer) (result : Result Stepped RunFault) (e : RunFault) → result ≡ Err e → (e ≡ Sink → ⊥) → StepTraces x m held told before after result
+step_broke x m held told before after result e is disk = rw is (each_step x m held told before after (Err e) (λ b sink. absurd (disk sink)))
 
 -- rows hang on no sector
 rows_seen : (a : Held) (ss : List (List ℕ)) (noted : Option Entered) (began : Bool) → HasRows (state_of a []) noted began → HasRows (state_of a ss) noted began
@@ -124,9 +114,9 @@ pub steps_one : (r : Run) (p : Past) (t : ℕ) → steps_script r p t 1 ≡ step
 steps_one r p t = scripts-one (λ i. step_script r p (t + i)) ∙ (let e : t + 0 ≡ t = omega arith in ap (step_script r p) e)
 
 -- THE STEP of the loop, on a machine that is on and of which a trace is printed
-module _ (grow : (c : CUnit) → TracesGrow (IsTypedState c)) (f : RowsFollow) (tell : WordsTell) (x : Environment) (m : Map) (held : Held) (told : Option (List (List ℕ))) (k : Tracer) (text : Option (List ℕ)) (on : held.hardware.off ≡ None) where
+module _ (grow : (c : CUnit) → TracesGrow (IsTypedState c)) (f : RowsFollow) (tell : WordsTell) (x : Environment) (m : Map) (held : Held) (told : Option (List (List ℕ))) (k : Tracer) (on : held.hardware.off ≡ None) where
   abbrev Here : Type 0
-  Here = Booted x m (state_seen told held) (Some k) text
+  Here = Booted x m (state_seen told held) (Some k)
 
   more_at : (b : Here) → ShowsMore x b.y b.s b.u b.t b.traced.journal
   more_at b =
@@ -150,8 +140,8 @@ module _ (grow : (c : CUnit) → TracesGrow (IsTypedState c)) (f : RowsFollow) (
     call_at b = ap (λ (k : Tracer). k.call) (keeps_at b)
 
     -- a step in whose rows a call failed completes no turn
-    pub step_cut : (before after : Option Tracer) (retext : Option (List ℕ)) (result : Result Stepped RunFault) (e : RunFault) → before ≡ Some k → result ≡ Err e → HasRows (state_of mid []) k.call began → StepTraces x m held told before after text retext result
-    step_cut before after retext result e hb is rows = rw (hb, is) (each_step x m held told (Some k) after text retext (Err e) (λ (b : Here) sink.
+    pub step_cut : (before after : Option Tracer) (result : Result Stepped RunFault) (e : RunFault) → before ≡ Some k → result ≡ Err e → HasRows (state_of mid []) k.call began → StepTraces x m held told before after result
+    step_cut before after result e hb is rows = rw (hb, is) (each_step x m held told (Some k) after (Err e) (λ (b : Here) sink.
         let w = told_as_some told held (run x b.s b.t) b.at in
         let is_on : (run x b.s b.t).off ≡ None = ap (λ (s : State). s.off) (sym w.2) ∙ on in
         let seen_there : HasRows (run x b.s (suc b.t)) k.call began = subst (λ z. HasRows z k.call began) (told_at b).2 (rows_seen mid (told_at b).0 k.call began rows) in
@@ -173,12 +163,6 @@ module _ (grow : (c : CUnit) → TracesGrow (IsTypedState c)) (f : RowsFollow) (
         let w = told_as_some told held (run x b.s b.t) b.at in
         let here : current ≡ slice_index (run x b.s b.t).memory current_at = current_is ∙ ap (λ (s : State). slice_index s.memory current_at) w.2 in
         followed_is x b.y b.s b.u b.t b.traced.journal k (keeps_at b) (state_of mid (told_at b).0) (told_at b).2 current here began (begun_at b) (more_at b).words
-
-    rows_at : (b : Here) → journal_rows_after false k.steps (followed (state_of mid (told_at b).0) k current began (more_at b).words)
-        ≡ journal_rows_after false (pending_steps b.traced.journal) (step_entries x b.s b.u b.t (more_at b).words)
-    rows_at b =
-        ap (λ (n : ℕ). journal_rows_after false n (followed (state_of mid (told_at b).0) k current began (more_at b).words)) (ap (λ (k : Tracer). k.steps) (keeps_at b))
-        ∙ ap (journal_rows_after false (pending_steps b.traced.journal)) (entries_at b)
 
     -- what is kept after the step
     kept_at : (b : Here) →
@@ -218,64 +202,60 @@ module _ (grow : (c : CUnit) → TracesGrow (IsTypedState c)) (f : RowsFollow) (
         (ap₂ (λ (a b : List Call). a ++ b) (ap (script_of_step x) w.2) (followed_here m mid ss pages.0 k current began ∙ pages.2 ∙ rows) ∙ sym (steps_one (traced_run x b.y b.s b.u turns steps) p b.t))
         (h w.0 pages.0 pages.1)
 
-    pub step_goes : (stepped : Stepped) (before : Option Tracer) (after : Tracer) (retext : Option (List ℕ)) → before ≡ Some k →
-        ((ss : List (List ℕ)) (words : List ℕ) → midtold ≡ Some ss → ReturnTold m (state_of mid ss) k.user words (returned (state_of mid ss) k.call) →
-        retext ≡ append_known text (journal_rows_after false k.steps (followed (state_of mid ss) k current began words))) →
+    pub step_goes : (stepped : Stepped) (before : Option Tracer) (after : Tracer) → before ≡ Some k →
         ((ss : List (List ℕ)) (words : List ℕ) → midtold ≡ Some ss → ReturnTold m (state_of mid ss) k.user words (returned (state_of mid ss) k.call) →
         after ≡ kept_after (state_of mid ss) k current began words) →
-        StepTraces x m held told before (Some after) text retext (Ok stepped)
-    step_goes stepped before after retext hb says keeps = rw hb (each_step x m held told (Some k) (Some after) text retext (Ok stepped) (λ (b : Here).
-        let put = says (told_at b).0 (more_at b).words (told_at b).1 (returns_at b) in
+        StepTraces x m held told before (Some after) (Ok stepped)
+    step_goes stepped before after hb keeps = rw hb (each_step x m held told (Some k) (Some after) (Ok stepped) (λ (b : Here).
         let is = keeps (told_at b).0 (more_at b).words (told_at b).1 (returns_at b) in
-        step_done_rows f x b.y b.s b.u b.t b.base text (Some k) b.traced (more_at b) retext after (put ∙ ap (append_known text) (rows_at b)) (is ∙ kept_at b)))
+        step_kept f x b.y b.s b.u b.t (Some k) b.traced (more_at b) after (is ∙ kept_at b)))
 
 -- where none is printed there is nothing to be said
-pub step_untraced : (x : Environment) (m : Map) (held : Held) (told : Option (List (List ℕ))) (after : Option Tracer) (text retext : Option (List ℕ)) (result : Result Stepped RunFault) → StepTraces x m held told None after text retext result
-step_untraced x m held told after text retext result = each_step x m held told None after text retext result (λ (b : Booted x m (state_seen told held) None text).
+pub step_untraced : (x : Environment) (m : Map) (held : Held) (told : Option (List (List ℕ))) (after : Option Tracer) (result : Result Stepped RunFault) → StepTraces x m held told None after result
+step_untraced x m held told after result = each_step x m held told None after result (λ (b : Booted x m (state_seen told held) None).
     absurd (let e : ◌≡◌ {A = Option Tracer} None (Some (tracer_at x b.s b.u b.t b.traced.journal)) = b.traced.keeps in cc))
 
 -- THE LOOP: how far a run is whose trace goes on
-pub record Tracked (x : Environment) (y : System) (s : State) (u t : ℕ) (base : Option (List ℕ)) (now : Option State) (before after : ℕ) (kept : Option Tracer) (text : Option (List ℕ)) : Type 0 where
+pub record Tracked (x : Environment) (y : System) (s : State) (u t : ℕ) (now : Option State) (before after : ℕ) (kept : Option Tracer) : Type 0 where
   pub at : ℕ
   pub from : t ≤ at
   pub spent : after + at ≡ before + t
   pub state : now ≡ Some (run x s at)
-  pub traced : Traced x y s u at base kept text
+  pub traced : Traced x y s u at kept
 
 abbrev pub Tracks : Environment → Map → (start now : Option State) → (before after : Tracing) → Type 0
-Tracks x m start now before after = (b : Booted x m start before.tracer before.text) → Tracked x b.y b.s b.u b.t b.base now before.budget after.budget after.tracer after.text
+Tracks x m start now before after = (b : Booted x m start before.tracer) → Tracked x b.y b.s b.u b.t now before.budget after.budget after.tracer
 
 -- the clause on a loop is of each run
 each_run : (count : ℕ) (m : Map) (held : Held) (told : Option (List (List ℕ))) (before after : Tracing) (result : Result (ℕ × Begun) RunFault) →
-    ((b : Booted (outside_of held.rows count) m (state_seen told held) before.tracer before.text) →
-    UnlessFailed result (TracedOn (outside_of held.rows count) b.y b.s b.u b.t b.base before.budget after.budget after.tracer after.text) (CutAt (outside_of held.rows count) b.s b.t before.budget after.budget)) → TraceRuns count m held told before after result
-each_run count m held told before after result f = λ unit y s late limit u t base from map_is low high at traced.
-    f (record { unit = unit; y = y; s = s; late = late; held = limit; u = u; t = t; base = base; from = from; map_is = map_is; low = low; high = high; at = at; traced = traced })
+    ((b : Booted (outside_of held.rows count) m (state_seen told held) before.tracer) →
+    UnlessFailed result (TracedOn (outside_of held.rows count) b.y b.s b.u b.t before.budget after.budget after.tracer) (CutAt (outside_of held.rows count) b.s b.t before.budget after.budget)) → TraceRuns count m held told before after result
+each_run count m held told before after result f = λ unit y s late limit u t from map_is low high at traced.
+    f (record { unit = unit; y = y; s = s; late = late; held = limit; u = u; t = t; from = from; map_is = map_is; low = low; high = high; at = at; traced = traced })
 
 pub tracks_none : (x : Environment) (m : Map) (start : Option State) (before : Tracing) → Tracks x m start start before before
 tracks_none x m start before = λ b. record { at = b.t; from = omega arith; spent = refl; state = b.at; traced = b.traced }
 
-traced_on : (x : Environment) (y : System) (s : State) (u t : ℕ) (base : Option (List ℕ)) (now : Option State) (before after : ℕ) (kept : Option Tracer) (text : Option (List ℕ)) →
-    Tracked x y s u t base now before after kept text → TracedOn x y s u t base before after kept text
-traced_on x y s u t base now before after kept text w = record { at = w.at; from = w.from; spent = w.spent; traced = w.traced }
+traced_on : (x : Environment) (y : System) (s : State) (u t : ℕ) (now : Option State) (before after : ℕ) (kept : Option Tracer) → Tracked x y s u t now before after kept → TracedOn x y s u t before after kept
+traced_on x y s u t now before after kept w = record { at = w.at; from = w.from; spent = w.spent; traced = w.traced }
 
 module _ (count : ℕ) (m : Map) (held mid : Held) (told midtold : Option (List (List ℕ))) (before now : Tracing) (so_far : Tracks (outside_of held.rows count) m (state_seen told held) (state_seen midtold mid) before now) where
   -- the budget was spent
   pub tracks_limit : TraceRuns count m held told before now (Err StepLimit)
-  tracks_limit = each_run count m held told before now (Err StepLimit) (λ b. traced_on _ b.y b.s b.u b.t b.base (state_seen midtold mid) _ _ _ _ (so_far b))
+  tracks_limit = each_run count m held told before now (Err StepLimit) (λ b. traced_on _ b.y b.s b.u b.t (state_seen midtold mid) _ _ _ (so_far b))
 
   -- the turn is complete, or the machine is off
   pub tracks_whole : (begun : ℕ × Begun) → TraceRuns count m held told before now (Ok begun)
-  tracks_whole begun = each_run count m held told before now (Ok begun) (λ b. traced_on _ b.y b.s b.u b.t b.base (state_seen midtold mid) _ _ _ _ (so_far b))
+  tracks_whole begun = each_run count m held told before now (Ok begun) (λ b. traced_on _ b.y b.s b.u b.t (state_seen midtold mid) _ _ _ (so_far b))
 
   -- one step more, by which the budget is less
   module _ (z : Environment) (same : z ≡ outside_of held.rows count) (after : Tracing) (less : now.budget ≡ after.budget + 1) where
-    pub tracks_more : (next : Held) (nexttold : Option (List (List ℕ))) (stepped : Stepped) → StepTraces z m mid midtold now.tracer after.tracer now.text after.text (Ok stepped) → state_seen nexttold next ≡ option_map (step z) (state_seen midtold mid) → Tracks (outside_of held.rows count) m (state_seen told held) (state_seen nexttold next) before after
+    pub tracks_more : (next : Held) (nexttold : Option (List (List ℕ))) (stepped : Stepped) → StepTraces z m mid midtold now.tracer after.tracer (Ok stepped) → state_seen nexttold next ≡ option_map (step z) (state_seen midtold mid) → Tracks (outside_of held.rows count) m (state_seen told held) (state_seen nexttold next) before after
     tracks_more next nexttold stepped done ran = λ b.
         let x : Environment = outside_of held.rows count in
         let w = so_far b in
         let here : state_seen midtold mid ≡ Some (run x b.s w.at) = w.state in
-        let of_x : StepTraces x m mid midtold now.tracer after.tracer now.text after.text (Ok stepped) = subst (λ (z : Environment). StepTraces z m mid midtold now.tracer after.tracer now.text after.text (Ok stepped)) same done in
+        let of_x : StepTraces x m mid midtold now.tracer after.tracer (Ok stepped) = subst (λ (z : Environment). StepTraces z m mid midtold now.tracer after.tracer (Ok stepped)) same done in
         let ran_x : state_seen nexttold next ≡ option_map (step x) (state_seen midtold mid) = subst (λ (z : Environment). state_seen nexttold next ≡ option_map (step z) (state_seen midtold mid)) same ran in
         let from = w.from in
         let spent = w.spent in
@@ -284,15 +264,15 @@ module _ (count : ℕ) (m : Map) (held mid : Held) (told midtold : Option (List 
           from = omega (arith, from);
           spent = omega (arith, spent, less);
           state = seen_more x (state_seen midtold mid) (state_seen nexttold next) (run x b.s w.at) ran_x here;
-          traced = of_x b.unit b.y b.s b.late b.held b.u w.at b.base b.from b.map_is b.low b.high here w.traced;
+          traced = of_x b.unit b.y b.s b.late b.held b.u w.at b.from b.map_is b.low b.high here w.traced;
         }
 
     -- or a call failed in it
-    pub tracks_stop : (fault : RunFault) → (fault ≡ StepLimit → ⊥) → StepTraces z m mid midtold now.tracer after.tracer now.text after.text (Err fault) → TraceRuns count m held told before after (Err fault)
+    pub tracks_stop : (fault : RunFault) → (fault ≡ StepLimit → ⊥) → StepTraces z m mid midtold now.tracer after.tracer (Err fault) → TraceRuns count m held told before after (Err fault)
     tracks_stop StepLimit limit cut = absurd (limit refl)
     tracks_stop Disk limit cut = each_run count m held told before after (Err Disk) (λ b. tt)
     tracks_stop Sink limit cut = each_run count m held told before after (Err Sink) (λ b.
         let w = so_far b in
         let spent = w.spent in
-        let of_x : StepTraces (outside_of held.rows count) m mid midtold now.tracer after.tracer now.text after.text (Err Sink) = subst (λ (z : Environment). StepTraces z m mid midtold now.tracer after.tracer now.text after.text (Err Sink)) same cut in
-        (w.at, omega (arith, spent, less), of_x b.unit b.y b.s b.late b.held b.u w.at b.base b.from b.map_is b.low b.high w.state w.traced refl))
+        let of_x : StepTraces (outside_of held.rows count) m mid midtold now.tracer after.tracer (Err Sink) = subst (λ (z : Environment). StepTraces z m mid midtold now.tracer after.tracer (Err Sink)) same cut in
+        (w.at, omega (arith, spent, less), of_x b.unit b.y b.s b.late b.held b.u w.at b.from b.map_is b.low b.high w.state w.traced refl))

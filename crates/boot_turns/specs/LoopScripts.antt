@@ -51,9 +51,9 @@ traced_run x y s u turns steps = record { around = x; system = y; first = s; vie
 abbrev pub StepsTrace : {O D T : Type 0} → Environment → sink_of.Ghosts O → sectors_of.Ghosts D → Map → Held → Option Tracer → (old new : O × D) → (n : ℕ) →
     Result T RunFault → Type 0
 StepsTrace x text told m held kept (out, disk) new n result =
-    (c : CUnit) (y : System) (s : State) (late limit u t : ℕ) (base : Option (List ℕ)) → StartsFrom (IsTypedState c) x y s late limit →
+    (c : CUnit) (y : System) (s : State) (late limit u t : ℕ) → StartsFrom (IsTypedState c) x y s late limit →
     m ≡ (site_of y.boot).map → 1 ≤ u → u ≤ length y.boot.users → state_seen (told.sectors disk) held ≡ Some (run x s t)
-    → Traced x y s u t base kept (text.text out) →
+    → Traced x y s u t kept →
     (p : Past) (turns steps : ℕ) → ((j : ℕ) → t ≤ j → j ≤ t + n → Shown x s y u j (p.shown j)) →
     MakesAs text told (out, disk) new (InSteps (λ i. step_script (traced_run x y s u turns steps) p (t + i)) n) result
 

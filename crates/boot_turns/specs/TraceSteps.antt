@@ -19,14 +19,12 @@ use Rattle.boot_turns.specs.Premises.{StartsFrom}
 use Rattle.boot_turns.specs.Tracing.{Traced}
 
 -- ONE STEP OF A TRACE, for every run from a start that stands there, of one of its users; a step in whose rows the sink failed completes no turn
-abbrev pub StepTraces : Environment → Map → Held → (told : Option (List (List ℕ))) → (before after : Option Tracer) → (text retext : Option (List ℕ)) →
-    Result Stepped RunFault → Type 0
-StepTraces x m held told before after text retext result =
-    (c : CUnit) (y : System) (s : State) (late limit u t : ℕ) (base : Option (List ℕ)) → StartsFrom (IsTypedState c) x y s late limit →
-    m ≡ (site_of y.boot).map → 1 ≤ u → u ≤ length y.boot.users → state_seen told held ≡ Some (run x s t) → Traced x y s u t base before text →
-    MatchResult result (λ _. Traced x y s u (suc t) base after retext) (λ fault. fault ≡ Sink → rests (run x s (suc t)) ≡ false)
+abbrev pub StepTraces : Environment → Map → Held → (told : Option (List (List ℕ))) → (before after : Option Tracer) → Result Stepped RunFault → Type 0
+StepTraces x m held told before after result =
+    (c : CUnit) (y : System) (s : State) (late limit u t : ℕ) → StartsFrom (IsTypedState c) x y s late limit →
+    m ≡ (site_of y.boot).map → 1 ≤ u → u ≤ length y.boot.users → state_seen told held ≡ Some (run x s t) → Traced x y s u t before →
+    MatchResult result (λ _. Traced x y s u (suc t) after) (λ fault. fault ≡ Sink → rests (run x s (suc t)) ≡ false)
 
 -- over a disk of so many sectors
-abbrev pub StepTracesOver : (count : ℕ) → Map → Held → (told : Option (List (List ℕ))) → (before after : Option Tracer) → (text retext : Option (List ℕ)) →
-    Result Stepped RunFault → Type 0
-StepTracesOver count m held told before after text retext result = StepTraces (outside_of held.rows count) m held told before after text retext result
+abbrev pub StepTracesOver : (count : ℕ) → Map → Held → (told : Option (List (List ℕ))) → (before after : Option Tracer) → Result Stepped RunFault → Type 0
+StepTracesOver count m held told before after result = StepTraces (outside_of held.rows count) m held told before after result

@@ -1,7 +1,6 @@
--- What a trace has printed, and what is kept of it, while the machine steps.
+-- What is kept of a trace while the machine steps.
 use Rattle.std.specs.Prelude.{◌≡◌, ℕ, suc, ◌+◌, ◌*◌, ◌≤◌, ◌==◌, Bool, false, if◌then◌else◌}
 use Rattle.std.specs.Prelude.{⊤, Option, Some, None, List, length, slice_index, Result, Ok, Err}
-use Rattle.std.specs.Io.KnownBytes.{append_known}
 use Rattle.mips_table.specs.Device.{Environment}
 use Rattle.mips_table.specs.Machine.{State, run}
 use Rattle.mips_table.specs.Turns.{rests}
@@ -13,7 +12,6 @@ use Rattle.c0_tree.specs.Tree.{CUnit}
 use Rattle.c0_meaning.specs.TypedState.{IsTypedState}
 use Rattle.cvm_model.specs.Kernel.{JournalEntry}
 use Rattle.cvm_model.specs.Cvm.{System}
-use Rattle.cvm_model.specs.Text.{open_journal_rows, journal_rows_after}
 use Rattle.layer_contract.specs.Follows.{site_of}
 use Rattle.boot_report.specs.Told.{WordsAreTold}
 use Rattle.boot_turns.specs.declared.completion.Begun.{Begun}
@@ -54,10 +52,7 @@ abbrev pub WhereTold : Option (List (List ℕ)) → Held → Map → Tracer → 
 WhereTold told held m kept P = (ss : List (List ℕ)) (words : List ℕ) → told ≡ Some ss →
     ReturnTold m (state_of held ss) kept.user words (returned (state_of held ss) kept.call) → P (state_of held ss) words
 
--- their rows, and what is kept then
-abbrev pub followed_rows : State → Tracer → (current : ℕ) → (began : Bool) → (words : List ℕ) → List ℕ
-followed_rows s kept current began words = journal_rows_after false kept.steps (followed s kept current began words)
-
+-- what is kept then
 abbrev pub kept_after : State → Tracer → (current : ℕ) → (began : Bool) → (words : List ℕ) → Tracer
 kept_after s kept current began words =
     record { user = kept.user; steps = steps_after kept.steps (followed s kept current began words); call = notes_on s kept.call }
@@ -71,10 +66,7 @@ abbrev pub WhereCopied : Option (List (List ℕ)) → Held → Map → Tracer �
 WhereCopied told held m kept e answer P = (ss : List (List ℕ)) (words : List ℕ) → told ≡ Some ss → WordsAreTold m (state_of held ss) kept.user words →
     IsPlaced kept.user e answer words → P words
 
--- the rows of a primitive that has given this answer, and what is kept then
-abbrev pub ended_rows : Tracer → Entered → (answer : ℕ) → (words : List ℕ) → List ℕ
-ended_rows kept e answer words = journal_rows_after false kept.steps (call_ends kept.user e answer words)
-
+-- what is kept once it has given this answer
 abbrev pub ended_kept : Tracer → Entered → (answer : ℕ) → (words : List ℕ) → Tracer
 ended_kept kept e answer words = record kept { steps = steps_after kept.steps (call_ends kept.user e answer words) }
 
@@ -82,30 +74,26 @@ ended_kept kept e answer words = record kept { steps = steps_after kept.steps (c
 abbrev pub tracer_at : Environment → State → (u t : ℕ) → List JournalEntry → Tracer
 tracer_at x s u t j = record { user = u; steps = pending_steps j; call = noted_call x s t }
 
--- AT STEP t, over a sink that had `base` before the first row of the journal: the rows of what is shown are printed, but for a last row of steps
-pub record Traced (x : Environment) (y : System) (s : State) (u t : ℕ) (base : Option (List ℕ)) (kept : Option Tracer)
-    (text : Option (List ℕ)) : Type 0 where
+-- AT STEP t: what is kept is by what is shown
+pub record Traced (x : Environment) (y : System) (s : State) (u t : ℕ) (kept : Option Tracer) : Type 0 where
   pub journal : List JournalEntry
   pub shown : Shown x s y u t journal
   pub keeps : kept ≡ Some (tracer_at x s u t journal)
-  pub printed : text ≡ append_known base (open_journal_rows journal)
 
 -- steps were made from step t on, each taken from the budget
-pub record TracedOn (x : Environment) (y : System) (s : State) (u t : ℕ) (base : Option (List ℕ)) (before after : ℕ) (kept : Option Tracer)
-    (text : Option (List ℕ)) : Type 0 where
+pub record TracedOn (x : Environment) (y : System) (s : State) (u t : ℕ) (before after : ℕ) (kept : Option Tracer) : Type 0 where
   pub at : ℕ
   pub from : t ≤ at
   pub spent : after + at ≡ before + t
-  pub traced : Traced x y s u at base kept text
+  pub traced : Traced x y s u at kept
 
--- what is kept of a trace, the sink's text, and the budget, before and after
+-- what is kept of a trace, and the budget, before and after
 pub record Tracing : Type 0 where
   pub tracer : Option Tracer
-  pub text : Option (List ℕ)
   pub budget : ℕ
 
-abbrev pub tracing : Option Tracer → Option (List ℕ) → ℕ → Tracing
-tracing tracer text budget = record { tracer = tracer; text = text; budget = budget }
+abbrev pub tracing : Option Tracer → ℕ → Tracing
+tracing tracer budget = record { tracer = tracer; budget = budget }
 
 -- or they were broken off in a step that completes no turn
 abbrev pub CutAt : Environment → State → (t : ℕ) → (before after : ℕ) → Type 0
@@ -122,8 +110,8 @@ UnlessFailed (Err Sink) P Q = Q
 -- one of its users
 abbrev pub TraceRuns : (count : ℕ) → Map → Held → (told : Option (List (List ℕ))) → (before after : Tracing) → Result (ℕ × Begun) RunFault → Type 0
 TraceRuns count m held told before after result =
-    (c : CUnit) (y : System) (s : State) (late limit u t : ℕ) (base : Option (List ℕ)) →
+    (c : CUnit) (y : System) (s : State) (late limit u t : ℕ) →
     StartsFrom (IsTypedState c) (outside_of held.rows count) y s late limit → m ≡ (site_of y.boot).map → 1 ≤ u → u ≤ length y.boot.users →
-    state_seen told held ≡ Some (run (outside_of held.rows count) s t) → Traced (outside_of held.rows count) y s u t base before.tracer before.text →
-    UnlessFailed result (TracedOn (outside_of held.rows count) y s u t base before.budget after.budget after.tracer after.text)
+    state_seen told held ≡ Some (run (outside_of held.rows count) s t) → Traced (outside_of held.rows count) y s u t before.tracer →
+    UnlessFailed result (TracedOn (outside_of held.rows count) y s u t before.budget after.budget after.tracer)
     (CutAt (outside_of held.rows count) s t before.budget after.budget)

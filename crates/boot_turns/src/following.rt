@@ -5,7 +5,7 @@ ghost use Rattle.boot_turns.specs.Completes.{shown};
 ghost use Rattle.boot_turns.specs.Entries.{HasRows};
 ghost use Rattle.boot_turns.specs.Returns.{notes_on, returned};
 ghost use Rattle.boot_turns.specs.RowScripts.{MakesRows, ended_script, followed_script};
-ghost use Rattle.boot_turns.specs.StepRows.{EndPrints, FollowPrints};
+ghost use Rattle.boot_turns.specs.StepRows.{EndKeeps, FollowKeeps};
 ghost use Rattle.boot_turns.specs.Steps.{CanFollow, CountsStep, KeepsTracer, RowsLeave};
 ghost use Rattle.boot_turns.specs.Tracing.{CanTrace};
 
@@ -71,7 +71,7 @@ impl Tracer {
     ) -> Result<(), RunFault>
         requires copy { call.now.primitive ≡ VM_COPY }
         requires can { CanTrace map.now (length machine.now.hardware.memory) machine.now.time (D.size disk.old) self.old }
-        ensures prints { EndPrints (D.sectors disk.old) machine.now map.now self.old self.new call.now answer (O.text out.old) (O.text out.new) result }
+        ensures behind { EndKeeps (D.sectors disk.old) machine.now map.now self.old self.new call.now answer result }
         ensures keeps { KeepsTracer self.old self.new }
         ensures leaves { RowsLeave D.sectors D.size disk.old disk.new result }
         ensures script { MakesRows O.Sink D.Sectors machine.now map.now (out.old, disk.old) (out.new, disk.new)
@@ -101,7 +101,7 @@ impl Tracer {
         out: &mut O,
     ) -> Result<(), RunFault>
         requires can { CanTrace map.now (length machine.now.hardware.memory) machine.now.time (D.size disk.old) self.old }
-        ensures prints { EndPrints (D.sectors disk.old) machine.now map.now self.old self.new call.now answer (O.text out.old) (O.text out.new) result }
+        ensures behind { EndKeeps (D.sectors disk.old) machine.now map.now self.old self.new call.now answer result }
         ensures keeps { KeepsTracer self.old self.new }
         ensures leaves { RowsLeave D.sectors D.size disk.old disk.new result }
         ensures script { MakesRows O.Sink D.Sectors machine.now map.now (out.old, disk.old) (out.new, disk.new)
@@ -144,7 +144,7 @@ impl Tracer {
         out: &mut O,
     ) -> Result<(), RunFault>
         requires can { CanFollow map.now machine.now self.old (D.size disk.old) }
-        ensures prints { FollowPrints (D.sectors disk.old) machine.now map.now self.old self.new current began (O.text out.old) (O.text out.new) result }
+        ensures behind { FollowKeeps (D.sectors disk.old) machine.now map.now self.old self.new current began result }
         ensures rows { OnErr result (HasRows (state_of machine.now []) self.old.call began) }
         ensures user { self.new.user ≡ self.old.user }
         ensures can { CanTrace map.now (length machine.now.hardware.memory) machine.now.time (D.size disk.new) self.new }

@@ -6,7 +6,8 @@ ghost use Rattle.cvm_model.specs.Text.{steps_row as steps_text};
 ghost use Rattle.boot_turns.specs.Entries.{turn_begins, call_ends, IsNoCopy};
 ghost use Rattle.boot_turns.specs.Returns.{noted_at};
 ghost use Rattle.boot_turns.specs.RowScripts.{MakesRows, copy_script};
-ghost use Rattle.boot_turns.specs.StepRows.{CopyPrints, PutsEntries};
+ghost use Rattle.boot_turns.specs.Copies.{copied_kept};
+ghost use Rattle.boot_turns.specs.StepRows.{PutsEntries};
 ghost use Rattle.boot_turns.specs.Steps.{KeepsTracer, RowsLeave};
 ghost use Rattle.boot_turns.specs.Tracing.{CanTrace};
 
@@ -169,7 +170,7 @@ impl Tracer {
     ) -> Result<(), RunFault>
         requires can { CanTrace map.now (length machine.now.hardware.memory) machine.now.time (D.size disk.old) self.old }
         requires inside { address / 4 + count ≤ 1024 * map.now.params.pages }
-        ensures prints { CopyPrints (D.sectors disk.old) machine.now map.now self.old self.new address count (O.text out.old) (O.text out.new) result }
+        ensures behind { OnOk result (self.new ≡ copied_kept self.old count) }
         ensures keeps { KeepsTracer self.old self.new }
         ensures leaves { RowsLeave D.sectors D.size disk.old disk.new result }
         ensures script { MakesRows O.Sink D.Sectors machine.now map.now (out.old, disk.old) (out.new, disk.new)

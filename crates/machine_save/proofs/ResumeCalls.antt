@@ -40,11 +40,10 @@ use Rattle.boot_run.specs.Loading.{system_of}
 use Rattle.boot_run.specs.LoadEnds.{Kept, pages_needed}
 use Rattle.boot_run.specs.Pieces.{Bootable, FirstAt}
 use Rattle.boot_run.specs.Resuming.{taken_up, TakesUp}
-use Rattle.boot_run.specs.Sink.{Base}
 use Rattle.boot_run.specs.RunCalls.{run_at, begin_script, due_end, EndsBy, RestCalls}
-use Rattle.boot_run.specs.RunScript.{rest_script}
+use Rattle.boot_run.specs.RunScript.{WasSaved, rest_script}
 use Rattle.boot_run.specs.SavedFiles.{wanted_of}
-use Rattle.boot_run.specs.SavedRuns.{SavedAt, IsDisk, after_saved}
+use Rattle.boot_run.specs.SavedRuns.{SavedAt, IsDisk}
 use Rattle.boot_run.specs.Saving.{IsResumed, IsTakenUp}
 use Rattle.boot_run.specs.TurnCalls.{Around, around, Ready}
 use Rattle.boot_run.proofs.AbstractRuns.{turns_up_to}
@@ -53,18 +52,17 @@ use Rattle.boot_run.proofs.GoScripts.{no_sooner}
 use Rattle.boot_run.proofs.Looping.{machines}
 use Rattle.boot_run.proofs.Rejoining.{first_of}
 use Rattle.machine_save.specs.Resume.{ResumesFile}
-use Rattle.machine_save.specs.ResumeCalls.{boot_over, WasSaved, RestPerformed, FileRuns, ResumeScript}
+use Rattle.machine_save.specs.ResumeCalls.{boot_over, RestPerformed, FileRuns, ResumeScript}
 use Rattle.machine_save.specs.SavedBoots.{AreTakenUp, CanBoot}
 use Rattle.machine_save.specs.declared.resuming.ResumeFault.{ResumeFault}
 use Rattle.machine_save.proofs.Resumed.{named_so, no_memory, one_answer, read_back}
 
 -- what a call finds of a run, by its parts
-abbrev met : Option State → (steps budget : ℕ) → Option (List ℕ) → (turns current : ℕ) → Option Next → Option RunFault → Option Tracer → Around
-met state steps budget text turns current ended fault tracer = record {
+abbrev met : Option State → (steps budget turns current : ℕ) → Option Next → Option RunFault → Option Tracer → Around
+met state steps budget turns current ended fault tracer = record {
   state = state;
   steps = steps;
   budget = budget;
-  text = text;
   turns = turns;
   current = current;
   ended = ended;
@@ -72,21 +70,21 @@ met state steps budget text turns current ended fault tracer = record {
   tracer = tracer;
 }
 
-around_is : {L : Type 0} (r : Kept L) → IsResumed r → (told : Option (List (List ℕ))) (left : List (List ℕ)) (budget : ℕ) (had : Option (List ℕ)) →
-    told ≡ Some left → taken_up (state_of r.machine left) budget had r.turns r.current ≡ around r told budget had
-around_is r h told left budget had is =
-    ap (λ o. met (state_seen o r.machine) r.machine.time budget had r.turns r.current None None None) (sym is)
-    ∙ ap (λ e. met (state_seen told r.machine) r.machine.time budget had r.turns r.current e None None) (sym h.ended)
-    ∙ ap (λ f. met (state_seen told r.machine) r.machine.time budget had r.turns r.current r.ended f None) (sym h.fault)
-    ∙ ap (λ o. met (state_seen told r.machine) r.machine.time budget had r.turns r.current r.ended r.fault o) (sym h.tracer)
+around_is : {L : Type 0} (r : Kept L) → IsResumed r → (told : Option (List (List ℕ))) (left : List (List ℕ)) (budget : ℕ) →
+    told ≡ Some left → taken_up (state_of r.machine left) budget r.turns r.current ≡ around r told budget
+around_is r h told left budget is =
+    ap (λ o. met (state_seen o r.machine) r.machine.time budget r.turns r.current None None None) (sym is)
+    ∙ ap (λ e. met (state_seen told r.machine) r.machine.time budget r.turns r.current e None None) (sym h.ended)
+    ∙ ap (λ f. met (state_seen told r.machine) r.machine.time budget r.turns r.current r.ended f None) (sym h.fault)
+    ∙ ap (λ o. met (state_seen told r.machine) r.machine.time budget r.turns r.current r.ended r.fault o) (sym h.tracer)
 
 -- what a loaded run's contract says of the rest of it, of what is booted
 abbrev RestAt : {L O D : Type 0} → sink_of.Ghosts O → sectors_of.Ghosts D → Kept L → Booted → Rows → View → (size turns budget : ℕ) → O → D → O → D →
     RunEnd → Type 0
 RestAt text told r b rows v size turns budget o d o1 d1 e =
-    (y : System) (s : State) (late held : ℕ) (old : List (List ℕ)) (base : Base) (k t wanted steps : ℕ) (c : Cvm) → Bootable b rows size y s late held old →
+    (y : System) (s : State) (late held : ℕ) (old : List (List ℕ)) (k t wanted steps : ℕ) (c : Cvm) → Bootable b rows size y s late held old →
     FirstAt (outside_of rows size) s k t → 1 ≤ wanted → k + turns ≡ wanted → budget + t ≡ steps →
-    Ready (outside_of rows size) y s v base k t c (around r (told.sectors d) budget (text.text o)) → c.status ≡ Running →
+    Ready (outside_of rows size) y s v k t c (around r (told.sectors d) budget) → c.status ≡ Running →
     (p : Past) → IsPast (run_at (outside_of rows size) y s v wanted steps) p →
     EndsBy text told (o, d) (o1, d1) (begin_script (run_at (outside_of rows size) y s v wanted steps) k
     ++ rest_script (run_at (outside_of rows size) y s v wanted steps) p t) (due_end (run_at (outside_of rows size) y s v wanted steps) p) e
@@ -107,13 +105,12 @@ on_of (Some word) user h = absurd (cc)
 
 -- WHERE A RUN WAS SAVED it stands with all turns complete that have begun, and its machine runs a user
 module _ (counts : TurnLaws) (sums : SumLaws) (r : Run) (late held : ℕ) (m : RunMachines r.around r.system r.first late held) (p : Past)
-    (words : List ℕ) (left : List (List ℕ)) (made : ℕ) (w : WasSaved r p r.system.input words left made) where
+    (words : List ℕ) (left : List (List ℕ)) (made : ℕ) (w : WasSaved r p words left made) (less : turns_at r made ≤ r.turns) where
   goes_before : (j : ℕ) → j < made → is_end r.around r.first r.turns j ≡ false
   goes_before j lt =
       let none = not_over (turns_at r j == turns_at r made) (state_at r j).off (w.first.first j lt) in
       let other : turns_at r j ≢ turns_at r made = other_turns (turns_at r j) (turns_at r made) none.0 in
       let up : turns_at r j ≤ turns_at r made = turns_up_to counts r j made (omega (arith, lt)) in
-      let less = w.less in
       no_end r.around r.first r.turns j (λ e. other (omega (arith, e, up, less))) none.1
 
   later : made ≤ steps_made r
@@ -178,7 +175,8 @@ pub record ResumeLaws : Type 0 where
 module _ (law : ResumeLaws) (b : Booted) (rows : Rows) (turns steps count : ℕ) (boots : CanBoot b rows count) (ups : AreTakenUp b rows count)
     (bits : turns < 2 ^ 32) (limit : steps < 2 ^ 64) (sectors left : List (List ℕ)) (words : List ℕ) (p : Past) (made : ℕ)
     (room : pages_needed b ≤ count) (disk : IsDisk count sectors)
-    (w : WasSaved (boot_over b rows turns steps count sectors) p rows.inputs words left made) where
+    (w : WasSaved (boot_over b rows turns steps count sectors) p words left made) (one : 1 ≤ turns_at (boot_over b rows turns steps count sectors) made)
+    (less : turns_at (boot_over b rows turns steps count sectors) made ≤ turns) where
   abbrev r : Run
   r = boot_over b rows turns steps count sectors
 
@@ -189,33 +187,32 @@ module _ (law : ResumeLaws) (b : Booted) (rows : Rows) (turns steps count : ℕ)
   shown = rows_text (cvm_at r p made).rows
 
   some : turns_at r made ≡ suc few
-  some = let h = w.some in omega (arith, h)
+  some = omega (arith, one)
 
   at : SavedAt r.around r.system r.first (suc few) made words left shown
   at =
       saved_at law.counts law.sums r 1 (user_sectors r.system)
-      (machines law.machines b rows count r.system r.first 1 (user_sectors r.system) sectors (boots room sectors disk)) p words left made w few some
+      (machines law.machines b rows count r.system r.first 1 (user_sectors r.system) sectors (boots room sectors disk)) p words left made w less few some
 
   pub read_so : (bytes : List ℕ) → bytes ≡ flat_map word words → answer (wanted_of b rows turns) bytes ≡ Ok words
   read_so bytes spells =
-      let less = w.less in
       let same = some in
       read_back b rows turns steps count bytes sectors left (suc few) made words shown ups bits limit disk room at spells
       (omega arith) (omega (arith, less, same)) w.few
 
   -- a run that was taken up of them stands where that one stood, and makes the rest of its script
   module _ {L : Type 0} (layer : L) (k : Kept L) (up : IsTakenUp layer b rows count words k) where
-    stands : (told : Option (List (List ℕ))) (budget : ℕ) (had : Option (List ℕ)) → told ≡ Some left →
-        Ready r.around r.system r.first Boot (after_saved had shown) (suc few) made (cvm_at r p made) (around k told budget had)
+    stands : (told : Option (List (List ℕ))) (budget : ℕ) → told ≡ Some left →
+        Ready r.around r.system r.first Boot (suc few) made (cvm_at r p made) (around k told budget)
         × FirstAt r.around r.first (suc few) made
     unfolding at saved_at
-    stands told budget had tells =
+    stands told budget tells =
         let named = named_so layer b rows count words k left up in
         let h =
-        law.takes r.around r.system r.first few made budget words left had shown (state_of k.machine left) k.turns k.current
+        law.takes r.around r.system r.first few made budget words left shown (state_of k.machine left) k.turns k.current
         (first_of law.steady r.system sectors) at named.ready named.sectors_are named.words_are in (
-          subst (λ (a : Around). Ready r.around r.system r.first Boot (after_saved had shown) (suc few) made (cvm_at r p made) a)
-              (around_is k up.resumed told left budget had tells) h.0,
+          subst (λ (a : Around). Ready r.around r.system r.first Boot (suc few) made (cvm_at r p made) a)
+              (around_is k up.resumed told left budget tells) h.0,
           h.1,
         )
 
@@ -223,13 +220,12 @@ module _ (law : ResumeLaws) (b : Booted) (rows : Rows) (turns steps count : ℕ)
         told.sectors d ≡ Some left → RestAt text told k b rows Boot count (turns - k.turns) (steps - k.machine.time) o d o1 d1 end →
         EndsBy text told (o, d) (o1, d1) (rest_script r p made) (due_end r p) end
     rest_there text told o o1 d d1 end tells rests =
-        let h = stands (told.sectors d) (steps - k.machine.time) (text.text o) tells in
+        let h = stands (told.sectors d) (steps - k.machine.time) tells in
         let time : k.machine.time ≡ made = h.0.steps in
         let finished : k.turns ≡ suc few = h.0.turns in
-        let less = w.less in
         let within = w.few in
         let same = some in
-        rests r.system r.first 1 (user_sectors r.system) sectors (after_saved (text.text o) shown) (suc few) made turns steps (cvm_at r p made)
+        rests r.system r.first 1 (user_sectors r.system) sectors (suc few) made turns steps (cvm_at r p made)
         (boots room sectors disk) h.1 (omega (arith, less, same)) (omega (arith, finished, less, same)) (omega (arith, time, within)) h.0 w.on p w.is_past
 
 -- what is said of a run that was taken up, of what is booted
@@ -273,11 +269,11 @@ module _ (law : ResumeLaws) {L O D : Type 0} (text : sink_of.Ghosts O) (told : s
   rest_so : (k : Kept L) (end : RunEnd) → ResumesFile layer b rows turns (told.size d) bytes (Ok k) →
       RestCalls text told k (turns - k.turns) (steps - k.machine.time) (o, d) (o1, d1) end →
       RestPerformed text told b rows turns steps bytes (o, d) (o1, d1) (Ok end)
-  rest_so k end (held, is, spelled, can, enough, up) calls = λ sectors left words p made room disk tells spells w.
-      let back = read_so law b rows turns steps (told.size d) boots ups bits limit sectors left words p made room disk w bytes spells in
+  rest_so k end (held, is, spelled, can, enough, up) calls = λ sectors left words p made room disk tells spells w one less.
+      let back = read_so law b rows turns steps (told.size d) boots ups bits limit sectors left words p made room disk w one less bytes spells in
       let same : held ≡ words = one_answer (answer (wanted_of b rows turns) bytes) held words is back in
       let its = subst (λ (l : List ℕ). IsTakenUp layer b rows (told.size d) l k) same up in
-      rest_there law b rows turns steps (told.size d) boots ups bits limit sectors left words p made room disk w layer k its text told o o1 d d1 end tells
+      rest_there law b rows turns steps (told.size d) boots ups bits limit sectors left words p made room disk w one less layer k its text told o o1 d d1 end tells
       (rest_at text told layer b rows words k (turns - k.turns) (steps - k.machine.time) o o1 d d1 end its calls)
 
   untold_so : (k : Kept L) (end : RunEnd) → ResumesFile layer b rows turns (told.size d) bytes (Ok k) →
@@ -298,9 +294,9 @@ module _ (law : ResumeLaws) {L O D : Type 0} (text : sink_of.Ghosts O) (told : s
   pub refused_script : (fault : ResumeFault) → ResumesFile layer b rows turns (told.size d) bytes (Err fault) → d1 ≡ d →
       ResumeScript text told b rows turns steps bytes (o, d) (o, d1) (Err fault)
   refused_script fault refused same = record {
-    rest = λ sectors left words p made room disk tells spells w.
+    rest = λ sectors left words p made room disk tells spells w one less.
         no_memory layer b rows turns (told.size d) bytes words fault refused room
-        (read_so law b rows turns steps (told.size d) boots ups bits limit sectors left words p made room disk w bytes spells);
+        (read_so law b rows turns steps (told.size d) boots ups bits limit sectors left words p made room disk w one less bytes spells);
     untold = λ words left answers tells. tt;
     some = tt;
     none = ap (λ (q : D). (o, q)) same;

@@ -1,5 +1,5 @@
 -- What a call answers that saves, by what the run answered and by what was put and printed.
-use Rattle.std.proofs.Common.{◌≡◌, ℕ, Option, List, Ok, Err, ap}
+use Rattle.std.proofs.Common.{◌≡◌, ◌≢◌, inl, inr, refl, ℕ, Option, List, Ok, Err, ap}
 use Rattle.std.specs.Prelude.{Result}
 use Rattle.cvm_outside.specs.Numbering.{Tally}
 use Rattle.layer_contract.specs.declared.boot.Boot.{Boot as Booted}
@@ -8,7 +8,7 @@ use Rattle.boot_turns.specs.declared.answers.View.{View}
 use Rattle.boot_run.specs.LoadEnds.{LoadsRun}
 use Rattle.boot_run.specs.declared.load.LoadFault.{LoadFault}
 use Rattle.boot_run.specs.declared.load.LoadFault.TheVariants.{Disk}
-use Rattle.machine_save.specs.SaveRun.{IfUnput, ShowsSaved}
+use Rattle.machine_save.specs.SaveRun.{KeepsOrPuts, ShowsSaved}
 use Rattle.boot_run.specs.declared.whole.RunEnd.{RunEnd}
 use Rattle.boot_run.specs.declared.whole.RunEnd.TheVariants as ends
 use Rattle.boot_run.specs.declared.whole.RunEnd.TheVariants.{Stopped, SinkFault, ShelfFault}
@@ -38,22 +38,22 @@ module _ {D O : Type 0} (size : D → ℕ) (sectors : D → Option (List (List �
     unprinted = tt;
   }
 
--- WHAT A STATE'S END SAYS
-pub was_put : (rows after : Option (List ℕ)) (e : RunEnd) (P : Type 0) → ShowsSaved rows after e → IfUnput (Ok e) P
-was_put rows after Stopped P shows = tt
-was_put rows after ShelfFault P shows = tt
-was_put rows after SinkFault P shows = tt
-was_put rows after ends.Done P shows = absurd shows
-was_put rows after ends.KernelFaulted P shows = absurd shows
-was_put rows after ends.OutOfSteps P shows = absurd shows
-was_put rows after ends.DiskFault P shows = absurd shows
+-- THE FILES, by the end of a state that was put
+pub was_put : (rows after : Option (List ℕ)) (e : RunEnd) (Keeps Puts : Type 0) → ShowsSaved rows after e → Puts → KeepsOrPuts (Ok e) Keeps Puts
+was_put rows after Stopped K P shows h = h
+was_put rows after ShelfFault K P shows h = tt
+was_put rows after SinkFault K P shows h = inr h
+was_put rows after ends.Done K P shows h = absurd shows
+was_put rows after ends.KernelFaulted K P shows h = absurd shows
+was_put rows after ends.OutOfSteps K P shows h = absurd shows
+was_put rows after ends.DiskFault K P shows h = absurd shows
 
--- and what the end of a run says where nothing was put
-pub was_unput : (e : RunEnd) (P : Type 0) → P → IfUnput (Ok e) P
-was_unput Stopped P h = tt
-was_unput ShelfFault P h = tt
-was_unput SinkFault P h = tt
-was_unput ends.Done P h = h
-was_unput ends.KernelFaulted P h = h
-was_unput ends.OutOfSteps P h = h
-was_unput ends.DiskFault P h = h
+-- and by that of a run where none was put
+pub was_unput : (e : RunEnd) (Keeps Puts : Type 0) → e ≢ Stopped → Keeps → KeepsOrPuts (Ok e) Keeps Puts
+was_unput Stopped K P over h = absurd (over refl)
+was_unput ShelfFault K P over h = tt
+was_unput SinkFault K P over h = inl h
+was_unput ends.Done K P over h = h
+was_unput ends.KernelFaulted K P over h = h
+was_unput ends.OutOfSteps K P over h = h
+was_unput ends.DiskFault K P over h = h

@@ -7,22 +7,19 @@ use Rattle.cvm_outside.specs.declared.sink.Sink as sink_of
 use Rattle.cvm_outside.specs.declared.sectors.Sectors as sectors_of
 use Rattle.schedule_file.specs.Rows.{Rows}
 use Rattle.mips_table.specs.Machine.{State}
-use Rattle.mips_table.specs.Turns.{IsTurnEnd}
-use Rattle.mips_machine.specs.Saved.{saved}
 use Rattle.mips_machine.specs.Steps.{outside_of}
-use Rattle.cvm_model.specs.Cvm.{Running}
 use Rattle.layer_contract.specs.declared.boot.Boot.{Boot as Booted}
 use Rattle.layer_contract.specs.Follows.{loaded}
 use Rattle.saved_file.specs.Answer.{answer}
 use Rattle.saved_file.specs.declared.fault.SaveFault.TheVariants.{Memory}
 use Rattle.boot_turns.specs.declared.answers.View.TheVariants.{Boot}
-use Rattle.boot_turns.specs.Runs.{Run, Past, IsPast, state_at, turns_at, cvm_at}
+use Rattle.boot_turns.specs.Runs.{Run, Past, turns_at}
 use Rattle.boot_run.specs.declared.whole.RunEnd.{RunEnd}
 use Rattle.boot_run.specs.AnyScripts.{EndsUntold}
 use Rattle.boot_run.specs.Loading.{system_of}
 use Rattle.boot_run.specs.LoadEnds.{pages_needed}
 use Rattle.boot_run.specs.RunCalls.{run_at, due_end, of_end, EndsBy, SomeMade}
-use Rattle.boot_run.specs.RunScript.{rest_script}
+use Rattle.boot_run.specs.RunScript.{WasSaved, rest_script}
 use Rattle.boot_run.specs.SavedFiles.{wanted_of}
 use Rattle.boot_run.specs.SavedRuns.{IsDisk}
 use Rattle.machine_save.specs.ResumeRun.{Names}
@@ -33,24 +30,16 @@ use Rattle.machine_save.specs.declared.resuming.ResumeFault.TheVariants.{Save}
 abbrev pub boot_over : Booted → Rows → (turns steps count : ℕ) → (sectors : List (List ℕ)) → Run
 boot_over b rows turns steps count sectors = run_at (outside_of rows count) (system_of b rows) (loaded (system_of b rows) sectors) Boot turns steps
 
--- IT WAS SAVED in these words after so many steps, which are no more than the resume may make; and these sectors were left
-pub record WasSaved (r : Run) (past : Past) (inputs words : List ℕ) (left : List (List ℕ)) (made : ℕ) : Type 0 where
-  pub is_past : IsPast r past
-  pub few : made ≤ r.steps
-  pub first : IsTurnEnd r.around r.first (turns_at r made) made
-  pub some : 1 ≤ turns_at r made
-  pub less : turns_at r made ≤ r.turns
-  pub on : (cvm_at r past made).status ≡ Running
-  pub words_are : words ≡ saved inputs (state_at r made) (turns_at r made) (cvm_at r past made).core.current
-  pub left_is : left ≡ (state_at r made).device.sectors
-
--- so a resume performs the rest of that boot's script, with its texts, and ends as it; or there was no memory
+-- A RESUME OF A BOOT THAT WAS SAVED, with some turns, and no more than it may make: it performs the rest of that boot's script, with its texts, and ends as
+-- it; or there was no memory
 abbrev pub RestPerformed : {O D : Type 0} → sink_of.Ghosts O → sectors_of.Ghosts D → Booted → Rows → (turns steps : ℕ) → (bytes : List ℕ) →
     (old new : O × D) → Result RunEnd ResumeFault → Type 0
 RestPerformed text told b rows turns steps bytes (out, disk) new result =
     (sectors left : List (List ℕ)) (words : List ℕ) (past : Past) (made : ℕ) → pages_needed b ≤ told.size disk → IsDisk (told.size disk) sectors →
     told.sectors disk ≡ Some left → bytes ≡ flat_map word words →
-    WasSaved (boot_over b rows turns steps (told.size disk) sectors) past rows.inputs words left made → MatchResult result
+    WasSaved (boot_over b rows turns steps (told.size disk) sectors) past words left made →
+    1 ≤ turns_at (boot_over b rows turns steps (told.size disk) sectors) made →
+    turns_at (boot_over b rows turns steps (told.size disk) sectors) made ≤ turns → MatchResult result
     (λ end. EndsBy text told (out, disk) new (rest_script (boot_over b rows turns steps (told.size disk) sectors) past made)
     (due_end (boot_over b rows turns steps (told.size disk) sectors) past) end)
     (λ fault. fault ≡ Save Memory)

@@ -47,10 +47,10 @@ PutCalls shelf text run room name (s, o) (s', o') end = (bytes : List ℕ)
 -- calls of all three objects
 abbrev pub AllMade : {S O D : Type 0} → shelf_of.Ghosts S → sink_of.Ghosts O → sectors_of.Ghosts D → (old new : S × O × D) → List Call → Option Who → Type 0
 AllMade shelf text told (s, o, d) (s', o', d') script blamed = Performs script
-    (record { shelf = files shelf s; sink = output text o; disk = drive told d }) (record { shelf = files shelf s'; sink = output text o'; disk = drive told d' })
-    blamed
+    (record { shelf = files shelf s; sink = output text o; disk = drive told d })
+    (record { shelf = files shelf s'; sink = output text o'; disk = drive told d' }) blamed
 
--- what is left where nothing is told: a file and the row, or nothing
+-- what is left where nothing is told: a file and the row, or nothing; where the sink failed, nothing as it failed in the run, the file as in the row
 abbrev pub SomeLeft : (name : List ℕ) → Result RunEnd LoadFault → List Call → Type 0
 SomeLeft name (Ok Stopped) left = (bytes : List ℕ) × (left ≡ put_script name bytes)
 SomeLeft name (Ok ShelfFault) left = (bytes : List ℕ) × (left ≡ put_script name bytes)

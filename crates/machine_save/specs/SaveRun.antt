@@ -1,7 +1,10 @@
--- What is printed where the state of a run that stopped is put to a file; and what is so where none was put.
-use Rattle.std.specs.Prelude.{◌≡◌, ℕ, Option, List, codes, Result, Ok, Err, ⊤}
+-- What is printed where the state of a run that stopped is put to a file; and what is left of the files, by how a save ends.
+use Rattle.std.specs.Prelude.{◌≡◌, ◌≢◌, ◌⊎◌, ℕ, Option, List, codes, Result, Ok, Err, ⊤}
 use Rattle.std.specs.Io.KnownBytes.{append_known}
-use Rattle.cvm_outside.specs.Told.{AppendsPart}
+use Rattle.cvm_outside.specs.Outside.{files}
+use Rattle.cvm_outside.specs.Script.{ShelfCalled}
+use Rattle.cvm_outside.specs.Told.{AppendsPart, retold}
+use Rattle.cvm_outside.specs.declared.shelf.Shelf as shelf_of
 use Rattle.boot_run.specs.declared.load.LoadFault.{LoadFault}
 use Rattle.boot_run.specs.declared.whole.RunEnd.{RunEnd}
 use Rattle.boot_run.specs.declared.whole.RunEnd.TheVariants.{Stopped, SinkFault, ShelfFault}
@@ -13,10 +16,19 @@ ShowsSaved rows after ShelfFault = after ≡ rows
 ShowsSaved rows after SinkFault = AppendsPart rows after (codes "saved\n")
 ShowsSaved rows after other = ⊥
 
--- P where nothing was to be put: where the sink failed its script tells whether it was before the put
-abbrev pub IfUnput : Result RunEnd LoadFault → Type 0 → Type 0
-IfUnput (Ok Stopped) P = ⊤
-IfUnput (Ok ShelfFault) P = ⊤
-IfUnput (Ok SinkFault) P = ⊤
-IfUnput (Ok other) P = P
-IfUnput (Err fault) P = P
+-- the file of that name was put, by one call that didn't fail
+pub record WasPut {S : Type 0} (shelf : shelf_of.Ghosts S) (name : List ℕ) (old new : S) : Type 0 where
+  pub bytes : List ℕ
+  pub whole : shelf.file new name ≡ retold (shelf.file old name) bytes
+  pub others : (n : List ℕ) → n ≢ name → shelf.file new n ≡ shelf.file old n
+  pub faults : shelf.faults new ≡ shelf.faults old
+  pub called : ShelfCalled (files shelf old) (files shelf new)
+
+-- WHAT IS LEFT OF THE FILES: they are as before, or one was put; where the sink failed this was before the put, or behind it; of a put that failed its
+-- script tells
+abbrev pub KeepsOrPuts : Result RunEnd LoadFault → (Keeps Puts : Type 0) → Type 0
+KeepsOrPuts (Ok Stopped) Keeps Puts = Puts
+KeepsOrPuts (Ok ShelfFault) Keeps Puts = ⊤
+KeepsOrPuts (Ok SinkFault) Keeps Puts = Keeps ⊎ Puts
+KeepsOrPuts (Ok other) Keeps Puts = Keeps
+KeepsOrPuts (Err fault) Keeps Puts = Keeps

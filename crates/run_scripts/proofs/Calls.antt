@@ -16,8 +16,8 @@ use Rattle.boot_turns.specs.StepScript.{steps_script}
 use Rattle.run_scripts.specs.Saves.{saved_row}
 use Rattle.run_scripts.specs.SessionRuns.{run_of, pages_loaded}
 use Rattle.boot_turns.specs.LoopScripts.{AreOfRun}
-use Rattle.boot_run.specs.AnyScripts.{end_by_power, IsReport}
-use Rattle.boot_run.specs.RunScript.{AreReads, untold_steps}
+use Rattle.boot_run.specs.AnyScripts.{end_by_power, IsReport, untold_rest}
+use Rattle.boot_run.specs.RunScript.{AreReads}
 use Rattle.run_scripts.specs.RunStatus.{leaving_script, save_script, saved_bytes}
 use Rattle.run_scripts.specs.Ends.{PlanAsks, SessionAsks, no_user, small, over_told, over_untold, SomeRunAsks, SomeSaveAsks, as_boot, is_saved, load_of}
 use Rattle.run_scripts.specs.Shapes.{Loads, gets_in, puts_in, NamedBy}
@@ -152,7 +152,7 @@ shape_of words c p at script due is (saved_so d k s rows) a =
     (λ x st w. some_save_puts d.file (load_of (save_session d) s rows) x st (plain_load (save_session d) s rows) w) script due a)
 shape_of words c p at script due is (is_resumed d k s rows machine) a =
     session_puts (file_put c) (save_session d) s rows at _ _
-    (λ ss x st w. same_puts (file_put c) x _ w.script_is (plain_puts (file_put c) _ (plain_both (untold_steps w.run) w.report (of_untold Plain plain plain_write w.run) (plain_reads w.report (report_reads (has_ended w.run) (state_at w.run (steps_made w.run)).off w.report w.is_report)))))
+    (λ ss x st w. same_puts (file_put c) x _ w.script_is (plain_puts (file_put c) _ (plain_both (untold_rest w.run 0) w.report (of_untold Plain plain plain_write w.run) (plain_reads w.report (report_reads (has_ended w.run) (state_at w.run (steps_made w.run)).off w.report w.is_report)))))
     (λ x st w. some_puts (file_put c) [] x st (record { gets = refl; puts = refl }) w) script due a
 shape_of words c p at script due is (is_put d k name bytes e) a =
     same_puts (file_put c) script _ a.0 (record { gets = refl; puts = ap file_put (one_command words c d is k) ∙ e })

@@ -1,7 +1,7 @@
 -- Why a status is what it is.
 use Rattle.std.specs.Prelude.{Option, Some, None, codes}
 use Rattle.std.specs.Io.KnownBytes.{append_known}
-use Rattle.std.proofs.Common.{◌≡◌, ◌⊎◌, inl, inr, ℕ, zero, suc, ◌<◌, Bool, true, false, List, [], ◌∷◌, ◌++◌, length, refl, sym, ap, ◌∙◌, subst}
+use Rattle.std.proofs.Common.{◌≡◌, ◌⊎◌, inl, inr, ℕ, zero, suc, ◌<◌, Bool, true, false, List, [], ◌∷◌, ◌++◌, length, refl, sym, ap, ◌∙◌, subst, arith}
 use Rattle.cvm_outside.specs.Told.{AppendsPart, TOO_LONG}
 use Rattle.cvm_model.specs.Cvm.{Status as CvmStatus, Running, Halted, Faulted}
 use Rattle.boot_turns.specs.declared.answers.View.TheVariants.{Boot, Trace}
@@ -12,17 +12,17 @@ use Rattle.run_scripts.specs.declared.exit_status.Status.TheVariants.{Done, Word
 use Rattle.run_scripts.specs.declared.session.Session.{Session}
 use Rattle.run_scripts.specs.Command.{Command, IsCommand, IsNoCommand, save, resume, save_session}
 use Rattle.run_scripts.specs.Refusal.{Refusal, small_disk, no_such_user, too_long, refusal_status, refusal_text}
-use Rattle.run_scripts.specs.Plan.{Plan, bad_words, refuses, boots, PlanComesTo, AllTold, IsPlan}
+use Rattle.run_scripts.specs.Plan.{Plan, bad_words, refuses, puts, boots, saves, resumes, prints as tells, PlanComesTo, AllTold, IsPlan}
 use Rattle.cvm_outside.specs.ScriptLaws.{ScriptsBlame}
 use Rattle.cvm_outside.specs.Outside.{Outside, Drive}
 use Rattle.cvm_outside.specs.Script.{Call, Who, TheSink, TheDisk, TheShelf, Performs, done as all_done, breaks, goes_on, Rises, faults_of, disk_calls}
 use Rattle.run_scripts.specs.Boot.{sectors_needed}
 use Rattle.boot_run.specs.RunEnds.{SeesUser}
 use Rattle.boot_run.specs.Closing.{says}
-use Rattle.run_scripts.specs.RunStatus.{status_of, power_status}
+use Rattle.run_scripts.specs.RunStatus.{IsRunStatus, status_of, power_status}
 use Rattle.run_scripts.specs.Ends.{Does, done, no_file, no_memory, GetsFor, all, up_to, IsNotGot, Wants, behind, within, wants, PlanAsks, SessionAsks, no_user, small, over_told, over_untold, SomeSaveAsks, as_boot, is_saved, load_of, answered}
 use Rattle.run_scripts.specs.Served.{files_of, gets}
-use Rattle.run_scripts.specs.Causes.{Counts, NeedsMore, CausedBy, StatusesAreCaused, WordsAreRefused}
+use Rattle.run_scripts.specs.Causes.{Counts, NeedsMore, RunsOver, IsRun, IsWork, CausedBy, StatusesAreCaused, WordsAreRefused}
 use Rattle.run_scripts.specs.Shapes.{IsRefusal}
 use Rattle.run_scripts.proofs.Joins.{got_keeps}
 use Rattle.run_scripts.proofs.Outcomes.{IsOfFile, Outcome, is_none, is_refused, is_booted, is_saved as saves_so, is_resumed, is_put, is_told, outcome}
@@ -48,10 +48,6 @@ says_part text old new p = by (Some TheSink) refl p
     by b e (breaks c rest _ _ f) = f.0
     by b e (goes_on c rest _ mid _ _ d q) = absurd (let z : None ≡ Some TheSink = sym (nothing_blames mid new b q) ∙ e in cc)
 
--- the status of a run where no call fails
-abbrev IsRunStatus : Status → Type 0
-IsRunStatus st = (st ≡ Done) ⊎ ((st ≡ KernelFault) ⊎ (st ≡ StepLimit))
-
 -- WHAT IS DUE, and why
 pub data Due (p : Plan) (at : Outside) (script : List Call) (due : Status) : Type 0 where
   by_words : p ≡ bad_words → due ≡ Words → script ≡ says (codes "bad words\n") → Due p at script due
@@ -59,7 +55,8 @@ pub data Due (p : Plan) (at : Outside) (script : List Call) (due : Status) : Typ
   by_user : (session : Session) (s : ImageSystem) (rows : Rows) (u : ℕ) → p ≡ boots session s rows → session.view ≡ Trace u → (SeesUser session.view (length s.users) → ⊥) → due ≡ Refused →
       script ≡ says (refusal_text (no_such_user u (length s.users))) → Due p at script due
   by_disk : NeedsMore p at.disk.size → due ≡ Disk → Due p at script due
-  by_run : (due ≡ Done) ⊎ ((due ≡ KernelFault) ⊎ (due ≡ StepLimit)) → Due p at script due
+  by_work : IsWork p → due ≡ Done → Due p at script due
+  by_run : IsRun p at.disk.size → IsRunStatus due → Due p at script due
 
 of_status : (b : Bool) (st : CvmStatus) → IsRunStatus (status_of b st)
 of_status true Running = inl refl
@@ -83,12 +80,13 @@ same_due a b e h = subst IsRunStatus (sym e) h
 -- of a session
 session_due : (p : Plan) (session : Session) (s : ImageSystem) (rows : Rows) (at : Outside) (Told : List (List ℕ) → List Call → Status → Type 0) (Some_ : List Call → Status → Type 0) →
     ((u : ℕ) → session.view ≡ Trace u → p ≡ boots session s rows) → (at.disk.size < sectors_needed session s rows → NeedsMore p at.disk.size) →
+    (RunsOver session s rows at.disk.size → IsRun p at.disk.size) →
     ((ss : List (List ℕ)) (a : List Call) (st : Status) → Told ss a st → IsRunStatus st) → ((a : List Call) (st : Status) → Some_ a st → IsRunStatus st) →
     (script : List Call) (due : Status) → SessionAsks session s rows at Told Some_ script due → Due p at script due
-session_due p session s rows at T S user less t m script due (no_user u v n) = by_user session s rows u (user u v) v n refl refl
-session_due p session s rows at T S user less t m script due (small v n) = by_disk (less n) refl
-session_due p session s rows at T S user less t m script due (over_told ss _ _ v n q a) = by_run (t ss script due a)
-session_due p session s rows at T S user less t m script due (over_untold _ _ v n q a) = by_run (m script due a)
+session_due p session s rows at T S user less run t m script due (no_user u v n) = by_user session s rows u (user u v) v n refl refl
+session_due p session s rows at T S user less run t m script due (small v n) = by_disk (less n) refl
+session_due p session s rows at T S user less run t m script due (over_told ss _ _ v n q a) = by_run (run (v, n)) (t ss script due a)
+session_due p session s rows at T S user less run t m script due (over_untold _ _ v n q a) = by_run (run (v, n)) (m script due a)
 
 some_save : (name : List ℕ) (load script : List Call) (due : Status) → SomeSaveAsks name load script due → IsRunStatus due
 some_save name load script due (as_boot _ _ w) = w.3
@@ -104,14 +102,35 @@ pub due_of : (words : List (List ℕ)) (p : Plan) (at : Outside) (script : List 
 due_of words p at script due (is_none n) a = by_words refl a.1 a.0
 due_of words p at script due (is_refused c is r f) a = by_refusal r f refl a.1 a.0
 due_of words p at script due (is_booted c is l session s rows) a =
-    session_due p session s rows at _ _ (λ u v. refl) (λ n. n) (λ ss x st w. same_due st _ w.status_is (of_status _ _)) (λ x st w. w.3) script due a
+    session_due p session s rows at _ _ (λ u v. refl) (λ n. n) (λ r. r) (λ ss x st w. same_due st _ w.status_is (of_status _ _)) (λ x st w. w.3) script due a
 due_of words p at script due (saves_so c is s rows) a =
-    session_due p (save_session c) s rows at _ _ (λ u v. absurd (no_view u v)) (λ n. n) (λ ss x st w. same_due st _ w.status_is (of_status _ _))
+    session_due p (save_session c) s rows at _ _ (λ u v. absurd (no_view u v)) (λ n. n) (λ r. r) (λ ss x st w. same_due st _ w.status_is (of_status _ _))
     (λ x st w. some_save c.file (load_of (save_session c) s rows) x st w) script due a
 due_of words p at script due (is_resumed c is s rows machine) a =
-    session_due p (save_session c) s rows at _ _ (λ u v. absurd (no_view u v)) (λ n. n) (λ ss x st w. same_due st _ w.status_is (of_power _ _)) (λ x st w. w.3) script due a
-due_of words p at script due (is_put c is name bytes e) a = by_run (inl a.1)
-due_of words p at script due (is_told c is text) a = by_run (inl a.1)
+    session_due p (save_session c) s rows at _ _ (λ u v. absurd (no_view u v)) (λ n. n) (λ r. r) (λ ss x st w. same_due st _ w.status_is (of_power _ _)) (λ x st w. w.3) script due a
+due_of words p at script due (is_put c is name bytes e) a = by_work tt a.1
+due_of words p at script due (is_told c is text) a = by_work tt a.1
+
+-- of a run that is asked for
+session_ends : (session : Session) (s : ImageSystem) (rows : Rows) (at : Outside) (Told : List (List ℕ) → List Call → Status → Type 0) (Some_ : List Call → Status → Type 0) →
+    ((ss : List (List ℕ)) (a : List Call) (st : Status) → Told ss a st → IsRunStatus st) → ((a : List Call) (st : Status) → Some_ a st → IsRunStatus st) →
+    (script : List Call) (due : Status) → RunsOver session s rows at.disk.size → SessionAsks session s rows at Told Some_ script due → IsRunStatus due
+session_ends session s rows at T S t m script due runs (no_user u v n) = absurd (n runs.0)
+session_ends session s rows at T S t m script due runs (small v n) = absurd (let room = runs.1 in omega (arith, n, room))
+session_ends session s rows at T S t m script due runs (over_told ss _ _ v n q a) = t ss script due a
+session_ends session s rows at T S t m script due runs (over_untold _ _ v n q a) = m script due a
+
+pub run_due : (p : Plan) (at : Outside) (script : List Call) (due : Status) → IsRun p at.disk.size → PlanAsks p at script due → IsRunStatus due
+run_due (boots session s rows) at script due runs a =
+    session_ends session s rows at _ _ (λ ss x st w. same_due st _ w.status_is (of_status _ _)) (λ x st w. w.3) script due runs a
+run_due (saves session s rows name) at script due runs a =
+    session_ends session s rows at _ _ (λ ss x st w. same_due st _ w.status_is (of_status _ _)) (λ x st w. some_save name (load_of session s rows) x st w) script due runs a
+run_due (resumes session s rows words) at script due runs a =
+    session_ends session s rows at _ _ (λ ss x st w. same_due st _ w.status_is (of_power _ _)) (λ x st w. w.3) script due runs a
+run_due bad_words at script due runs a = absurd runs
+run_due (refuses r) at script due runs a = absurd runs
+run_due (puts name bytes) at script due runs a = absurd runs
+run_due (tells text) at script due runs a = absurd runs
 
 -- what is refused calls no disk
 no_run : (st : Status) → IsRunStatus st → IsRefusal st → ⊥
@@ -214,15 +233,19 @@ module _ (blame : ScriptsBlame) where
       refusal_free (no_such_user u n) f e k = absurd f
       refusal_free other f e k = k
 
+      run_is : IsRun h.plan h.mid.disk.size → IsRun h.plan old.disk.size
+      run_is r = subst (λ (x : Drive). IsRun h.plan x.size) (mid_disk words old new status h).0 r
+
       free : Due h.plan h.mid h.script h.due → Counts None old new → CausedBy h.due words old new
       free (by_words e d s) k = subst (λ (st : Status). CausedBy st words old new) (sym d) k
       free (by_refusal r f e d s) k = subst (λ (st : Status). CausedBy st words old new) (sym d) (refusal_free r f e k)
       free (by_user session s rows u e v n d x) k = subst (λ (st : Status). CausedBy st words old new) (sym d) k
       free (by_disk n d) k = subst (λ (st : Status). CausedBy st words old new) (sym d)
-          (inr (k, record { plan = h.plan; is_plan = h.is_plan; more = subst (λ (x : Drive). NeedsMore h.plan x.size) (mid_disk words old new status h).0 n }))
-      free (by_run (inl d)) k = subst (λ (st : Status). CausedBy st words old new) (sym d) k
-      free (by_run (inr (inl d))) k = subst (λ (st : Status). CausedBy st words old new) (sym d) k
-      free (by_run (inr (inr d))) k = subst (λ (st : Status). CausedBy st words old new) (sym d) k
+          (inr (k, record { plan = h.plan; is_plan = h.is_plan; is = subst (λ (x : Drive). NeedsMore h.plan x.size) (mid_disk words old new status h).0 n }))
+      free (by_work w d) k = subst (λ (st : Status). CausedBy st words old new) (sym d) (k, record { plan = h.plan; is_plan = h.is_plan; is = inl w })
+      free (by_run r (inl d)) k = subst (λ (st : Status). CausedBy st words old new) (sym d) (k, record { plan = h.plan; is_plan = h.is_plan; is = inr (run_is r) })
+      free (by_run r (inr (inl d))) k = subst (λ (st : Status). CausedBy st words old new) (sym d) (k, record { plan = h.plan; is_plan = h.is_plan; is = run_is r })
+      free (by_run r (inr (inr d))) k = subst (λ (st : Status). CausedBy st words old new) (sym d) (k, record { plan = h.plan; is_plan = h.is_plan; is = run_is r })
 
       by : (b : Option Who) → status ≡ answered h.due b → Counts b old new → CausedBy status words old new
       by None e k = subst (λ (st : Status). CausedBy st words old new) (sym e) (free (due_of words h.plan h.mid h.script h.due o h.asks) k)
@@ -258,9 +281,10 @@ module _ (blame : ScriptsBlame) where
       by (by_refusal r f e d s) w = absurd (never r f (sym d ∙ w))
       by (by_user session s rows u e v n d x) w = absurd (let z : Refused ≡ Words = sym d ∙ w in cc)
       by (by_disk n d) w = absurd (let z : Disk ≡ Words = sym d ∙ w in cc)
-      by (by_run (inl d)) w = absurd (let z : Done ≡ Words = sym d ∙ w in cc)
-      by (by_run (inr (inl d))) w = absurd (let z : KernelFault ≡ Words = sym d ∙ w in cc)
-      by (by_run (inr (inr d))) w = absurd (let z : StepLimit ≡ Words = sym d ∙ w in cc)
+      by (by_work k d) w = absurd (let z : Done ≡ Words = sym d ∙ w in cc)
+      by (by_run r (inl d)) w = absurd (let z : Done ≡ Words = sym d ∙ w in cc)
+      by (by_run r (inr (inl d))) w = absurd (let z : KernelFault ≡ Words = sym d ∙ w in cc)
+      by (by_run r (inr (inr d))) w = absurd (let z : StepLimit ≡ Words = sym d ∙ w in cc)
 
       only : (b : Option Who) → answered h.due b ≡ Words → IsNoCommand words
       only None e = by (done_due words old new status h) e

@@ -21,7 +21,8 @@ use Rattle.boot_run.specs.LoadScript.{load_script, page_script as load_page}
 use Rattle.boot_run.specs.Loading.{words_of_page}
 use Rattle.sector_disk.specs.Ports.{transfer_script}
 use Rattle.boot_run.specs.Closing.{opening_script, page_script, cpu_text, user_script, boot_report, trace_report, report_by, closing_script, says}
-use Rattle.boot_run.specs.RunScript.{rest_script, run_script, untold_steps}
+use Rattle.boot_run.specs.AnyScripts.{untold_rest}
+use Rattle.boot_run.specs.RunScript.{rest_script, run_script}
 
 -- it holds of no call, of one script behind another where it does of both, of a print and of a read
 pub record Closed (P : List Call → Type 0) : Type 0 where
@@ -106,9 +107,9 @@ module _ (P : List Call → Type 0) (c : Closed P) where
     pub of_steps : (r : Run) (p : Past) (t n : ℕ) → P (steps_script r p t n)
     of_steps r p t n = of_scripts (λ i. step_script r p (t + i)) n (λ i. c.both (script_of_step r.around (state_at r (t + i))) (rows_script r.view r p (t + i)) (of_due r.around (state_at r (t + i))) (of_rows r.view r p (t + i)))
 
-    pub of_untold : (r : Run) → P (untold_steps r)
-    of_untold r = of_scripts (λ t. script_of_step r.around (state_at r t) ++ Printed None ∷ []) (steps_made r)
-        (λ t. c.both (script_of_step r.around (state_at r t)) (Printed None ∷ []) (of_due r.around (state_at r t)) (c.print None))
+    pub of_untold : (r : Run) → P (untold_rest r 0)
+    of_untold r = of_scripts (λ i. script_of_step r.around (state_at r (0 + i)) ++ Printed None ∷ []) (steps_made r - 0)
+        (λ i. c.both (script_of_step r.around (state_at r (0 + i))) (Printed None ∷ []) (of_due r.around (state_at r (0 + i))) (c.print None))
 
     pub of_load : (pages : Pages) (held : ℕ) → P (load_script pages held)
     of_load pages held = of_scripts (load_page pages) held (λ q. of_if (pages.live q) (Wrote q (words_of_page pages q) ∷ []) (write q _))

@@ -299,14 +299,15 @@ module _ (law : ScriptLaws) (read : AnswersAreResumable machine_of) (goes : ItGo
         record {
           sectors = before;
           run_is = refl;
-          is_past = past;
-          disk = w.disk.size;
-          pages = w.disk.each;
-          first = subst (λ (k : ℕ). IsTurnEnd whole.around whole.first k at) (sym all_turns) w.saved_at.end;
-          few = omega (arith, within, less);
-          on = ap (λ (x : Cvm). x.status) (same ∙ sym past_is) ∙ running;
-          words_are = w.saved_at.words_are ∙ ap₂ (λ (k : ℕ) (x : Cvm). saved rows.inputs (state_at whole at) k x.core.current) (sym all_turns) (sym same);
-          left_is = w.saved_at.left_is;
+          disk = w.disk;
+          saved = record {
+            is_past = past;
+            first = subst (λ (k : ℕ). IsTurnEnd whole.around whole.first k at) (sym all_turns) w.saved_at.end;
+            few = omega (arith, within, less);
+            on = ap (λ (x : Cvm). x.status) (same ∙ sym past_is) ∙ running;
+            words_are = w.saved_at.words_are ∙ ap₂ (λ (k : ℕ) (x : Cvm). saved rows.inputs (state_at whole at) k x.core.current) (sym all_turns) (sym same);
+            left_is = w.saved_at.left_is;
+          };
         }
 
     behind : (new : Outside) (status : Status) → NoneFailed words old new → (h : Does words old new status) → IsBootBehind c s rows before shown old old new status

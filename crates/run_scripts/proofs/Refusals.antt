@@ -16,15 +16,16 @@ use Rattle.cvm_outside.specs.Script.{Call, Printed, Read, Wrote, Got, Stored, Wh
 use Rattle.cvm_outside.proofs.Follow.{given}
 use Rattle.run_scripts.specs.Boot.{sectors_needed}
 use Rattle.boot_run.specs.Closing.{says}
+use Rattle.run_scripts.specs.RunStatus.{IsRunStatus}
 use Rattle.run_scripts.specs.Ends.{Does, done, no_file, no_memory, GetsFor, all, up_to, IsNotGot, behind, within, wants, PlanAsks, SessionAsks, no_user, small, over_told, over_untold, answered}
 use Rattle.run_scripts.specs.Served.{files_of, gets, NoneFailed, ShelfServes, AreGiven}
 use Rattle.run_scripts.specs.Headline.{IsOf, booted_so, saved_so, resumed_so}
 use Rattle.run_scripts.specs.Shapes.{gets_in, puts_in, NamedBy}
-use Rattle.run_scripts.specs.Causes.{FilesAreRefused, HasNoUser, MissingUsersAreRefused, SmallDisksAreRefused, LongFilesAreRefused, RefusedAsLong, WorkCompletes, IsWork}
+use Rattle.run_scripts.specs.Causes.{FilesAreRefused, HasNoUser, MissingUsersAreRefused, SmallDisksAreRefused, LongFilesAreRefused, RefusedAsLong, RunsEnd, IsRun, WorkCompletes, IsWork}
 use Rattle.run_scripts.proofs.Calls.{shape_of}
 use Rattle.run_scripts.proofs.OneCommand.{one_command}
 use Rattle.run_scripts.proofs.Outcomes.{Outcome, is_none, is_refused, is_booted, is_saved, is_resumed, is_put, is_told, outcome}
-use Rattle.run_scripts.proofs.Causes.{Due, by_words, by_refusal, by_user, by_disk, by_run, says_printed, says_part, says_blames, of_done, of_no_file, mid_disk, done_due}
+use Rattle.run_scripts.proofs.Causes.{Due, by_words, by_refusal, by_user, by_disk, by_work, by_run, run_due, says_printed, says_part, says_blames, of_done, of_no_file, mid_disk, done_due}
 
 same_view : (u v : ℕ) → Trace u ≡ Trace v → u ≡ v
 same_view u v e = cc
@@ -144,9 +145,10 @@ module _ (blame : ScriptsBlame) where
         row_printed words old new status h (refusal_text (no_such_user u (length s.users))) t n,
       )
       by (by_disk x d) w n = absurd (let z : Disk ≡ Refused = sym d ∙ w in cc)
-      by (by_run (inl d)) w n = absurd (let z : Done ≡ Refused = sym d ∙ w in cc)
-      by (by_run (inr (inl d))) w n = absurd (let z : KernelFault ≡ Refused = sym d ∙ w in cc)
-      by (by_run (inr (inr d))) w n = absurd (let z : StepLimit ≡ Refused = sym d ∙ w in cc)
+      by (by_work k d) w n = absurd (let z : Done ≡ Refused = sym d ∙ w in cc)
+      by (by_run k (inl d)) w n = absurd (let z : Done ≡ Refused = sym d ∙ w in cc)
+      by (by_run k (inr (inl d))) w n = absurd (let z : KernelFault ≡ Refused = sym d ∙ w in cc)
+      by (by_run k (inr (inr d))) w n = absurd (let z : StepLimit ≡ Refused = sym d ∙ w in cc)
 
       only : (b : Option Who) → h.blamed ≡ b → answered h.due b ≡ Refused →
           (r : Refusal) × (PlanComesTo words old.shelf.file (refuses r) ⊎ HasNoUser words old r) × PrintedBy None old.sink.text new.sink.text (refusal_text r)
@@ -225,6 +227,13 @@ module _ (blame : ScriptsBlame) where
   long_files_are_refused words c old new status is some (no_file d k g) taken = absurd (g.few taken)
   long_files_are_refused words c old new status is some (no_memory d k (behind made rest e s p t)) taken = absurd (t (λ n. some (ap files_of (one_command words c d is k) ∙ n)) taken)
   long_files_are_refused words c old new status is some (no_memory d k (within made rest name mid e s p (wants x y t z w))) taken = absurd (t taken)
+
+  pub runs_end : RunsEnd
+  runs_end words old new status p told comes runs f (done _ h) m =
+      subst IsRunStatus (sym (status_due words old new status h (none_blamed words old new status h f)))
+      (run_due p h.mid h.script h.due (subst (λ (d : Drive). IsRun p d.size) (sym (mid_disk blame words old new status h).0) runs) (plan_asks words old new status h p told comes))
+  runs_end words old new status p told comes runs f (no_file c is g) m = absurd (no_file_failed words c old new is f g)
+  runs_end words old new status p told comes runs f (no_memory c is w) m = absurd (m refl)
 
   pub work_completes : WorkCompletes
   work_completes words old new status p told comes work f (done _ h) m =

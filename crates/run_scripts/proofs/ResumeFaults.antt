@@ -138,34 +138,34 @@ module _ (law : ScriptLaws) (read : AnswersAreResumable machine_of) (words : Lis
   few_turns : turns_at r made ≤ d.boot.turns
   few_turns =
       let b = some_bytes (old.shelf.file d.file) (a.files (resume d) is).1.1.0 in
-      subst (λ (n : ℕ). n ≤ d.boot.turns) (ap (λ (ws : List ℕ). slice_index ws 5) w.words_are)
+      subst (λ (n : ℕ). n ≤ d.boot.turns) (ap (λ (ws : List ℕ). slice_index ws 5) w.saved.words_are)
       (read (wanted_by s rows d.boot.turns) b.0 machine (machine_is_read words old.shelf.file d s rows machine b.0 is a.is_plan b.1)).turns
 
   there : end_within r.around r.first (turns_at r made) made ≡ made
-  there = law.runs.count.ends r.around r.first (turns_at r made) made made w.first (omega arith)
+  there = law.runs.count.ends r.around r.first (turns_at r made) made made w.saved.first (omega arith)
 
   none_later : made ≤ steps_made r
   none_later = subst (λ (n : ℕ). n ≤ steps_made r) there
-      (no_later law.runs.count r.around r.first (turns_at r made) d.boot.turns made d.boot.steps few_turns w.few
-      (subst (λ (n : ℕ). is_end r.around r.first (turns_at r made) n ≡ true) (sym there) w.first.here))
+      (no_later law.runs.count r.around r.first (turns_at r made) d.boot.turns made d.boot.steps few_turns w.saved.few
+      (subst (λ (n : ℕ). is_end r.around r.first (turns_at r made) n ≡ true) (sym there) w.saved.first.here))
 
   left_so : (j : GoesOnAsBoot r p made old new status) → Three status → AfterResume status r p made old new × BeginsBehind old new (text_at r p made) (whole_text r p)
-  left_so j three = (by j.blamed j.status_is j.performs, begins law.tell law.store r its p w.is_past made none_later old j.mid j.sink stands j.blamed new j.performs)
+  left_so j three = (by j.blamed j.status_is j.performs, begins law.tell law.store r its p w.saved.is_past made none_later old j.mid j.sink stands j.blamed new j.performs)
     where
       stands : Stand r made j.mid
-      stands = ap (λ (x : Drive). x.sectors) j.disk ∙ a.sectors ∙ ap (λ (x : List (List ℕ)). Some x) w.left_is
+      stands = ap (λ (x : Drive). x.sectors) j.disk ∙ a.sectors ∙ ap (λ (x : List (List ℕ)). Some x) w.saved.left_is
 
       by : (b : Option Who) → status ≡ answered (run_status r p) b → Performs (rest_script r p made) j.mid new b → AfterResume status r p made old new
       by None e q =
           let n = spent (has_ended r) (cvm_at r p (steps_made r)).status status e (of_three status three) in
-          subst (λ (st : Status). AfterResume st r p made old new) (sym n.1) (rest_spent law.tell law.store r its p w.is_past made none_later old j.mid j.sink stands new n.0 q)
-      by (Some TheSink) e q = subst (λ (st : Status). AfterResume st r p made old new) (sym e) (rest_broken law.tell law.store r its p w.is_past made none_later old j.mid j.sink stands TheSink new q)
-      by (Some TheDisk) e q = subst (λ (st : Status). AfterResume st r p made old new) (sym e) (rest_broken law.tell law.store r its p w.is_past made none_later old j.mid j.sink stands TheDisk new q)
+          subst (λ (st : Status). AfterResume st r p made old new) (sym n.1) (rest_spent law.tell law.store r its p w.saved.is_past made none_later old j.mid j.sink stands new n.0 q)
+      by (Some TheSink) e q = subst (λ (st : Status). AfterResume st r p made old new) (sym e) (rest_broken law.tell law.store r its p w.saved.is_past made none_later old j.mid j.sink stands TheSink new q)
+      by (Some TheDisk) e q = subst (λ (st : Status). AfterResume st r p made old new) (sym e) (rest_broken law.tell law.store r its p w.saved.is_past made none_later old j.mid j.sink stands TheDisk new q)
       by (Some TheShelf) e q = absurd (not_shelf (subst Three e three))
 
 pub resume_faults_leave : ScriptLaws → AnswersAreResumable machine_of → ResumeFaultsLeave
 resume_faults_leave law read words d s rows machine left old new status r p made is a w three ends =
     subst (λ (q : Run). SavedRun (save_session d) s rows machine old.disk.size left q p made → GoesOnAsBoot q p made old new status →
     AfterResume status q p made old new × BeginsBehind old new (text_at q p made) (whole_text q p)) (sym w.run_is)
-    (λ z j. left_so law read words d s rows machine left w.sectors old new status p made is a (record { size = w.disk; each = w.pages }) z j three) w
+    (λ z j. left_so law read words d s rows machine left w.sectors old new status p made is a w.disk z j three) w
     (resumes_join words d s rows machine left old new status r p made is a w ends (λ e. not_memory (subst Four e (of_three status three))) (λ e. not_shelf (subst Three e three)))

@@ -89,10 +89,10 @@ nothing_is_loaded words old new status never (no_file d k g) = disk_stays (gets 
 nothing_is_loaded words old new status never (no_memory d k w) = (wanted _ old new w).disk
 
 pub refusals_keep_the_disk : ScriptsBlame → RefusalsKeepTheDisk
-refusals_keep_the_disk blame words old new status (done _ h) no =
-    disk_stays h.script h.mid new h.blamed (refusal_quiet words h.plan h.mid h.script h.due (outcome words old.shelf.file h.plan h.is_plan.comes) h.asks no) h.performs ∙ (mid_disk blame words old new status h).0
-refusals_keep_the_disk blame words old new status (no_file d k g) no = disk_stays (gets (g.before ++ g.name ∷ [])) old new _ (gets_ask (g.before ++ g.name ∷ [])) g.performs
-refusals_keep_the_disk blame words old new status (no_memory d k w) no = (wanted _ old new w).disk
+refusals_keep_the_disk blame words old new status (done _ h) came =
+    disk_stays h.script h.mid new h.blamed (refusal_quiet words h.plan h.mid h.script h.due (outcome words old.shelf.file h.plan h.is_plan.comes) h.asks came) h.performs ∙ (mid_disk blame words old new status h).0
+refusals_keep_the_disk blame words old new status (no_file d k g) came = disk_stays (gets (g.before ++ g.name ∷ [])) old new _ (gets_ask (g.before ++ g.name ∷ [])) g.performs
+refusals_keep_the_disk blame words old new status (no_memory d k w) came = (wanted _ old new w).disk
 
 pub gets_come_first : GetsComeFirst
 gets_come_first words c old new status is (done _ h) =

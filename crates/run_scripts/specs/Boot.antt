@@ -72,7 +72,8 @@ IsBooted session old s rows sectors turns c = IsCvm (booted s rows) (lines_of_tu
 
 -- the machine comes to the end of every turn of the abstract run, within its bound and the steps before the layer's
 abbrev pub SessionGoesOn : Session → Outside → ImageSystem → Rows → (sectors : List (List ℕ)) → Type 0
-SessionGoesOn session old s rows sectors = GoesOnWithin (around rows old) (booted s rows) (first_state session s rows sectors) (steps_before session.start (booted s rows))
+SessionGoesOn session old s rows sectors =
+    GoesOnWithin (around rows old) (booted s rows) (first_state session s rows sectors) (steps_before session.start (booted s rows))
 
 -- with no failed call: sectors, ending and text are those of the machine and of the abstract run
 abbrev pub SessionRan : Session → ImageSystem → Rows → Outside → (before after : List (List ℕ)) → Ending → (text : List ℕ) → Type 0

@@ -1,12 +1,12 @@
 -- WHY A STATUS IS WHAT IT IS, as laws.
-use Rattle.std.specs.Prelude.{◌≡◌, ◌≢◌, ◌⊎◌, ℕ, ◌<◌, false, List, [], length, Option, Some, None}
+use Rattle.std.specs.Prelude.{◌≡◌, ◌≢◌, ◌⊎◌, ℕ, ◌<◌, ◌≤◌, false, List, [], length, Option, Some, None}
 use Rattle.cvm_outside.specs.Told.{TOO_LONG}
 use Rattle.schedule_file.specs.Rows.{Rows}
 use Rattle.boot_turns.specs.declared.answers.View.TheVariants.{Trace}
 use Rattle.kernel_linker.specs.Accept.{ImageSystem}
 use Rattle.run_scripts.specs.declared.session.Session.{Session}
 use Rattle.run_scripts.specs.declared.exit_status.Status.{Status}
-use Rattle.run_scripts.specs.declared.exit_status.Status.TheVariants.{Done, Words, Refused, Disk, Shelf, Sink, Memory}
+use Rattle.run_scripts.specs.declared.exit_status.Status.TheVariants.{Done, Words, Refused, KernelFault, StepLimit, Disk, Shelf, Sink, Memory}
 use Rattle.run_scripts.specs.Command.{Command, IsCommand, IsNoCommand}
 use Rattle.run_scripts.specs.Refusal.{Refusal, small_disk, no_such_user, too_long, refusal_status, refusal_text}
 use Rattle.run_scripts.specs.Plan.{Plan, refuses, puts, boots, saves, resumes, prints as tells, PlanComesTo, AllTold, IsPlan}
@@ -16,6 +16,7 @@ use Rattle.cvm_outside.specs.ScriptLaws.{Blamed, PrintedBy}
 use Rattle.boot_turns.specs.Runs.{Run, steps_made, has_ended}
 use Rattle.run_scripts.specs.Boot.{sectors_needed}
 use Rattle.boot_run.specs.RunEnds.{SeesUser}
+use Rattle.run_scripts.specs.RunStatus.{IsRunStatus}
 use Rattle.run_scripts.specs.Ends.{Ends}
 use Rattle.run_scripts.specs.Served.{files_of, NoneFailed}
 use Rattle.run_scripts.specs.Headline.{IsOf}
@@ -31,21 +32,45 @@ NeedsMore (saves session s rows name) size = size < sectors_needed session s row
 NeedsMore (resumes session s rows words) size = size < sectors_needed session s rows
 NeedsMore other size = ⊥
 
-pub record IsTooSmall (words : List (List ℕ)) (old : Outside) : Type 0 where
+-- the plan is a run, of a user that there is and over sectors enough
+abbrev pub RunsOver : Session → ImageSystem → Rows → (size : ℕ) → Type 0
+RunsOver session s rows size = SeesUser session.view (length s.users) × (sectors_needed session s rows ≤ size)
+
+abbrev pub IsRun : Plan → (size : ℕ) → Type 0
+IsRun (boots session s rows) size = RunsOver session s rows size
+IsRun (saves session s rows name) size = RunsOver session s rows size
+IsRun (resumes session s rows words) size = RunsOver session s rows size
+IsRun other size = ⊥
+
+-- or it loads nothing and refuses nothing
+abbrev pub IsWork : Plan → Type 0
+IsWork (puts name bytes) = Unit {0}
+IsWork (tells text) = Unit {0}
+IsWork other = ⊥
+
+-- words and files come to a plan of which this is so: the one, where files are told
+pub record HasPlan (words : List (List ℕ)) (old : Outside) (Is : Plan → Type 0) : Type 0 where
   pub plan : Plan
   pub is_plan : IsPlan (AllTold words old.shelf.file) (PlanComesTo words old.shelf.file) plan
-  pub more : NeedsMore plan old.disk.size
+  pub is : Is plan
+
+abbrev pub IsTooSmall : (words : List (List ℕ)) (old : Outside) → Type 0
+IsTooSmall words old = HasPlan words old (λ p. NeedsMore p old.disk.size)
 
 -- a file is too long, which the plan refuses, and of which 67,108,865 bytes were taken
 pub record IsTooLong (words : List (List ℕ)) (old new : Outside) : Type 0 where
   pub is_plan : IsPlan (AllTold words old.shelf.file) (PlanComesTo words old.shelf.file) (refuses too_long)
   pub taken : new.shelf.taken ≡ TOO_LONG
 
--- BY THE STATUS: an object failed and counted it, or the disk is too small, or a file is too long; else no count changed
+-- BY THE STATUS, over any outside: an object failed and counted it, or the disk is too small, or a file is too long; else no count changed, and 3 and 4 come
+-- of a run, 0 of one or of a plan that loads nothing
 abbrev pub CausedBy : Status → List (List ℕ) → (old new : Outside) → Type 0
 CausedBy Disk words old new = Counts (Some TheDisk) old new ⊎ (Counts None old new × IsTooSmall words old)
 CausedBy Shelf words old new = Counts (Some TheShelf) old new ⊎ (Counts None old new × IsTooLong words old new)
 CausedBy Sink words old new = Counts (Some TheSink) old new
+CausedBy Done words old new = Counts None old new × HasPlan words old (λ p. IsWork p ⊎ IsRun p old.disk.size)
+CausedBy KernelFault words old new = Counts None old new × HasPlan words old (λ p. IsRun p old.disk.size)
+CausedBy StepLimit words old new = Counts None old new × HasPlan words old (λ p. IsRun p old.disk.size)
 CausedBy other words old new = Counts None old new
 
 abbrev pub StatusesAreCaused : Type 0
@@ -106,11 +131,10 @@ LongFilesAreRefused = (words : List (List ℕ)) (c : Command) (old new : Outside
 abbrev pub StepsAreSpent : Type 0
 StepsAreSpent = (r : Run) → has_ended r ≡ false → steps_made r ≡ r.steps
 
--- a plan that loads nothing and refuses nothing
-abbrev pub IsWork : Plan → Type 0
-IsWork (puts name bytes) = Unit {0}
-IsWork (tells text) = Unit {0}
-IsWork other = ⊥
+-- STATUSES 0, 3 AND 4: with no failed call each run that words and files ask for has one of these, over a disk that tells its sectors or none
+abbrev pub RunsEnd : Type 0
+RunsEnd = (words : List (List ℕ)) (old new : Outside) (status : Status) (p : Plan) → AllTold words old.shelf.file →
+    PlanComesTo words old.shelf.file p → IsRun p old.disk.size → NoneFailed words old new → Ends words old new status → status ≢ Memory → IsRunStatus status
 
 -- COMPLETENESS of the other commands: with nothing to refuse and no failed call they are done
 abbrev pub WorkCompletes : Type 0

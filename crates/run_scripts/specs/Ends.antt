@@ -1,16 +1,13 @@
 -- HOW A COMMAND ENDS: the script that its words ask for, how far it was performed, and the status.
-use Rattle.std.specs.Prelude.{◌≡◌, ◌≢◌, ◌⊎◌, ℕ, ◌-◌, ◌<◌, ◌≤◌, ⊤, All, List, [], ◌∷◌, ◌++◌, length, codes, Option, Some, None, IfSome}
+use Rattle.std.specs.Prelude.{◌≡◌, ◌≢◌, ℕ, ◌-◌, ◌<◌, ◌≤◌, ⊤, All, List, [], ◌∷◌, ◌++◌, length, codes, Option, Some, None, IfSome}
 use Rattle.cvm_outside.specs.Told.{TOO_LONG}
 use Rattle.schedule_file.specs.Rows.{Rows}
 use Rattle.mips_table.specs.Machine.{State}
-use Rattle.mips_table.specs.Turns.{IsTurnEnd}
-use Rattle.mips_table.specs.Fits.{IsPage}
 use Rattle.mips_machine.specs.Saved.{saved, CanBeSaved}
-use Rattle.cvm_model.specs.Cvm.{Running}
 use Rattle.boot_turns.specs.declared.answers.View.TheVariants.{Trace}
 use Rattle.kernel_linker.specs.Accept.{ImageSystem}
 use Rattle.run_scripts.specs.declared.exit_status.Status.{Status}
-use Rattle.run_scripts.specs.declared.exit_status.Status.TheVariants.{Done, Words, Refused, KernelFault, StepLimit, Disk, Shelf, Sink, Memory}
+use Rattle.run_scripts.specs.declared.exit_status.Status.TheVariants.{Done, Words, Refused, Disk, Shelf, Sink, Memory}
 use Rattle.run_scripts.specs.declared.session.Session.{Session}
 use Rattle.run_scripts.specs.Command.{Command, IsCommand}
 use Rattle.run_scripts.specs.Refusal.{small_disk, no_such_user, too_long, refusal_text, refusal_status}
@@ -21,7 +18,7 @@ use Rattle.cvm_outside.specs.declared.sink.Sink as sink_of
 use Rattle.cvm_outside.specs.declared.sectors.Sectors as sectors_of
 use Rattle.cvm_outside.specs.Outside.{Outside, files, output, drive}
 use Rattle.boot_turns.specs.LoopScripts.{AreOfRun}
-use Rattle.boot_turns.specs.Runs.{Run, Past, IsPast, state_at, turns_at, steps_made, has_ended, cvm_at}
+use Rattle.boot_turns.specs.Runs.{Run, Past, IsPast, state_at, steps_made, has_ended}
 use Rattle.run_scripts.specs.Boot.{booted, sectors_needed}
 use Rattle.boot_run.specs.LoadScript.{load_script}
 use Rattle.boot_run.specs.RunEnds.{SeesUser}
@@ -29,9 +26,9 @@ use Rattle.boot_run.specs.SavedRuns.{IsDisk}
 use Rattle.run_scripts.specs.Saves.{saved_row}
 use Rattle.boot_run.specs.Closing.{says}
 use Rattle.run_scripts.specs.SessionRuns.{run_of, pages_loaded}
-use Rattle.boot_run.specs.AnyScripts.{power_end, IsReport}
-use Rattle.boot_run.specs.RunScript.{run_script, rest_script, untold_steps}
-use Rattle.run_scripts.specs.RunStatus.{run_status, save_script, power_status}
+use Rattle.boot_run.specs.AnyScripts.{power_end, IsReport, untold_rest}
+use Rattle.boot_run.specs.RunScript.{WasSaved, run_script, rest_script}
+use Rattle.run_scripts.specs.RunStatus.{IsRunStatus, run_status, save_script, power_status}
 use Rattle.run_scripts.specs.Served.{files_of, gets}
 
 -- THE LOAD of a session
@@ -62,13 +59,12 @@ pub record ResumeAsks (session : Session) (s : ImageSystem) (rows : Rows) (words
   pub goes_on : GoesOn session s rows words size sectors run
   pub report : List Call
   pub is_report : IsReport (power_end run) report
-  pub script_is : script ≡ untold_steps run ++ report
+  pub script_is : script ≡ untold_rest run 0 ++ report
   pub status_is : status ≡ power_status (has_ended run) (state_at run (steps_made run)).off
 
 -- over a disk that tells no sectors: the load, and then some calls of a run
 abbrev pub SomeRunAsks : (load : List Call) → List Call → Status → Type 0
-SomeRunAsks load script status = (more : List Call) × AreOfRun more × (script ≡ load ++ more)
-    × (status ≡ Done ⊎ (status ≡ KernelFault ⊎ status ≡ StepLimit))
+SomeRunAsks load script status = (more : List Call) × AreOfRun more × (script ≡ load ++ more) × IsRunStatus status
 
 -- and of a save one file and the row at the end, where it is done
 pub data SomeSaveAsks (name : List ℕ) (load : List Call) : List Call → Status → Type 0 where
@@ -152,20 +148,13 @@ answered due (Some TheSink) = Sink
 answered due (Some TheDisk) = Disk
 answered due (Some TheShelf) = Shelf
 
--- A RUN THAT WAS SAVED in these words, over a disk of as many sectors: at the first step at which so many turns are complete, which is none later than the
--- resume may make, and its machine was on
+-- A RUN OF THIS SESSION WAS SAVED in these words, over a disk of as many sectors
 pub record SavedRun (session : Session) (s : ImageSystem) (rows : Rows) (words : List ℕ) (size : ℕ) (left : List (List ℕ)) (r : Run) (past : Past) (made : ℕ) :
     Type 0 where
   pub sectors : List (List ℕ)
   pub run_is : r ≡ run_of session s rows size sectors
-  pub is_past : IsPast r past
-  pub disk : length sectors ≡ size
-  pub pages : All IsPage sectors
-  pub first : IsTurnEnd r.around r.first (turns_at r made) made
-  pub few : made ≤ session.steps
-  pub on : (cvm_at r past made).status ≡ Running
-  pub words_are : words ≡ saved rows.inputs (state_at r made) (turns_at r made) (cvm_at r past made).core.current
-  pub left_is : left ≡ (state_at r made).device.sectors
+  pub disk : IsDisk size sectors
+  pub saved : WasSaved r past words left made
 
 -- THE SAME RESUME goes on as every run that was saved so: it performs the rest of that boot's script, with its texts, and has its status
 abbrev pub Joins : Plan → (old new : Outside) → Option Who → Status → Type 0

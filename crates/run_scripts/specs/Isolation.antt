@@ -33,7 +33,8 @@ abbrev pub lines_met : Session → ImageSystem → Rows → Outside → (before 
 lines_met session s rows old before = lines_of_turn (around rows old) (first_state session s rows before)
 
 -- WHAT IS PRINTED of user u is that text, of its journal over the complete turns
-pub record IsolatedTrace (session : Session) (u : ℕ) (s : ImageSystem) (rows : Rows) (before : List (List ℕ)) (old new : Outside) (status : Status) : Type 0 where
+pub record IsolatedTrace (session : Session) (u : ℕ) (s : ImageSystem) (rows : Rows) (before : List (List ℕ)) (old new : Outside) (status : Status) :
+    Type 0 where
   pub units : ℕ
   pub turns : ℕ
   pub last : Cvm
@@ -48,7 +49,8 @@ pub record IsolatedTrace (session : Session) (u : ℕ) (s : ImageSystem) (rows :
 
 -- TWO TEXTS TELL THE SAME of user u: the start row and the rows of one journal, and the rows of one machine behind `halted` or `stopped`. Only which of
 -- these words, or which `fault NAME` in place of word and machine, may differ, as the runs ended; where they ended alike, the texts are the same
-pub record TellTheSame (u : ℕ) (first : Flat) (entries : List JournalEntry) (status : CvmStatus) (text : List ℕ) (ended : CvmStatus) (other : List ℕ) : Type 0 where
+pub record TellTheSame (u : ℕ) (first : Flat) (entries : List JournalEntry) (status : CvmStatus) (text : List ℕ) (ended : CvmStatus)
+    (other : List ℕ) : Type 0 where
   pub last : Flat
   pub replayed : replay first entries ≡ Some last
   pub text_is : text ≡ trace_text u first entries last status
@@ -57,7 +59,8 @@ pub record TellTheSame (u : ℕ) (first : Flat) (entries : List JournalEntry) (s
 
 -- A LAW: two traces of a user that starts alike and has the same journal tell the same of it, whatever else is in the two systems, their schedules and disks
 abbrev pub EqualJournalsTellTheSame : Type 0
-EqualJournalsTellTheSame = (session another : Session) (u : ℕ) (s r : ImageSystem) (rows inputs : Rows) (before present : List (List ℕ)) (old new past now : Outside) (status ended : Status)
+EqualJournalsTellTheSame = (session another : Session) (u : ℕ) (s r : ImageSystem) (rows inputs : Rows) (before present : List (List ℕ))
+    (old new past now : Outside) (status ended : Status)
     (a : IsolatedTrace session u s rows before old new status) (b : IsolatedTrace another u r inputs present past now ended) →
     first_of (booted s rows) u ≡ first_of (booted r inputs) u → a.entries ≡ b.entries
     → TellTheSame u (first_of (booted s rows) u) a.entries a.last.status a.text b.last.status b.text

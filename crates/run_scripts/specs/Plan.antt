@@ -224,7 +224,8 @@ AfterLinking layer session schedule (Err f) p = p ≡ refuses (unlinked f)
 
 -- AFTER THE SOURCE of a sample its object is linked with its parameters and users
 abbrev pub AfterSource : (layer : Map → List ℕ → List ℕ) → Session → Sampled → Result Unit SourceFault → Plan → Type 0
-AfterSource layer session parts (Ok u) p = AfterLinking layer session parts.schedule (link_answer layer (object_of parts.source u) parts.params parts.users (Ok u)) p
+AfterSource layer session parts (Ok u) p =
+    AfterLinking layer session parts.schedule (link_answer layer (object_of parts.source u) parts.params parts.users (Ok u)) p
 AfterSource layer session parts (Err f) p = p ≡ refuses (bad_source f)
 
 -- the parts of a sample: their source is read and checked

@@ -23,7 +23,8 @@ use Rattle.run_scripts.specs.Served.{IsServed}
 
 -- THE PREMISES: the words of a resume, and files that are an accepted image, a valid schedule and the file of a machine that can be taken up; an honest disk
 -- with sectors enough; and no call fails, for which a shelf is enough that surely gives the three files
-pub record IsHonestResume (words : List (List ℕ)) (c : Save) (s : ImageSystem) (rows : Rows) (machine : List ℕ) (left : List (List ℕ)) (old new : Outside) : Type 0 where
+pub record IsHonestResume (words : List (List ℕ)) (c : Save) (s : ImageSystem) (rows : Rows) (machine : List ℕ) (left : List (List ℕ))
+    (old new : Outside) : Type 0 where
   pub asked : IsResume words c
   pub files : AreFilesOf old.shelf.file c.boot s rows
   pub bytes : List ℕ
@@ -46,7 +47,8 @@ pub record Resumed (c : Save) (s : ImageSystem) (rows : Rows) (machine : List �
   pub files : (n : List ℕ) → new.shelf.file n ≡ old.shelf.file n
 
 -- THE RUN THAT WAS SAVED in these words, over a disk of as many sectors, which had these: in no more steps than the resume is given, with this text
-pub record IsSavedRun (c : Save) (s : ImageSystem) (rows : Rows) (machine : List ℕ) (left before : List (List ℕ)) (shown : List ℕ) (old : Outside) : Type 0 where
+pub record IsSavedRun (c : Save) (s : ImageSystem) (rows : Rows) (machine : List ℕ) (left before : List (List ℕ)) (shown : List ℕ)
+    (old : Outside) : Type 0 where
   pub turns : ℕ
   pub steps : ℕ
   pub disk : IsDisk old.disk.size before
@@ -55,7 +57,8 @@ pub record IsSavedRun (c : Save) (s : ImageSystem) (rows : Rows) (machine : List
 
 -- THE BOOT AS A WHOLE: the sectors and the status are its, and so is the text behind what the first call showed; and its machine comes to the end of
 -- every turn
-pub record IsBootBehind (c : Save) (s : ImageSystem) (rows : Rows) (before : List (List ℕ)) (shown : List ℕ) (first old new : Outside) (status : Status) : Type 0 where
+pub record IsBootBehind (c : Save) (s : ImageSystem) (rows : Rows) (before : List (List ℕ)) (shown : List ℕ) (first old new : Outside)
+    (status : Status) : Type 0 where
   pub after : List (List ℕ)
   pub text : List ℕ
   pub ending : Ending
@@ -68,7 +71,8 @@ pub record IsBootBehind (c : Save) (s : ImageSystem) (rows : Rows) (before : Lis
 -- THE THEOREM OF RESUME: it goes on so, whatever its file holds; and where that is the file of a saved run it is the boot as a whole
 pub record ResumeHolds (c : Save) (s : ImageSystem) (rows : Rows) (machine : List ℕ) (left : List (List ℕ)) (old new : Outside) (status : Status) : Type 0 where
   pub went : Resumed c s rows machine left old new status
-  pub joins : (before : List (List ℕ)) (shown : List ℕ) → IsSavedRun c s rows machine left before shown old → IsBootBehind c s rows before shown old old new status
+  pub joins : (before : List (List ℕ)) (shown : List ℕ) → IsSavedRun c s rows machine left before shown old →
+      IsBootBehind c s rows before shown old old new status
 
 abbrev pub Resumes : List (List ℕ) → Status → (old new : Outside) → Type 0
 Resumes words status old new = (c : Save) (s : ImageSystem) (rows : Rows) (machine : List ℕ) (left : List (List ℕ)) →
@@ -90,6 +94,7 @@ pub record IsLeftBy (c d : Save) (s : ImageSystem) (rows : Rows) (bytes : List �
 -- left, the text of the first without its last row and that of the second behind it are the text of the boot with the second's turns and steps over the
 -- disk of the first; and status and sectors are that boot's
 abbrev pub SavedAndResumedAreBooted : Type 0
-SavedAndResumedAreBooted = (c d : Save) (s : ImageSystem) (rows : Rows) (before : List (List ℕ)) (first mid old new : Outside) (words : List (List ℕ)) (status : Status)
+SavedAndResumedAreBooted = (c d : Save) (s : ImageSystem) (rows : Rows) (before : List (List ℕ)) (first mid old new : Outside)
+    (words : List (List ℕ)) (status : Status)
     (a : Stopped (save_session c) s rows before first mid (IsSavedIn c.file first mid)) → Resumes words status old new → IsResume words d
     → IsLeftBy c d s rows (flat_map word a.words) a.after first old new → status ≢ Memory → IsBootBehind d s rows before a.shown first old new status

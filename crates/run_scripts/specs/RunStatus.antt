@@ -1,5 +1,5 @@
 -- HOW A RUN'S STATUS is due, and the script of a save.
-use Rattle.std.specs.Prelude.{ℕ, suc, if◌then◌else◌, Bool, List, [], ◌∷◌, ◌++◌, Option, Some}
+use Rattle.std.specs.Prelude.{◌≡◌, ◌⊎◌, ℕ, suc, if◌then◌else◌, Bool, List, [], ◌∷◌, ◌++◌, Option, Some}
 use Rattle.std.specs.List.{flat_map}
 use Rattle.cvm_words.specs.Bytes.{word}
 use Rattle.cvm_model.specs.Cvm.{Status as CvmStatus, Running, Faulted}
@@ -19,6 +19,10 @@ status_of ended other = if ended then Done else StepLimit
 
 abbrev pub run_status : Run → Past → Status
 run_status r p = status_of (has_ended r) (cvm_at r p (steps_made r)).status
+
+-- one of these it is
+abbrev pub IsRunStatus : Status → Type 0
+IsRunStatus status = (status ≡ Done) ⊎ ((status ≡ KernelFault) ⊎ (status ≡ StepLimit))
 
 -- the bytes of the file of a saved run
 abbrev pub saved_bytes : Run → Past → List ℕ

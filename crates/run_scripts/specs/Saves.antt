@@ -32,7 +32,8 @@ saved_row = codes "saved\n"
 -- the machine is off, by a kernel that halted
 abbrev pub SessionHalted : Session → ImageSystem → Rows → (before : List (List ℕ)) → Outside → Type 0
 SessionHalted session s rows before old =
-    (run (around rows old) (first_state session s rows before) (end_within (around rows old) (first_state session s rows before) session.turns session.steps)).off ≡ Some 0
+    (run (around rows old) (first_state session s rows before)
+    (end_within (around rows old) (first_state session s rows before) session.turns session.steps)).off ≡ Some 0
 
 -- THE SAVED RUN of so many turns, from `s`: the first step at which they are complete comes within the steps; the machine is on there, and the abstract
 -- run has come to `past`; the words are those of the machine, with these turns and its current user; `left` are its sectors, and `shown` is the run's text
@@ -71,7 +72,8 @@ IsSavedIn name old new shown bytes = (new.shelf.file name ≡ retold (old.shelf.
     × (new.sink.text ≡ append_known old.sink.text (shown ++ saved_row))
 
 -- THE PREMISES of the theorem: the words of a save, and files that are an accepted image and a valid schedule, whose machine's file isn't too long; an
--- honest disk with sectors enough; and no failed call
+-- honest disk with sectors enough; and no failed call. Of FILE this asks that its put counted no fault, since no shelf says before which puts it takes; what
+-- the file held, and whether that is told, is free
 pub record IsHonestSave (words : List (List ℕ)) (c : Save) (s : ImageSystem) (rows : Rows) (before : List (List ℕ)) (old new : Outside) : Type 0 where
   pub asked : IsSave words c
   pub files : AreFilesOf old.shelf.file c.boot s rows

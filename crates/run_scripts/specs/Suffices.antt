@@ -66,6 +66,7 @@ pub record MeetsNoStackOut (session : Session) (s : ImageSystem) (rows : Rows) (
 
 -- A LAW: where a check said `yes`, no run of such a system by a boot, a rom, a trace or a sample meets it, as long as no call fails
 abbrev pub StackOutIsNotPrinted : Type 0
-StackOutIsNotPrinted = (words : List (List ℕ)) (status ended : Status) (old new before after : Outside) (source : List ℕ) (stack : ℕ) (session : Session) (s : ImageSystem) (rows : Rows) (sectors : List (List ℕ))
+StackOutIsNotPrinted = (words : List (List ℕ)) (status ended : Status) (old new before after : Outside) (source : List ℕ) (stack : ℕ)
+    (session : Session) (s : ImageSystem) (rows : Rows) (sectors : List (List ℕ))
     → Suffices words status old new → SaysYes words source stack old new → HasStack source stack s
     → (h : Headline session s rows sectors before after ended) → MeetsNoStackOut session s rows sectors before after ended h

@@ -1,7 +1,7 @@
 // Laws of how commands end, each the contract of a function that does nothing.
 ghost use Rattle.run_scripts.specs.Headline.{MemoryKeeps};
 ghost use Rattle.run_scripts.specs.Keys.{RunsStart, EndsAreOver, ScriptLaws};
-ghost use Rattle.run_scripts.specs.Causes.{StatusesAreCaused, WordsAreRefused, FilesAreRefused, MissingUsersAreRefused, SmallDisksAreRefused, LongFilesAreRefused, StepsAreSpent, WorkCompletes};
+ghost use Rattle.run_scripts.specs.Causes.{StatusesAreCaused, WordsAreRefused, FilesAreRefused, MissingUsersAreRefused, SmallDisksAreRefused, LongFilesAreRefused, StepsAreSpent, RunsEnd, WorkCompletes};
 ghost use Rattle.run_scripts.specs.Shapes.{PlansHaveShape, OthersStay, NothingIsLoaded, RefusalsKeepTheDisk, GetsComeFirst, ShelfIsCalled};
 ghost use Rattle.run_scripts.specs.Saving.{ScriptsJoin, ResumesJoin};
 ghost use Rattle.run_scripts.specs.Checks.{StackOutIsNotMet};
@@ -89,7 +89,7 @@ pub fn ends_are_over()
     laws_below();
 }
 
-/// A law: the counts of faults say why a status is what it is.
+/// A law: the counts of faults say why a status is what it is, and a plan why it is 0, 3 or 4.
 pub fn statuses_are_caused()
     ensures { StatusesAreCaused }
 {
@@ -136,6 +136,13 @@ pub fn steps_are_spent()
     ensures { StepsAreSpent }
 {
     turns_are_counted();
+}
+
+/// A law: each run that words and files ask for is done, its kernel faulted or its steps were spent, with no failed call, whatever its disk tells.
+pub fn runs_end()
+    ensures { RunsEnd }
+{
+    scripts_blame();
 }
 
 /// A law: a command that loads nothing is done, with no failed call and nothing to refuse.

@@ -32,7 +32,7 @@ returns-in_err-run-clause-loads g c =
 pub returns-clause-stops : goal.returns-clause-stops
 returns-clause-stops g c =
     saves_so c.args.setup.layer c.args.setup.boot c.args.setup.schedule (pages_needed c.args.setup.boot) (g.D.Sectors.size c.args.disk.now) (g.D.Sectors.size c.load.new.disk) c.args.limits.turns c.args.limits.steps
-    (g.D.Sectors.sectors c.args.disk.now) (g.D.Sectors.sectors c.load.new.disk) (g.D.Sectors.sectors c.run_to_stop-end.new.disk) (g.O.Sink.text c.args.out.now)
+    (g.D.Sectors.sectors c.args.disk.now) (g.D.Sectors.sectors c.load.new.disk) (g.D.Sectors.sectors c.run_to_stop-end.new.disk)
     c.in_ok-run.run' c.run_to_stop-end.new.run c.run_to_stop-end.result c.in_ok-run.ensures.loaded.fresh c.in_ok-run.ensures.leaves.same_size c.requires.some
     (λ old is. c.premises_hold.ensures.loaded old is c.in_ok-run.ensures.loaded.fresh.has_room.room) c.in_ok-run.ensures.loaded.ready
     c.run_to_stop-end.ensures.stops

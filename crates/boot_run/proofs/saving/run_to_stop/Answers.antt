@@ -8,12 +8,12 @@ use Rattle.boot_run.proofs.saving.run_to_stop.Goals as goal
 
 pub returns-in-Ok-clause-stops : goal.returns-in-Ok-clause-stops
 returns-in-Ok-clause-stops g c =
-    stopped c.machines_run.ensures c.turns_are_counted.ensures g.D.Sectors.size g.D.Sectors.sectors g.O.Sink.text c.args.run.now c.go.new.run c.stop.new.run
+    stopped c.machines_run.ensures c.turns_are_counted.ensures g.D.Sectors.size g.D.Sectors.sectors c.args.run.now c.go.new.run c.stop.new.run
     c.args.disk.now c.go.new.disk c.stop.new.disk c.args.out.now c.go.new.out c.stop.new.out c.args.limits.turns c.args.limits.steps c.go.new.budget c.in-Ok.ensures.kept c.in-Ok.ensures.ends c.stop.result c.stop.ensures.stays
 
 -- a run that fails doesn't stop
 pub returns-in-Err-clause-stops : goal.returns-in-Err-clause-stops
-returns-in-Err-clause-stops g c = λ s late held old base k t wanted total q now p view starts some more sum ready there is. absurd (subst EndsUnsaved is (fault_unsaved c.in-Err.fault c.end_at.result c.end_at.ensures))
+returns-in-Err-clause-stops g c = λ s late held old k t wanted total q now p view starts some more sum ready there is. absurd (subst EndsUnsaved is (fault_unsaved c.in-Err.fault c.end_at.result c.end_at.ensures))
 
 pub returns-in-Err-clause-unput : goal.returns-in-Err-clause-unput
 returns-in-Err-clause-unput g c = λ is. subst EndsUnsaved is (fault_unsaved c.in-Err.fault c.end_at.result c.end_at.ensures)

@@ -21,8 +21,8 @@ loop-left-init g c = record {
   size = refl;
   time = refl;
   few = omega arith;
-  going = keeps_first (g.D.Sectors.size c.args.disk.now) c.args.run.now (around c.args.run.now (g.D.Sectors.sectors c.args.disk.now) c.args.budget.now (g.O.Sink.text c.args.out.now)) _ (omega arith);
-  anyhow = any_first (g.D.Sectors.size c.args.disk.now) c.args.run.now (around c.args.run.now (g.D.Sectors.sectors c.args.disk.now) c.args.budget.now (g.O.Sink.text c.args.out.now)) _ (omega arith);
+  going = keeps_first (g.D.Sectors.size c.args.disk.now) c.args.run.now (around c.args.run.now (g.D.Sectors.sectors c.args.disk.now) c.args.budget.now) _ (omega arith);
+  anyhow = any_first (g.D.Sectors.size c.args.disk.now) c.args.run.now (around c.args.run.now (g.D.Sectors.sectors c.args.disk.now) c.args.budget.now) _ (omega arith);
   still = λ _. (refl, refl);
   made = made_first g.O.Sink g.D.Sectors c.args.run.now c.args.out.now c.args.disk.now c.args.budget.now (c.args.turns - c.args.turns) c.args.run.now.machine.time (omega arith);
   some = ([], tt, λ shelf. done _);
@@ -46,9 +46,8 @@ returns-then-made-eq0-clause-ends g c =
     let s0 = st.0 in
     let s1 = st.1 in
     let s2 = st.2 in
-    let s3 = st.3 in
-    let mid : Around = around c.loop-left.run (g.D.Sectors.sectors c.loop-left.disk) c.loop-left.budget (g.O.Sink.text c.loop-left.out) in
-    let after : Around = around c.turns.new.self (g.D.Sectors.sectors c.turns.new.disk) c.turns.new.budget (g.O.Sink.text c.turns.new.out) in
+    let mid : Around = around c.loop-left.run (g.D.Sectors.sectors c.loop-left.disk) c.loop-left.budget in
+    let after : Around = around c.turns.new.self (g.D.Sectors.sectors c.turns.new.disk) c.turns.new.budget in
     let same : mid ≡ after = cc in
     went_over c.machines_run.ensures (g.D.Sectors.size c.args.disk.now) c.args.run.now c.args.turns _ mid after (c.args.turns - c.loop-left.left) (omega arith) over same c.loop-left.invariant.going
 
@@ -119,9 +118,8 @@ returns-then-made-eq0-clause-any g c =
     let s0 = st.0 in
     let s1 = st.1 in
     let s2 = st.2 in
-    let s3 = st.3 in
-    let mid : Around = around c.loop-left.run (g.D.Sectors.sectors c.loop-left.disk) c.loop-left.budget (g.O.Sink.text c.loop-left.out) in
-    let after : Around = around c.turns.new.self (g.D.Sectors.sectors c.turns.new.disk) c.turns.new.budget (g.O.Sink.text c.turns.new.out) in
+    let mid : Around = around c.loop-left.run (g.D.Sectors.sectors c.loop-left.disk) c.loop-left.budget in
+    let after : Around = around c.turns.new.self (g.D.Sectors.sectors c.turns.new.disk) c.turns.new.budget in
     let same : mid ≡ after = cc in
     any_over (g.D.Sectors.size c.args.disk.now) c.args.run.now c.args.turns _ mid after (c.args.turns - c.loop-left.left) (omega arith) over same c.loop-left.invariant.anyhow
 
@@ -166,9 +164,9 @@ returns-in_err-made-clause-untold g c =
     let few = c.loop-left.invariant.few in
     let less = c.turns.ensures.less in
     let was_less = c.loop-left.invariant.less in
-    let before : Around = around c.args.run.now (g.D.Sectors.sectors c.args.disk.now) c.args.budget.now (g.O.Sink.text c.args.out.now) in
-    let mid : Around = around c.loop-left.run (g.D.Sectors.sectors c.loop-left.disk) c.loop-left.budget (g.O.Sink.text c.loop-left.out) in
-    let after : Around = around c.turns.new.self (g.D.Sectors.sectors c.turns.new.disk) c.turns.new.budget (g.O.Sink.text c.turns.new.out) in
+    let before : Around = around c.args.run.now (g.D.Sectors.sectors c.args.disk.now) c.args.budget.now in
+    let mid : Around = around c.loop-left.run (g.D.Sectors.sectors c.loop-left.disk) c.loop-left.budget in
+    let after : Around = around c.turns.new.self (g.D.Sectors.sectors c.turns.new.disk) c.turns.new.budget in
     rw (w.1, w.2) (untold_failed g.O.Sink g.D.Sectors c.args.run.now c.turns.new.self c.args.out.now c.turns.new.out c.args.disk.now c.turns.new.disk c.args.budget.now c.turns.new.budget c.args.turns c.turns_are_counted.ensures (omega (arith, less, was_less))
     (Unit {0}) c.in_err-made.field-0.0
     (untold_next g.O.Sink g.D.Sectors c.args.run.now c.loop-left.run c.args.out.now c.loop-left.out c.turns.new.out c.args.disk.now c.loop-left.disk c.turns.new.disk c.args.budget.now c.loop-left.budget (c.args.turns - c.loop-left.left)

@@ -14,10 +14,10 @@ invariant-loop-left g l = record {
   size : g.D.Sectors.size l.disk ≡ g.D.Sectors.size l.fn.disk;
   time : l.run.machine.time + l.budget ≡ l.fn.run.machine.time + l.fn.budget;
   few : l.left ≤ l.fn.turns;
-  going : KeepsGoing (g.D.Sectors.size l.fn.disk) l.fn.run (around l.fn.run (g.D.Sectors.sectors l.fn.disk) l.fn.budget (g.O.Sink.text l.fn.out)) (l.fn.turns - l.left)
-      (around l.run (g.D.Sectors.sectors l.disk) l.budget (g.O.Sink.text l.out));
-  anyhow : AnyGoing (g.D.Sectors.size l.fn.disk) l.fn.run (around l.fn.run (g.D.Sectors.sectors l.fn.disk) l.fn.budget (g.O.Sink.text l.fn.out)) (l.fn.turns - l.left)
-      (around l.run (g.D.Sectors.sectors l.disk) l.budget (g.O.Sink.text l.out));
+  going : KeepsGoing (g.D.Sectors.size l.fn.disk) l.fn.run (around l.fn.run (g.D.Sectors.sectors l.fn.disk) l.fn.budget) (l.fn.turns - l.left)
+      (around l.run (g.D.Sectors.sectors l.disk) l.budget);
+  anyhow : AnyGoing (g.D.Sectors.size l.fn.disk) l.fn.run (around l.fn.run (g.D.Sectors.sectors l.fn.disk) l.fn.budget) (l.fn.turns - l.left)
+      (around l.run (g.D.Sectors.sectors l.disk) l.budget);
   still : l.fn.turns - l.left ≡ 0 → (l.run.machine.time ≡ l.fn.run.machine.time) × (l.run.ended ≡ l.fn.run.ended);
   made : KeepsMade g.O.Sink g.D.Sectors l.fn.run l.fn.out l.fn.disk l.out l.disk l.fn.budget (l.fn.turns - l.left) l.run.machine.time;
   some : SomeMake {T = Unit {0}} g.O.Sink g.D.Sectors (l.fn.out, l.fn.disk) (l.out, l.disk) (Ok tt);

@@ -58,14 +58,14 @@ was_on x s t u on before j a b = ⊎_elim (λ (lt : j < u). before j a lt) (λ (
 -- the trace goes on through the step
 tracked : (g : Over) (c : In_ok-stepped g) → Tracks (outside_of c.args.machine.now.rows (g.D.Sectors.size c.args.disk.now)) c.args.map.now
     (state_seen (g.D.Sectors.sectors c.args.disk.now) c.args.machine.now) (state_seen (g.D.Sectors.sectors c.step_traced.new.disk) c.step_traced.new.machine)
-    (tracing c.args.tracer.now (g.O.Sink.text c.args.out.now) c.args.budget.now)
-    (tracing c.step_traced.new.tracer (g.O.Sink.text c.step_traced.new.out) (c.loop-begun.budget - 1))
+    (tracing c.args.tracer.now c.args.budget.now)
+    (tracing c.step_traced.new.tracer (c.loop-begun.budget - 1))
 tracked g c =
     let p = c.if-budget-eq0.false in
     tracks_more (g.D.Sectors.size c.args.disk.now) c.args.map.now c.args.machine.now c.loop-begun.machine (g.D.Sectors.sectors c.args.disk.now) (g.D.Sectors.sectors c.loop-begun.disk)
-    (tracing c.args.tracer.now (g.O.Sink.text c.args.out.now) c.args.budget.now) (tracing c.loop-begun.tracer (g.O.Sink.text c.loop-begun.out) c.loop-begun.budget)
+    (tracing c.args.tracer.now c.args.budget.now) (tracing c.loop-begun.tracer c.loop-begun.budget)
     c.loop-begun.invariant.tracks (outside_of c.loop-begun.machine.rows (g.D.Sectors.size c.loop-begun.disk)) (ap₂ outside_of c.loop-begun.invariant.rows c.loop-begun.invariant.size)
-    (tracing c.step_traced.new.tracer (g.O.Sink.text c.step_traced.new.out) (c.loop-begun.budget - 1)) (omega (arith, p))
+    (tracing c.step_traced.new.tracer (c.loop-begun.budget - 1)) (omega (arith, p))
     c.step_traced.new.machine (g.D.Sectors.sectors c.step_traced.new.disk) c.in_ok-stepped.stepped c.in_ok-stepped.ensures.traced c.in_ok-stepped.ensures.ends.ran
 
 -- the step is the next of a run, and what is noted then says how far the turn is
@@ -142,13 +142,13 @@ loop-begun-init g c = record {
   script = as_made (outside_of c.args.machine.now.rows (g.D.Sectors.size c.args.disk.now)) g.O.Sink g.D.Sectors c.args.map.now c.args.machine.now c.args.tracer.now c.args.out.now c.args.disk.now {R = Unit {0}} {T = Unit {0}} (Ok tt) (Ok tt) c.args.out.now c.args.disk.now
       0 (c.args.budget.now - c.args.budget.now) (omega arith) refl (no_steps (outside_of c.args.machine.now.rows (g.D.Sectors.size c.args.disk.now)) g.O.Sink g.D.Sectors c.args.map.now c.args.machine.now c.args.tracer.now c.args.out.now c.args.disk.now);
   tracks = tracks_none (outside_of c.args.machine.now.rows (g.D.Sectors.size c.args.disk.now)) c.args.map.now (state_seen (g.D.Sectors.sectors c.args.disk.now) c.args.machine.now)
-      (tracing c.args.tracer.now (g.O.Sink.text c.args.out.now) c.args.budget.now);
+      (tracing c.args.tracer.now c.args.budget.now);
 }
 
 pub returns-then-budget-eq0-clause-traced : goal.returns-then-budget-eq0-clause-traced
 returns-then-budget-eq0-clause-traced g c =
     tracks_limit (g.D.Sectors.size c.args.disk.now) c.args.map.now c.args.machine.now c.loop-begun.machine (g.D.Sectors.sectors c.args.disk.now) (g.D.Sectors.sectors c.loop-begun.disk)
-    (tracing c.args.tracer.now (g.O.Sink.text c.args.out.now) c.args.budget.now) (tracing c.loop-begun.tracer (g.O.Sink.text c.loop-begun.out) c.loop-begun.budget) c.loop-begun.invariant.tracks
+    (tracing c.args.tracer.now c.args.budget.now) (tracing c.loop-begun.tracer c.loop-begun.budget) c.loop-begun.invariant.tracks
 
 pub returns-then-budget-eq0-clause-ends : goal.returns-then-budget-eq0-clause-ends
 returns-then-budget-eq0-clause-ends g c = λ s t h.
@@ -169,7 +169,7 @@ returns-then-budget-eq0-clause-ends g c = λ s t h.
 pub returns-clause-traced : goal.returns-clause-traced
 returns-clause-traced g c =
     tracks_whole (g.D.Sectors.size c.args.disk.now) c.args.map.now c.args.machine.now c.loop-begun.machine (g.D.Sectors.sectors c.args.disk.now) (g.D.Sectors.sectors c.loop-begun.disk)
-    (tracing c.args.tracer.now (g.O.Sink.text c.args.out.now) c.args.budget.now) (tracing c.loop-begun.tracer (g.O.Sink.text c.loop-begun.out) c.loop-begun.budget)
+    (tracing c.args.tracer.now c.args.budget.now) (tracing c.loop-begun.tracer c.loop-begun.budget)
     c.loop-begun.invariant.tracks (c.loop-begun.skipped, c.begun_now.result)
 
 pub returns-clause-ends : goal.returns-clause-ends
@@ -231,9 +231,9 @@ returns-in_err-stepped-clause-traced g c =
     let w = err_from_is_err_and c.from_residual.result c.from_residual.ensures.1 in
     let p = c.if-budget-eq0.false in
     rw (w.1, w.2) (tracks_stop (g.D.Sectors.size c.args.disk.now) c.args.map.now c.args.machine.now c.loop-begun.machine (g.D.Sectors.sectors c.args.disk.now) (g.D.Sectors.sectors c.loop-begun.disk)
-    (tracing c.args.tracer.now (g.O.Sink.text c.args.out.now) c.args.budget.now) (tracing c.loop-begun.tracer (g.O.Sink.text c.loop-begun.out) c.loop-begun.budget)
+    (tracing c.args.tracer.now c.args.budget.now) (tracing c.loop-begun.tracer c.loop-begun.budget)
     c.loop-begun.invariant.tracks (outside_of c.loop-begun.machine.rows (g.D.Sectors.size c.loop-begun.disk)) (ap₂ outside_of c.loop-begun.invariant.rows c.loop-begun.invariant.size)
-    (tracing c.step_traced.new.tracer (g.O.Sink.text c.step_traced.new.out) (c.loop-begun.budget - 1)) (omega (arith, p))
+    (tracing c.step_traced.new.tracer (c.loop-begun.budget - 1)) (omega (arith, p))
     c.in_err-stepped.field-0.0 (λ e. c.in_err-stepped.ensures.no_limit (ap (λ f. Err f) e)) c.in_err-stepped.ensures.traced)
 
 -- where no user is traced the sink isn't called
@@ -299,17 +299,17 @@ none_traced : (x : Environment) (m : Map) (start now : Option State) (before aft
 none_traced x m start now before after e = λ b. absurd (let h : ◌≡◌ {A = Option Tracer} None (Some (tracer_at x b.s b.u b.t b.traced.journal)) = sym e ∙ b.traced.keeps in cc)
 
 -- what is kept of a trace stays through a stretch: none is made where a user is traced
-tracks_passed : (x : Environment) (m : Map) (start : Option State) (before : Tracing) (told : Option (List (List ℕ))) (mid new : Held) (tracer old : Option Tracer) (text : Option (List ℕ)) (budget left n : ℕ) →
+tracks_passed : (x : Environment) (m : Map) (start : Option State) (before : Tracing) (told : Option (List (List ℕ))) (mid new : Held) (tracer old : Option Tracer) (budget left n : ℕ) →
     option_map (λ (k : Tracer). k.user) tracer ≡ option_map (λ (k : Tracer). k.user) old → before.tracer ≡ old → (IsSome tracer → (n ≡ 0) × (new ≡ mid)) → left + n ≡ budget →
-    Tracks x m start (state_seen told mid) before (tracing tracer text budget) → Tracks x m start (state_seen told new) before (tracing tracer text left)
-tracks_passed x m start before told mid new None None text budget left n user was none spent so_far = none_traced x m start (state_seen told new) before (tracing None text left) was
-tracks_passed x m start before told mid new None (Some l) text budget left n user was none spent so_far = absurd (cc)
-tracks_passed x m start before told mid new (Some k) old text budget left n user was none spent so_far =
+    Tracks x m start (state_seen told mid) before (tracing tracer budget) → Tracks x m start (state_seen told new) before (tracing tracer left)
+tracks_passed x m start before told mid new None None budget left n user was none spent so_far = none_traced x m start (state_seen told new) before (tracing None left) was
+tracks_passed x m start before told mid new None (Some l) budget left n user was none spent so_far = absurd (cc)
+tracks_passed x m start before told mid new (Some k) old budget left n user was none spent so_far =
     let w = none refl in
     let zero = w.0 in
     let same : budget ≡ left = omega (arith, spent, zero) in
-    subst (λ (h : Held). Tracks x m start (state_seen told h) before (tracing (Some k) text left)) (sym w.1)
-    (subst (λ b. Tracks x m start (state_seen told mid) before (tracing (Some k) text b)) same so_far)
+    subst (λ (h : Held). Tracks x m start (state_seen told h) before (tracing (Some k) left)) (sym w.1)
+    (subst (λ b. Tracks x m start (state_seen told mid) before (tracing (Some k) b)) same so_far)
 
 can_pass : (m : Map) (words time words2 time2 count n : ℕ) (o : Option Tracer) → words2 ≡ words → time2 ≡ time + n → IfSome o (CanTrace m words time count) → IfSome o (CanTrace m words2 time2 count)
 can_pass m words time words2 time2 count n None e f h = tt
@@ -374,7 +374,7 @@ loop-begun-preserved-then-skipped-limit g c =
       user = c.in_ok-stepped.ensures.leaves.trace.user ∙ c.loop-begun.invariant.user;
       untraced = λ e. let i = c.loop-begun.invariant.untraced e in let n = c.in_ok-stepped.ensures.leaves.trace.untraced i.0 in (n.0, n.1 ∙ i.1);
       tracks = tracks_passed (outside_of c.args.machine.now.rows (g.D.Sectors.size c.args.disk.now)) c.args.map.now (state_seen (g.D.Sectors.sectors c.args.disk.now) c.args.machine.now)
-          (tracing c.args.tracer.now (g.O.Sink.text c.args.out.now) c.args.budget.now) (g.D.Sectors.sectors c.step_traced.new.disk) c.step_traced.new.machine c.pass-skipped.new.machine c.step_traced.new.tracer c.args.tracer.now (g.O.Sink.text c.step_traced.new.out)
+          (tracing c.args.tracer.now c.args.budget.now) (g.D.Sectors.sectors c.step_traced.new.disk) c.step_traced.new.machine c.pass-skipped.new.machine c.step_traced.new.tracer c.args.tracer.now
           (c.loop-begun.budget - 1) c.pass-skipped.new.budget c.pass-skipped.result (c.in_ok-stepped.ensures.leaves.trace.user ∙ c.loop-begun.invariant.user) refl c.pass-skipped.ensures.traced spent
           (tracked g (goal.at.loop-begun-preserved-then-skipped-limit g c).In_ok-stepped);
     }
@@ -420,7 +420,7 @@ loop-begun-preserved-then-not-at_rest g c =
       user = c.in_ok-stepped.ensures.leaves.trace.user ∙ c.loop-begun.invariant.user;
       untraced = λ e. let i = c.loop-begun.invariant.untraced e in let n = c.in_ok-stepped.ensures.leaves.trace.untraced i.0 in (n.0, n.1 ∙ i.1);
       tracks = tracks_passed (outside_of c.args.machine.now.rows (g.D.Sectors.size c.args.disk.now)) c.args.map.now (state_seen (g.D.Sectors.sectors c.args.disk.now) c.args.machine.now)
-          (tracing c.args.tracer.now (g.O.Sink.text c.args.out.now) c.args.budget.now) (g.D.Sectors.sectors c.step_traced.new.disk) c.step_traced.new.machine c.pass.new.machine c.step_traced.new.tracer c.args.tracer.now (g.O.Sink.text c.step_traced.new.out)
+          (tracing c.args.tracer.now c.args.budget.now) (g.D.Sectors.sectors c.step_traced.new.disk) c.step_traced.new.machine c.pass.new.machine c.step_traced.new.tracer c.args.tracer.now
           (c.loop-begun.budget - 1) c.pass.new.budget m (c.in_ok-stepped.ensures.leaves.trace.user ∙ c.loop-begun.invariant.user) refl
           c.pass.ensures.traced less
           (tracked g (goal.at.loop-begun-preserved-then-not-at_rest g c).In_ok-stepped);

@@ -29,7 +29,7 @@ invariant-loop-begun g l = record {
   user : option_map (λ k. k.user) l.tracer ≡ option_map (λ k. k.user) l.fn.tracer;
   untraced : l.fn.tracer ≡ None → (l.tracer ≡ None) × (l.out ≡ l.fn.out);
   tracks : Tracks (outside_of l.fn.machine.rows (g.D.Sectors.size l.fn.disk)) l.map (state_seen (g.D.Sectors.sectors l.fn.disk) l.fn.machine) (state_seen (g.D.Sectors.sectors l.disk) l.machine)
-      (record { tracer = l.fn.tracer; text = g.O.Sink.text l.fn.out; budget = l.fn.budget }) (record { tracer = l.tracer; text = g.O.Sink.text l.out; budget = l.budget });
+      (record { tracer = l.fn.tracer; budget = l.fn.budget }) (record { tracer = l.tracer; budget = l.budget });
   less : l.budget ≤ l.fn.budget;
   script : StepsCall {T = Unit {0}} g.O.Sink g.D.Sectors l.map l.fn.machine l.fn.tracer (l.fn.out, l.fn.disk) (l.out, l.disk) (l.fn.budget - l.budget) (Ok tt);
 }

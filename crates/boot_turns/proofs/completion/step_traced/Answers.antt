@@ -42,15 +42,15 @@ began g c = subst (λ (b : Bool). StepBegan (g.D.Sectors.size c.args.disk.now) c
 pub returns-in_err-stepped-clause-traced : goal.returns-in_err-stepped-clause-traced
 returns-in_err-stepped-clause-traced g c =
     let w = err_from_is_err_and c.from_residual.result c.from_residual.ensures.1 in
-    step_broke (outside_of c.args.machine.now.rows (g.D.Sectors.size c.args.disk.now)) c.args.map.now c.args.machine.now (g.D.Sectors.sectors c.args.disk.now) c.args.tracer.now c.args.tracer.now (g.O.Sink.text c.args.out.now) (g.O.Sink.text c.args.out.now)
+    step_broke (outside_of c.args.machine.now.rows (g.D.Sectors.size c.args.disk.now)) c.args.map.now c.args.machine.now (g.D.Sectors.sectors c.args.disk.now) c.args.tracer.now c.args.tracer.now
     c.from_residual.result w.0 w.1 (λ sink. disk_sink (sym w.2 ∙ sink))
 
 pub returns-in_err-follow-clause-traced : goal.returns-in_err-follow-clause-traced
 returns-in_err-follow-clause-traced g c =
     let w = err_from_is_err_and c.from_residual-in_err-follow.result c.from_residual-in_err-follow.ensures.1 in
-    step_cut c.traces_grow.ensures c.journal_rows_follow.ensures c.the_words_tell.ensures (outside_of c.args.machine.now.rows (g.D.Sectors.size c.args.disk.now)) c.args.map.now c.args.machine.now (g.D.Sectors.sectors c.args.disk.now) c.in-Some.kept (g.O.Sink.text c.args.out.now) c.requires.on
+    step_cut c.traces_grow.ensures c.journal_rows_follow.ensures c.the_words_tell.ensures (outside_of c.args.machine.now.rows (g.D.Sectors.size c.args.disk.now)) c.args.map.now c.args.machine.now (g.D.Sectors.sectors c.args.disk.now) c.in-Some.kept c.requires.on
     c.step_once.new.machine (g.D.Sectors.sectors c.step_once.new.disk) c.in_ok-stepped.ensures.ends.ran c.current_user-current.result c.current_user-current.ensures c.began-began.result (began g (goal.at.returns-in_err-follow-clause-traced g c).In-Some)
-    c.args.tracer.now (Some c.follow.new.self) (g.O.Sink.text c.follow.new.out) c.from_residual-in_err-follow.result w.0 (here g (goal.at.returns-in_err-follow-clause-traced g c).In-Some) w.1 c.in_err-follow.ensures.rows
+    c.args.tracer.now (Some c.follow.new.self) c.from_residual-in_err-follow.result w.0 (here g (goal.at.returns-in_err-follow-clause-traced g c).In-Some) w.1 c.in_err-follow.ensures.rows
 
 -- where no user is traced the sink isn't called
 pub returns-in_err-stepped-clause-silent : goal.returns-in_err-stepped-clause-silent
@@ -64,9 +64,9 @@ returns-in_err-follow-clause-silent g c = λ none sink. absurd (let e : ◌≡�
 pub returns-in-Some-clause-traced : goal.returns-in-Some-clause-traced
 returns-in-Some-clause-traced g c =
     let x = outside_of c.args.machine.now.rows (g.D.Sectors.size c.args.disk.now) in
-    step_goes c.traces_grow.ensures c.journal_rows_follow.ensures c.the_words_tell.ensures x c.args.map.now c.args.machine.now (g.D.Sectors.sectors c.args.disk.now) c.in-Some.kept (g.O.Sink.text c.args.out.now) c.requires.on
+    step_goes c.traces_grow.ensures c.journal_rows_follow.ensures c.the_words_tell.ensures x c.args.map.now c.args.machine.now (g.D.Sectors.sectors c.args.disk.now) c.in-Some.kept c.requires.on
     c.step_once.new.machine (g.D.Sectors.sectors c.step_once.new.disk) c.in_ok-stepped.ensures.ends.ran c.current_user-current.result c.current_user-current.ensures c.began-began.result (began g (goal.at.returns-in-Some-clause-traced g c).In-Some)
-    c.stepped_as.result c.args.tracer.now c.follow.new.self (g.O.Sink.text c.follow.new.out) (here g (goal.at.returns-in-Some-clause-traced g c).In-Some) c.in_ok-follow.ensures.prints.put c.in_ok-follow.ensures.prints.keeps
+    c.stepped_as.result c.args.tracer.now c.follow.new.self (here g (goal.at.returns-in-Some-clause-traced g c).In-Some) c.in_ok-follow.ensures.behind
 
 pub returns-then-counts-clause-traced : goal.returns-then-counts-clause-traced
 returns-then-counts-clause-traced g c =
@@ -74,7 +74,7 @@ returns-then-counts-clause-traced g c =
     let kept : KeptUser c.step_once.new.machine Kept = subst (KeptUser c.step_once.new.machine) c.in-Kept.is c.in_ok-stepped.ensures.ends.kept in
     let began : StepBegan (g.D.Sectors.size c.args.disk.now) c.args.machine.now (g.D.Sectors.sectors c.args.disk.now) true =
     subst (λ (s : Stepped). StepBegan (g.D.Sectors.size c.args.disk.now) c.args.machine.now (g.D.Sectors.sectors c.args.disk.now) (turn_began s)) c.in-Kept.is c.in_ok-stepped.ensures.ends.began in
-    step_counted c.traces_grow.ensures c.journal_rows_follow.ensures c.the_words_tell.ensures x c.args.map.now c.args.machine.now (g.D.Sectors.sectors c.args.disk.now) c.args.tracer.now c.counts.new.tracer (g.O.Sink.text c.args.out.now)
+    step_counted c.traces_grow.ensures c.journal_rows_follow.ensures c.the_words_tell.ensures x c.args.map.now c.args.machine.now (g.D.Sectors.sectors c.args.disk.now) c.args.tracer.now c.counts.new.tracer
     c.requires.on c.step_once.new.machine (g.D.Sectors.sectors c.step_once.new.disk) c.in_ok-stepped.ensures.ends.ran c.current_user-current.result (if_traced c.args.tracer.now _ c.current_user-current.ensures) began kept.0 (c.counts.ensures.free c.if-counts.true)
     (c.counts.ensures.counted c.if-counts.true) Kept
 

@@ -4,6 +4,7 @@ use Rattle.cvm_outside.specs.Outside.{files, output}
 use Rattle.cvm_outside.specs.Script.{Printed, Stored, breaks, goes_on}
 use Rattle.boot_run.specs.RunCalls.{of_end}
 use Rattle.machine_save.proofs.SaveCalls.{put_does, put_fails}
+use Rattle.machine_save.proofs.Stopped.{was_put}
 use Rattle.machine_save.proofs.saving.put_state.Goals as goal
 
 pub returns-in-Ok-clause-script : goal.returns-in-Ok-clause-script
@@ -16,6 +17,12 @@ returns-in-Ok-clause-script g c =
           (record { others = e.others; whole = e.bytes; part = e.part; few = e.few; taken = e.taken; count = e.count; called = record { calls = e.called; gives = e.given } }))
           (c.put_row.ensures.script (files g.S.Shelf c.put.new.self) disk),
     )
+
+pub returns-in-Ok-clause-put : goal.returns-in-Ok-clause-put
+returns-in-Ok-clause-put g c =
+    let e = c.in-Ok.ensures in
+    was_put _ _ c.put_row.result _ _ c.put_row.ensures.shows
+    (record { bytes = c.bytes.result.now; whole = e.bytes; others = e.others; faults = e.count.cases; called = record { calls = e.called; gives = e.given } })
 
 pub returns-clause-script : goal.returns-clause-script
 returns-clause-script g c =

@@ -7,7 +7,7 @@ use Rattle.boot_run.specs.LoadScript.{load_script}
 use Rattle.boot_run.specs.LoadedPages.{user_pages}
 use Rattle.boot_run.specs.Loading.{system_of}
 use Rattle.boot_run.specs.Whole.{WholeStopped}
-use Rattle.machine_save.proofs.Stopped.{ran_loads, refused_loads, was_put, was_unput}
+use Rattle.machine_save.proofs.Stopped.{ran_loads, refused_loads, was_unput}
 use Rattle.machine_save.proofs.SaveCalls.{save_refused, save_stopped, save_ended, save_told, stopped_words}
 use Rattle.machine_save.proofs.saving.save_run.Goals as goal
 
@@ -16,16 +16,13 @@ returns-in_err-run-clause-loads g c =
     let w = err_from_is_err_and c.from_residual.result c.from_residual.ensures.1 in
     rw (w.1, w.2) (refused_loads g.D.Sectors.size g.D.Sectors.sectors g.D.Sectors.faults g.D.Sectors.calls c.args.setup.boot Boot (pages_needed c.args.setup.boot) (WholeStopped c.args.setup.boot c.args.setup.schedule) c.args.disk.now c.args.out.now c.run_to_save.new.disk c.run_to_save.new.out c.in_err-run.field-0.0 c.in_err-run.ensures.loads)
 
-pub returns-in-Stopped-clause-unput : goal.returns-in-Stopped-clause-unput
-returns-in-Stopped-clause-unput g c = was_put _ _ c.put_state.result _ c.put_state.ensures.shows
-
 pub returns-in-Stopped-clause-loads : goal.returns-in-Stopped-clause-loads
 returns-in-Stopped-clause-loads g c =
     ran_loads g.D.Sectors.size g.D.Sectors.sectors g.D.Sectors.faults g.D.Sectors.calls c.args.setup.boot Boot (pages_needed c.args.setup.boot) (WholeStopped c.args.setup.boot c.args.setup.schedule) c.args.disk.now c.args.out.now c.run_to_save.new.disk c.run_to_save.new.out
     (c.in_ok-run.run', c.in_ok-run.end) c.put_state.result c.put_state.new.out c.in_ok-run.ensures.loads
 
-pub returns-clause-unput : goal.returns-clause-unput
-returns-clause-unput g c = was_unput c.in_ok-run.end _ refl
+pub returns-clause-put : goal.returns-clause-put
+returns-clause-put g c = was_unput c.in_ok-run.end _ _ c.in_default.not-Stopped refl
 
 pub returns-clause-loads : goal.returns-clause-loads
 returns-clause-loads g c =

@@ -28,8 +28,8 @@ returns-in-Ok-clause-loaded g c =
           c.count-have.ensures (ap (λ (m : Held). m.rows) c.in_ok-machine.ensures) (ap (λ (m : Held). m.time) c.in_ok-machine.ensures) c.first_tracer.ensures c.in_ok-check_view.ensures.ok users few;
       memory = loaded_whole c.args.boot c.args.schedule c.in_ok-machine.machine c.in_ok-machine.ensures;
       stands = stands;
-      ready = λ x old budget text e.
-          loaded_ready x (system_of c.args.boot c.args.schedule) (loaded (system_of c.args.boot c.args.schedule) old) c.args.view c.first_tracer.result c.first_tracer.ensures budget text c.in_ok-machine.machine (g.D.Sectors.sectors c.write_pages.new.disk)
+      ready = λ x old budget e.
+          loaded_ready x (system_of c.args.boot c.args.schedule) (loaded (system_of c.args.boot c.args.schedule) old) c.args.view c.first_tracer.result c.first_tracer.ensures budget c.in_ok-machine.machine (g.D.Sectors.sectors c.write_pages.new.disk)
           (stands ∙ ap (option_map (loaded (system_of c.args.boot c.args.schedule))) e) (ap (λ (m : Held). m.time) c.in_ok-machine.ensures);
       unfailed = c.in-Ok.ensures.writes.count.same;
       calls = calls_so c.args.boot c.args.schedule c.as_slice.result.now [] [] _ (pages_needed c.args.boot) (g.D.Sectors.sectors c.args.disk.now) (g.D.Sectors.sectors c.write_pages.new.disk) (tally g.D.Sectors.faults g.D.Sectors.calls c.args.disk.now) (tally g.D.Sectors.faults g.D.Sectors.calls c.write_pages.new.disk)

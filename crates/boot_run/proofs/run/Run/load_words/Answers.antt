@@ -32,8 +32,8 @@ returns-in-Ok-clause-loaded g c =
           c.count-count.ensures (ap (λ (m : Held). m.rows) c.in_ok-machine.ensures) (ap (λ (m : Held). m.time) c.in_ok-machine.ensures) c.first_tracer.ensures c.requires.room.user refl c.requires.room.room;
       memory = rom_whole b rows rom c.requires.few (omega arith) c.in_ok-machine.machine made;
       stands = stands;
-      ready = λ x old budget text e.
-          loaded_ready x (system_of b rows) (rom_loaded (system_of b rows) rom old) c.args.view c.first_tracer.result c.first_tracer.ensures budget text c.in_ok-machine.machine (g.D.Sectors.sectors c.write_pages.new.disk)
+      ready = λ x old budget e.
+          loaded_ready x (system_of b rows) (rom_loaded (system_of b rows) rom old) c.args.view c.first_tracer.result c.first_tracer.ensures budget c.in_ok-machine.machine (g.D.Sectors.sectors c.write_pages.new.disk)
           (stands ∙ ap (option_map (rom_loaded (system_of b rows) rom)) e) (ap (λ (m : Held). m.time) c.in_ok-machine.ensures);
       unfailed = c.in-Ok.ensures.writes.count.same;
       calls = calls_so b rows c.as_slice-users.result.now c.as_slice-words.result.now b.words.items _ (rom_needed b) (g.D.Sectors.sectors c.args.disk.now) (g.D.Sectors.sectors c.write_pages.new.disk) (tally g.D.Sectors.faults g.D.Sectors.calls c.args.disk.now) (tally g.D.Sectors.faults g.D.Sectors.calls c.write_pages.new.disk)

@@ -11,13 +11,13 @@ use Rattle.boot_run.proofs.run.Run.make_turn.Goals as goal
 pub returns-in_err-skipped-clause-ends : goal.returns-in_err-skipped-clause-ends
 returns-in_err-skipped-clause-ends g c =
     let h = err_from_is_err_and c.from_residual.result c.from_residual.ensures.1 in
-    made_err c.loops_advance.ensures c.loops_make_turns.ensures c.args.self.now _ c.self.view_is (g.D.Sectors.size c.args.disk.now) _ c.args.most (g.D.Sectors.sectors c.args.disk.now) (g.D.Sectors.sectors c.complete.new.disk) (g.O.Sink.text c.args.out.now) (g.O.Sink.text c.complete.new.out) c.args.budget.now c.complete.new.budget
+    made_err c.loops_advance.ensures c.loops_make_turns.ensures c.args.self.now _ c.self.view_is (g.D.Sectors.size c.args.disk.now) _ c.args.most (g.D.Sectors.sectors c.args.disk.now) (g.D.Sectors.sectors c.complete.new.disk) c.args.budget.now c.complete.new.budget
     c.self.inside.places.map c.self.invariant.2.map c.in_err-skipped.field-0.0 h.0 c.from_residual.result h.1 (sym h.2) c.in_err-skipped.ensures.ends c.in_err-skipped.ensures.traced c.in_err-skipped.ensures.silent refl
 
 pub returns-then-not-begun-clause-ends : goal.returns-then-not-begun-clause-ends
 returns-then-not-begun-clause-ends g c =
     let on : c.saturating_add-turn.result ≡ count_on c.self.inside.turns c.in_ok-skipped.skipped = c.saturating_add-turn.ensures ∙ ap (count_on c.self.inside.turns) c.from.ensures in
-    made c.loops_advance.ensures c.loops_make_turns.ensures c.args.self.now _ c.self.view_is (g.D.Sectors.size c.args.disk.now) _ c.args.most (g.D.Sectors.sectors c.args.disk.now) (g.D.Sectors.sectors c.complete.new.disk) (g.O.Sink.text c.args.out.now) (g.O.Sink.text c.complete.new.out) c.args.budget.now c.complete.new.budget
+    made c.loops_advance.ensures c.loops_make_turns.ensures c.args.self.now _ c.self.view_is (g.D.Sectors.size c.args.disk.now) _ c.args.most (g.D.Sectors.sectors c.args.disk.now) (g.D.Sectors.sectors c.complete.new.disk) c.args.budget.now c.complete.new.budget
     c.self.inside.places.map c.self.invariant.2.map c.in_ok-skipped.skipped _ c.in_ok-skipped.begun _ c.in_ok-skipped.ensures.ends c.in_ok-skipped.ensures.traced refl
     (record {
       turns = c.saturating_add-self-inside.ensures ∙ ap (λ i. count_on i 1) on;
@@ -29,7 +29,7 @@ returns-then-not-begun-clause-ends g c =
 pub returns-clause-ends : goal.returns-clause-ends
 returns-clause-ends g c =
     let on : c.saturating_add-turn.result ≡ count_on c.self.inside.turns c.in_ok-skipped.skipped = c.saturating_add-turn.ensures ∙ ap (count_on c.self.inside.turns) c.from.ensures in
-    made c.loops_advance.ensures c.loops_make_turns.ensures c.args.self.now _ c.self.view_is (g.D.Sectors.size c.args.disk.now) _ c.args.most (g.D.Sectors.sectors c.args.disk.now) (g.D.Sectors.sectors c.complete.new.disk) (g.O.Sink.text c.args.out.now) (g.O.Sink.text c.complete.new.out) c.args.budget.now c.complete.new.budget
+    made c.loops_advance.ensures c.loops_make_turns.ensures c.args.self.now _ c.self.view_is (g.D.Sectors.size c.args.disk.now) _ c.args.most (g.D.Sectors.sectors c.args.disk.now) (g.D.Sectors.sectors c.complete.new.disk) c.args.budget.now c.complete.new.budget
     c.self.inside.places.map c.self.invariant.2.map c.in_ok-skipped.skipped _ c.in_ok-skipped.begun _ c.in_ok-skipped.ensures.ends c.in_ok-skipped.ensures.traced refl
     (record {
       turns = c.saturating_add-self-inside.ensures ∙ ap (λ i. count_on i 1) on;

@@ -60,10 +60,10 @@ returns-in-Err g c = record {
     leaves = search rules;
     ends = λ f e.
         runs_faulted (g.D.Sectors.size c.args.disk.now) c.args.self.now c.args.most _ _ c.in-Err.fault (Some c.in-Err.fault)
-        (runs_after _ _ c.self-2.view_is (g.D.Sectors.size c.args.disk.now) c.args.self.now c.args.most _ (g.D.Sectors.sectors c.proceed.new.disk) c.proceed.new.budget (g.O.Sink.text c.proceed.new.out) (Err c.in-Err.fault) (c.in-Err.ensures.ends f));
+        (runs_after _ _ c.self-2.view_is (g.D.Sectors.size c.args.disk.now) c.args.self.now c.args.most _ (g.D.Sectors.sectors c.proceed.new.disk) c.proceed.new.budget (Err c.in-Err.fault) (c.in-Err.ensures.ends f));
     any = λ f e.
-        any_kept _ _ c.self-2.view_is (g.D.Sectors.size c.args.disk.now) c.args.self.now c.args.most (around c.args.self.now (g.D.Sectors.sectors c.args.disk.now) c.args.budget.now (g.O.Sink.text c.args.out.now))
-        (g.D.Sectors.sectors c.proceed.new.disk) c.proceed.new.budget (g.O.Sink.text c.proceed.new.out) c.in-Err.fault (c.in-Err.ensures.any f e);
+        any_kept _ _ c.self-2.view_is (g.D.Sectors.size c.args.disk.now) c.args.self.now c.args.most (around c.args.self.now (g.D.Sectors.sectors c.args.disk.now) c.args.budget.now)
+        (g.D.Sectors.sectors c.proceed.new.disk) c.proceed.new.budget c.in-Err.fault (c.in-Err.ensures.any f e);
   };
   script = c.in-Err.ensures.script;
   untold = c.in-Err.ensures.untold;

@@ -1,4 +1,4 @@
--- The rows of words that were copied are those of the primitive's entries.
+-- What is kept behind the rows of words that were copied is what the primitive's entries leave.
 use Rattle.std.proofs.Common.{◌≡◌, ℕ, List, [], ap, subst, arith}
 use Rattle.cvm_outside.specs.Script.{done}
 use Rattle.cvm_outside.proofs.Putting.{same_script}
@@ -8,22 +8,15 @@ use Rattle.boot_turns.proofs.RowMakes.{ended_copy, ended_far, ended_refused, end
 use Rattle.boot_turns.proofs.tracer.Tracer.end_copy.Goals.{then-answer-ne1-via-then-answer-ne1, then-answer-ne1-via-else-answer-ne1+then-user-self, then-answer-ne1-via-else-answer-ne1+else-user-self+then-first-most, then-answer-ne1-via-else-answer-ne1+else-user-self+else-first-most+then-count-most}
 use Rattle.std.specs.Prelude.{OnOk}
 use Rattle.mips_machine.specs.Machine.{state_of}
-use Rattle.std.specs.Io.KnownBytes.{append_known}
 use Rattle.boot_turns.specs.declared.tracer.Tracer.{Tracer}
-use Rattle.boot_turns.proofs.Followed.{copied_rows, copied_then}
+use Rattle.boot_turns.proofs.Followed.{copied_then}
 use Rattle.boot_turns.proofs.tracer.Tracer.end_copy.Goals as goal
 
-pub returns-clause-prints : goal.returns-clause-prints
-returns-clause-prints g c = record {
-  put = λ ss words e told placed.
-      subst (λ (rows : List ℕ). OnOk c.put_words.result (g.O.Sink.text c.put_words.new.out ≡ append_known (g.O.Sink.text c.args.out.now) rows))
-      (copied_rows c.args.map.now (state_of c.args.machine.now ss) c.args.self.now.user c.args.self.now.steps c.args.answer c.args.call.now words c.if-answer-ne1.false c.if-user-self.false c.requires.copy told placed)
-      (c.put_words.ensures.prints.put ss e told.entries);
-  keeps = λ ss words e told placed.
-      subst (λ (t : Tracer). OnOk c.put_words.result (c.put_words.new.self ≡ t))
-      (copied_then c.args.map.now (state_of c.args.machine.now ss) c.args.self.now c.args.answer c.args.call.now words c.if-answer-ne1.false c.if-user-self.false c.requires.copy told placed)
-      c.put_words.ensures.prints.keeps;
-}
+pub returns-clause-behind : goal.returns-clause-behind
+returns-clause-behind g c = λ ss words e told placed.
+    subst (λ (t : Tracer). OnOk c.put_words.result (c.put_words.new.self ≡ t))
+    (copied_then c.args.map.now (state_of c.args.machine.now ss) c.args.self.now c.args.answer c.args.call.now words c.if-answer-ne1.false c.if-user-self.false c.requires.copy told placed)
+    c.put_words.ensures.behind
 
 -- nothing is printed where it gave another answer, copied to another user, or past a user's memory
 pub returns-then-answer-ne1-clause-script : goal.returns-then-answer-ne1-clause-script

@@ -1,11 +1,9 @@
--- What a step adds is what its branch prints: a turn of the user, a turn of another, a primitive that returned, or nothing.
+-- What is kept behind a step, and its script, by its branch: a turn of the user, a turn of another, a primitive that returned, or nothing.
 use Rattle.std.proofs.Common.{◌≡◌, ℕ, List, [], Bool, true, false, Option, Some, None, refl, sym, ap, ◌∙◌, subst}
 use Rattle.std.specs.Prelude.{IsSome}
-use Rattle.std.specs.Io.KnownBytes.{append_known}
-use Rattle.cvm_outside.proofs.Parts.{append_known-nil}
 use Rattle.cvm_outside.proofs.Putting.{same_script}
-use Rattle.cvm_outside.specs.Outside.{Output, output, drive}
-use Rattle.cvm_outside.specs.Script.{Puts, done}
+use Rattle.cvm_outside.specs.Outside.{output, drive}
+use Rattle.cvm_outside.specs.Script.{done}
 use Rattle.cvm_model.specs.Text.{journal_rows_after}
 use Rattle.boot_turns.proofs.RowMakes.{prints_made, followed_turn, followed_foreign, followed_none, followed_return}
 use Rattle.mips_table.specs.Machine.{State}
@@ -17,67 +15,38 @@ use Rattle.boot_turns.specs.Completes.{shown}
 use Rattle.boot_turns.specs.Entries.{turn_begins, HasRows}
 use Rattle.boot_turns.specs.Returns.{notes_on, returned}
 use Rattle.std.proofs.lemmas.Result.{err_from_is_err_and}
-use Rattle.boot_turns.proofs.Followed.{own_turn, other_turn, none_returned, rows_put, kept_then, call_put, call_kept}
+use Rattle.boot_turns.proofs.Followed.{own_turn, other_turn, none_returned, kept_then, call_kept}
 use Rattle.boot_turns.proofs.tracer.Tracer.follow.Goals.{then-began+then-current-self+else-prove+in_ok-begin, then-began+else-current-self, else-began+in-Some+in_ok-end, else-began+in_default}
 use Rattle.boot_turns.proofs.tracer.Tracer.follow.Goals as goal
-
--- what a sink has once rows were put
-text_put : (old new : Output) (rows : List ℕ) → Puts rows old new None → new.text ≡ append_known old.text rows
-text_put old new rows p = ap (λ (o : Output). o.text) p.by
 
 -- the note is made by the machine, and by the note before
 noted_there : (a : Held) (ss : List (List ℕ)) (c d : Option Entered) → d ≡ c → notes_on (state_of a []) d ≡ notes_on (state_of a ss) c
 noted_there a ss c d e = ap (λ (c : Option Entered). notes_on (state_of a []) c) e
 
-pub returns-clause-prints : goal.returns-clause-prints
-returns-clause-prints g c = record {
-  put = λ ss words e told.
-      let s : State = state_of c.args.machine.now ss in
-      let kept = c.args.self.now in
-      elim c.if-began.branch [
-        | then-began+then-current-self+else-prove+in_ok-begin w ↦ (
-            let is = own_turn s kept c.args.current c.args.began words w.begun_now.result w.if-began.true w.begun_now.ensures in
-            ap g.O.Sink.text w.out-is
-            ∙ rows_put s kept c.args.current c.args.began words (turn_begins kept.user c.args.current w.begun_now.result) is (g.O.Sink.text c.args.out.now) (g.O.Sink.text w.begin.new.out)
-            (text_put (output g.O.Sink c.args.out.now) (output g.O.Sink w.begin.new.out) _ w.in_ok-begin.ensures.prints.put)
-            )
-        | then-began+else-current-self w ↦ (
-            let is = other_turn s kept c.args.current c.args.began words w.if-began.true w.if-current-self.false in
-            ap g.O.Sink.text w.out-is ∙ rows_put s kept c.args.current c.args.began words [] is (g.O.Sink.text c.args.out.now) (g.O.Sink.text c.args.out.now) (sym (append_known-nil _))
-            )
-        | else-began+in-Some+in_ok-end w ↦
-            ap g.O.Sink.text w.out-is
-            ∙ call_put s kept c.args.current c.args.began words c.args.map.now w.returned_call.result w.in-Some.call w.reg.result w.if-began.false w.returned_call.ensures w.in-Some.is w.reg.ensures told
-            (g.O.Sink.text c.args.out.now) (g.O.Sink.text w.end.new.out) (w.in_ok-end.ensures.prints.put ss words e)
-        | else-began+in_default w ↦ (
-            let is = none_returned s kept c.args.current c.args.began words w.returned_call.result w.if-began.false w.returned_call.ensures w.in_default.is in
-            ap g.O.Sink.text w.out-is ∙ rows_put s kept c.args.current c.args.began words [] is (g.O.Sink.text c.args.out.now) (g.O.Sink.text c.args.out.now) (sym (append_known-nil _))
-            )
-      ];
-  keeps = λ ss words e told.
-      let s : State = state_of c.args.machine.now ss in
-      let kept = c.args.self.now in
-      let next = notes_on (state_of c.args.machine.now []) c.if-began.self.call in
-      c.note_call.ensures ∙ elim c.if-began.branch [
-        | then-began+then-current-self+else-prove+in_ok-begin w ↦ (
-            let is = own_turn s kept c.args.current c.args.began words w.begun_now.result w.if-began.true w.begun_now.ensures in
-            let mid = w.self-is ∙ w.in_ok-begin.ensures.prints.steps in
-            kept_then s kept c.args.current c.args.began words (turn_begins kept.user c.args.current w.begun_now.result) is c.if-began.self next mid
-            (noted_there c.args.machine.now ss kept.call c.if-began.self.call (ap (λ (t : Tracer). t.call) mid))
-            )
-        | then-began+else-current-self w ↦ (
-            let is = other_turn s kept c.args.current c.args.began words w.if-began.true w.if-current-self.false in
-            kept_then s kept c.args.current c.args.began words [] is c.if-began.self next w.self-is (noted_there c.args.machine.now ss kept.call c.if-began.self.call (ap (λ (t : Tracer). t.call) w.self-is))
-            )
-        | else-began+in-Some+in_ok-end w ↦
-            call_kept s kept c.args.current c.args.began words c.args.map.now w.returned_call.result w.in-Some.call w.reg.result w.if-began.false w.returned_call.ensures w.in-Some.is w.reg.ensures told
-            c.if-began.self next (λ t p. w.self-is ∙ w.in_ok-end.ensures.prints.keeps ss words e t p) (λ h. noted_there c.args.machine.now ss kept.call c.if-began.self.call h)
-        | else-began+in_default w ↦ (
-            let is = none_returned s kept c.args.current c.args.began words w.returned_call.result w.if-began.false w.returned_call.ensures w.in_default.is in
-            kept_then s kept c.args.current c.args.began words [] is c.if-began.self next w.self-is (noted_there c.args.machine.now ss kept.call c.if-began.self.call (ap (λ (t : Tracer). t.call) w.self-is))
-            )
-      ];
-}
+pub returns-clause-behind : goal.returns-clause-behind
+returns-clause-behind g c = λ ss words e told.
+    let s : State = state_of c.args.machine.now ss in
+    let kept = c.args.self.now in
+    let next = notes_on (state_of c.args.machine.now []) c.if-began.self.call in
+    c.note_call.ensures ∙ elim c.if-began.branch [
+      | then-began+then-current-self+else-prove+in_ok-begin w ↦ (
+          let is = own_turn s kept c.args.current c.args.began words w.begun_now.result w.if-began.true w.begun_now.ensures in
+          let mid = w.self-is ∙ w.in_ok-begin.ensures.prints.steps in
+          kept_then s kept c.args.current c.args.began words (turn_begins kept.user c.args.current w.begun_now.result) is c.if-began.self next mid
+          (noted_there c.args.machine.now ss kept.call c.if-began.self.call (ap (λ (t : Tracer). t.call) mid))
+          )
+      | then-began+else-current-self w ↦ (
+          let is = other_turn s kept c.args.current c.args.began words w.if-began.true w.if-current-self.false in
+          kept_then s kept c.args.current c.args.began words [] is c.if-began.self next w.self-is (noted_there c.args.machine.now ss kept.call c.if-began.self.call (ap (λ (t : Tracer). t.call) w.self-is))
+          )
+      | else-began+in-Some+in_ok-end w ↦
+          call_kept s kept c.args.current c.args.began words c.args.map.now w.returned_call.result w.in-Some.call w.reg.result w.if-began.false w.returned_call.ensures w.in-Some.is w.reg.ensures told
+          c.if-began.self next (λ t p. w.self-is ∙ w.in_ok-end.ensures.behind ss words e t p) (λ h. noted_there c.args.machine.now ss kept.call c.if-began.self.call h)
+      | else-began+in_default w ↦ (
+          let is = none_returned s kept c.args.current c.args.began words w.returned_call.result w.if-began.false w.returned_call.ensures w.in_default.is in
+          kept_then s kept c.args.current c.args.began words [] is c.if-began.self next w.self-is (noted_there c.args.machine.now ss kept.call c.if-began.self.call (ap (λ (t : Tracer). t.call) w.self-is))
+          )
+    ]
 
 -- a turn that begins with rows is a dispatch, and else a primitive has returned
 rows_begun : (a : Held) (noted : Option Entered) (b : Begun) (began : Bool) → began ≡ true → b ≡ shown a → b.dispatched ≡ true → HasRows (state_of a []) noted began

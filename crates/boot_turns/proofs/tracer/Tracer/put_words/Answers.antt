@@ -1,7 +1,6 @@
 use Rattle.std.proofs.Common.{◌≡◌, ℕ, ◌+◌, ◌*◌, ◌/◌, [], List, None, Ok, Err, Some, refl, ap, ◌∙◌, arith, rules}
-use Rattle.std.specs.Io.KnownBytes.{append_known}
 use Rattle.std.proofs.lemmas.Result.{err_from_is_err_and}
-use Rattle.cvm_outside.specs.Outside.{Output, output, drive}
+use Rattle.cvm_outside.specs.Outside.{output, drive}
 use Rattle.cvm_outside.proofs.Follow.{first}
 use Rattle.cvm_outside.proofs.Putting.{loop_none, loop_more, loop_stop, same_script}
 use Rattle.cvm_outside.specs.declared.sectors.DiskFault.TheVariants.{Failed}
@@ -12,10 +11,10 @@ use Rattle.boot_report.specs.Stand.{WordStands}
 use Rattle.boot_report.specs.Texts.{EntriesFit}
 use Rattle.boot_report.specs.Told.{user_word}
 use Rattle.boot_turns.specs.declared.tracer.Tracer.{Tracer}
-use Rattle.boot_turns.specs.Copies.{copy_rows, copied_kept}
+use Rattle.boot_turns.specs.Copies.{copied_kept}
 use Rattle.boot_turns.proofs.RowMakes.{word_made}
 use Rattle.boot_turns.proofs.Reading.{word_is, still_told, as_large}
-use Rattle.boot_turns.proofs.Copying.{one_put, none_put, put_tracer, keeps_puts, keeps_more, row_read}
+use Rattle.boot_turns.proofs.Copying.{put_tracer, keeps_puts, keeps_more}
 use Rattle.boot_turns.proofs.tracer.Tracer.put_words.Given.{Over}
 use Rattle.boot_turns.proofs.tracer.Tracer.put_words.Goals.{After-read_user_word, In_ok-word}
 use Rattle.boot_turns.proofs.tracer.Tracer.put_words.Goals as goal
@@ -45,7 +44,6 @@ loop-i-init g c = record {
   sectors = refl;
   size = refl;
   script = λ pages are shelf. loop_none _ _;
-  text = λ ss e f. none_put c.args.map.now (paged_of c.args.map.now (state_of c.args.machine.now ss)) c.args.self.now.user c.args.self.now.steps c.args.address (g.O.Sink.text c.args.out.now);
 }
 
 pub loop-i-preserved : goal.loop-i-preserved
@@ -60,21 +58,10 @@ loop-i-preserved g c =
           (word_made c.args.map.now c.args.machine.now (g.D.Sectors.sectors c.args.disk.now) (g.D.Sectors.sectors c.loop-i.disk) pages c.args.self.now c.loop-i.self c.args.address c.loop-i.i c.in_ok-word.word c.as_bytes.result.now
           shelf (output g.O.Sink c.loop-i.out) (output g.O.Sink c.put.new.out) (drive g.D.Sectors c.loop-i.disk) (drive g.D.Sectors c.read_user_word.new.disk) None are c.loop-i.invariant.sectors c.loop-i.invariant.user c.loop-i.invariant.steps
           (c.in_ok-word.ensures.asks shelf (output g.O.Sink c.loop-i.out)) (shown g (goal.at.loop-i-preserved g c).In_ok-word) (c.as_bytes.ensures.value ∙ c.as_str.ensures.value ∙ c.put_row.ensures) c.in_ok-put.ensures.put);
-      text = λ ss e f.
-          one_put c.args.map.now (paged_of c.args.map.now (state_of c.args.machine.now ss)) c.args.self.now.user c.args.self.now.steps c.args.address (g.O.Sink.text c.args.out.now) (g.O.Sink.text c.loop-i.out) (g.O.Sink.text c.put.new.out)
-          c.loop-i.i c.as_bytes.result.now c.loop-i.self.steps (c.loop-i.invariant.text ss e f)
-          (row_read c.args.map.now (state_of c.args.machine.now ss) c.args.self.now.user c.loop-i.self.user (c.args.address / 4 + c.loop-i.i) (c.args.address + 4 * c.loop-i.i) c.in_ok-word.word c.as_bytes.result.now c.loop-i.invariant.user
-          (shown g (goal.at.loop-i-preserved g c).In_ok-word ss (c.loop-i.invariant.sectors ∙ e) f) (c.as_bytes.ensures.value ∙ c.as_str.ensures.value ∙ c.put_row.ensures))
-          c.loop-i.invariant.steps (ap (λ (o : Output). o.text) c.in_ok-put.ensures.put.by);
     }
 
-pub returns-clause-prints : goal.returns-clause-prints
-returns-clause-prints g c =
-    let all : c.loop-i.i ≡ c.args.count = omega arith in record {
-      put = λ ss e f. c.loop-i.invariant.text ss e f
-          ∙ ap (λ n. append_known (g.O.Sink.text c.args.out.now) (copy_rows c.args.map.now (paged_of c.args.map.now (state_of c.args.machine.now ss)) c.args.self.now.user c.args.self.now.steps c.args.address n)) all;
-      keeps = c.loop-i.invariant.self ∙ ap (copied_kept c.args.self.now) all;
-    }
+pub returns-clause-behind : goal.returns-clause-behind
+returns-clause-behind g c = let all : c.loop-i.i ≡ c.args.count = omega arith in c.loop-i.invariant.self ∙ ap (copied_kept c.args.self.now) all
 
 -- what is kept of the trace
 pub returns-clause-keeps : goal.returns-clause-keeps

@@ -1,12 +1,9 @@
-use Rattle.std.proofs.Common.{◌≡◌, ℕ, List, [], Option, Some, None}
-use Rattle.std.specs.Io.KnownBytes.{append_known}
+use Rattle.std.proofs.Common.{◌≡◌, [], Option, None}
 use Rattle.cvm_outside.specs.Outside.{Files, output, drive}
 use Rattle.cvm_outside.specs.Script.{Performs}
 use Rattle.page_model.specs.Paging.{Paged}
 use Rattle.mips_machine.specs.Machine.{state_of}
-use Rattle.cvm_model.specs.Paged.{paged_of}
-use Rattle.boot_report.specs.Texts.{EntriesFit}
-use Rattle.boot_turns.specs.Copies.{copy_rows, copied_kept, steps_left}
+use Rattle.boot_turns.specs.Copies.{copied_kept, steps_left}
 use Rattle.boot_turns.specs.RowScripts.{ArePages, copy_script}
 use Rattle.boot_turns.proofs.tracer.Tracer.put_words.Given as goal
 
@@ -17,8 +14,6 @@ invariant-loop-i g l = record {
   self : l.self ≡ copied_kept l.fn.self l.i;
   sectors : g.D.Sectors.sectors l.disk ≡ g.D.Sectors.sectors l.fn.disk;
   size : g.D.Sectors.size l.disk ≡ g.D.Sectors.size l.fn.disk;
-  text : (ss : List (List ℕ)) → g.D.Sectors.sectors l.fn.disk ≡ Some ss → EntriesFit l.map (state_of l.fn.machine ss) →
-      g.O.Sink.text l.out ≡ append_known (g.O.Sink.text l.fn.out) (copy_rows l.map (paged_of l.map (state_of l.fn.machine ss)) l.fn.self.user l.fn.self.steps l.address l.i);
   script : (pages : Option Paged) → ArePages (g.D.Sectors.sectors l.fn.disk) l.fn.machine l.map pages → (shelf : Files) →
       Performs (copy_script l.map (state_of l.fn.machine []) pages l.fn.self.user l.fn.self.steps l.address l.i)
       (record { shelf = shelf; sink = output g.O.Sink l.fn.out; disk = drive g.D.Sectors l.fn.disk }) (record { shelf = shelf; sink = output g.O.Sink l.out; disk = drive g.D.Sectors l.disk }) None;

@@ -1,0 +1,5 @@
+use Rattle.run_scripts.proofs.Refusals.{runs_end}
+use Rattle.run_scripts.proofs.laws.runs_end.Goals as goal
+
+pub returns : goal.returns
+returns c = runs_end c.scripts_blame.ensures
