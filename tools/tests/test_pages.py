@@ -72,6 +72,23 @@ def prose(page):
         yield '' if inside or re.match(r'\||    |!\[', line) else line
 
 
+class WordsTable(unittest.TestCase):
+    """ARCHITECTURE's table of words beside the sources."""
+
+    def test_what_keeps_a_word_is_a_function_or_a_clause(self):
+        named = set()
+        for path in glob.glob(os.path.join(pages.TOP, 'crates', '*', 'src', '**', '*.rt'), recursive=True):
+            named |= set(re.findall(r'\bfn (\w+)|\bensures (\w+) \{', stored(path)))
+        named = {name for pair in named for name in pair}
+        rows = [pages.cells(line) for line in stored('docs', 'ARCHITECTURE.md').split('## Crates')[0].split('\n')]
+        kept = [row for row in rows if len(row) == 4 and row[0] != "The field's word" and set(row[0]) != {'-'}]
+        self.assertGreater(len(kept), 25)
+        for word, _, _, by in kept:
+            laws = [name for name in re.findall(r'`(?:\w+::)?(\w+)`', by) if name != 'Rules']
+            self.assertTrue(laws or by in ('the same', '`rt ci`'), word)
+            self.assertEqual([name for name in laws if name not in named], [], word)
+
+
 class CitedLemmas(unittest.TestCase):
     """The table of CONTRIBUTING of lemmas that proofs of other crates cite, beside the imports of the proofs."""
 

@@ -1,8 +1,6 @@
 -- What the files of a boot or a trace come to: the image is accepted and the schedule read, or the first fault is refused, and nothing else.
-use Rattle.std.proofs.Common.{◌≡◌, ◌⊎◌, inl, inr, ℕ, ◌<◌, List, length, refl, sym, ap, ◌∙◌, subst, Ok, Err}
-use Rattle.std.specs.Prelude.{Option, Result, ⊤}
-use Rattle.std.specs.Option.{IsSome}
-use Rattle.cvm_outside.specs.Told.{TOO_LONG, Tells}
+use Rattle.std.proofs.Common.{◌≡◌, ◌⊎◌, inl, inr, ℕ, List, refl, sym, ap, ◌∙◌, subst, Ok, Err}
+use Rattle.std.specs.Prelude.{Result, ⊤}
 use Rattle.layer_map.specs.Map.{Map}
 use Rattle.boot_image.specs.Reading.{answer as image_of}
 use Rattle.schedule_file.specs.Rows.{Rows}
@@ -11,15 +9,12 @@ use Rattle.schedule_file.specs.declared.fault.ScheduleFault.{ScheduleFault}
 use Rattle.schedule_file.specs.declared.fault.ScheduleFault.TheVariants as scheduling
 use Rattle.kernel_linker.specs.Accept.{ImageSystem, AcceptAnswers, accept_answer}
 use Rattle.kernel_linker.specs.declared.fault.AcceptFault.{AcceptFault}
-use Rattle.cvm_shell.specs.declared.boot.Stop.{Stop}
 use Rattle.cvm_shell.specs.declared.boot.Stop.TheVariants as Stops
 use Rattle.cvm_shell.specs.declared.refusal.Refusal.TheVariants as by
 use Rattle.run_scripts.specs.declared.session.Session.{Session}
-use Rattle.run_scripts.specs.Command.{Boot}
-use Rattle.run_scripts.specs.Plan.{Plan, boots, Got, Accepts, scheduled_plan, accepted_plan, AfterFiles, IsPlan}
-use Rattle.cvm_shell.specs.Stages.{accept_stop, schedule_stop, IsBootPlan}
-use Rattle.cvm_shell.specs.Views.{IfRefused, IfPlan}
-use Rattle.cvm_shell.proofs.Plans.{got_whole, if_refused, if_plan}
+use Rattle.run_scripts.specs.Plan.{boots, Accepts, scheduled_plan, accepted_plan, AfterFiles, IsPlan}
+use Rattle.cvm_shell.specs.Stages.{accept_stop, schedule_stop}
+use Rattle.cvm_shell.specs.Views.{IfRefused}
 use Rattle.cvm_shell.proofs.Fronts.{OneAnswer}
 use Rattle.cvm_shell.proofs.Answered.{Faulty, only_answered, image_answered, image_refused, accept_stops}
 
@@ -76,18 +71,3 @@ schedule_fault one layer view session image schedule x f answers given = elim (s
 pub ready_plan : {X : Type 0} → OneAnswer → (layer : Layers) (view : X → ImageSystem) (session : Session) (image schedule : List ℕ) (x : X) (rows : Rows) → AcceptAnswers layer view (image_of image) (Ok x)
     → schedule_of schedule ≡ Ok rows → IsPlan ⊤ (AfterFiles layer session image schedule) (boots session (view x) rows)
 ready_plan one layer view session image schedule x rows answers e = scheduled one layer session image schedule (view x) (Ok rows) (image_answered (accept_answer layer) (no_unit layer) view (image_of image) x answers) e
-
--- THE FILES are got.
-
--- an image was got: a stop at the schedule is a stop of the boot
-pub image_got : (layer : Layers) (file : List ℕ → Option (List ℕ)) (b : Boot) (session : Session) (image : List ℕ) (s : Stop) → Tells (file b.image) image → length image < TOO_LONG
-    → IfRefused (IsPlan (IsSome (file b.schedule)) (Got (file b.schedule) (AfterFiles layer session image))) s → IfRefused (IsBootPlan layer file b session) s
-image_got layer file b session image s t short h =
-    if_refused _ (IsBootPlan layer file b session) (λ p is. got_whole (file b.image) (λ i. Got (file b.schedule) (AfterFiles layer session i)) (IsSome (file b.image) × IsSome (file b.schedule)) (IsSome (file b.schedule)) image p (λ told. told.0) (λ told. told.1) t short is) s h
-
--- both files were got: what their bytes come to is what the boot comes to
-pub boot_got : {A : Type 0} (layer : Layers) (made : A → Plan) (file : List ℕ → Option (List ℕ)) (b : Boot) (session : Session) (image schedule : List ℕ) (r : Result A Stop) → Tells (file b.image) image → length image < TOO_LONG
-    → Tells (file b.schedule) schedule → length schedule < TOO_LONG → IfPlan made (IsPlan ⊤ (AfterFiles layer session image schedule)) r → IfPlan made (IsBootPlan layer file b session) r
-boot_got layer made file b session image schedule r t short u few h =
-    if_plan made _ (IsBootPlan layer file b session) (λ p is. got_whole (file b.image) (λ i. Got (file b.schedule) (AfterFiles layer session i)) (IsSome (file b.image) × IsSome (file b.schedule)) (IsSome (file b.schedule)) image p (λ told. told.0) (λ told. told.1) t short
-    (got_whole (file b.schedule) (AfterFiles layer session image) (IsSome (file b.schedule)) ⊤ schedule p (λ told. told) (λ told. tt) u few is)) r h

@@ -1,10 +1,7 @@
 -- What an object comes to in a check: it is read and opened, and how much stack its kernel needs is told, or the first fault is refused; and nothing
 -- else is told.
-use Rattle.std.proofs.Common.{◌≡◌, ◌≢◌, inl, inr, ℕ, ◌<◌, List, length, refl, sym, ap, ◌∙◌, subst, Ok, Err}
-use Rattle.std.specs.Prelude.{Option, Result, ⊤}
-use Rattle.std.specs.Option.{IsSome}
-use Rattle.cvm_outside.specs.Told.{TOO_LONG, Tells}
-use Rattle.real_layer.specs.Image.{layer_image}
+use Rattle.std.proofs.Common.{◌≡◌, ◌≢◌, inl, inr, ℕ, List, refl, sym, ap, ◌∙◌, subst, Ok, Err}
+use Rattle.std.specs.Prelude.{Result, ⊤}
 use Rattle.c0_tree.specs.Tree.{CUnit}
 use Rattle.c0_types.specs.Front.{IsFrontAnswer}
 use Rattle.c0_types.specs.declared.source_fault.SourceFault.{SourceFault}
@@ -22,14 +19,11 @@ use Rattle.kernel_linker.specs.Fault.{link_source_fault}
 use Rattle.kernel_linker.specs.Open.{open_answer, OpensTo}
 use Rattle.kernel_linker.specs.declared.fault.LinkFault.{LinkFault}
 use Rattle.kernel_linker.specs.declared.fault.LinkFault.TheVariants as linking
-use Rattle.cvm_shell.specs.declared.boot.Stop.{Stop}
-use Rattle.run_scripts.specs.Check.{Check, Told, TellsUnit, has_longest, has_loop, TellsOpened, TellsObject, no_object, has_object}
-use Rattle.run_scripts.specs.Command.{check}
+use Rattle.run_scripts.specs.Check.{Told, TellsUnit, has_longest, has_loop, TellsOpened, TellsObject, no_object, has_object}
 use Rattle.run_scripts.specs.Refusal.{bad_object, unlinked}
-use Rattle.run_scripts.specs.Plan.{Plan, refuses, prints, told_plan, AfterChecked, IsPlan}
-use Rattle.cvm_shell.specs.Stages.{object_stop, link_stop, FilesPlan}
-use Rattle.cvm_shell.specs.Views.{IfRefused, IfPlan}
-use Rattle.cvm_shell.proofs.Plans.{got_whole, if_plan}
+use Rattle.run_scripts.specs.Plan.{refuses, prints, told_plan, AfterChecked, IsPlan}
+use Rattle.cvm_shell.specs.Stages.{object_stop, link_stop}
+use Rattle.cvm_shell.specs.Views.{IfRefused}
 use Rattle.cvm_shell.proofs.LinkPlans.{OneObject, no_fault, one_object, object_stops, link_stops, memory_of}
 use Rattle.cvm_shell.proofs.Fronts.{OneAnswer, answer_or_memory, one_fault, not_both}
 
@@ -112,9 +106,3 @@ module _ (ones : AnswersAreOne) (one : OneAnswer) (read : OneObject) (stack : �
 pub told_of : (stack : ℕ) (u : CUnit) (a : Answer) (text : List ℕ) → IsBound u a → text ≡ answer_text u stack a → TellsUnit stack u text
 told_of stack u (Chain words functions) text is e = subst (TellsUnit stack u) (sym e) (has_longest words functions.items is)
 told_of stack u (Cycle functions) text is e = subst (TellsUnit stack u) (sym e) (has_loop functions.items is)
-
--- The object of a check was got.
-pub object_got : {A : Type 0} (made : A → Plan) (file : List ℕ → Option (List ℕ)) (c : Check) (bytes : List ℕ) (r : Result A Stop) → Tells (file c.object) bytes → length bytes < TOO_LONG
-    → IfPlan made (IsPlan ⊤ (AfterChecked c.stack bytes)) r → IfPlan made (FilesPlan layer_image file (check c)) r
-object_got made file c bytes r t short h =
-    if_plan made _ (FilesPlan layer_image file (check c)) (λ p is. got_whole (file c.object) (AfterChecked c.stack) (IsSome (file c.object)) ⊤ bytes p (λ told. told) (λ told. tt) t short is) r h

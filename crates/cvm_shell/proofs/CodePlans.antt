@@ -1,8 +1,6 @@
 -- What the source of a kernel or a user program comes to: it is refused for its first fault, or its unit is due, and nothing else.
 use Rattle.std.proofs.Common.{◌≡◌, ◌≢◌, inl, inr, ℕ, ◌<◌, ◌≤◌, List, [], length, refl, sym, ap, ◌∙◌, subst, Ok, Err, Bool, true, false, ltb, ltb-true, ltb-false}
-use Rattle.std.specs.Prelude.{Option, Result, ⊤}
-use Rattle.std.specs.Option.{IsSome}
-use Rattle.cvm_outside.specs.Told.{TOO_LONG, Tells}
+use Rattle.std.specs.Prelude.{Result, ⊤}
 use Rattle.c0_tree.specs.declared.primitive.Program.{Program}
 use Rattle.c0_tree.specs.Tree.{CUnit}
 use Rattle.c0_parser.specs.Faults.{ReadsAs, FaultIs}
@@ -16,12 +14,10 @@ use Rattle.c0_types.specs.declared.fault.TypeFault.TheVariants as typing
 use Rattle.c0_types.specs.Front.{IsUnitAs, IsAnswerAs, IsMistypedAs, IsFaultAs, IsFaultInAs}
 use Rattle.c0_types.specs.declared.source_fault.SourceFault.{SourceFault}
 use Rattle.c0_types.specs.declared.source_fault.SourceFault.TheVariants.{Reading, Typing}
-use Rattle.cvm_shell.specs.declared.boot.Stop.{Stop}
 use Rattle.run_scripts.specs.Refusal.{bad_source}
-use Rattle.run_scripts.specs.Plan.{Plan, refuses, Got, planned, AfterCode, IsPlan}
+use Rattle.run_scripts.specs.Plan.{Plan, refuses, planned, AfterCode, IsPlan}
 use Rattle.cvm_shell.specs.Stages.{source_stop}
-use Rattle.cvm_shell.specs.Views.{IfRefused, IfPlan}
-use Rattle.cvm_shell.proofs.Plans.{got_whole, if_plan}
+use Rattle.cvm_shell.specs.Views.{IfRefused}
 use Rattle.cvm_shell.proofs.SourceStops.{unread_stops, mistyped_stops}
 use Rattle.cvm_shell.proofs.FirstBad.{one_unread, never_unread, one_mistake, no_mistake}
 
@@ -127,9 +123,3 @@ source_fault program due law source (Typing f) long is each = elim (mistyped_sto
   | inl e ↦ subst (λ (x : TypeFault). IfRefused (IsPlan ⊤ (AfterCode program due source)) (source_stop (Typing x))) (sym e) tt
   | inr h ↦ subst (IfRefused (IsPlan ⊤ (AfterCode program due source))) (sym h.1) (plan_mistyped program due law source f h.0 (few_enough source f long) is each)
 ]
-
--- The source of a kernel or a user program was got.
-pub code_got : {A : Type 0} (made : A → Plan) (program : Program) (due : List ℕ → CUnit → Plan) (told : Option (List ℕ)) (source : List ℕ) (r : Result A Stop) → Tells told source → length source < TOO_LONG
-    → IfPlan made (IsPlan ⊤ (AfterCode program (due source) source)) r → IfPlan made (IsPlan (IsSome told) (Got told (λ bytes. AfterCode program (due bytes) bytes))) r
-code_got made program due told source r t short h =
-    if_plan made _ (IsPlan (IsSome told) (Got told (λ bytes. AfterCode program (due bytes) bytes))) (λ p is. got_whole told (λ bytes. AfterCode program (due bytes) bytes) (IsSome told) ⊤ source p (λ known. known) (λ known. tt) t short is) r h

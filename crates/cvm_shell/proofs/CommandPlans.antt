@@ -7,11 +7,10 @@ use Rattle.cvm_shell.specs.declared.refusal.Refusal.TheVariants as by
 use Rattle.run_scripts.specs.declared.session.Session.{Session}
 use Rattle.boot_turns.specs.declared.answers.View.{View}
 use Rattle.boot_turns.specs.declared.answers.View.TheVariants as view
-use Rattle.run_scripts.specs.Command.{Boot, Command, boot, trace, save, resume, compile_user, compile_kernel, compile_program, link, migrate, sample, IsCommand, IsNoCommand, command_of, check}
+use Rattle.run_scripts.specs.Command.{Boot, Command, IsCommand, IsNoCommand, command_of}
 use Rattle.run_scripts.specs.Refusal.{Refusal, too_long}
-use Rattle.run_scripts.specs.Plan.{Plan, bad_words, refuses, PlanComesTo, no_command, by_command, AreTold, AllTold, IsPlan}
-use Rattle.run_scripts.specs.Served.{files_of}
-use Rattle.cvm_shell.specs.Stages.{GetsTold, FilesPlan, IsBootPlan}
+use Rattle.run_scripts.specs.Plan.{Plan, bad_words, refuses, PlanComesTo, no_command, by_command, AllTold, IsPlan}
+use Rattle.cvm_shell.specs.Stages.{FilesPlan, IsBootPlan}
 use Rattle.cvm_shell.specs.Views.{refusal_view}
 use Rattle.run_scripts.proofs.OneCommand.{its_plan}
 
@@ -19,23 +18,9 @@ pub only_none : (words : List (List ℕ)) (file : List ℕ → Option (List ℕ)
 only_none words file none q (no_command also) = refl
 only_none words file none q (by_command c _ other got) = absurd (none c other)
 
--- its files are told
-told_of : (file : List ℕ → Option (List ℕ)) (c : Command) → AreTold file (files_of c) → GetsTold file c
-told_of file (boot b) h = (h.0, h.1.0)
-told_of file (trace t) h = (h.0, h.1.0)
-told_of file (save c) h = (h.0, h.1.0)
-told_of file (resume c) h = (h.0, h.1.0, h.1.1.0)
-told_of file (compile_user c) h = h.0
-told_of file (compile_kernel c) h = h.0
-told_of file (compile_program c) h = h.0
-told_of file (link l) h = (h.0, h.1.0, h.1.1)
-told_of file (migrate m) h = h.0
-told_of file (sample x) h = tt
-told_of file (check c) h = h.0
-
 pub plan_of : (words : List (List ℕ)) (file : List ℕ → Option (List ℕ)) (c : Command) (p : Plan) → IsCommand words c → FilesPlan layer_image file c p → IsPlan (AllTold words file) (PlanComesTo words file) p
 plan_of words file c p is plan =
-    record { comes = by_command c p is plan.comes; only = λ told q comes. plan.only (told_of file c (told c is)) q (its_plan words file c q is comes) }
+    record { comes = by_command c p is plan.comes; only = λ told q comes. plan.only (told c is) q (its_plan words file c q is comes) }
 
 -- a refusal is that of a file that is too long, or another
 pub which : (r : ByCode) → (r ≡ by.TooLong) ⊎ (refusal_view r ≢ too_long)

@@ -1,10 +1,10 @@
 -- Files that are got one after the other: what comes of all of them, or of the first that is too long.
-use Rattle.std.proofs.Common.{◌≡◌, inl, inr, ℕ, zero, suc, ◌<◌, ◌≤◌, min, List, [], ◌∷◌, ◌++◌, ◌+◌, length, map, take, drop, get_or, Vec, refl, sym, ap, ◌∙◌, subst, arith}
-use Rattle.std.specs.Prelude.{Option, IfSome, ⊤, string_bytes}
-use Rattle.std.specs.Option.{IsSome}
+use Rattle.std.proofs.Common.{◌≡◌, ℕ, zero, suc, ◌<◌, List, [], ◌∷◌, ◌++◌, ◌+◌, length, map, take, drop, get_or, Vec, refl, sym, ap, ◌∙◌, subst, arith, None}
+use Rattle.std.specs.Prelude.{Option, Result, ⊤, string_bytes}
 use Rattle.std.specs.declared.string.String.{String}
 use Rattle.std.specs.declared.alloc.Global.{Global}
 use Rattle.cvm_outside.specs.Told.{TOO_LONG, Tells}
+use Rattle.cvm_outside.specs.Outside.{Files as Seen, Output, Drive, no_output}
 use Rattle.cvm_outside.specs.declared.shelf.ShelfFault.{ShelfFault}
 use Rattle.cvm_outside.specs.declared.shelf.ShelfFault.TheVariants.{Failed, TooLong as Long, Memory as NoMemory}
 use Rattle.cvm_shell.specs.declared.boot.Stop.{Stop}
@@ -12,10 +12,13 @@ use Rattle.cvm_shell.specs.declared.boot.Stop.TheVariants.{Refused, Shelf, Memor
 use Rattle.cvm_shell.specs.declared.refusal.Refusal.{Refusal as ByCode}
 use Rattle.run_scripts.specs.Command.{texts}
 use Rattle.run_scripts.specs.Refusal.{too_long}
-use Rattle.run_scripts.specs.Plan.{Plan, refuses, Got, GotAll, AreTold, IsPlan}
-use Rattle.cvm_shell.specs.Stages.{stop_of, IsFile, Fetched, LongAmong, NotFetched}
-use Rattle.cvm_shell.specs.Views.{refusal_view, IfRefused}
-use Rattle.cvm_shell.proofs.Plans.{got_whole, got_long, long_contents}
+use Rattle.run_scripts.specs.Plan.{Plan, refuses, GotAll, AreTold, IsPlan}
+use Rattle.run_scripts.specs.Ends.{AreShort, MayBeLong}
+use Rattle.cvm_shell.specs.Stages.{stop_of, IsFile, Fetched, OnlyLong}
+use Rattle.cvm_shell.specs.Does.{IsLong, StopGets}
+use Rattle.cvm_shell.specs.Views.{refusal_view, IfRefused, IfPlan}
+use Rattle.cvm_shell.proofs.GotCalls.{beside}
+use Rattle.cvm_shell.proofs.Plans.{got_whole, got_long, if_plan, long_contents, short_contents}
 
 abbrev Files : Type 0
 Files = List ℕ → Option (List ℕ)
@@ -56,29 +59,6 @@ got_more told names i name files more file below is pushed f t s =
     (subst (P (texts (take i names) ++ string_bytes name ∷ [])) (sym (bytes_more files file) ∙ ap (λ (fs : List (Vec ℕ Global)). map (λ (b : Vec ℕ Global). b.items) fs) (sym pushed))
     (fetched_more told (texts (take i names)) (map (λ (b : Vec ℕ Global). b.items) files) (string_bytes name) file.items f t s))
 
--- a file that is too long, behind those that were got
-long_behind : (told : Files) (names got : List (List ℕ)) (n b : List ℕ) (rest : List (List ℕ)) → Fetched told names got → Tells (told n) b → TOO_LONG ≤ length b → LongAmong told (names ++ n ∷ rest)
-long_behind told [] [] n b rest f t l = inl (b, t, l)
-long_behind told [] (c ∷ got) n b rest f t l = absurd f
-long_behind told (m ∷ names) [] n b rest f t l = absurd f
-long_behind told (m ∷ names) (c ∷ got) n b rest (u, s, f) t l = inr (c, u, s, long_behind told names got n b rest f t l)
-
--- a fault of the shelf at a file
-pub not_fetched : (told : Files) (n : List ℕ) (taken : ℕ) (f : ShelfFault) → (f ≡ Long → taken ≡ TOO_LONG) → (f ≡ Long → IfSome (told n) (λ bs. taken ≡ min (length bs) TOO_LONG))
-    → NotFetched told (n ∷ []) (stop_of f)
-not_fetched told n taken Failed all many = tt
-not_fetched told n taken Long all many =
-    let contents = long_contents (told n) taken (all refl) (many refl) in
-    (refl, inl contents)
-not_fetched told n taken NoMemory all many = tt
-
--- at a file behind those that were got
-pub stopped_more : (told : Files) (names got : List (List ℕ)) (n : List ℕ) (rest : List (List ℕ)) (s : Stop) → Fetched told names got → NotFetched told (n ∷ []) s → NotFetched told (names ++ n ∷ rest) s
-stopped_more told names got n rest (Refused r) fetched (e, inl (b, t, l)) = (e, long_behind told names got n b rest fetched t l)
-stopped_more told names got n rest (Refused r) fetched (e, inr (b, t, s, h)) = absurd h
-stopped_more told names got n rest Shelf fetched h = tt
-stopped_more told names got n rest Memory fetched h = tt
-
 -- What holds of files that another shelf tells as well.
 
 tells_moved : (told other : Option (List ℕ)) (b : List ℕ) → other ≡ told → Tells other b → Tells told b
@@ -90,15 +70,9 @@ fetched_moved told other same [] (b ∷ got) f = absurd f
 fetched_moved told other same (n ∷ names) [] f = absurd f
 fetched_moved told other same (n ∷ names) (b ∷ got) (t, s, f) = (tells_moved (told n) (other n) b (same n) t, s, fetched_moved told other same names got f)
 
-long_moved : (told other : Files) → ((n : List ℕ) → other n ≡ told n) → (names : List (List ℕ)) → LongAmong other names → LongAmong told names
-long_moved told other same [] h = absurd h
-long_moved told other same (n ∷ names) (inl (b, t, l)) = inl (b, tells_moved (told n) (other n) b (same n) t, l)
-long_moved told other same (n ∷ names) (inr (b, t, s, h)) = inr (b, tells_moved (told n) (other n) b (same n) t, s, long_moved told other same names h)
-
-pub not_fetched_moved : (told other : Files) → ((n : List ℕ) → other n ≡ told n) → (names : List (List ℕ)) (s : Stop) → NotFetched other names s → NotFetched told names s
-not_fetched_moved told other same names (Refused r) (e, h) = (e, long_moved told other same names h)
-not_fetched_moved told other same names Shelf h = tt
-not_fetched_moved told other same names Memory h = tt
+-- of a shelf whose files tell the same
+pub file_moved : (told other : Option (List ℕ)) (bytes : List ℕ) → other ≡ told → IsFile other bytes → IsFile told bytes
+file_moved told other bytes e f = subst (λ (o : Option (List ℕ)). IsFile o bytes) e f
 
 -- What comes of them.
 
@@ -110,25 +84,42 @@ fetched_plan told (n ∷ names) [] next p f is = absurd f
 fetched_plan told (n ∷ names) (b ∷ got) next p (t, s, f) is =
     got_whole (told n) (λ bytes. GotAll told names (λ all. next (bytes ∷ all))) (AreTold told (n ∷ names)) (AreTold told names) b p (λ h. h.0) (λ h. h.1) t s (fetched_plan told names got (λ all. next (b ∷ all)) p f is)
 
+pub all_come : {A : Type 0} (made : A → Plan) (told : Files) (names got : List (List ℕ)) (next : List (List ℕ) → Plan → Type 0) (r : Result A Stop) → Fetched told names got → IfPlan made (IsPlan ⊤ (next got)) r
+    → IfPlan made (IsPlan (AreTold told names) (GotAll told names next)) r
+all_come made told names got next r f h = if_plan made (IsPlan ⊤ (next got)) (IsPlan (AreTold told names) (GotAll told names next)) (λ p is. fetched_plan told names got next p f is) r h
+
 -- the first that is too long is refused
-long_plan : (told : Files) (names : List (List ℕ)) (next : List (List ℕ) → Plan → Type 0) → LongAmong told names → IsPlan (AreTold told names) (GotAll told names next) (refuses too_long)
-long_plan told [] next h = absurd h
-long_plan told (n ∷ names) next (inl (b, t, l)) = got_long (told n) (λ bytes. GotAll told names (λ all. next (bytes ∷ all))) (AreTold told (n ∷ names)) b (λ h. h.0) t l
-long_plan told (n ∷ names) next (inr (b, t, s, long)) =
-    got_whole (told n) (λ bytes. GotAll told names (λ all. next (bytes ∷ all))) (AreTold told (n ∷ names)) (AreTold told names) b (refuses too_long) (λ h. h.0) (λ h. h.1) t s (long_plan told names (λ all. next (b ∷ all)) long)
+long_plan : (told : Files) (before : List (List ℕ)) (name : List ℕ) (after : List (List ℕ)) (next : List (List ℕ) → Plan → Type 0) → AreShort told before → MayBeLong (told name)
+    → IsPlan (AreTold told (before ++ name ∷ after)) (GotAll told (before ++ name ∷ after) next) (refuses too_long)
+long_plan told [] name after next s l =
+    let b = long_contents (told name) l in got_long (told name) (λ bytes. GotAll told after (λ all. next (bytes ∷ all))) (AreTold told (name ∷ after)) b.0 (λ h. h.0) b.1 b.2
+long_plan told (n ∷ before) name after next (s, r) l =
+    let b = short_contents (told n) s in
+    got_whole (told n) (λ bytes. GotAll told (before ++ name ∷ after) (λ all. next (bytes ∷ all))) (AreTold told (n ∷ before ++ name ∷ after)) (AreTold told (before ++ name ∷ after)) b.0 (refuses too_long) (λ h. h.0) (λ h. h.1) b.1 b.2
+    (long_plan told before name after (λ all. next (b.0 ∷ all)) r l)
 
-pub unfetched_plan : (told : Files) (names : List (List ℕ)) (next : List (List ℕ) → Plan → Type 0) (s : Stop) → NotFetched told names s → IfRefused (IsPlan (AreTold told names) (GotAll told names next)) s
-unfetched_plan told names next (Refused r) (e, h) = subst (λ (x : ByCode). IsPlan (AreTold told names) (GotAll told names next) (refuses (refusal_view x))) (sym e) (long_plan told names next h)
-unfetched_plan told names next Shelf h = tt
-unfetched_plan told names next Memory h = tt
+-- WHAT STOPS THE GETS stops all that comes of the files
+module _ (old new : Seen) (names : List (List ℕ)) (next : List (List ℕ) → Plan → Type 0) where
+  abbrev Of : List (List ℕ) → Plan → Type 0
+  Of ns = IsPlan (AreTold old.file ns) (GotAll old.file ns next)
 
--- ONE FILE: what stopped its get stops what gets it first
-pub file_stopped : (told : Files) (name : List ℕ) (next : List ℕ → Plan → Type 0) (T : Type 0) (s : Stop) → (T → IsSome (told name)) → NotFetched told (name ∷ []) s → IfRefused (IsPlan T (Got (told name) next)) s
-file_stopped told name next T (Refused r) some (e, inl (b, t, l)) = subst (λ (x : ByCode). IsPlan T (Got (told name) next) (refuses (refusal_view x))) (sym e) (got_long (told name) next T b some t l)
-file_stopped told name next T (Refused r) some (e, inr (b, t, s, h)) = absurd h
-file_stopped told name next T Shelf some h = tt
-file_stopped told name next T Memory some h = tt
+  is_long : (sink : Output) (disk : Drive) → IsLong names (beside sink disk old) (beside sink disk new) → Of names (refuses too_long)
+  is_long sink disk l = subst (λ (ns : List (List ℕ)). Of ns (refuses too_long)) l.all (long_plan old.file l.before l.name l.after next l.short l.long)
 
--- of a shelf whose files tell the same
-pub file_moved : (told other : Option (List ℕ)) (bytes : List ℕ) → other ≡ told → IsFile other bytes → IsFile told bytes
-file_moved told other bytes e f = subst (λ (o : Option (List ℕ)). IsFile o bytes) e f
+  pub all_stop : (s : Stop) → OnlyLong s → ((sink : Output) (disk : Drive) → StopGets names (beside sink disk old) (beside sink disk new) s) → IfRefused (Of names) s
+  all_stop (Refused r) only h =
+      let disk : Drive = record { sectors = None; size = 0; faults = 0; calls = 0 } in
+      let l = subst (λ (x : ByCode). StopGets names (beside no_output disk old) (beside no_output disk new) (Refused x)) only (h no_output disk) in
+      subst (λ (x : ByCode). Of names (refuses (refusal_view x))) (sym only) (is_long no_output disk l)
+  all_stop Shelf only h = tt
+  all_stop Memory only h = tt
+
+-- a fault of the shelf is refused for a file's length alone
+pub only_long : (f : ShelfFault) → OnlyLong (stop_of f)
+only_long Failed = tt
+only_long Long = refl
+only_long NoMemory = tt
+
+-- the bytes of the file at a place
+abbrev pub at : List (List ℕ) → ℕ → List ℕ
+at all i = get_or all i []

@@ -1,8 +1,6 @@
 -- What the files of a system come to: each is got, read and linked, or the first fault is refused, and nothing else. What is put is accepted.
-use Rattle.std.proofs.Common.{◌≡◌, ◌≢◌, ◌⊎◌, inl, inr, ℕ, ◌<◌, List, length, refl, sym, ap, ◌∙◌, subst, Ok, Err}
-use Rattle.std.specs.Prelude.{Option, Result, ⊤}
-use Rattle.std.specs.Option.{IsSome}
-use Rattle.cvm_outside.specs.Told.{TOO_LONG, Tells}
+use Rattle.std.proofs.Common.{◌≡◌, ◌≢◌, ◌⊎◌, inl, inr, ℕ, List, refl, sym, ap, ◌∙◌, subst, Ok, Err}
+use Rattle.std.specs.Prelude.{Result, ⊤}
 use Rattle.layer_map.specs.Map.{Map}
 use Rattle.layer_map.specs.declared.params.Params.{Params}
 use Rattle.c0_tree.specs.Tree.{CUnit}
@@ -28,18 +26,14 @@ use Rattle.kernel_linker.specs.Laws.{LinkedAreAccepted}
 use Rattle.kernel_linker.specs.Fault.{link_source_fault}
 use Rattle.kernel_linker.specs.declared.fault.LinkFault.{LinkFault}
 use Rattle.kernel_linker.specs.declared.fault.LinkFault.TheVariants as linking
-use Rattle.cvm_shell.specs.declared.boot.Stop.{Stop}
 use Rattle.cvm_shell.specs.declared.boot.Stop.TheVariants as Stops
 use Rattle.cvm_shell.specs.declared.refusal.Refusal.TheVariants as by
-use Rattle.run_scripts.specs.Command.{Link, link}
 use Rattle.run_scripts.specs.Refusal.{bad_object, bad_file, unlinked}
 use Rattle.cvm_shell.specs.Linked.{IsAcceptedAs}
-use Rattle.run_scripts.specs.Plan.{Plan, refuses, puts, Got, GotAll, words_from, linked_plan, AfterParts, unfit, answered, AfterUsers, AfterParams, AfterSystem, no_object, has_object, AreTold, IsPlan}
-use Rattle.cvm_shell.specs.Stages.{GetsTold, object_stop, file_stop, link_stop, Fetched, FilesPlan}
-use Rattle.cvm_shell.specs.Views.{IfRefused, IfPlan}
-use Rattle.cvm_shell.proofs.Plans.{got_whole, if_refused, if_plan}
+use Rattle.run_scripts.specs.Plan.{Plan, refuses, puts, words_from, linked_plan, AfterParts, unfit, answered, AfterUsers, AfterParams, AfterSystem, no_object, has_object, IsPlan}
+use Rattle.cvm_shell.specs.Stages.{object_stop, file_stop, link_stop}
+use Rattle.cvm_shell.specs.Views.{IfRefused}
 use Rattle.cvm_shell.proofs.AcceptedAs.{linked_system, accepted_as}
-use Rattle.cvm_shell.proofs.GotFiles.{fetched_plan}
 use Rattle.cvm_shell.proofs.Fronts.{OneAnswer, IsWant, answer_or_memory, one_fault, not_both}
 
 -- LINKING
@@ -225,31 +219,3 @@ pub plan_users : (layer : Layers) (name : List ℕ) (o : Object) (params : Param
     → IsPlan ⊤ (AfterParts layer name o params users) p → IsPlan ⊤ (AfterUsers layer name o params r) p
 plan_users layer name o params r users p e plan =
     subst (λ (x : Result (List (List ℕ)) FileFault). IsPlan ⊤ (AfterUsers layer name o params x) p) (sym e) (record { comes = plan.comes; only = λ t q k. plan.only tt q k })
-
--- THE FILES of a system.
-
--- what comes of an object whose parameters and users are still to be got
-abbrev AfterObject : Layers → (List ℕ → Option (List ℕ)) → Link → List ℕ → Plan → Type 0
-AfterObject layer told l object = Got (told l.params) (λ params. GotAll told l.users (AfterSystem layer l.image object params))
-
--- the object was got: a stop at the parameters is a stop of the linking
-pub object_got : (layer : Layers) (told : List ℕ → Option (List ℕ)) (l : Link) (object : List ℕ) (s : Stop) → Tells (told l.object) object → length object < TOO_LONG
-    → IfRefused (IsPlan (IsSome (told l.params) × AreTold told l.users) (AfterObject layer told l object)) s → IfRefused (FilesPlan layer told (link l)) s
-object_got layer told l object s t short h =
-    if_refused _ (FilesPlan layer told (link l)) (λ p is. got_whole (told l.object) (AfterObject layer told l) (GetsTold told (link l)) (IsSome (told l.params) × AreTold told l.users) object p (λ k. k.0) (λ k. (k.1, k.2)) t short is) s h
-
--- the parameters were got too: a stop at the users
-pub params_got : (layer : Layers) (told : List ℕ → Option (List ℕ)) (l : Link) (object params : List ℕ) (s : Stop) → Tells (told l.object) object → length object < TOO_LONG
-    → Tells (told l.params) params → length params < TOO_LONG → IfRefused (IsPlan (AreTold told l.users) (GotAll told l.users (AfterSystem layer l.image object params))) s → IfRefused (FilesPlan layer told (link l)) s
-params_got layer told l object params s t short u few h =
-    object_got layer told l object s t short
-    (if_refused _ _ (λ p is. got_whole (told l.params) (λ ps. GotAll told l.users (AfterSystem layer l.image object ps)) (IsSome (told l.params) × AreTold told l.users) (AreTold told l.users) params p (λ k. k.0) (λ k. k.1) u few is) s h)
-
--- all files were got: what their bytes come to is what the linking comes to
-pub system_got : {A : Type 0} (made : A → Plan) (layer : Layers) (told : List ℕ → Option (List ℕ)) (l : Link) (object params : List ℕ) (users : List (List ℕ)) (r : Result A Stop)
-    → Tells (told l.object) object → length object < TOO_LONG → Tells (told l.params) params → length params < TOO_LONG → Fetched told l.users users
-    → IfPlan made (IsPlan ⊤ (AfterSystem layer l.image object params users)) r → IfPlan made (FilesPlan layer told (link l)) r
-system_got made layer told l object params users r t short u few all h =
-    if_plan made _ (FilesPlan layer told (link l)) (λ p is. got_whole (told l.object) (AfterObject layer told l) (GetsTold told (link l)) (IsSome (told l.params) × AreTold told l.users) object p (λ k. k.0) (λ k. (k.1, k.2)) t short
-    (got_whole (told l.params) (λ ps. GotAll told l.users (AfterSystem layer l.image object ps)) (IsSome (told l.params) × AreTold told l.users) (AreTold told l.users) params p (λ k. k.0) (λ k. k.1) u few
-    (fetched_plan told l.users users (AfterSystem layer l.image object params) p all is))) r h

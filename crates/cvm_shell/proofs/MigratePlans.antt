@@ -1,8 +1,6 @@
 -- What an image of form 2 comes to: it is made anew and put, or its first fault is refused, and nothing else. What is put is accepted.
-use Rattle.std.proofs.Common.{◌≡◌, inl, inr, ℕ, ◌<◌, List, length, refl, sym, ap, ◌∙◌, subst, Ok, Err}
-use Rattle.std.specs.Prelude.{Option, Result, ⊤}
-use Rattle.std.specs.Option.{IsSome}
-use Rattle.cvm_outside.specs.Told.{TOO_LONG, Tells}
+use Rattle.std.proofs.Common.{◌≡◌, inl, inr, ℕ, List, refl, sym, ap, ◌∙◌, subst, Ok, Err}
+use Rattle.std.specs.Prelude.{Result, ⊤}
 use Rattle.layer_map.specs.Map.{Map}
 use Rattle.c0_tree.specs.Tree.{CUnit}
 use Rattle.c0_types.specs.Front.{IsFrontAnswer}
@@ -14,13 +12,10 @@ use Rattle.boot_image.specs.declared.fault.ImageFault.{ImageFault}
 use Rattle.kernel_linker.specs.Accept.{accept_answer}
 use Rattle.kernel_linker.specs.Migrate.{migrate_answer, Migrates, MigratedAreAccepted}
 use Rattle.kernel_linker.specs.declared.fault.AcceptFault.{AcceptFault}
-use Rattle.cvm_shell.specs.declared.boot.Stop.{Stop}
-use Rattle.run_scripts.specs.Command.{Migrate, migrate}
 use Rattle.cvm_shell.specs.Linked.{IsAcceptedAs, IsAcceptedAsOld}
-use Rattle.run_scripts.specs.Plan.{Plan, puts, Renews, renewed_plan, AfterOld, IsPlan}
-use Rattle.cvm_shell.specs.Stages.{accept_stop, FilesPlan}
-use Rattle.cvm_shell.specs.Views.{IfRefused, IfPlan}
-use Rattle.cvm_shell.proofs.Plans.{got_whole, if_plan}
+use Rattle.run_scripts.specs.Plan.{puts, Renews, renewed_plan, AfterOld, IsPlan}
+use Rattle.cvm_shell.specs.Stages.{accept_stop}
+use Rattle.cvm_shell.specs.Views.{IfRefused}
 use Rattle.cvm_shell.proofs.AcceptedAs.{linked_system, accepted_as}
 use Rattle.cvm_shell.proofs.Fronts.{OneAnswer}
 use Rattle.cvm_shell.proofs.Answered.{Faulty, only_answered, image_answered, image_refused, accept_stops}
@@ -69,9 +64,3 @@ accepted_old law layer old bytes i (Ok image) same h e = record { image = image;
 pub migrated_accepted : MigratedAreAccepted → (layer : Layers) (old bytes : List ℕ) (i : Image) → Migrates layer (old_image_of old) (Ok i) → image_of bytes ≡ Ok i → IsAcceptedAsOld layer old bytes
 migrated_accepted law layer old bytes i answers e =
     accepted_old law layer old bytes i (old_image_of old) refl (image_answered (migrate_answer layer) (no_unit layer) (λ x. x) (old_image_of old) i answers) e
-
--- An image of form 2 was got.
-pub old_got : {A : Type 0} (made : A → Plan) (layer : Layers) (file : List ℕ → Option (List ℕ)) (m : Migrate) (old : List ℕ) (r : Result A Stop) → Tells (file m.old) old → length old < TOO_LONG
-    → IfPlan made (IsPlan ⊤ (AfterOld layer m.image old)) r → IfPlan made (FilesPlan layer file (migrate m)) r
-old_got made layer file m old r t short h =
-    if_plan made _ (FilesPlan layer file (migrate m)) (λ p is. got_whole (file m.old) (AfterOld layer m.image) (IsSome (file m.old)) ⊤ old p (λ told. told) (λ told. tt) t short is) r h

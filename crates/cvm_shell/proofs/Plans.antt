@@ -1,19 +1,18 @@
 -- What files come to, stage by stage: each stage that stops, or goes on to what comes to one plan, comes to that plan and to no other.
-use Rattle.std.proofs.Common.{◌≡◌, ◌≢◌, ℕ, ◌<◌, ◌≤◌, min, List, length, refl, sym, ap, ◌∙◌, subst, arith, Some, None, Ok, Err}
-use Rattle.std.specs.Prelude.{Option, IfSome, Result, ⊤, replicate}
+use Rattle.std.proofs.Common.{◌≡◌, ◌≢◌, ℕ, ◌<◌, ◌≤◌, List, [], length, refl, sym, ap, ◌∙◌, subst, arith, Some, None, Ok, Err}
+use Rattle.std.specs.Prelude.{Option, Result, ⊤, replicate}
 use Rattle.std.specs.Option.{IsSome}
 use Rattle.std.proofs.lemmas.List.{length-replicate}
 use Rattle.cvm_outside.specs.Told.{TOO_LONG, Tells}
-use Rattle.real_layer.specs.Image.{layer_image}
 use Rattle.mips_asm.specs.Assembled.{assembled}
 use Rattle.mips_asm.specs.declared.fault.AsmFault.{AsmFault}
 use Rattle.mips_asm.specs.declared.fault.AsmFault.TheVariants.{BadByte, UnknownMnemonic, BadOperand, OutOfRange, UnknownLabel, LabelTwice, TooLong, Memory}
 use Rattle.cvm_shell.specs.declared.boot.Stop.{Stop}
 use Rattle.cvm_shell.specs.declared.boot.Stop.TheVariants.{Refused, Shelf, Memory as OutOfMemory}
-use Rattle.run_scripts.specs.Command.{CompileUser, compile_user}
 use Rattle.run_scripts.specs.Refusal.{too_long, bad_text}
 use Rattle.run_scripts.specs.Plan.{Plan, refuses, puts, Got, long, whole, AfterText, no_words, assembles, bytes_of, IsPlan}
-use Rattle.cvm_shell.specs.Stages.{text_stop, FilesPlan}
+use Rattle.run_scripts.specs.Ends.{MayBeShort, MayBeLong}
+use Rattle.cvm_shell.specs.Stages.{text_stop}
 use Rattle.cvm_shell.specs.Views.{refusal_view, IfRefused, IfPlan}
 
 -- A file is got.
@@ -30,10 +29,15 @@ too_short n a b = omega arith
 a_long_list : (n : ℕ) → (xs : List ℕ) × (n ≤ length xs)
 a_long_list n = (replicate n 0, omega (arith, length-replicate {A = ℕ} n 0))
 
--- the contents of a file that is too long
-pub long_contents : (told : Option (List ℕ)) (taken : ℕ) → taken ≡ TOO_LONG → IfSome told (λ bs. taken ≡ min (length bs) TOO_LONG) → (xs : List ℕ) × Tells told xs × (TOO_LONG ≤ length xs)
-long_contents None taken e h = let xs = a_long_list TOO_LONG in (xs.0, tt, xs.1)
-long_contents (Some xs) taken e h = (xs, refl, omega arith)
+-- contents of a file that may be too long
+pub long_contents : (told : Option (List ℕ)) → MayBeLong told → (xs : List ℕ) × Tells told xs × (TOO_LONG ≤ length xs)
+long_contents None h = let xs = a_long_list TOO_LONG in (xs.0, tt, xs.1)
+long_contents (Some xs) h = (xs, refl, h)
+
+-- and of one that may not be
+pub short_contents : (told : Option (List ℕ)) → MayBeShort told → (xs : List ℕ) × Tells told xs × (length xs < TOO_LONG)
+short_contents None h = ([], tt, omega arith)
+short_contents (Some xs) h = (xs, refl, h)
 
 only_long : (told : Option (List ℕ)) (next : List ℕ → Plan → Type 0) (bytes : List ℕ) → Tells told bytes → TOO_LONG ≤ length bytes → IsSome told → (q : Plan) → Got told next q → q ≡ refuses too_long
 only_long told next bytes t l some q (long other u m) = refl
@@ -96,9 +100,3 @@ text_is_assembled name text words e q (assembles other d) = let same : other ≡
 -- a text is assembled
 pub text_assembled : (name text words : List ℕ) → assembled text ≡ Ok words → IsPlan ⊤ (AfterText name text) (puts name (bytes_of words))
 text_assembled name text words e = record { comes = assembles words e; only = λ t q h. text_is_assembled name text words e q h }
-
--- The text of a user was got.
-pub text_got : {A : Type 0} (made : A → Plan) (file : List ℕ → Option (List ℕ)) (c : CompileUser) (text : List ℕ) (r : Result A Stop) → Tells (file c.text) text → length text < TOO_LONG
-    → IfPlan made (IsPlan ⊤ (AfterText c.image text)) r → IfPlan made (FilesPlan layer_image file (compile_user c)) r
-text_got made file c text r t short h =
-    if_plan made _ (FilesPlan layer_image file (compile_user c)) (λ p is. got_whole (file c.text) (AfterText c.image) (IsSome (file c.text)) ⊤ text p (λ told. told) (λ told. tt) t short is) r h

@@ -1,14 +1,13 @@
 -- What is done of the plan of a resume, by the calls of the call that takes its machine up and goes on with it.
-use Rattle.std.proofs.Common.{◌≡◌, ◌≢◌, ◌⊎◌, inl, inr, ℕ, zero, suc, ◌+◌, ◌-◌, ◌<◌, ◌≤◌, Bool, true, false, List, [], ◌∷◌, ◌++◌, refl, sym, ap, ◌∙◌, ap₂, subst, Some, None, Ok, Err, arith}
+use Rattle.std.proofs.Common.{◌≡◌, ◌≢◌, ◌⊎◌, inl, inr, ℕ, zero, suc, ◌+◌, ◌-◌, ◌<◌, ◌≤◌, Bool, true, false, List, ◌++◌, refl, sym, ap, ◌∙◌, ap₂, subst, Some, None, Ok, Err, arith}
 use Rattle.std.specs.Prelude.{Option, Result, slice_index}
 use Rattle.std.specs.List.{flat_map}
 use Rattle.cvm_words.specs.Bytes.{word}
 use Rattle.cvm_outside.specs.Outside.{Outside, Files, output, drive}
-use Rattle.cvm_outside.specs.Script.{Call, Printed, Performs}
+use Rattle.cvm_outside.specs.Script.{Call, Performs}
 use Rattle.cvm_outside.specs.declared.sink.Sink as sink_of
 use Rattle.cvm_outside.specs.declared.sectors.Sectors as sectors_of
-use Rattle.cvm_outside.proofs.Putting.{same_script}
-use Rattle.mips_machine.specs.Steps.{script_of_step as transfer_due, outside_of}
+use Rattle.mips_machine.specs.Steps.{outside_of}
 use Rattle.saved_file.specs.Resumable.{CanBeResumed, Wanted}
 use Rattle.saved_file.specs.Answer.{answer as machine_of}
 use Rattle.saved_file.specs.declared.fault.SaveFault.{SaveFault}
@@ -16,14 +15,13 @@ use Rattle.saved_file.specs.declared.fault.SaveFault.TheVariants as saving
 use Rattle.schedule_file.specs.Rows.{Rows}
 use Rattle.boot_turns.specs.Runs.{Run, turns_at, state_at, steps_made, has_ended, cvm_at}
 use Rattle.boot_turns.specs.declared.answers.View.TheVariants as view
-use Rattle.boot_turns.proofs.ShownRows.{scripts-same}
 use Rattle.boot_run.specs.declared.whole.RunEnd.{RunEnd}
-use Rattle.boot_run.specs.AnyScripts.{end_by_power, power_end, untold_script}
+use Rattle.boot_run.specs.AnyScripts.{end_by_power, power_end, untold_rest}
 use Rattle.boot_run.specs.Closing.{says}
 use Rattle.boot_run.specs.Loading.{system_of as loaded_system}
 use Rattle.boot_run.specs.LoadEnds.{pages_needed}
 use Rattle.boot_run.specs.RunCalls.{run_at, of_end, due_end}
-use Rattle.boot_run.specs.RunScript.{untold_steps, rest_script}
+use Rattle.boot_run.specs.RunScript.{rest_script}
 use Rattle.boot_run.specs.SavedFiles.{wanted_of}
 use Rattle.machine_save.specs.ResumeCalls.{ResumeScript}
 use Rattle.machine_save.specs.ResumeRun.{ResumeAnswers}
@@ -78,14 +76,6 @@ by_power true None = refl
 by_power true (Some zero) = refl
 by_power true (Some (suc n)) = refl
 
--- the steps from the first on are all
-all_steps : (r : Run) → untold_script r.around r.first 0 (steps_made r - 0) ≡ untold_steps r
-all_steps r =
-    let none : steps_made r - 0 ≡ steps_made r = omega arith in
-    let step : ℕ → List Call = λ t. transfer_due r.around (state_at r t) ++ Printed None ∷ [] in
-    ap (λ (n : ℕ). untold_script r.around r.first 0 n) none
-    ∙ scripts-same (λ i. step (0 + i)) step (steps_made r) (λ i below. let from : 0 + i ≡ i = omega arith in ap step from)
-
 not_told : (left : List (List ℕ)) → None ≡ Some left → ⊥
 not_told left e = cc
 
@@ -112,17 +102,9 @@ module _ {O D : Type 0} (text : sink_of.Ghosts O) (told : sectors_of.Ghosts D) (
       let P : Run → Type 0 = λ x. SavedRun (save_session c) s r.schedule words (told.size disk) left x past made → Performs (rest_script x past made) before after (of_end e)
       × (answered due (of_end e) ≡ answered (run_status x past) (of_end e)) in
       subst P (sym a.run_is) (λ b.
-      let turns : slice_index words 5 ≡ turns_at q made = ap (λ (ws : List ℕ). slice_index ws 5) b.words_are in
-      let h = script.rest a.sectors left words past made room (record { size = a.disk; each = a.pages }) is spells (record {
-        is_past = b.is_past;
-        few = b.few;
-        first = b.first;
-        some = subst (λ (n : ℕ). 1 ≤ n) turns can.a_turn;
-        less = subst (λ (n : ℕ). n ≤ c.boot.turns) turns can.turns;
-        on = b.on;
-        words_are = b.words_are;
-        left_is = b.left_is;
-      }) in
+      let turns : slice_index words 5 ≡ turns_at q made = ap (λ (ws : List ℕ). slice_index ws 5) b.saved.words_are in
+      let h = script.rest a.sectors left words past made room a.disk is spells b.saved
+      (subst (λ (n : ℕ). 1 ≤ n) turns can.a_turn) (subst (λ (n : ℕ). n ≤ c.boot.turns) turns can.turns) in
       (h.made shelf, sym stands ∙ by_end e (due_end q past) (run_status q past) h.is (same_status (has_ended q) (cvm_at q past (steps_made q)).status))) a
 
   pub went_on_does : machine_of (wanted_of r.boot r.schedule c.boot.turns) bytes ≡ Ok words → DoesPlan (resumes (save_session c) s r.schedule words) before after (status_of_end e)
@@ -136,7 +118,7 @@ module _ {O D : Type 0} (text : sink_of.Ghosts O) (told : sectors_of.Ghosts D) (
           let stands : status_of_end e ≡ answered (power_status (has_ended run) off) (of_end e) =
           by_end e (power_end run) (power_status (has_ended run) off) f.ends.ends.is (by_power (has_ended run) off) in
           record {
-            script = untold_steps run ++ f.ends.report;
+            script = untold_rest run 0 ++ f.ends.report;
             due = power_status (has_ended run) off;
             asks = over_told left _ _ tt enough t (record {
               run = run;
@@ -147,8 +129,7 @@ module _ {O D : Type 0} (text : sink_of.Ghosts O) (told : sectors_of.Ghosts D) (
               status_is = refl;
             });
             blamed = of_end e;
-            performs = same_script (untold_script run.around run.first 0 (steps_made run - 0) ++ f.ends.report) (untold_steps run ++ f.ends.report) before after (of_end e)
-                (ap (λ (l : List Call). l ++ f.ends.report) (all_steps run)) (f.ends.ends.made shelf);
+            performs = f.ends.ends.made shelf;
             joins = rest_of (power_status (has_ended run) off) stands;
             status_is = stands;
           }

@@ -1,9 +1,7 @@
 -- What the files of a save and of a resume come to, by what those of their boot come to: one plan, and no other.
-use Rattle.std.proofs.Common.{◌≡◌, ◌≢◌, Bool, true, false, ℕ, ◌*◌, ◌<◌, ◌≤◌, List, length, refl, sym, ap, ◌∙◌, subst, arith, Ok, Err}
+use Rattle.std.proofs.Common.{◌≡◌, ◌≢◌, Bool, true, false, ℕ, ◌*◌, ◌<◌, ◌≤◌, List, refl, sym, ap, ◌∙◌, subst, arith, Ok, Err}
 use Rattle.std.specs.Prelude.{Option, ⊤, nat_lt, if◌then◌else◌}
-use Rattle.std.specs.Option.{IsSome}
 use Rattle.std.proofs.lemmas.Bool.Decides.{nat_tests}
-use Rattle.cvm_outside.specs.Told.{TOO_LONG, Tells}
 use Rattle.layer_map.specs.Map.{Map}
 use Rattle.saved_file.specs.declared.fault.SaveFault.{SaveFault}
 use Rattle.saved_file.specs.declared.fault.SaveFault.TheVariants as saving
@@ -16,12 +14,11 @@ use Rattle.cvm_shell.specs.declared.boot.Stop.{Stop}
 use Rattle.cvm_shell.specs.declared.boot.Stop.TheVariants.{Refused, Shelf, Memory}
 use Rattle.cvm_shell.specs.declared.refusal.Refusal.{Refusal as ByCode}
 use Rattle.cvm_shell.specs.declared.refusal.Refusal.TheVariants as by
-use Rattle.run_scripts.specs.Command.{Save, save, resume, save_session}
+use Rattle.run_scripts.specs.Command.{Save, save, save_session}
 use Rattle.run_scripts.specs.Refusal.{bad_save}
-use Rattle.run_scripts.specs.Plan.{Plan, refuses, boots, saves, Got, frames_of, most_bytes, saved_plan, taken_up, AfterFiles, AfterThree, IsPlan}
-use Rattle.cvm_shell.specs.Stages.{GetsTold, save_stop, HasNoRoom, IsBootPlan, FilesPlan}
+use Rattle.run_scripts.specs.Plan.{Plan, refuses, boots, saves, frames_of, most_bytes, saved_plan, taken_up, AfterFiles, AfterThree, IsPlan}
+use Rattle.cvm_shell.specs.Stages.{save_stop, HasNoRoom, IsBootPlan, FilesPlan}
 use Rattle.cvm_shell.specs.Views.{refusal_view, IfRefused}
-use Rattle.cvm_shell.proofs.Plans.{got_whole, if_refused}
 
 abbrev Layers : Type 0
 Layers = Map → List ℕ → List ℕ
@@ -88,50 +85,6 @@ pub three_stopped : (layer : Layers) (session : Session) (image schedule bytes :
 three_stopped layer session image schedule bytes (Refused r) h = three_come layer session image schedule bytes (refuses (refusal_view r)) h
 three_stopped layer session image schedule bytes Shelf h = tt
 three_stopped layer session image schedule bytes Memory h = tt
-
-module _ (layer : Layers) (file : Told) (c : Save) where
-  -- after the image, and after the schedule too
-  abbrev pub Second : (image : List ℕ) → Plan → Type 0
-  Second image p = Got (file c.boot.schedule) (λ schedule. Got (file c.file) (AfterThree layer (save_session c) image schedule)) p
-
-  abbrev pub Third : (image schedule : List ℕ) → Plan → Type 0
-  Third image schedule p = Got (file c.file) (AfterThree layer (save_session c) image schedule) p
-
-  abbrev Rest : Type 0
-  Rest = IsSome (file c.boot.schedule) × IsSome (file c.file)
-
-  from_second : (image : List ℕ) (p : Plan) → Tells (file c.boot.image) image → length image < TOO_LONG → IsPlan Rest (Second image) p → FilesPlan layer file (resume c) p
-  from_second image p t short is = got_whole (file c.boot.image) Second (GetsTold file (resume c)) Rest image p (λ told. told.0) (λ told. (told.1, told.2)) t short is
-
-  from_third : (image schedule : List ℕ) (p : Plan) → Tells (file c.boot.schedule) schedule → length schedule < TOO_LONG → IsPlan (IsSome (file c.file)) (Third image schedule) p → IsPlan Rest (Second image) p
-  from_third image schedule p t short is =
-      got_whole (file c.boot.schedule) (Third image) Rest (IsSome (file c.file)) schedule p (λ told. told.0) (λ told. told.1) t short is
-
-  -- the image was got: what stops it at the schedule
-  pub second_stopped : (image : List ℕ) (s : Stop) → Tells (file c.boot.image) image → length image < TOO_LONG → IfRefused (IsPlan Rest (Second image)) s → IfRefused (FilesPlan layer file (resume c)) s
-  second_stopped image s t short h = if_refused (IsPlan Rest (Second image)) (FilesPlan layer file (resume c)) (λ p is. from_second image p t short is) s h
-
-  -- the schedule, too: what stops it at the file
-  pub third_stopped : (image schedule : List ℕ) (s : Stop) → Tells (file c.boot.image) image → length image < TOO_LONG → Tells (file c.boot.schedule) schedule → length schedule < TOO_LONG
-      → IfRefused (IsPlan (IsSome (file c.file)) (Third image schedule)) s → IfRefused (FilesPlan layer file (resume c)) s
-  third_stopped image schedule s t short u few h =
-      second_stopped image s t short
-      (if_refused (IsPlan (IsSome (file c.file)) (Third image schedule)) (IsPlan Rest (Second image)) (λ p is. from_third image schedule p u few is) s h)
-
-  -- all were got
-  pub all_got : (image schedule bytes : List ℕ) (p : Plan) → Tells (file c.boot.image) image → length image < TOO_LONG → Tells (file c.boot.schedule) schedule → length schedule < TOO_LONG
-      → Tells (file c.file) bytes → length bytes < TOO_LONG → IsPlan ⊤ (AfterThree layer (save_session c) image schedule bytes) p → FilesPlan layer file (resume c) p
-  all_got image schedule bytes p t short u few v less is =
-      from_second image p t short
-      (from_third image schedule p u few
-      (got_whole (file c.file) (AfterThree layer (save_session c) image schedule) (IsSome (file c.file)) ⊤ bytes p (λ told. told) (λ told. tt) v less is))
-
-  -- and this stops it behind them
-  pub all_stopped : (image schedule bytes : List ℕ) (s : Stop) → Tells (file c.boot.image) image → length image < TOO_LONG → Tells (file c.boot.schedule) schedule → length schedule < TOO_LONG
-      → Tells (file c.file) bytes → length bytes < TOO_LONG → IfRefused (IsPlan ⊤ (AfterFiles layer (save_session c) image schedule)) s → IfRefused (FilesPlan layer file (resume c)) s
-  all_stopped image schedule bytes s t short u few v less h =
-      if_refused (IsPlan ⊤ (AfterThree layer (save_session c) image schedule bytes)) (FilesPlan layer file (resume c)) (λ p is. all_got image schedule bytes p t short u few v less is) s
-      (three_stopped layer (save_session c) image schedule bytes s h)
 
 -- no room for a machine of so many frames
 pub room_fault : (frames : ℕ) (s : ImageSystem) (f : SaveFault) → frames ≡ frames_of s → IsRoom frames (Err f) → HasNoRoom s (save_stop f)

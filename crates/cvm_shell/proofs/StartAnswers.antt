@@ -19,7 +19,7 @@ use Rattle.boot_run.specs.SavedFiles.{wanted_of}
 use Rattle.boot_run.specs.SavedRuns.{IsDisk}
 use Rattle.boot_run.proofs.Premises.{are_pages}
 use Rattle.cvm_outside.specs.Told.{IsSector}
-use Rattle.machine_save.specs.SaveRun.{IfUnput}
+use Rattle.machine_save.specs.SaveRun.{KeepsOrPuts}
 use Rattle.run_scripts.specs.Plan.{wanted_by}
 use Rattle.cvm_shell.specs.declared.boot.Ready.{Ready}
 use Rattle.run_scripts.specs.declared.session.Session.{Session}
@@ -57,31 +57,19 @@ pub same_wanted : (b : Booted) (rows : Rows) (turns : ℕ) → wanted_of b rows 
 same_wanted b rows turns = ap (with_users b rows turns) (same_count b)
 
 -- what a save leaves where it is refused
-pub unput_err : (answer : Result RunEnd LoadFault) (P : Type 0) → IfUnput answer P → IfErr answer (λ e. P)
-unput_err (Ok end) P h = tt
-unput_err (Err e) P h = h
+pub unput_err : (answer : Result RunEnd LoadFault) (Keeps Puts : Type 0) → KeepsOrPuts answer Keeps Puts → IfErr answer (λ e. Keeps)
+unput_err (Ok end) K P h = tt
+unput_err (Err e) K P h = h
 
--- what a call says of a run that needs so many sectors
-module _ (r : Ready) (session : Session) (start : StartPoint) (need : ℕ) (same : need ≡ held_of start (booted (system_of r.boot) r.schedule)) (is : session.start ≡ start) where
-  pub answers : (answer : Result RunEnd LoadFault) (old new : Outside) → IfErr answer (LoadFails r.boot session.view need old.disk.size old.disk.faults new.disk.faults)
+-- what a call says of a run that needs so many sectors, at its session's start
+module _ {need : ℕ} (r : Ready) (session : Session) (start : StartPoint) (same : need ≡ held_of start (booted (system_of r.boot) r.schedule)) (is : session.start ≡ start) where
+  pub answers_from : (answer : Result RunEnd LoadFault) (old new : Outside) → IfErr answer (LoadFails r.boot session.view need old.disk.size old.disk.faults new.disk.faults)
       → IfOk answer (λ e. HasDiskRoom r.boot session.view need old.disk.size) → CallAnswers r session answer old new
-  answers answer old new refused loaded =
+  answers_from answer old new refused loaded =
       subst (λ (a : StartPoint). CallAnswers r (from a session) answer old new) (sym is) (record {
         refused = subst (λ (n : ℕ). IfErr answer (LoadFails r.boot session.view n old.disk.size old.disk.faults new.disk.faults)) same refused;
         loaded = subst (λ (n : ℕ). IfOk answer (λ e. HasDiskRoom r.boot session.view n old.disk.size)) same loaded;
       })
-
--- AT THE LOADED MACHINE
-pub loaded_answers : (r : Ready) (session : Session) (answer : Result RunEnd LoadFault) (old new : Outside) → session.start ≡ Loaded
-    → IfErr answer (LoadFails r.boot session.view (pages_needed r.boot) old.disk.size old.disk.faults new.disk.faults)
-    → IfOk answer (λ e. HasDiskRoom r.boot session.view (pages_needed r.boot) old.disk.size) → CallAnswers r session answer old new
-loaded_answers r session answer old new is = answers r session Loaded (pages_needed r.boot) (same_need r.boot r.schedule) is answer old new
-
--- AT THE ROM
-pub rom_answers : (r : Ready) (session : Session) (answer : Result RunEnd LoadFault) (old new : Outside) → session.start ≡ Rom
-    → IfErr answer (LoadFails r.boot session.view (rom_needed r.boot) old.disk.size old.disk.faults new.disk.faults)
-    → IfOk answer (λ e. HasDiskRoom r.boot session.view (rom_needed r.boot) old.disk.size) → CallAnswers r session answer old new
-rom_answers r session answer old new is = answers r session Rom (rom_needed r.boot) (same_rom_need r.boot r.schedule) is answer old new
 
 -- the sectors that are told are a disk's
 pub told_disk : (count : ℕ) (told : Option (List (List ℕ))) → IfSome told (λ ss. length ss ≡ count) → IfSome told (All IsSector) → IfSome told (IsDisk count)

@@ -6,8 +6,7 @@ use Rattle.cvm_outside.specs.Script.{Call, Who}
 use Rattle.cvm_outside.specs.declared.sink.Sink as sink_of
 use Rattle.cvm_outside.specs.declared.sectors.Sectors as sectors_of
 use Rattle.schedule_file.specs.Rows.{Rows}
-use Rattle.cvm_model.specs.Cvm.{Status as CvmStatus, Running, Halted, Faulted}
-use Rattle.layer_contract.specs.Follows.{loaded}
+use Rattle.cvm_model.specs.Cvm.{System, Status as CvmStatus, Running, Halted, Faulted}
 use Rattle.boot_turns.specs.Runs.{Run, steps_made, has_ended, cvm_at}
 use Rattle.boot_turns.specs.declared.answers.View.TheVariants as view
 use Rattle.boot_run.specs.declared.load.LoadFault.{LoadFault}
@@ -15,63 +14,45 @@ use Rattle.boot_run.specs.declared.load.LoadFault.TheVariants as load
 use Rattle.boot_run.specs.declared.whole.RunEnd.{RunEnd}
 use Rattle.boot_run.specs.declared.whole.RunEnd.TheVariants as ends
 use Rattle.boot_run.specs.Closing.{says}
-use Rattle.boot_run.specs.Loading.{system_of as loaded_system}
-use Rattle.boot_run.specs.LoadedPages.{user_pages, rom_pages}
-use Rattle.boot_run.specs.LoadEnds.{HasDiskRoom, LoadFails, pages_needed, rom_needed}
+use Rattle.boot_run.specs.LoadEnds.{HasDiskRoom, LoadFails}
 use Rattle.boot_run.specs.LoadScript.{load_script}
 use Rattle.boot_run.specs.Pasts.{HavePasts}
 use Rattle.boot_run.specs.RunCalls.{WholeScript, loads, of_end, of_answer, IsDue, due_end, end_by}
 use Rattle.boot_run.specs.RunEnds.{SeesUser}
 use Rattle.boot_run.specs.RunScript.{run_script}
-use Rattle.boot_run.specs.Whole.{rom_start_of}
 use Rattle.kernel_linker.specs.Accept.{ImageSystem, system_of}
 use Rattle.run_scripts.specs.declared.exit_status.Status.{Status}
 use Rattle.run_scripts.specs.declared.exit_status.Status.TheVariants.{Done, Refused, KernelFault, StepLimit, Disk}
 use Rattle.cvm_shell.specs.declared.boot.Ready.{Ready}
 use Rattle.run_scripts.specs.declared.session.Session.{Session}
 use Rattle.run_scripts.specs.declared.session.StartPoint.{StartPoint}
-use Rattle.run_scripts.specs.declared.session.StartPoint.TheVariants.{Loaded, Rom}
-use Rattle.run_scripts.specs.Boot.{sectors_needed}
+use Rattle.run_scripts.specs.Boot.{booted, held_of, sectors_needed, start_of}
 use Rattle.run_scripts.specs.Refusal.{small_disk, no_such_user, refusal_text}
 use Rattle.run_scripts.specs.Plan.{Plan, boots, saves}
-use Rattle.run_scripts.specs.SessionRuns.{run_of}
+use Rattle.run_scripts.specs.SessionRuns.{pages_loaded, run_of}
 use Rattle.run_scripts.specs.RunStatus.{status_of, run_status}
 use Rattle.run_scripts.specs.Ends.{PlanAsks, Joins, no_user, small, over_told, over_untold, load_of, answered}
 use Rattle.cvm_shell.specs.Does.{Acts, SaysFault, SaysEnd, DoesPlan, DoesOrWants, SessionCalls, SessionPasts}
 use Rattle.cvm_shell.specs.Stages.{needs, status_of_end, CallAnswers}
 use Rattle.cvm_shell.proofs.GotCalls.{beside}
 use Rattle.cvm_shell.proofs.Doing.{acted}
-use Rattle.cvm_shell.proofs.StartAnswers.{from, same_need, same_rom_need, same_sight, same_count}
+use Rattle.cvm_shell.proofs.StartAnswers.{from, same_sight, same_count}
 
--- FOR ITS SESSION'S START: at the loaded machine
-module _ {O D : Type 0} (text : sink_of.Ghosts O) (told : sectors_of.Ghosts D) (r : Ready) (session : Session) (answer : Result RunEnd LoadFault) (old new : O × D) where
-  pub loaded_calls : session.start ≡ Loaded → WholeScript text told (loaded_system r.boot r.schedule) r.schedule (loaded (loaded_system r.boot r.schedule)) session.view session.turns session.steps
-      (load_script (user_pages (loaded_system r.boot r.schedule)) (pages_needed r.boot)) old new answer → SessionCalls text told r session answer old new
-  loaded_calls start w =
-      subst (λ (a : StartPoint). SessionCalls text told r (from a session) answer old new) (sym start)
-      (subst (λ (n : ℕ). WholeScript text told (loaded_system r.boot r.schedule) r.schedule (loaded (loaded_system r.boot r.schedule)) session.view session.turns session.steps
-      (load_script (user_pages (loaded_system r.boot r.schedule)) n) old new answer) (same_need r.boot r.schedule) w)
+-- FOR ITS SESSION'S START: the calls, and the abstract run
+module _ {need : ℕ} (r : Ready) (session : Session) (start : StartPoint) (same : need ≡ held_of start (booted (system_of r.boot) r.schedule)) (is : session.start ≡ start) where
+  abbrev y : System
+  y = booted (system_of r.boot) r.schedule
 
-  -- at the ROM
-  pub rom_calls : session.start ≡ Rom → WholeScript text told (loaded_system r.boot r.schedule) r.schedule (rom_start_of (loaded_system r.boot r.schedule)) session.view session.turns session.steps
-      (load_script (rom_pages (loaded_system r.boot r.schedule)) (rom_needed r.boot)) old new answer → SessionCalls text told r session answer old new
-  rom_calls start w =
-      subst (λ (a : StartPoint). SessionCalls text told r (from a session) answer old new) (sym start)
-      (subst (λ (n : ℕ). WholeScript text told (loaded_system r.boot r.schedule) r.schedule (rom_start_of (loaded_system r.boot r.schedule)) session.view session.turns session.steps
-      (load_script (rom_pages (loaded_system r.boot r.schedule)) n) old new answer) (same_rom_need r.boot r.schedule) w)
+  pub calls_from : {O D : Type 0} (text : sink_of.Ghosts O) (told : sectors_of.Ghosts D) (answer : Result RunEnd LoadFault) (old new : O × D)
+      → WholeScript text told y r.schedule (start_of start y) session.view session.turns session.steps (load_script (pages_loaded start y) need) old new answer → SessionCalls text told r session answer old new
+  calls_from text told answer old new w =
+      subst (λ (a : StartPoint). SessionCalls text told r (from a session) answer old new) (sym is)
+      (subst (λ (n : ℕ). WholeScript text told y r.schedule (start_of start y) session.view session.turns session.steps (load_script (pages_loaded start y) n) old new answer) same w)
 
--- the abstract run
-pub loaded_pasts : (r : Ready) (session : Session) (size : ℕ) (told : Option (List (List ℕ))) → session.start ≡ Loaded
-    → HavePasts r.boot r.schedule size (pages_needed r.boot) (loaded (loaded_system r.boot r.schedule)) told → SessionPasts r session size told
-loaded_pasts r session size told start have =
-    subst (λ (a : StartPoint). SessionPasts r (from a session) size told) (sym start)
-    (λ sectors is sees room. have sectors session.view session.turns session.steps is (subst (λ (n : ℕ). n ≤ size) (sym (same_need r.boot r.schedule)) room) sees)
-
-pub rom_pasts : (r : Ready) (session : Session) (size : ℕ) (told : Option (List (List ℕ))) → session.start ≡ Rom
-    → HavePasts r.boot r.schedule size (rom_needed r.boot) (rom_start_of (loaded_system r.boot r.schedule)) told → SessionPasts r session size told
-rom_pasts r session size told start have =
-    subst (λ (a : StartPoint). SessionPasts r (from a session) size told) (sym start)
-    (λ sectors is sees room. have sectors session.view session.turns session.steps is (subst (λ (n : ℕ). n ≤ size) (sym (same_rom_need r.boot r.schedule)) room) sees)
+  pub pasts_from : (size : ℕ) (told : Option (List (List ℕ))) → HavePasts r.boot r.schedule size need (start_of start y) told → SessionPasts r session size told
+  pasts_from size told have =
+      subst (λ (a : StartPoint). SessionPasts r (from a session) size told) (sym is)
+      (λ sectors e sees room. have sectors session.view session.turns session.steps e (subst (λ (n : ℕ). n ≤ size) (sym same) room) sees)
 
 -- THE STATUS of an end is the one that is due, or that of the object that failed
 pub by_end : (e due : RunEnd) (status : Status) → (of_end e ≡ None → e ≡ due) → status_of_end due ≡ status → status_of_end e ≡ answered status (of_end e)

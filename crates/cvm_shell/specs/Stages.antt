@@ -1,7 +1,5 @@
 -- Only for the contracts inside the crate: how the stages of a command end.
-use Rattle.std.specs.Prelude.{◌≡◌, ◌≢◌, ⊤, ◌⊎◌, ◌<◌, ◌≤◌, ℕ, List, [], ◌∷◌, length, map, All, Option, Some, Result, Ok, Err, MatchResult, IfOk, IfErr}
-use Rattle.std.specs.Option.{IsSome}
-use Rattle.cvm_outside.specs.Causes.{Rose}
+use Rattle.std.specs.Prelude.{◌≡◌, ◌≢◌, ⊤, ◌<◌, ◌≤◌, ℕ, List, [], ◌∷◌, length, map, All, Option, Some, Result, Ok, Err, MatchResult, IfOk, IfErr}
 use Rattle.cvm_outside.specs.Told.{Tells, TOO_LONG}
 use Rattle.cvm_outside.specs.declared.shelf.ShelfFault.{ShelfFault}
 use Rattle.cvm_outside.specs.declared.shelf.ShelfFault.TheVariants as fault
@@ -54,11 +52,12 @@ use Rattle.run_scripts.specs.declared.exit_status.Status.{Status}
 use Rattle.run_scripts.specs.declared.exit_status.Status.TheVariants.{Done, KernelFault, StepLimit, Disk, Shelf, Sink}
 use Rattle.std.specs.Global.{Vec}
 use Rattle.run_scripts.specs.declared.session.Session.{Session}
-use Rattle.run_scripts.specs.Command.{Boot, Save, Command, boot, trace, save, resume, compile_user, compile_kernel, compile_program, link, migrate, sample, check, save_session}
+use Rattle.run_scripts.specs.Command.{Boot, Save, Command, boot, save_session}
 use Rattle.run_scripts.specs.Plan.{Plan, puts, boots, saves, most_bytes, wanted_by, taken_plan, BootPlan, CommandPlan, AreTold, IsPlan, words_from, prints}
 use Rattle.cvm_shell.specs.Views.{IfPlan}
 use Rattle.run_scripts.specs.Boot.{booted, sectors_needed}
 use Rattle.run_scripts.specs.Ends.{IsByte}
+use Rattle.run_scripts.specs.Served.{files_of}
 
 -- what a fault of the shelf comes to
 abbrev pub stop_of : ShelfFault → Stop
@@ -129,30 +128,15 @@ Fetched told [] [] = ⊤
 Fetched told (n ∷ names) (b ∷ got) = Tells (told n) b × (length b < TOO_LONG) × Fetched told names got
 Fetched told names got = ⊥
 
--- one of these files is too long, and none before it is
-abbrev pub LongAmong : (List ℕ → Option (List ℕ)) → (names : List (List ℕ)) → Type 0
-LongAmong told [] = ⊥
-LongAmong told (n ∷ names) =
-    ((b : List ℕ) × Tells (told n) b × (TOO_LONG ≤ length b)) ⊎ ((b : List ℕ) × Tells (told n) b × (length b < TOO_LONG) × LongAmong told names)
-
--- why files are not got: one is too long, or the shelf or memory failed
-abbrev pub NotFetched : (List ℕ → Option (List ℕ)) → (names : List (List ℕ)) → Stop → Type 0
-NotFetched told names (stop.Refused r) = (r ≡ refusal.TooLong) × LongAmong told names
-NotFetched told names other = ⊤
+-- the get of a file is refused for its length alone
+abbrev pub OnlyLong : Stop → Type 0
+OnlyLong (stop.Refused r) = r ≡ refusal.TooLong
+OnlyLong stop.Shelf = ⊤
+OnlyLong stop.Memory = ⊤
 
 -- the words of users by their files, or the first fault
 abbrev pub AreWordsOf : List (List ℕ) → Result (Vec (Vec ℕ)) FileFault → Type 0
 AreWordsOf files result = MatchResult result (λ v. words_from 1 files ≡ Ok (map (λ w. w.items) v.items)) (λ f. f ≢ system.Memory → words_from 1 files ≡ Err f)
-
--- what a stop says of the shelf's count of faults
-abbrev pub StopCount : ℕ → ℕ → Stop → Type 0
-StopCount before now (stop.Refused r) = now ≡ before
-StopCount before now stop.Shelf = Rose before now
-StopCount before now stop.Memory = now ≡ before
-
--- what an answer before the run, or before the put, says of the shelf's count of faults
-abbrev pub PlanCounts : {T : Type 0} → ℕ → ℕ → Result T Stop → Type 0
-PlanCounts before now result = MatchResult result (λ _. now ≡ before) (StopCount before now)
 
 -- the sectors that a run of a session needs
 abbrev pub needs : Ready → Session → ℕ
@@ -184,7 +168,8 @@ saveable_for c r = saves (save_session c) (system_of r.ready.boot) r.ready.sched
 
 abbrev pub resumable_for : Save → Resumable → Plan
 resumable_for c r =
-    taken_plan (save_session c) (system_of r.ready.boot) r.ready.schedule (machine_of (wanted_by (system_of r.ready.boot) r.ready.schedule c.boot.turns) r.bytes.items)
+    taken_plan (save_session c) (system_of r.ready.boot) r.ready.schedule
+    (machine_of (wanted_by (system_of r.ready.boot) r.ready.schedule c.boot.turns) r.bytes.items)
 
 -- why there is no room for a saved machine of a system: its file may be too long, or there was no memory
 abbrev pub HasNoRoom : ImageSystem → Stop → Type 0
@@ -213,27 +198,13 @@ PutsAs Comes result = (name : List ℕ) → IfPlan (puts_made name) (IsPlan ⊤ 
 abbrev pub told_text : Vec ℕ → Plan
 told_text text = prints text.items
 
--- the files that a command gets are told
-abbrev pub GetsTold : (List ℕ → Option (List ℕ)) → Command → Type 0
-GetsTold file (boot b) = IsSome (file b.image) × IsSome (file b.schedule)
-GetsTold file (trace t) = IsSome (file t.boot.image) × IsSome (file t.boot.schedule)
-GetsTold file (save c) = IsSome (file c.boot.image) × IsSome (file c.boot.schedule)
-GetsTold file (resume c) = IsSome (file c.boot.image) × IsSome (file c.boot.schedule) × IsSome (file c.file)
-GetsTold file (compile_user c) = IsSome (file c.text)
-GetsTold file (compile_kernel c) = IsSome (file c.source)
-GetsTold file (compile_program c) = IsSome (file c.source)
-GetsTold file (link l) = IsSome (file l.object) × IsSome (file l.params) × AreTold file l.users
-GetsTold file (migrate m) = IsSome (file m.old)
-GetsTold file (sample x) = ⊤
-GetsTold file (check c) = IsSome (file c.object)
-
 -- the files of a command come to a plan, and to no other, where they are told
 abbrev pub FilesPlan : (layer : Map → List ℕ → List ℕ) → (List ℕ → Option (List ℕ)) → Command → Plan → Type 0
-FilesPlan layer file c p = IsPlan (GetsTold file c) (CommandPlan layer file c) p
+FilesPlan layer file c p = IsPlan (AreTold file (files_of c)) (CommandPlan layer file c) p
 
 -- so do those of a boot, by whatever session
 abbrev pub IsBootPlan : (layer : Map → List ℕ → List ℕ) → (List ℕ → Option (List ℕ)) → Boot → Session → Plan → Type 0
-IsBootPlan layer file b session p = IsPlan (GetsTold file (boot b)) (BootPlan layer file b session) p
+IsBootPlan layer file b session p = IsPlan (AreTold file (files_of (boot b))) (BootPlan layer file b session) p
 
 -- a law of every system: with whatever units its run comes to a state, that state is one; and the replay of a user's journal is its machine there
 abbrev pub JournalsReplay : Type 0

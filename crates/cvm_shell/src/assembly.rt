@@ -1,12 +1,11 @@
 // The image of a user: its text, assembled.
-ghost use Rattle.std.specs.Prelude.{◌≡◌, ◌≢◌, ◌↔◌, ◌*◌, ℕ, List, length, IfOk, IfErr, IsErrOf};
-ghost use Rattle.cvm_outside.specs.Told.{TOO_LONG};
+ghost use Rattle.std.specs.Prelude.{◌≡◌, ◌≢◌, ◌*◌, ℕ, List, length, IfOk, IfErr, IsErrOf};
 ghost use Rattle.real_layer.specs.Image.{layer_image};
 ghost use Rattle.run_scripts.specs.Command as Command;
 ghost use Rattle.cvm_shell.specs.Does.{Gets};
 ghost use Rattle.run_scripts.specs.Served.{files_of};
 ghost use Rattle.run_scripts.specs.Plan.{AfterText, bytes_of};
-ghost use Rattle.cvm_shell.specs.Stages.{text_stop, PlanCounts, puts_made, PutsAs, FilesPlan};
+ghost use Rattle.cvm_shell.specs.Stages.{text_stop, puts_made, PutsAs, FilesPlan};
 ghost use Rattle.cvm_shell.specs.Views.{user_view, IfPlan};
 
 use crate::boot::Stop;
@@ -36,9 +35,6 @@ pub fn user_image<S: Shelf>(
     shelf: &mut S,
 ) -> Result<Vec<u8>, Stop>
     ensures comes { IfPlan (puts_made names.now.image.now) (FilesPlan layer_image (S.file shelf.old) (Command.compile_user (user_view names.now))) result }
-    ensures long { IsErrOf result (Stop.Refused Refusal.TooLong) ↔ (S.taken shelf.new ≡ TOO_LONG) }
-    ensures count { PlanCounts (S.faults shelf.old) (S.faults shelf.new) result }
-    ensures files { (n : List ℕ) → S.file shelf.new n ≡ S.file shelf.old n }
     ensures gets { Gets S.Shelf (files_of (Command.compile_user (user_view names.now))) shelf.old shelf.new result }
 {
     let text = get_file(alloc, names.text, shelf)?;

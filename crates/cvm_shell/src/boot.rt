@@ -1,13 +1,12 @@
 // A boot or a trace: what its files come to, and the run of the system that is accepted.
-ghost use Rattle.std.specs.Prelude.{◌≡◌, ◌≢◌, ◌↔◌, ◌≤◌, ⊤, ℕ, List, IfOk, IfErr, IsErrOf};
-ghost use Rattle.cvm_outside.specs.Told.{TOO_LONG};
+ghost use Rattle.std.specs.Prelude.{◌≡◌, ◌≢◌, ◌≤◌, ⊤, IfOk, IfErr, IsErrOf};
 ghost use Rattle.real_layer.specs.Image.{layer_image};
 ghost use Rattle.run_scripts.specs.Command.{boot as of_boot};
 ghost use Rattle.cvm_shell.specs.Does.{Gets, SystemDoes};
 ghost use Rattle.run_scripts.specs.Ends.{AreBytes};
 ghost use Rattle.run_scripts.specs.Served.{files_of};
 ghost use Rattle.run_scripts.specs.Plan.{AfterFiles, IsPlan};
-ghost use Rattle.cvm_shell.specs.Stages.{stop_of, accept_stop, schedule_stop, PlanCounts, ready_for, IsBootPlan, SystemFollows};
+ghost use Rattle.cvm_shell.specs.Stages.{stop_of, accept_stop, schedule_stop, ready_for, IsBootPlan, SystemFollows};
 ghost use Rattle.cvm_shell.specs.Views.{boot_view, IfPlan};
 
 use crate::accepted::accept_image;
@@ -85,9 +84,6 @@ pub struct Ready {
 pub fn plan<S: Shelf>(alloc: Global, boot: &Boot, shelf: &mut S) -> Result<Ready, Stop>
     ensures comes { (session : Session) → IfPlan (ready_for session) (IsBootPlan layer_image (S.file shelf.old) (boot_view boot.now) session) result }
     ensures follows { IfOk result SystemFollows }
-    ensures long { IsErrOf result (Stop.Refused Refusal.TooLong) ↔ (S.taken shelf.new ≡ TOO_LONG) }
-    ensures count { PlanCounts (S.faults shelf.old) (S.faults shelf.new) result }
-    ensures files { (n : List ℕ) → S.file shelf.new n ≡ S.file shelf.old n }
     ensures gets { Gets S.Shelf (files_of (of_boot (boot_view boot.now))) shelf.old shelf.new result }
     ensures bytes { IfOk result (λ _. AreBytes (S.file shelf.old) (files_of (of_boot (boot_view boot.now)))) }
 {

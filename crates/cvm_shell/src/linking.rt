@@ -1,12 +1,12 @@
 // The image of a system: its object, parameters and users, read and linked.
-ghost use Rattle.std.specs.Prelude.{◌≡◌, ◌≢◌, ◌↔◌, ℕ, List, map, IfOk, IfErr, IsErrOf};
+ghost use Rattle.std.specs.Prelude.{◌≡◌, ◌≢◌, map, IfOk, IfErr, IsErrOf};
 ghost use Rattle.cvm_outside.specs.Told.{TOO_LONG};
 ghost use Rattle.run_scripts.specs.Command.{link as link_command, texts};
 ghost use Rattle.cvm_shell.specs.Does.{Gets};
 ghost use Rattle.run_scripts.specs.Served.{files_of};
 ghost use Rattle.cvm_shell.specs.Linked.{IsAcceptedAs, AreAcceptedAs, LinkIsAccepted};
 ghost use Rattle.run_scripts.specs.Plan.{AfterParts, AfterSystem};
-ghost use Rattle.cvm_shell.specs.Stages.{object_stop, file_stop, link_stop, Fetched, NotFetched, AreWordsOf, PlanCounts, puts_made, PutsAs, FilesPlan};
+ghost use Rattle.cvm_shell.specs.Stages.{object_stop, file_stop, link_stop, Fetched, OnlyLong, AreWordsOf, puts_made, PutsAs, FilesPlan};
 ghost use Rattle.cvm_shell.specs.Views.{link_view, IfPlan};
 
 use crate::boot::Stop;
@@ -66,9 +66,6 @@ pub fn system_image<M: LayerMaker, S: Shelf>(
     ensures comes { IfPlan (puts_made names.now.image.now) (FilesPlan M.made (S.file shelf.old) (link_command (link_view names.now))) result }
     // These bytes are those of an image that is accepted, over the same layer: as the system of the files that were got.
     ensures accepted { IfOk result (λ v. LinkIsAccepted M.made (S.file shelf.old) (link_view names.now) v.items) }
-    ensures long { IsErrOf result (Stop.Refused Refusal.TooLong) ↔ (S.taken shelf.new ≡ TOO_LONG) }
-    ensures count { PlanCounts (S.faults shelf.old) (S.faults shelf.new) result }
-    ensures files { (n : List ℕ) → S.file shelf.new n ≡ S.file shelf.old n }
     ensures gets { Gets S.Shelf (files_of (link_command (link_view names.now))) shelf.old shelf.new result }
 {
     let object = get_file(alloc, names.object, shelf)?;
@@ -81,10 +78,7 @@ pub fn system_image<M: LayerMaker, S: Shelf>(
 fn get_all<S: Shelf>(alloc: Global, names: &[String], shelf: &mut S) -> Result<Vec<Vec<u8>>, Stop>
     requires { S.taken shelf.old ≢ TOO_LONG }
     ensures got { IfOk result (λ v. Fetched (S.file shelf.old) (texts names.now) (map (λ b. b.items) v.items)) }
-    ensures stops { IfErr result (NotFetched (S.file shelf.old) (texts names.now)) }
-    ensures long { IsErrOf result (Stop.Refused Refusal.TooLong) ↔ (S.taken shelf.new ≡ TOO_LONG) }
-    ensures count { PlanCounts (S.faults shelf.old) (S.faults shelf.new) result }
-    ensures files { (n : List ℕ) → S.file shelf.new n ≡ S.file shelf.old n }
+    ensures stops { IfErr result OnlyLong }
     ensures gets { Gets S.Shelf (texts names.now) shelf.old shelf.new result }
 {
     let mut files = Vec::new(alloc);

@@ -1,12 +1,11 @@
 // An image of form 2, read and made anew.
-ghost use Rattle.std.specs.Prelude.{◌≡◌, ◌≢◌, ◌↔◌, ℕ, List, IfOk, IfErr, IsErrOf};
-ghost use Rattle.cvm_outside.specs.Told.{TOO_LONG};
+ghost use Rattle.std.specs.Prelude.{◌≢◌, IfOk, IfErr, IsErrOf};
 ghost use Rattle.run_scripts.specs.Command as Command;
 ghost use Rattle.cvm_shell.specs.Does.{Gets};
 ghost use Rattle.run_scripts.specs.Served.{files_of};
 ghost use Rattle.cvm_shell.specs.Linked.{IsAcceptedAsOld, MigrateIsAccepted};
 ghost use Rattle.run_scripts.specs.Plan.{AfterOld};
-ghost use Rattle.cvm_shell.specs.Stages.{PlanCounts, puts_made, PutsAs, FilesPlan};
+ghost use Rattle.cvm_shell.specs.Stages.{puts_made, PutsAs, FilesPlan};
 ghost use Rattle.cvm_shell.specs.Views.{migrate_view, IfPlan};
 
 use crate::boot::Stop;
@@ -30,9 +29,6 @@ pub fn migrated_image<M: LayerMaker, S: Shelf>(
     ensures comes { IfPlan (puts_made names.now.image.now) (FilesPlan M.made (S.file shelf.old) (Command.migrate (migrate_view names.now))) result }
     // These bytes are those of an image that is accepted, over the same layer: as the system of the old image's source, parameters and users.
     ensures accepted { IfOk result (λ v. MigrateIsAccepted M.made (S.file shelf.old) (migrate_view names.now) v.items) }
-    ensures long { IsErrOf result (Stop.Refused Refusal.TooLong) ↔ (S.taken shelf.new ≡ TOO_LONG) }
-    ensures count { PlanCounts (S.faults shelf.old) (S.faults shelf.new) result }
-    ensures files { (n : List ℕ) → S.file shelf.new n ≡ S.file shelf.old n }
     ensures gets { Gets S.Shelf (files_of (Command.migrate (migrate_view names.now))) shelf.old shelf.new result }
 {
     let old = get_file(alloc, names.old, shelf)?;

@@ -1,6 +1,5 @@
 // The object of a kernel: its source, read, checked and compiled.
-ghost use Rattle.std.specs.Prelude.{◌≡◌, ◌≢◌, ◌≤◌, ◌↔◌, ℕ, List, length, IfOk, IfErr, IsErrOf};
-ghost use Rattle.cvm_outside.specs.Told.{TOO_LONG};
+ghost use Rattle.std.specs.Prelude.{◌≡◌, ◌≢◌, ◌≤◌, length, IfOk, IfErr, IsErrOf};
 ghost use Rattle.real_layer.specs.Image.{layer_image};
 ghost use Rattle.c0_types.specs.Front.{IsUnitOf};
 ghost use Rattle.c0_tree.specs.View.{unit_view};
@@ -10,7 +9,7 @@ ghost use Rattle.run_scripts.specs.Command as Command;
 ghost use Rattle.cvm_shell.specs.Does.{Gets};
 ghost use Rattle.run_scripts.specs.Served.{files_of};
 ghost use Rattle.run_scripts.specs.Plan.{AfterKernel};
-ghost use Rattle.cvm_shell.specs.Stages.{source_stop, PlanCounts, puts_made, PutsAs, FilesPlan};
+ghost use Rattle.cvm_shell.specs.Stages.{source_stop, puts_made, PutsAs, FilesPlan};
 ghost use Rattle.cvm_shell.specs.Views.{kernel_view, IfPlan};
 
 use crate::boot::Stop;
@@ -46,9 +45,6 @@ pub fn kernel_object<S: Shelf>(
     shelf: &mut S,
 ) -> Result<Vec<u8>, Stop>
     ensures comes { IfPlan (puts_made names.now.object.now) (FilesPlan layer_image (S.file shelf.old) (Command.compile_kernel (kernel_view names.now))) result }
-    ensures long { IsErrOf result (Stop.Refused Refusal.TooLong) ↔ (S.taken shelf.new ≡ TOO_LONG) }
-    ensures count { PlanCounts (S.faults shelf.old) (S.faults shelf.new) result }
-    ensures files { (n : List ℕ) → S.file shelf.new n ≡ S.file shelf.old n }
     ensures gets { Gets S.Shelf (files_of (Command.compile_kernel (kernel_view names.now))) shelf.old shelf.new result }
 {
     let source = get_file(alloc, names.source, shelf)?;

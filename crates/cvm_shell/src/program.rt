@@ -1,13 +1,13 @@
 // The image of a user program: its source, read, checked and compiled.
-ghost use Rattle.std.specs.Prelude.{◌≡◌, ◌≢◌, ◌↔◌, ℕ, List, IfErr, IfSome, IfNone, IsErrOf, Some, option_map};
-ghost use Rattle.cvm_outside.specs.Told.{TOO_LONG};
+ghost use Rattle.std.specs.Prelude.{◌≡◌, ◌≢◌, IfErr, IfSome, IfNone, IsErrOf, Some, option_map};
 ghost use Rattle.real_layer.specs.Image.{layer_image};
 ghost use Rattle.run_scripts.specs.Command as command;
+ghost use Rattle.run_scripts.specs.Command.{compile_program as of_program};
 ghost use Rattle.run_scripts.specs.CompileProgram as compiling;
 ghost use Rattle.cvm_shell.specs.Does.{Gets, CommandDoes};
 ghost use Rattle.run_scripts.specs.Served.{files_of};
 ghost use Rattle.run_scripts.specs.Plan.{AfterProgram};
-ghost use Rattle.cvm_shell.specs.Stages.{program_stop, PlanCounts, puts_made, PutsAs, FilesPlan};
+ghost use Rattle.cvm_shell.specs.Stages.{program_stop, puts_made, PutsAs, FilesPlan};
 ghost use Rattle.cvm_shell.specs.Views.{program_view, IfPlan};
 
 use crate::assembly::little_endian;
@@ -70,11 +70,8 @@ pub fn program_image<S: Shelf>(
     names: &CompileProgram,
     shelf: &mut S,
 ) -> Result<Vec<u8>, Stop>
-    ensures comes { IfPlan (puts_made names.now.image.now) (FilesPlan layer_image (S.file shelf.old) (command.compile_program (program_view names.now))) result }
-    ensures long { IsErrOf result (Stop.Refused Refusal.TooLong) ↔ (S.taken shelf.new ≡ TOO_LONG) }
-    ensures count { PlanCounts (S.faults shelf.old) (S.faults shelf.new) result }
-    ensures files { (n : List ℕ) → S.file shelf.new n ≡ S.file shelf.old n }
-    ensures gets { Gets S.Shelf (files_of (command.compile_program (program_view names.now))) shelf.old shelf.new result }
+    ensures comes { IfPlan (puts_made names.now.image.now) (FilesPlan layer_image (S.file shelf.old) (of_program (program_view names.now))) result }
+    ensures gets { Gets S.Shelf (files_of (of_program (program_view names.now))) shelf.old shelf.new result }
 {
     let source = get_file(alloc, names.source, shelf)?;
     compiled_program(alloc, &source)
@@ -102,7 +99,7 @@ pub fn compile_program<S: Shelf, O: Sink>(
     shelf: &mut S,
     out: &mut O,
 ) -> Status
-    ensures { CommandDoes S.Shelf O.Sink (command.compile_program (program_view names.now)) result (shelf.old, out.old) (shelf.new, out.new) }
+    ensures { CommandDoes S.Shelf O.Sink (of_program (program_view names.now)) result (shelf.old, out.old) (shelf.new, out.new) }
 {
     let image = program_image(alloc, names, shelf);
     put_made(image, names.image, shelf, out)

@@ -1,12 +1,11 @@
 // A resume: what its files come to, and the run that goes on.
-ghost use Rattle.std.specs.Prelude.{◌≡◌, ◌↔◌, ℕ, List, IfOk, IsErrOf};
-ghost use Rattle.cvm_outside.specs.Told.{TOO_LONG};
+ghost use Rattle.std.specs.Prelude.{◌≡◌, IfOk};
 ghost use Rattle.real_layer.specs.Image.{layer_image};
 ghost use Rattle.run_scripts.specs.Command.{resume as of_resume};
 ghost use Rattle.cvm_shell.specs.Does.{Gets, RunDoes, SystemDoes};
 ghost use Rattle.run_scripts.specs.Ends.{AreBytes};
 ghost use Rattle.run_scripts.specs.Served.{files_of};
-ghost use Rattle.cvm_shell.specs.Stages.{resume_stop, resumable_for, SystemFollows, FilesPlan, PlanCounts};
+ghost use Rattle.cvm_shell.specs.Stages.{resume_stop, resumable_for, SystemFollows, FilesPlan};
 ghost use Rattle.cvm_shell.specs.Views.{save_view, IfPlan};
 
 use crate::boot::{Ready, Stop, ready_of};
@@ -46,9 +45,6 @@ pub struct Resumable {
 pub fn plan_resume<S: Shelf>(alloc: Global, resume: &Save, shelf: &mut S) -> Result<Resumable, Stop>
     ensures comes { IfPlan (resumable_for (save_view resume.now)) (FilesPlan layer_image (S.file shelf.old) (of_resume (save_view resume.now))) result }
     ensures follows { IfOk result (λ r. SystemFollows r.ready) }
-    ensures long { IsErrOf result (Stop.Refused Refusal.TooLong) ↔ (S.taken shelf.new ≡ TOO_LONG) }
-    ensures count { PlanCounts (S.faults shelf.old) (S.faults shelf.new) result }
-    ensures files { (n : List ℕ) → S.file shelf.new n ≡ S.file shelf.old n }
     ensures gets { Gets S.Shelf (files_of (of_resume (save_view resume.now))) shelf.old shelf.new result }
     ensures bytes { IfOk result (λ _. AreBytes (S.file shelf.old) (files_of (of_resume (save_view resume.now)))) }
 {

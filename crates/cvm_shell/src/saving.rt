@@ -1,6 +1,5 @@
 // A save: what its files come to, and the run that is saved.
-ghost use Rattle.std.specs.Prelude.{◌≡◌, ◌≢◌, ◌↔◌, ◌≤◌, ℕ, List, IfOk, IfErr, OnErr, IsErrOf, Err};
-ghost use Rattle.cvm_outside.specs.Told.{TOO_LONG};
+ghost use Rattle.std.specs.Prelude.{◌≡◌, ◌≢◌, ◌≤◌, IfOk, IfErr, OnErr, Err};
 ghost use Rattle.kernel_linker.specs.Accept.{system_of};
 ghost use Rattle.boot_run.specs.SaveRoom.{most_words, FILE_ROOM};
 ghost use Rattle.real_layer.specs.Image.{layer_image};
@@ -9,7 +8,7 @@ ghost use Rattle.cvm_shell.specs.Does.{Gets, RunDoes, SaveDoes, SavedCalls, Sess
 ghost use Rattle.run_scripts.specs.Ends.{AreBytes, seen};
 ghost use Rattle.run_scripts.specs.Served.{files_of};
 ghost use Rattle.run_scripts.specs.Plan.{frames_of, most_bytes};
-ghost use Rattle.cvm_shell.specs.Stages.{save_stop, saveable_for, CallAnswers, SystemFollows, HasNoRoom, FilesPlan, PlanCounts};
+ghost use Rattle.cvm_shell.specs.Stages.{save_stop, saveable_for, CallAnswers, SystemFollows, HasNoRoom, FilesPlan};
 ghost use Rattle.cvm_shell.specs.Views.{save_view, IfPlan};
 
 use crate::boot::{Ready, Stop, plan};
@@ -49,9 +48,6 @@ pub fn plan_save<S: Shelf>(alloc: Global, save: &Save, shelf: &mut S) -> Result<
     ensures follows { IfOk result (λ r. SystemFollows r.ready) }
     ensures room { IfOk result (λ r. r.room.words ≡ most_words (frames_of (system_of r.ready.boot))) }
     ensures short { IfOk result (λ r. most_bytes (system_of r.ready.boot) ≤ FILE_ROOM) }
-    ensures long { IsErrOf result (Stop.Refused Refusal.TooLong) ↔ (S.taken shelf.new ≡ TOO_LONG) }
-    ensures count { PlanCounts (S.faults shelf.old) (S.faults shelf.new) result }
-    ensures files { (n : List ℕ) → S.file shelf.new n ≡ S.file shelf.old n }
     ensures gets { Gets S.Shelf (files_of (of_save (save_view save.now))) shelf.old shelf.new result }
     ensures bytes { IfOk result (λ _. AreBytes (S.file shelf.old) (files_of (of_save (save_view save.now)))) }
 {

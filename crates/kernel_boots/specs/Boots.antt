@@ -1,4 +1,5 @@
--- What each boot of an image shows, where each state of the abstract run has a property: over the headline of `run` (`Headlines` of run_scripts/specs/CommandEnds) as it stands.
+-- What each boot of an image shows, where each state of the abstract run has a property: over the headline of `run` (`Headlines` of
+-- run_scripts/specs/CommandEnds) as it stands.
 use Rattle.std.specs.Prelude.{◌≡◌, ◌≢◌, true, ℕ, List, Option, Ok}
 use Rattle.std.specs.Io.KnownBytes.{append_known}
 use Rattle.schedule_file.specs.Rows.{Rows}
@@ -74,7 +75,8 @@ BootsStand = (words : List (List ℕ)) (status : Status) (old new : Outside) →
     → status ≢ Memory → session.view ≡ Boot → BootStands session s rows before status old new
 
 -- A BOOT SHOWS IT: what it printed is the text of such a state; and where the property excludes faults, its status is not that of a kernel's fault
-pub record BootShows (session : Session) (s : ImageSystem) (rows : Rows) (before : List (List ℕ)) (P : OfStates) (old new : Outside) (status : Status) : Type 0 where
+pub record BootShows (session : Session) (s : ImageSystem) (rows : Rows) (before : List (List ℕ)) (P : OfStates) (old new : Outside) (status : Status) :
+    Type 0 where
   pub printed : (text : List ℕ) × (new.sink.text ≡ append_known old.sink.text text) × SessionShows session s rows before old P status text
   pub no_fault : ((lines : ℕ → ℕ) (k : ℕ) (c : Cvm) → P lines k c → IsSafe c.status) → status ≢ KernelFault
 

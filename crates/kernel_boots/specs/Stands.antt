@@ -108,4 +108,5 @@ pub record ResumeStands (c : Save) (s : ImageSystem) (rows : Rows) (before : Lis
 abbrev pub ResumesStand : Type 0
 ResumesStand = (words : List (List ℕ)) (status : Status) (old new : Outside) → Resumes words status old new
     → (c : Save) (s : ImageSystem) (rows : Rows) (machine : List ℕ) (left before : List (List ℕ)) (shown : List ℕ)
-    → IsHonestResume words c s rows machine left old new → status ≢ Memory → IsSavedRun c s rows machine left before shown old → ResumeStands c s rows before shown status old new
+    → IsHonestResume words c s rows machine left old new → status ≢ Memory → IsSavedRun c s rows machine left before shown old
+    → ResumeStands c s rows before shown status old new

@@ -1,6 +1,6 @@
-//! What each boot of a kernel prints, by what was proved of its runs: each function is a law over the headline of each call of `cvm_shell::run`. A boot here is one by
-//! `boot`, `rom` or `sample` under the headline's premises (`IsHonest`: among them that no call fails), with another status than 8. What two boots print of the
-//! same user is compared in `separation`.
+//! What each boot of a kernel prints, by what was proved of its runs: each function is a law over the headline of each call of
+//! `cvm_shell::run`. A boot here is one by `boot`, `rom` or `sample` under the headline's premises (`IsHonest`: among them that no call
+//! fails), with another status than 8. What two boots print of the same user is compared in `separation`.
 #![tactic(auto)]
 
 ghost use Rattle.kernel_boots.specs.Boots.{BootsStand, RunsItsSource};

@@ -1,30 +1,32 @@
-use Rattle.std.proofs.Common.{[], ◌∷◌}
-use Rattle.std.specs.Option.{IsSome}
+use Rattle.std.proofs.Common.{[], ◌∷◌, ℕ, List}
+use Rattle.cvm_outside.specs.Outside.{files as told_files}
 use Rattle.std.proofs.lemmas.Result.{err_from_is_err_and}
 use Rattle.real_layer.specs.Image.{layer_image}
 use Rattle.run_scripts.specs.Ends.{AreBytes}
-use Rattle.run_scripts.specs.Plan.{AfterFiles}
+use Rattle.run_scripts.specs.Plan.{Plan, AfterFiles}
 use Rattle.cvm_shell.specs.Stages.{ready_for}
 use Rattle.cvm_shell.specs.Views.{boot_view}
-use Rattle.cvm_shell.proofs.BootPlans.{image_got, boot_got}
-use Rattle.cvm_shell.proofs.GotFiles.{file_stopped, file_moved, not_fetched_moved}
+use Rattle.cvm_shell.proofs.GotFiles.{all_come, all_stop, at, file_moved}
 use Rattle.cvm_shell.proofs.GotCalls.{are_both, stopped_then, gets_behind, told_bytes, if_ok}
+use Rattle.run_scripts.specs.declared.session.Session.{Session}
 use Rattle.cvm_shell.proofs.boot.plan.Goals as goal
+
+-- what comes after both files
+abbrev after : Session → List (List ℕ) → Plan → Type 0
+after session all = AfterFiles layer_image session (at all 0) (at all 1)
 
 pub returns-in_err-image-clause-comes : goal.returns-in_err-image-clause-comes
 returns-in_err-image-clause-comes g c = λ session.
     let p = err_from_is_err_and c.from_residual.result c.from_residual.ensures.1 in
-    rw (p.1, p.2) (file_stopped (g.S.Shelf.file c.args.shelf.now) c.args.boot.now.image.now _ _ c.in_err-image.field-0.0 (λ told. told.0) c.in_err-image.ensures.stops)
+    let b = boot_view c.args.boot.now in
+    rw (p.1, p.2) (all_stop (told_files g.S.Shelf c.args.shelf.now) _ (b.image ∷ b.schedule ∷ []) (after session) c.in_err-image.field-0.0 c.in_err-image.ensures.stops (c.in_err-image.ensures.gets (b.schedule ∷ [])))
 
 pub returns-in_err-schedule-clause-comes : goal.returns-in_err-schedule-clause-comes
 returns-in_err-schedule-clause-comes g c = λ session.
     let p = err_from_is_err_and c.from_residual-in_err-schedule.result c.from_residual-in_err-schedule.ensures.1 in
-    let file = g.S.Shelf.file c.args.shelf.now in
     let b = boot_view c.args.boot.now in
-    let i = c.in_ok-image.ensures.got in
-    rw (p.1, p.2) (image_got layer_image file b session c.in_ok-image.image.items _ i.tells i.short
-    (file_stopped file b.schedule (AfterFiles layer_image session c.in_ok-image.image.items) (IsSome (file b.schedule)) c.in_err-schedule.field-0.0 (λ told. told)
-    (not_fetched_moved file _ c.in_ok-image.ensures.files (b.schedule ∷ []) c.in_err-schedule.field-0.0 c.in_err-schedule.ensures.stops)))
+    rw (p.1, p.2) (all_stop (told_files g.S.Shelf c.args.shelf.now) _ (b.image ∷ b.schedule ∷ []) (after session) c.in_err-schedule.field-0.0 c.in_err-schedule.ensures.stops
+    (λ sink disk. stopped_then (b.image ∷ []) (b.schedule ∷ []) _ _ _ _ (c.in_ok-image.ensures.gets [] sink disk) (c.in_err-schedule.ensures.gets [] sink disk)))
 
 pub returns-clause-comes : goal.returns-clause-comes
 returns-clause-comes g c = λ session.
@@ -32,7 +34,7 @@ returns-clause-comes g c = λ session.
     let b = boot_view c.args.boot.now in
     let i = c.in_ok-image.ensures.got in
     let s = file_moved (file b.schedule) _ c.in_ok-schedule.schedule.items (c.in_ok-image.ensures.files b.schedule) c.in_ok-schedule.ensures.got in
-    boot_got layer_image (ready_for session) file b session c.in_ok-image.image.items c.in_ok-schedule.schedule.items c.ready_of.result i.tells i.short s.tells s.short
+    all_come (ready_for session) file (b.image ∷ b.schedule ∷ []) (c.in_ok-image.image.items ∷ c.in_ok-schedule.schedule.items ∷ []) (after session) c.ready_of.result (i.tells, i.short, (s.tells, s.short, tt))
     (rw (c.deref.ensures.value, c.deref-2.ensures.value) at (c.ready_of.ensures.comes session))
 
 pub returns-in_err-image-clause-gets : goal.returns-in_err-image-clause-gets

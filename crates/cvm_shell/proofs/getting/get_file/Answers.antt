@@ -1,16 +1,14 @@
-use Rattle.std.proofs.Common.{ap, Err, rules}
+use Rattle.std.proofs.Common.{rules}
 use Rattle.std.proofs.lemmas.Result.{err_from_is_err_and}
 use Rattle.cvm_outside.specs.Outside.{files}
-use Rattle.cvm_outside.specs.declared.shelf.ShelfFault.{ShelfFault}
-use Rattle.cvm_shell.proofs.GotFiles.{not_fetched}
+use Rattle.cvm_shell.proofs.GotFiles.{only_long}
 use Rattle.cvm_shell.proofs.GotCalls.{one_got, one_stopped}
 use Rattle.cvm_shell.proofs.getting.get_file.Goals as goal
 
 pub returns-in_err-bytes-clause-stops : goal.returns-in_err-bytes-clause-stops
 returns-in_err-bytes-clause-stops g c =
     let p = err_from_is_err_and c.from_residual.result c.from_residual.ensures.1 in
-    let e = c.in_err-bytes.ensures in
-    rw (p.1, p.2) (not_fetched (g.S.Shelf.file c.args.shelf.now) c.args.name.now _ c.in_err-bytes.field-0.0 (λ h. e.long.0 (ap (λ (x : ShelfFault). Err x) h)) (λ h. e.told_long (ap (λ (x : ShelfFault). Err x) h)))
+    rw (p.1, p.2) (only_long c.in_err-bytes.field-0.0)
 
 pub returns-clause-got : goal.returns-clause-got
 returns-clause-got g c = record { tells = c.in_ok-bytes.ensures.bytes; short = search rules; are_bytes = c.are_bytes.ensures }

@@ -5,20 +5,13 @@ use Rattle.std.specs.declared.alloc.Global.{Global}
 use Rattle.std.proofs.lemmas.Result.{err_from_is_err_and}
 use Rattle.cvm_outside.specs.Outside.{files}
 use Rattle.run_scripts.specs.Command.{texts}
-use Rattle.cvm_shell.proofs.GotFiles.{names_at, names_up_to, file_moved, not_fetched_moved, stopped_more, got_more}
+use Rattle.cvm_shell.proofs.GotFiles.{names_at, names_up_to, file_moved, got_more}
 use Rattle.cvm_shell.specs.Does.{AreGot}
 use Rattle.cvm_shell.proofs.GotCalls.{beside, none_got, are_both, stopped_then, wants_more}
 use Rattle.cvm_shell.proofs.linking.get_all.Goals as goal
 
 pub returns-in_err-file-clause-stops : goal.returns-in_err-file-clause-stops
-returns-in_err-file-clause-stops g c =
-    let p = err_from_is_err_and c.from_residual.result c.from_residual.ensures.1 in
-    let told = g.S.Shelf.file c.args.shelf.now in
-    let i = c.loop-name.name-index in
-    let names = names_at c.args.names.now i c.name-item.result c.loop-name-test.true c.name-item.is in
-    let stops = rw c.as_str.ensures.value at c.in_err-file.ensures.stops in
-    rw (p.1, p.2, names) (stopped_more told (texts (take i c.args.names.now)) _ (string_bytes c.name-item.result) (texts (drop (suc i) c.args.names.now)) c.in_err-file.field-0.0 c.loop-name.invariant.got
-    (not_fetched_moved told _ c.loop-name.invariant.files (string_bytes c.name-item.result ∷ []) c.in_err-file.field-0.0 stops))
+returns-in_err-file-clause-stops g c = let p = err_from_is_err_and c.from_residual.result c.from_residual.ensures.1 in rw (p.1, p.2) c.in_err-file.ensures.stops
 
 pub loop-name-preserved : goal.loop-name-preserved
 loop-name-preserved g c =
@@ -28,8 +21,6 @@ loop-name-preserved g c =
     let read = rw c.as_str.ensures.value at c.in_ok-file.ensures.got in
     let f = file_moved (told (string_bytes c.name-item.result)) _ c.in_ok-file.file.items (c.loop-name.invariant.files (string_bytes c.name-item.result)) read in
     record {
-      short = λ h. let e = c.in_ok-file.ensures.long.1 h in cc;
-      same = search rules;
       files = λ n. c.in_ok-file.ensures.files n ∙ c.loop-name.invariant.files n;
       calls = λ sink disk.
           let next : suc i ≡ i + 1 = omega arith in
@@ -66,8 +57,6 @@ returns-clause-gets g c = λ sink disk.
 
 pub loop-name-init : goal.loop-name-init
 loop-name-init g c = record {
-  short = c.requires;
-  same = refl;
   files = λ n. refl;
   calls = λ sink disk. none_got c.args.names.now _ c.requires;
   got = search rules;

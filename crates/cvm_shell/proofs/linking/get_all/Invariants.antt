@@ -1,6 +1,5 @@
-use Rattle.std.proofs.Common.{◌≡◌, ◌≢◌, ℕ, List, map, take}
+use Rattle.std.proofs.Common.{◌≡◌, ℕ, List, map, take}
 use Rattle.cvm_outside.specs.Outside.{Output, Drive, files as told_files}
-use Rattle.cvm_outside.specs.Told.{TOO_LONG}
 use Rattle.run_scripts.specs.Command.{texts}
 use Rattle.cvm_shell.specs.Does.{AreGot}
 use Rattle.cvm_shell.specs.Stages.{Fetched}
@@ -9,8 +8,6 @@ use Rattle.cvm_shell.proofs.linking.get_all.Given as goal
 
 abbrev pub invariant-loop-name : goal.invariant-loop-name
 invariant-loop-name g l = record {
-  short : g.S.Shelf.taken l.shelf ≢ TOO_LONG;
-  same : g.S.Shelf.faults l.shelf ≡ g.S.Shelf.faults l.initial.shelf;
   files : (n : List ℕ) → g.S.Shelf.file l.shelf n ≡ g.S.Shelf.file l.initial.shelf n;
   calls : (sink : Output) (disk : Drive) → AreGot (texts (take l.name-index l.names)) (beside sink disk (told_files g.S.Shelf l.initial.shelf)) (beside sink disk (told_files g.S.Shelf l.shelf));
   got : Fetched (g.S.Shelf.file l.initial.shelf) (texts (take l.name-index l.names)) (map (λ b. b.items) l.files.items);

@@ -13,4 +13,4 @@ returns-clause-shelf c = λ e.
 pub returns-clause-disk : goal.returns-clause-disk
 returns-clause-disk c = λ e.
     let small = too_small_only _ _ _ _ no_rise (c.statuses_are_caused.ensures _ _ _ _ c.run.ensures.script) e in
-    record { plan = small.plan; comes = small.is_plan.comes; more = small.more }
+    record { plan = small.plan; comes = small.is_plan.comes; more = small.is }
